@@ -109,7 +109,7 @@ fn open_share(alloc: Global, classes: &Classes) -> Result<Share> {
     Ok(share)
 }
 
-/// How many of the items, applied in order, changed their class's value.
+// How many of the items, applied in order, changed their class's value.
 fn apply_all(share: &mut Share, items: &[Item]) -> u64 {
     let mut changes: u64 = 0;
     for item in items {
@@ -122,7 +122,7 @@ fn apply_all(share: &mut Share, items: &[Item]) -> u64 {
     changes
 }
 
-/// The items of the table's wins and losses, those of the least distance first.
+// The items of the table's wins and losses, those of the least distance first.
 fn items_of(alloc: Global, classes: &Classes, table: &Table) -> Result<Vec<Item>, Memory> {
     // A loss that is longer than all wins is one ply longer than one of them.
     let longest = counts::count_outcomes(table).longest_win.saturating_add(1);
@@ -140,7 +140,7 @@ fn items_of(alloc: Global, classes: &Classes, table: &Table) -> Result<Vec<Item>
     Ok(items)
 }
 
-/// Appends the news, to each of those classes, that what one of their moves leads to isn't drawn but has that value.
+// Appends the news, to each of those classes, that what one of their moves leads to isn't drawn but has that value.
 fn push_items(items: &mut Vec<Item>, targets: &[u64], now: Value) -> Result<(), Memory> {
     for class in targets {
         items.push(Item {

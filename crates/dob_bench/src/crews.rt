@@ -9,9 +9,8 @@ use crate::timer::{Timer, tell_seconds};
 use crate::watch::Watch;
 use anyhow::Result;
 use dob_classes::Classes;
-use dob_lists::SegmentLength;
 use dob_pieces::{Family, Memory};
-use dob_run::{BATCH, Built, run_nodes, scan};
+use dob_run::{BATCH, Built, run_nodes};
 use dob_unmove::back_into;
 use dob_value::{Table, Value};
 use std::alloc::Global;
@@ -58,7 +57,7 @@ fn tell_costs<R: Print + Clock + AllocGlobal + Files>(rt: &R, built: &Built) -> 
 }
 
 // The parts of a build that gave the table in `seconds` seconds.
-fn measure_parts<R: Print + Clock + AllocGlobal + Threads + Sync>(
+fn measure_parts<R: Print + Clock + AllocGlobal>(
     rt: &R,
     family: Family,
     table: &Table,
@@ -66,7 +65,6 @@ fn measure_parts<R: Print + Clock + AllocGlobal + Threads + Sync>(
     seconds: f64,
 ) -> Result<()> {
     let classes = measure::open(rt, family, true)?;
-    list_openings(rt, &classes)?;
     tell_needed(rt, &classes, table, nodes)?;
     tell_ratio(rt, &classes, seconds)
 }
@@ -115,20 +113,6 @@ fn tell_links<R: Print>(rt: &R, built: &Built) -> Result<()> {
     Ok(())
 }
 
-// The openings of the classes, by threads.
-fn list_openings<R: Print + Clock + AllocGlobal + Threads + Sync>(
-    rt: &R,
-    classes: &Classes,
-) -> Result<()> {
-    let timer = Timer::start(rt, true)?;
-    let count = scan(rt, rt.alloc(), classes, SegmentLength::longest())?.len();
-    timer.tell(
-        rt,
-        format_args!("listed {count} openings by threads"),
-        &[(count, "class")],
-    )
-}
-
 // The items that carry the table's wins and losses.
 fn tell_needed<R: Print + AllocGlobal>(
     rt: &R,
@@ -141,14 +125,14 @@ fn tell_needed<R: Print + AllocGlobal>(
     Ok(())
 }
 
-/// How many moves lead into the classes that aren't drawn, from those of the same node and from others.
+// How many moves lead into the classes that aren't drawn, from those of the same node and from others.
 #[derive(Clone, Copy)]
 struct Needed {
     own: u64,
     others: u64,
 }
 
-/// The moves into the classes of the table, which `nodes` nodes own.
+// The moves into the classes of the table, which `nodes` nodes own.
 fn needed_items(
     alloc: Global,
     classes: &Classes,

@@ -118,7 +118,7 @@ fn moves_into_one_list(alloc: Global, positions: &[Position]) -> Result<u64, Mem
     Ok(count)
 }
 
-/// How many moves the positions have.
+// How many moves the positions have.
 #[derive(Clone, Copy)]
 struct Moves {
     in_all: u64,

@@ -1,40 +1,17 @@
 -- How seats come back, and what is read at the end.
-use Rattle.std.proofs.Common.{◌≡◌, ◌≢◌, ℕ, zero, suc, ◌+◌, ◌-◌, ◌<◌, ◌⊎◌, List, [], ◌∷◌, ◌++◌, length, set, get_or, Some, Bool, true, false, eqb, eq-eqb}
-use Rattle.std.proofs.Common.{refl, sym, ap, ◌∙◌, subst}
-use Rattle.std.proofs.Common.{⊎_elim, inl, inr, arith, map, append-nil, append_assoc, length-append, get_or-set_same, get_or-set_other}
-use Rattle.std.specs.Prelude.{slice_index, slice_set, slice_get, replicate}
-use Rattle.std.proofs.lemmas.Bool.{cases_eq}
-use Rattle.std.proofs.lemmas.Int.{ints}
-use Rattle.std.proofs.lemmas.Option.{same_Some}
-use Rattle.std.proofs.lemmas.List.{map-append}
-use mathlib.Core.Option.{none, some, some-ne-none, some-injective}
-use lib.ListN.{get_elem?}
-use Rattle.atomic_table.specs.Table.{State, step, keeps, Allows, Joins}
-use Rattle.atomic_table.proofs.Lists.{at_set, set_else}
-use Rattle.dob_board.specs.declared.view.BoardEvent.{BoardEvent}
-use Rattle.dob_safra.specs.declared.token.Token.{Token}
-use Rattle.dob_safra.specs.Tokens.{IsPacked}
-use Rattle.dob_safra.specs.Rings.{Ring}
-use Rattle.dob_board.specs.declared.view.Stand.{Stand}
-use Rattle.dob_board.specs.declared.view.View.{View}
-use Rattle.dob_board.specs.declared.halt.Halt.TheVariants.{Ended, Failed}
-use Rattle.dob_board.specs.Words.{posted_word, taken_word, ring_of}
-use Rattle.dob_board.specs.Views.{one, IsStand}
-use Rattle.dob_board.specs.Rule.{IsNode, IsView, IsHeld}
-use Rattle.atomic_table.specs.Seated.{TableId}
-use Rattle.dob_board.specs.declared.seat.NodeSeat.{NodeSeat}
-use Rattle.dob_board.specs.declared.board.Closed.{Closed}
-use Rattle.dob_board.specs.Histories.{IsLaterLog}
-use Rattle.dob_board.specs.Rule.{fresh}
-use Rattle.dob_board.specs.Seats.{stand_of, witnessed_by, log_of, IsSeatOf, AreSeats, AreWords, IsBoardHistory}
-use Rattle.dob_board.specs.Boards.{joined, nobody, behind, gathered, closed_view, LeadsTo, IsWord, AreRead, AreAsWitnessed, Read}
-use Rattle.dob_pieces.proofs.Elements.{get_front, middle}
-use Rattle.dob_board.proofs.Places.{posted_within, taken_within}
-use Rattle.dob_board.proofs.Kept.{own_node}
+use Rattle.std.proofs.Common.{◌≡◌, ◌≢◌, ℕ, zero, suc, ◌+◌, ◌-◌, ◌<◌, List, [], ◌∷◌, ◌++◌, length, set, get_or, Some, Bool, true, false, eqb, eq-eqb, refl, sym}
+use Rattle.std.proofs.Common.{ap, ◌∙◌, subst, ⊎_elim, inl, inr, arith, map, append-nil, append_assoc, length-append, get_or-set_same, get_or-set_other}
+use Rattle.dob_board.proofs.Names.{slice_get_within, some_at, slice_index, slice_set, slice_get, replicate, cases_eq, ints, same_Some, map-append, none, some}
+use Rattle.dob_board.proofs.Names.{some-ne-none, some-injective, get_elem?, State, step, keeps, Allows, Joins, at_set, set_else, BoardEvent, Token, IsPacked}
+use Rattle.dob_board.proofs.Names.{Ring, Stand, View, Ended, Failed, posted_word, taken_word, ring_of, one, IsStand, IsNode, IsView, IsHeld, TableId, NodeSeat}
+use Rattle.dob_board.proofs.Names.{Closed, IsLaterLog, fresh, stand_of, witnessed_by, log_of, IsSeatOf, AreSeats, AreWords, IsBoardHistory, joined, nobody}
+use Rattle.dob_board.proofs.Names.{behind, closed_view, LeadsTo, IsWord, AreRead, AreAsWitnessed, Read, get_front, middle}
+use Rattle.dob_board.proofs.Places.{with_at, with_here, with_else, posted_within, taken_within}
+use Rattle.dob_board.proofs.Kept.{own_node, with_views}
 use Rattle.dob_board.proofs.Allowed.{Seated, seated, Held, set_same}
 use Rattle.dob_board.proofs.Halting.{same_halt, runs_on}
 use Rattle.dob_board.proofs.Once.{run_once}
-use Rattle.dob_board.proofs.Starts.{port_of, port_here, port_else, elsewhere}
+use Rattle.dob_board.proofs.Starts.{elsewhere}
 
 -- ---- join
 
@@ -62,54 +39,41 @@ joins n i id other size words views stand behind witnessed observed own closed h
     let at_other : get_elem? views other ≡ some (one n i stand observed) = sym (set_else views id other both apart) ∙ there in
     let mine : IsNode n held.owner ring halt other n i stand = own_node n i other words views stand observed held at_other in
     let rest = held.views_are id (rest_view size (suc i) behind witnessed own closed) at in
-    let owner : ℕ → ℕ = port_of i id held.owner in
-    record {
-      size = held.size;
-      wide = held.wide;
-      nodes = held.nodes;
-      black = held.black;
-      token = held.token;
-      packed = held.packed;
-      lawful = held.lawful;
-      halt_within = held.halt_within;
-      log = held.log;
-      runs = held.runs;
-      told = held.told;
-      owner = owner;
-      views_are = λ port view e.
-          ⊎_elim
-          (λ (x : (port ≡ other) × (nobody ≡ view)). subst (λ (v : View). IsView n owner ring halt held.log port v) x.1
-          (nobody_is_view n port halt owner ring held.log))
-          (λ (x : (port ≢ other) × (get_elem? (set views id both) port ≡ some view)).
-          ⊎_elim
-          (λ (y : (port ≡ id) × (both ≡ view)).
-          subst (λ (p : ℕ × View). IsView n owner ring halt held.log p.0 p.1) (λ q. (sym y.0 q, y.1 q))
-          (record {
-            was_witnessed = (held.views_are other (one n i stand observed) at_other).was_witnessed;
-            nodes = both_nodes n i id halt size held.owner ring stand behind mine.within mine.is_stand rest.nodes;
-            alone = λ e'. absurd (cc);
-            is_closed = λ e'. absurd (cc);
-          }))
-          (λ (y : (port ≢ id) × (get_elem? views port ≡ some view)).
-          elsewhere n i other id port halt held.owner ring held.log view mine.within mine.owned x.0 (held.views_are port view y.1))
-          (at_set views id port both view x.1))
-          (at_set (set views id both) other port nobody view e);
-    }
+    let owner : ℕ → ℕ = with_at i id held.owner in
+    with_views n words views (slice_set (slice_set views id both) other nobody) owner held
+    (λ port view e.
+    ⊎_elim
+    (λ (x : (port ≡ other) × (nobody ≡ view)). subst (λ (v : View). IsView n owner ring halt held.log port v) x.1
+    (nobody_is_view n port halt owner ring held.log))
+    (λ (x : (port ≢ other) × (get_elem? (set views id both) port ≡ some view)).
+    ⊎_elim
+    (λ (y : (port ≡ id) × (both ≡ view)).
+    subst (λ (p : ℕ × View). IsView n owner ring halt held.log p.0 p.1) (λ q. (sym y.0 q, y.1 q))
+    (record {
+      was_witnessed = (held.views_are other (one n i stand observed) at_other).was_witnessed;
+      nodes = both_nodes n i id halt size held.owner ring stand behind mine.within mine.is_stand rest.nodes;
+      alone = λ e'. absurd (cc);
+      is_closed = λ e'. absurd (cc);
+    }))
+    (λ (y : (port ≢ id) × (get_elem? views port ≡ some view)).
+    elsewhere n i other id port halt held.owner ring held.log view mine.within mine.owned x.0 (held.views_are port view y.1))
+    (at_set views id port both view x.1))
+    (at_set (set views id both) other port nobody view e))
   where
     both_nodes : (n i id halt size : ℕ) (owner : ℕ → ℕ) (ring : Ring) (stand : Stand) (behind : List Stand) → i < n → IsStand n ring halt i stand →
         ((k : ℕ) (at : Stand) → get_elem? behind k ≡ some at → IsNode n owner ring halt id size (suc i + k) at) →
-        (k : ℕ) (at : Stand) → get_elem? (stand ∷ behind) k ≡ some at → IsNode n (port_of i id owner) ring halt id n (i + k) at
+        (k : ℕ) (at : Stand) → get_elem? (stand ∷ behind) k ≡ some at → IsNode n (with_at i id owner) ring halt id n (i + k) at
     both_nodes n i id halt size owner ring stand behind within is rest zero at e =
         let first : i ≡ i + 0 = omega arith in
-        let here : IsNode n (port_of i id owner) ring halt id n i stand =
-        record { size_is = refl; within = within; owned = port_here i id owner; is_stand = is } in
-        subst (λ (x : ℕ × Stand). IsNode n (port_of i id owner) ring halt id n x.0 x.1) (λ q. (first q, some-injective stand at e q)) here
+        let here : IsNode n (with_at i id owner) ring halt id n i stand =
+        record { size_is = refl; within = within; owned = with_here i id owner; is_stand = is } in
+        subst (λ (x : ℕ × Stand). IsNode n (with_at i id owner) ring halt id n x.0 x.1) (λ q. (first q, some-injective stand at e q)) here
     both_nodes n i id halt size owner ring stand behind within is rest (suc k) at e =
         let node = rest k at e in
         let place : suc i + k ≡ i + suc k = omega arith in
         let apart : suc i + k ≢ i = λ same. omega (arith, same) in
-        subst (λ (x : ℕ). IsNode n (port_of i id owner) ring halt id n x at) place
-        (record { size_is = refl; within = node.within; owned = port_else i id (suc i + k) owner apart ∙ node.owned; is_stand = node.is_stand })
+        subst (λ (x : ℕ). IsNode n (with_at i id owner) ring halt id n x at) place
+        (record { size_is = refl; within = node.within; owned = with_else i (suc i + k) id owner apart ∙ node.owned; is_stand = node.is_stand })
 
 pub joins_call : (key n i id other : ℕ) (view : View) (me : Seated) (stand : Stand) (observed : List BoardEvent) → key ≡ n → view.from ≡ suc i
     → me ≡ seated n i stand observed →
@@ -157,9 +121,9 @@ reads n w id words views view held at from_is =
       halt_within = λ w_is. omega (arith, ap (slice_index words) w_is, held.halt_within);
       halt_is = λ w_is. ap (λ (x : ℕ). eqb (slice_index words x) 1) (sym w_is);
       halt_told_is = λ w_is. ap (slice_index words) w_is ∙ held.told;
-      announced = λ w_is found stand e. (node 0 stand e).is_stand.announced refl (ap (slice_index words) (sym w_is) ∙ found);
-      halt_seen = λ w_is i stand e seen. ap (slice_index words) w_is ∙ (node i stand e).is_stand.halt_seen seen;
-      failed = λ w_is i stand e found. (node i stand e).is_stand.failed (ap (slice_index words) (sym w_is) ∙ found);
+      announced = λ w_is found stand e. (node 0 stand e).is_stand.knows.announced refl (ap (slice_index words) (sym w_is) ∙ found);
+      halt_seen = λ w_is i stand e seen. ap (slice_index words) w_is ∙ (node i stand e).is_stand.knows.seen seen;
+      failed = λ w_is i stand e found. (node i stand e).is_stand.knows.failed (ap (slice_index words) (sym w_is) ∙ found);
       all_white = λ w_is found i stand e. let at_i = node i stand e in at_i.is_stand.shows.colour ∙ held.lawful.all_white (announced w_is found) i at_i.within;
       all_taken = λ w_is found i j first second e f.
           let at_i = node i first e in
@@ -176,32 +140,19 @@ closes n id words views view held at from_is all_is =
     let halt : ℕ = slice_index words 2 in
     let was = held.views_are id view at in
     let after : View = closed_view view.size view.stands held.log in
-    record {
-      size = held.size;
-      wide = held.wide;
-      nodes = held.nodes;
-      black = held.black;
-      token = held.token;
-      packed = held.packed;
-      lawful = held.lawful;
-      halt_within = held.halt_within;
-      log = held.log;
-      runs = held.runs;
-      told = held.told;
-      owner = held.owner;
-      views_are = λ port other e.
-          ⊎_elim
-          (λ (x : (port ≡ id) × (after ≡ other)).
-          subst (λ (p : ℕ × View). IsView n held.owner ring halt held.log p.0 p.1) (λ q. (sym x.0 q, x.1 q))
-          (record {
-            was_witnessed = ([], refl);
-            nodes = λ k stand e'. subst (λ (from : ℕ). IsNode n held.owner ring halt id view.size (from + k) stand) from_is (was.nodes k stand e');
-            alone = λ e'. absurd (cc);
-            is_closed = λ e'. record { from_first = refl; all_nodes = all_is; all_witnessed = refl };
-          }))
-          (λ (x : (port ≢ id) × (get_elem? views port ≡ some other)). held.views_are port other x.1)
-          (at_set views id port after other e);
-    }
+    with_views n words views (slice_set views id after) held.owner held
+    (λ port other e.
+    ⊎_elim
+    (λ (x : (port ≡ id) × (after ≡ other)).
+    subst (λ (p : ℕ × View). IsView n held.owner ring halt held.log p.0 p.1) (λ q. (sym x.0 q, x.1 q))
+    (record {
+      was_witnessed = ([], refl);
+      nodes = λ k stand e'. subst (λ (from : ℕ). IsNode n held.owner ring halt id view.size (from + k) stand) from_is (was.nodes k stand e');
+      alone = λ e'. absurd (cc);
+      is_closed = λ e'. record { from_first = refl; all_nodes = all_is; all_witnessed = refl };
+    }))
+    (λ (x : (port ≢ id) × (get_elem? views port ≡ some other)). held.views_are port other x.1)
+    (at_set views id port after other e))
 
 pub reads_call : (key n w id slots : ℕ) (me : Seated) → key ≡ n → me.0.size ≡ n → me.0.from ≡ 0 → length me.0.stands ≡ n →
     Allows (Held key) slots id me w (λ x. x) (Read (step slots w 0 0 none) me)
@@ -259,13 +210,6 @@ one_less board n all seats fewer seat me after left seats_is after_is =
       seats_are = λ k other e. left.seats_are k other (ap (λ (xs : List NodeSeat). slice_get xs k) seats_is ∙ get_front fewer (seat ∷ []) other k e);
     }
 
-pub none_left : (board : TableId) (n : ℕ) (all : List Stand) (seats : List NodeSeat) (me : Seated) → AreLeft board n all seats me → seats ≡ [] →
-    me ≡ (gathered n all me.0.witnessed me.0.own, [])
-none_left board n all seats me left none_is =
-    let from_is : me.0.from ≡ 0 = left.from_is ∙ ap length none_is in
-    let stands_are : me.0.stands ≡ all = sym (left.all_are ∙ ap (λ (xs : List NodeSeat). map stand_of xs ++ me.0.stands) none_is) in
-    λ q. (record { size = left.size_is q; from = from_is q; stands = stands_are q; witnessed = me.0.witnessed; own = me.0.own; closed = left.not_closed q }, left.no_slot q)
-
 pub all_left : (board : TableId) (n : ℕ) (seats : List NodeSeat) (me : Seated) → AreSeats board n seats → me ≡ (behind n n, [])
     → AreLeft board n (map stand_of seats) seats me
 all_left board n seats me are me_is =
@@ -302,14 +246,6 @@ mapped_there : {A B : Type 0} → (f : A → B) (xs : List A) (k : ℕ) (x : A) 
 mapped_there f [] k x e = absurd (cc)
 mapped_there f (y ∷ xs) zero x e = let same : y ≡ x = cc in ap (λ s. some (f s)) same
 mapped_there f (y ∷ xs) (suc k) x e = mapped_there f xs k x e
-
-stand_there : (seats : List NodeSeat) (k : ℕ) (seat : NodeSeat) → slice_get seats k ≡ Some seat → get_elem? (map stand_of seats) k ≡ some (stand_of seat)
-stand_there seats k seat e = mapped_there stand_of seats k seat e
-
-seat_there : (seats : List NodeSeat) (k : ℕ) → k < length seats → (seat : NodeSeat) × (slice_get seats k ≡ Some seat)
-seat_there [] k lt = absurd (omega arith)
-seat_there (x ∷ xs) zero lt = (x, refl)
-seat_there (x ∷ xs) (suc k) lt = seat_there xs k (omega arith)
 
 -- the ring of a closed board: word 1 is its token's, and word 2 says whether it is announced
 pub read_ring : (n : ℕ) (stands : List Stand) (log : List BoardEvent) (words : List ℕ) → 0 < n → AreRead n stands log words →
@@ -352,78 +288,53 @@ are_as_witnessed n stands log words some_nodes all_nodes read =
 
 -- ---- the seat of node 0
 
--- Of the seats that are left the first is the first of all; or none is left, and the rest has witnessed what that one was.
+-- The seats that are left come before those that are joined, and the rest has witnessed what the first one of these has.
 abbrev pub IsFirstWitnessed : List NodeSeat → List NodeSeat → Seated → Type 0
-IsFirstWitnessed all seats me = (seat : NodeSeat) → slice_get all 0 ≡ Some seat → (slice_get seats 0 ≡ Some seat) ⊎ ((seats ≡ []) × (me.0.witnessed ≡ witnessed_by seat))
-
-one_more_there : {A : Type 0} (x : A) (xs : List A) → [] ≡ x ∷ xs → ⊥
-one_more_there x xs e = cc
-
-nothing_there : {A : Type 0} (x : A) → slice_get [] 0 ≡ Some x → ⊥
-nothing_there x e = cc
-
--- what stands first, with one at the end less
-first_of_fewer : {A : Type 0} (all fewer : List A) (last x : A) → all ≡ fewer ++ last ∷ [] → slice_get all 0 ≡ Some x →
-    (slice_get fewer 0 ≡ Some x) ⊎ ((fewer ≡ []) × (last ≡ x))
-first_of_fewer all [] last x all_is e = inr (refl, same_Some last x (ap (λ xs. slice_get xs 0) (sym all_is) ∙ e))
-first_of_fewer all (y ∷ fewer) last x all_is e = inl (ap (λ xs. slice_get xs 0) (sym all_is) ∙ e)
-
-never_none : {A : Type 0} (all fewer : List A) (last : A) → all ≡ fewer ++ last ∷ [] → all ≡ [] → ⊥
-never_none all [] last all_is none_is = one_more_there last [] (sym none_is ∙ all_is)
-never_none all (y ∷ fewer) last all_is none_is = one_more_there y (fewer ++ last ∷ []) (sym none_is ∙ all_is)
+IsFirstWitnessed all seats me = (gone : List NodeSeat) × (all ≡ seats ++ gone)
+    × ((seat : NodeSeat) → slice_get gone 0 ≡ Some seat → me.0.witnessed ≡ witnessed_by seat)
 
 pub first_less : (all seats fewer : List NodeSeat) (last : NodeSeat) (me after : Seated) → IsFirstWitnessed all seats me → seats ≡ fewer ++ last ∷ [] →
     after.0.witnessed ≡ witnessed_by last → IsFirstWitnessed all fewer after
-first_less all seats fewer last me after first seats_is witnessed seat e =
-    ⊎_elim
-    (λ (here : slice_get seats 0 ≡ Some seat).
-    ⊎_elim (λ (there : slice_get fewer 0 ≡ Some seat). inl there)
-    (λ (it : (fewer ≡ []) × (last ≡ seat)). inr (it.0, witnessed ∙ ap witnessed_by it.1))
-    (first_of_fewer seats fewer last seat seats_is here))
-    (λ (none : (seats ≡ []) × (me.0.witnessed ≡ witnessed_by seat)). absurd (never_none seats fewer last seats_is none.0))
-    (first seat e)
+first_less all seats fewer last me after first seats_is witnessed = (
+  last ∷ first.0,
+  first.1 ∙ ap (λ (xs : List NodeSeat). xs ++ first.0) seats_is ∙ append_assoc fewer (last ∷ []) first.0,
+  λ seat e. witnessed ∙ ap witnessed_by (same_Some last seat e),
+)
 
 pub are_words : (board : TableId) (n : ℕ) (seats : List NodeSeat) (log : List BoardEvent) (words : List ℕ) → AreSeats board n seats →
     AreRead n (map stand_of seats) log words → AreWords n seats words
-are_words board n seats log words are read = record {
-  count = read.count;
-  nodes = (read.words_are 0 (omega arith)).nodes refl;
-  token = ((read.words_are 1 (omega arith)).ring.token, (read.words_are 1 (omega arith)).token refl);
-  posted =
-      λ i j seat e j_in. (read.words_are (posted_word n i j) (posted_within n i j (seat_within i seat e) j_in)).posted i j (stand_of seat)
-      (stand_there seats i seat e) j_in refl;
-  taken =
-      λ i j seat e j_in. (read.words_are (taken_word n j i) (taken_within n j i j_in (seat_within i seat e))).taken i j (stand_of seat)
-      (stand_there seats i seat e) j_in refl;
-  none_own = λ i i_in.
-      let here = seat_there seats i (omega (arith, are.count, i_in)) in
-      let found = stand_there seats i here.0 here.1 in
-      let posted = read.words_are (posted_word n i i) (posted_within n i i i_in i_in) in
-      let taken = read.words_are (taken_word n i i) (taken_within n i i i_in i_in) in (
-        posted.posted i i (stand_of here.0) found i_in refl ∙ (posted.none_own i (stand_of here.0) found).0,
-        taken.taken i i (stand_of here.0) found i_in refl ∙ (taken.none_own i (stand_of here.0) found).1,
-      );
-  halt_within = (read.words_are 2 (omega arith)).halt_within refl;
-  announced = λ ended seat e. same_halt seat.halt Ended ((read.words_are 2 (omega arith)).announced refl ended (stand_of seat) (stand_there seats 0 seat e));
-  halt_seen = λ i seat e seen. (read.words_are 2 (omega arith)).halt_seen refl i (stand_of seat) (stand_there seats i seat e) (runs_on seat.halt seen);
-  failed = λ i seat e found. same_halt seat.halt (Failed i) ((read.words_are 2 (omega arith)).failed refl i (stand_of seat) (stand_there seats i seat e) found);
-  all_white = λ ended i seat e. (read.words_are 2 (omega arith)).all_white refl ended i (stand_of seat) (stand_there seats i seat e);
-  all_taken = λ ended i j i_in j_in.
-      let one' = seat_there seats i (omega (arith, are.count)) in
-      let other = seat_there seats j (omega (arith, are.count)) in
-      (read.words_are (posted_word n i j) (posted_within n i j i_in j_in)).posted i j (stand_of one'.0) (stand_there seats i one'.0 one'.1) j_in refl
-      ∙ (read.words_are 2 (omega arith)).all_taken refl ended i j (stand_of one'.0) (stand_of other.0) (stand_there seats i one'.0 one'.1)
-      (stand_there seats j other.0 other.1)
-      ∙ sym ((read.words_are (taken_word n i j) (taken_within n i j i_in j_in)).taken j i (stand_of other.0) (stand_there seats j other.0 other.1) i_in refl);
-}
-  where
-    found_within : (xs : List NodeSeat) (k : ℕ) (seat : NodeSeat) → slice_get xs k ≡ Some seat → k < length xs
-    found_within [] k seat e = absurd (cc)
-    found_within (x ∷ xs) zero seat e = omega arith
-    found_within (x ∷ xs) (suc k) seat e = omega (arith, found_within xs k seat e)
-
-    seat_within : (k : ℕ) (seat : NodeSeat) → slice_get seats k ≡ Some seat → k < n
-    seat_within k seat e = omega (arith, found_within seats k seat e, are.count)
+are_words board n seats log words are read =
+    let there : (k : ℕ) (seat : NodeSeat) → slice_get seats k ≡ Some seat → get_elem? (map stand_of seats) k ≡ some (stand_of seat) = mapped_there stand_of seats in
+    let within : (k : ℕ) (seat : NodeSeat) → slice_get seats k ≡ Some seat → k < n = λ k seat e. omega (arith, slice_get_within seats k seat e, are.count) in
+    let halt = read.words_are 2 (omega arith) in
+    record {
+      count = read.count;
+      nodes = (read.words_are 0 (omega arith)).nodes refl;
+      token = ((read.words_are 1 (omega arith)).ring.token, (read.words_are 1 (omega arith)).token refl);
+      posted = λ i j seat e j_in.
+          (read.words_are (posted_word n i j) (posted_within n i j (within i seat e) j_in)).posted i j (stand_of seat) (there i seat e) j_in refl;
+      taken = λ i j seat e j_in.
+          (read.words_are (taken_word n j i) (taken_within n j i j_in (within i seat e))).taken i j (stand_of seat) (there i seat e) j_in refl;
+      none_own = λ i i_in.
+          let here = some_at seats i (omega (arith, are.count, i_in)) in
+          let found = there i here.0 here.1 in
+          let posted = read.words_are (posted_word n i i) (posted_within n i i i_in i_in) in
+          let taken = read.words_are (taken_word n i i) (taken_within n i i i_in i_in) in (
+            posted.posted i i (stand_of here.0) found i_in refl ∙ (posted.none_own i (stand_of here.0) found).0,
+            taken.taken i i (stand_of here.0) found i_in refl ∙ (taken.none_own i (stand_of here.0) found).1,
+          );
+      halt_within = halt.halt_within refl;
+      announced = λ ended seat e. same_halt seat.halt Ended (halt.announced refl ended (stand_of seat) (there 0 seat e));
+      halt_seen = λ i seat e seen. halt.halt_seen refl i (stand_of seat) (there i seat e) (runs_on seat.halt seen);
+      failed = λ i seat e found. same_halt seat.halt (Failed i) (halt.failed refl i (stand_of seat) (there i seat e) found);
+      all_white = λ ended i seat e. halt.all_white refl ended i (stand_of seat) (there i seat e);
+      all_taken = λ ended i j i_in j_in.
+          let one' = some_at seats i (omega (arith, are.count)) in
+          let other = some_at seats j (omega (arith, are.count)) in
+          (read.words_are (posted_word n i j) (posted_within n i j i_in j_in)).posted i j (stand_of one'.0) (there i one'.0 one'.1) j_in refl
+          ∙ halt.all_taken refl ended i j (stand_of one'.0) (stand_of other.0) (there i one'.0 one'.1) (there j other.0 other.1)
+          ∙ sym ((read.words_are (taken_word n i j) (taken_within n i j i_in j_in)).taken j i (stand_of other.0) (there j other.0 other.1) i_in refl);
+    }
 
 -- what happened on a closed board
 pub is_history : (n : ℕ) (seats : List NodeSeat) (closed : Closed) (witnessed : List BoardEvent) → 0 < n →
@@ -436,12 +347,8 @@ is_history n seats closed witnessed some_nodes first on read =
       ring = has.0;
       runs = has.1.runs;
       is_lawful = has.1.is_lawful;
-      shows = λ i seat e. has.1.shows i (stand_of seat) (stand_there seats i seat e);
+      shows = λ i seat e. has.1.shows i (stand_of seat) (mapped_there stand_of seats i seat e);
       token = has.2;
       announced = has.3;
       halt_is = (read.words_are 2 (omega arith)).halt_told_is refl;
     }
-
-pub stands_len : (seats : List NodeSeat) → length (map stand_of seats) ≡ length seats
-stands_len [] = refl
-stands_len (x ∷ xs) = ap suc (stands_len xs)

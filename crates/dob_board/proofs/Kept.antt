@@ -1,43 +1,52 @@
 -- A step of one node's seat keeps the rule, where it leaves to the other nodes what they know; and what it makes or observes.
-use Rattle.std.proofs.Common.{◌≡◌, ◌≢◌, ℕ, zero, suc, ◌+◌, ◌<◌, ◌≤◌, List, [], ◌∷◌, ◌++◌, length, Bool, true, refl, sym, ap, ◌∙◌, subst, ⊎_elim, arith}
-use Rattle.std.proofs.Common.{append_assoc}
-use Rattle.std.specs.Prelude.{slice_index, slice_set}
-use mathlib.Core.Option.{some, some-ne-none, some-injective}
-use lib.ListN.{get_elem?}
-use Rattle.atomic_table.proofs.Lists.{at_set}
-use Rattle.dob_safra.specs.declared.token.Token.{Token}
-use Rattle.dob_safra.specs.declared.event.RingEvent.{RingEvent}
-use Rattle.dob_board.specs.declared.view.BoardEvent.{BoardEvent}
-use Rattle.dob_board.specs.declared.view.BoardEvent.TheVariants.{OfRing}
-use Rattle.dob_safra.specs.Tokens.{IsPacked}
-use Rattle.dob_safra.specs.Rings.{Ring, IsLawfulRing, Moved}
-use Rattle.dob_safra.specs.Laws.{HasFew}
-use Rattle.dob_safra.proofs.Kept.{moved_kept}
-use Rattle.dob_board.specs.declared.view.Stand.{Stand}
-use Rattle.dob_board.specs.declared.view.View.{View}
-use Rattle.dob_board.specs.Words.{ring_of}
-use Rattle.dob_board.specs.Views.{one, IsStand}
-use Rattle.dob_board.specs.Histories.{Runs, IsLaterLog, IsInTime, MakesEvent, Observes, halt_told, token_moves_of}
-use Rattle.dob_board.specs.Rule.{IsNode, IsView, IsHeld}
+use Rattle.std.proofs.Common.{◌≡◌, ◌≢◌, ℕ, zero, suc, ◌+◌, ◌<◌, ◌≤◌, List, [], ◌∷◌, ◌++◌, length, Bool, true, Option, Some, refl, sym, ap, ◌∙◌, subst, ⊎_elim}
+use Rattle.std.proofs.Common.{arith, append_assoc}
+use Rattle.dob_board.proofs.Names.{slice_index, slice_set, some, some-ne-none, some-injective, get_elem?, at_set, Token, RingEvent, BoardEvent, OfRing}
+use Rattle.dob_board.proofs.Names.{IsPacked, Ring, CountsStay, IsLawfulRing, Moved, HasFew, moved_kept, Stand, View, ring_of, one, KnowsHalt, IsStand, Runs}
+use Rattle.dob_board.proofs.Names.{IsLaterLog, IsInTime, MakesEvent, Observes, halt_told, token_moves_of, IsNode, IsView, IsHeld}
 
--- what a step of node i, from one ring and halt to another, leaves to the others
+-- what a step of node i, from one halt to another, leaves to the others
+pub record LeavesHalt (i halt now : ℕ) : Type 0 where
+  pub seen : (word : ℕ) → word ≢ 0 → halt ≡ word → now ≡ word
+  pub failed : (k : ℕ) → k ≢ i → now ≡ 2 + k → halt ≡ 2 + k
+  pub ended : (k : ℕ) → k ≢ i → k ≡ 0 → now ≡ 1 → halt ≡ 1
+
+-- and what it leaves from one ring to another
 pub record Leaves (n i : ℕ) (old new : Ring) (halt now : ℕ) : Type 0 where
   pub posted : (k j : ℕ) → k < n → j < n → k ≢ i → new.posted k j ≡ old.posted k j
   pub grows : (j k : ℕ) → j < n → k < n → old.posted j k ≤ new.posted j k
   pub taken : (j k : ℕ) → j < n → k < n → k ≢ i → new.taken j k ≡ old.taken j k
   pub colour : (k : ℕ) → k < n → k ≢ i → new.black k ≡ old.black k
   pub token : (k : ℕ) → k ≢ i → old.token.at ≡ k → new.token ≡ old.token
-  pub halt_seen : (word : ℕ) → word ≢ 0 → halt ≡ word → now ≡ word
-  pub failed : (k : ℕ) → k ≢ i → now ≡ 2 + k → halt ≡ 2 + k
-  pub ended : (k : ℕ) → k ≢ i → k ≡ 0 → now ≡ 1 → halt ≡ 1
   pub announced : old.announced ≡ true → new.announced ≡ true
+  pub of_halt : LeavesHalt i halt now
+
+-- a halt that stays
+pub halt_stays : (i halt now : ℕ) → now ≡ halt → LeavesHalt i halt now
+halt_stays i halt now same = record { seen = λ word ne e. same ∙ e; failed = λ k apart e. sym same ∙ e; ended = λ k apart first e. sym same ∙ e }
+
+-- a step that leaves the counts
+pub counts_left : (n i : ℕ) (old new : Ring) (halt now : ℕ) → CountsStay n old.posted new.posted → CountsStay n old.taken new.taken →
+    ((k : ℕ) → k < n → k ≢ i → new.black k ≡ old.black k) → ((k : ℕ) → k ≢ i → old.token.at ≡ k → new.token ≡ old.token) →
+    (old.announced ≡ true → new.announced ≡ true) → LeavesHalt i halt now → Leaves n i old new halt now
+counts_left n i old new halt now posted taken colour token announced of_halt = record {
+  posted = λ k l k_in l_in apart. posted k l k_in l_in;
+  grows = λ k l k_in l_in. omega (arith, posted k l k_in l_in);
+  taken = λ k l k_in l_in apart. taken k l k_in l_in;
+  colour = colour;
+  token = token;
+  announced = announced;
+  of_halt = of_halt;
+}
+
+-- a ring that stays
+pub ring_stays : (n i : ℕ) (ring : Ring) (halt now : ℕ) → LeavesHalt i halt now → Leaves n i ring ring halt now
+ring_stays n i ring halt now = counts_left n i ring ring halt now (λ k l k_in l_in. refl) (λ k l k_in l_in. refl) (λ k k_in apart. refl) (λ k apart e. refl) (λ e. e)
 
 stand_stays : (n i k : ℕ) (old new : Ring) (halt now : ℕ) (stand : Stand) → k < n → k ≢ i → Leaves n i old new halt now →
     IsStand n old halt k stand → IsStand n new now k stand
 stand_stays n i k old new halt now stand within apart leaves is = record {
-  posted_len = is.posted_len;
-  taken_len = is.taken_len;
-  seen_len = is.seen_len;
+  long = is.long;
   shows = record {
     posted = λ j j_in. is.shows.posted j j_in ∙ sym (leaves.posted k j within j_in apart);
     taken = λ j j_in. is.shows.taken j j_in ∙ sym (leaves.taken j k j_in within apart);
@@ -48,13 +57,38 @@ stand_stays n i k old new halt now stand within apart leaves is = record {
   };
   none_own = is.none_own;
   seen = λ j j_in. omega (arith, is.seen j j_in, leaves.grows j k j_in within);
-  halt_seen = λ ne. leaves.halt_seen stand.halt ne (is.halt_seen ne);
-  failed = λ e. is.failed (leaves.failed k apart e);
-  announced = λ first e. is.announced first (leaves.ended k apart first e);
+  knows = record {
+    seen = λ ne. leaves.of_halt.seen stand.halt ne (is.knows.seen ne);
+    failed = λ e. is.knows.failed (leaves.of_halt.failed k apart e);
+    announced = λ first e. is.knows.announced first (leaves.of_halt.ended k apart first e);
+  };
 }
 
+-- a step of node i that leaves the counts may change its colour, its token and the halt that it knows
+pub counts_stay : (n i : ℕ) (old new : Ring) (halt now : ℕ) (stand : Stand) (black : Bool) (token : Option Token) (known : ℕ) → i < n →
+    CountsStay n old.posted new.posted → CountsStay n old.taken new.taken → black ≡ new.black i →
+    ((seen : Token) → token ≡ Some seen → (seen ≡ new.token) × (seen.at ≡ i)) → (known ≡ 1 → new.announced ≡ true) → KnowsHalt i now known →
+    IsStand n old halt i stand → IsStand n new now i (record stand { black = black; token = token; halt = known })
+counts_stay n i old new halt now stand black token known within posted taken colour token_is ended knows is = record {
+  long = is.long;
+  shows = record {
+    posted = λ k k_in. is.shows.posted k k_in ∙ sym (posted i k within k_in);
+    taken = λ k k_in. is.shows.taken k k_in ∙ sym (taken k i k_in within);
+    colour = colour;
+    token = token_is;
+    ended = ended;
+  };
+  none_own = is.none_own;
+  seen = λ k k_in. omega (arith, is.seen k k_in, posted k i k_in within);
+  knows = knows;
+}
+
+-- a node that found the halt, or made it, knows it
+pub knows_now : (i halt : ℕ) → KnowsHalt i halt halt
+knows_now i halt = record { seen = λ ne. refl; failed = λ e. e; announced = λ first e. e }
+
 -- the log goes on from what was witnessed
-goes_further : (witnessed log more : List BoardEvent) → IsLaterLog witnessed log → IsLaterLog witnessed (more ++ log)
+pub goes_further : (witnessed log more : List BoardEvent) → IsLaterLog witnessed log → IsLaterLog witnessed (more ++ log)
 goes_further witnessed log more on = (more ++ on.0, ap (λ (l : List BoardEvent). more ++ l) on.1 ∙ sym (append_assoc more on.0 witnessed))
 
 -- the view of one node is right where that node is, and has moved nothing since
@@ -197,19 +231,6 @@ happened n i id event words after views stand new witnessed black token held at 
       },
     )
 
-stays : (n i : ℕ) (ring : Ring) (halt : ℕ) → Leaves n i ring ring halt halt
-stays n i ring halt = record {
-  posted = λ k j k_in j_in apart. refl;
-  grows = λ j k j_in k_in. omega arith;
-  taken = λ j k j_in k_in apart. refl;
-  colour = λ k k_in apart. refl;
-  token = λ k apart e. refl;
-  halt_seen = λ word ne e. e;
-  failed = λ k apart e. e;
-  ended = λ k apart first e. e;
-  announced = λ e. e;
-}
-
 -- a step that changes no word, but what the node knows, keeps the rule, and observes what is so of the ring
 pub known : (n i id : ℕ) (words : List ℕ) (views : List View) (stand new : Stand) (witnessed : List BoardEvent) (IsSo : Ring → Type 0) (held : IsHeld n words views) →
     get_elem? views id ≡ some (one n i stand witnessed) →
@@ -217,7 +238,9 @@ pub known : (n i id : ℕ) (words : List ℕ) (views : List View) (stand new : S
     IsHeld n words (slice_set views id (one n i new held.log)) × Observes n i new witnessed held.log IsSo
 known n i id words views stand new witnessed IsSo held at is so = (
   kept n i id words words views stand new witnessed [] held.black held.token held at refl refl held.packed held.halt_within held.lawful held.runs
-      held.told (λ k apart. refl) (stays n i (ring_of n words held.black held.token) (slice_index words 2)) is,
+      held.told (λ k apart. refl)
+      (ring_stays n i (ring_of n words held.black held.token) (slice_index words 2) (slice_index words 2)
+      (halt_stays i (slice_index words 2) (slice_index words 2) refl)) is,
   record {
     went_on = (held.views_are id (one n i stand witnessed) at).was_witnessed;
     alone = own_alone n i id words views stand witnessed held at;
@@ -228,3 +251,23 @@ known n i id words views stand new witnessed IsSo held at is so = (
     is_so = so;
   },
 )
+
+-- the rule holds of other views too where each of these is right
+pub with_views : (n : ℕ) (words : List ℕ) (views others : List View) (owner : ℕ → ℕ) (held : IsHeld n words views) →
+    ((port : ℕ) (view : View) → get_elem? others port ≡ some view →
+    IsView n owner (ring_of n words held.black held.token) (slice_index words 2) held.log port view) → IsHeld n words others
+with_views n words views others owner held are = record {
+  size = held.size;
+  wide = held.wide;
+  nodes = held.nodes;
+  black = held.black;
+  token = held.token;
+  packed = held.packed;
+  lawful = held.lawful;
+  halt_within = held.halt_within;
+  log = held.log;
+  runs = held.runs;
+  told = held.told;
+  owner = owner;
+  views_are = are;
+}

@@ -1,16 +1,7 @@
 -- The events of a log lead to one ring, as far as it is spoken of: in the nodes below n, the token and the end.
 use Rattle.std.proofs.Common.{◌≡◌, ℕ, suc, ◌<◌, List, [], ◌∷◌, Bool, true, false, eqb, eq-eqb, ne_eqb, sym, ap, ◌∙◌, inl, inr, arith}
-use Rattle.std.proofs.Math.IntN.{ℤ, pos, ◌-ℤ◌}
-use Rattle.std.proofs.lemmas.Bool.{cases_eq}
-use Rattle.dob_safra.specs.declared.token.Token.{Token}
-use Rattle.dob_safra.specs.declared.event.RingEvent.{RingEvent}
-use Rattle.dob_board.specs.declared.view.BoardEvent.{BoardEvent}
-use Rattle.dob_board.specs.declared.view.BoardEvent.TheVariants.{OfRing, Failure}
-use Rattle.dob_safra.specs.declared.event.RingEvent.TheVariants.{Post, Take, Pass, Announce}
-use Rattle.dob_safra.specs.Tokens.{passed_on}
-use Rattle.dob_safra.specs.Rings.{Ring, counter, sum_below, Raises, Colours, Moved}
-use Rattle.dob_safra.proofs.Sums.{sum_same}
-use Rattle.dob_board.specs.Histories.{Runs}
+use Rattle.dob_board.proofs.Names.{ℤ, pos, ◌-ℤ◌, cases_eq, Token, RingEvent, BoardEvent, OfRing, Failure, Post, Take, Pass, Announce, passed_on, Ring, counter}
+use Rattle.dob_board.proofs.Names.{sum_below, Raises, Colours, Moved, sum_same, Runs}
 
 pub record Agree (n : ℕ) (one other : Ring) : Type 0 where
   pub posted : (k l : ℕ) → k < n → l < n → one.posted k l ≡ other.posted k l

@@ -1,8 +1,7 @@
 -- Which word is which, and what a write to one leaves of the others.
-use Rattle.std.proofs.Common.{◌≡◌, ℕ, suc, ◌+◌, ◌*◌, ◌<◌, ◌≤◌, List, length, set, get_or, ◌∙◌, arith, inl, inr, get_or-set_same, get_or-set_other}
-use Rattle.std.proofs.lemmas.Nat.{mul-add-lt, same_from_place}
-use Rattle.dob_safra.specs.Rings.{Raises, CountsStay}
-use Rattle.dob_board.specs.Words.{posted_word, taken_word, word_count}
+use Rattle.std.proofs.Common.{◌≡◌, ◌≢◌, true, false, cond, eqb, eq-eqb, ne_eqb, refl, ℕ, suc, ◌+◌, ◌*◌, ◌<◌, ◌≤◌, List, length, set, get_or, ◌∙◌, arith, inl}
+use Rattle.std.proofs.Common.{inr, get_or-set_same, get_or-set_other}
+use Rattle.dob_board.proofs.Names.{mul-add-lt, same_from_place, Raises, CountsStay, posted_word, taken_word, word_count}
 
 pub posted_below : (n i j : ℕ) → i < n → j < n → posted_word n i j < 3 + n * n
 posted_below n i j i_in j_in = omega (arith, mul-add-lt i n j n i_in j_in)
@@ -58,3 +57,14 @@ posted_stays n i j words v i_in j_in k l k_in l_in =
 -- a write behind the first three words leaves these
 pub head_stays : (words : List ℕ) (w v k : ℕ) → 3 ≤ w → k < 3 → get_or (set words w v) k 0 ≡ get_or words k 0
 head_stays words w v k behind before = get_or-set_other words w k v 0 (λ e. omega (arith, e))
+
+-- ---- a function with another value at i
+
+abbrev pub with_at : {A : Type 0} → ℕ → A → (ℕ → A) → ℕ → A
+with_at i x f k = cond (eqb k i) x (f k)
+
+pub with_here : {A : Type 0} (i : ℕ) (x : A) (f : ℕ → A) → with_at i x f i ≡ x
+with_here i x f = let same : eqb i i ≡ true = eq-eqb i i refl in rw same refl
+
+pub with_else : {A : Type 0} (i k : ℕ) (x : A) (f : ℕ → A) → k ≢ i → with_at i x f k ≡ f k
+with_else i k x f apart = let other : eqb k i ≡ false = ne_eqb k i apart in rw other refl

@@ -1,43 +1,15 @@
 -- The start of a board, and how the view of all nodes is split.
-use Rattle.std.proofs.Common.{◌≡◌, ◌≢◌, ℕ, zero, suc, ◌+◌, ◌-◌, ◌<◌, ◌⊎◌, List, [], ◌∷◌, ◌++◌, length, set, get_or, Some, true, false, cond, eqb, eq-eqb}
-use Rattle.std.proofs.Common.{ne_eqb, refl, sym, ap, ◌∙◌, subst, ⊎_elim, inl, inr, arith, rules, map, length-set, length-append, get_or-set_same}
-use Rattle.std.proofs.Common.{get_or-set_other}
-use Rattle.std.specs.Prelude.{slice_index, slice_set, slice_get, replicate}
-use Rattle.std.proofs.lemmas.List.{map-append}
-use mathlib.Core.Option.{some, some-ne-none, some-injective}
-use lib.ListN.{get_elem?}
-use Rattle.atomic_table.specs.Table.{Splits}
-use Rattle.atomic_table.proofs.Lists.{at_set}
-use Rattle.dob_board.specs.declared.view.BoardEvent.{BoardEvent}
-use Rattle.dob_safra.specs.Tokens.{IsPacked, first_token}
-use Rattle.dob_safra.specs.Rings.{Ring, IsLawfulRing, IsStart, black_token}
-use Rattle.dob_safra.specs.Laws.{IsSize}
-use Rattle.dob_board.specs.declared.view.Stand.{Stand}
-use Rattle.dob_board.specs.declared.view.View.{View}
-use Rattle.dob_board.specs.Words.{posted_word, taken_word, word_count, ring_of}
-use Rattle.dob_board.specs.Views.{one, IsStand}
-use Rattle.dob_board.specs.Histories.{token_moves_of}
-use Rattle.dob_board.specs.Rule.{IsNode, IsView, IsHeld, fresh, whole}
-use Rattle.dob_board.specs.Plays.{others_of, first_of}
-use Rattle.dob_board.specs.Boards.{first_words, behind}
-use Rattle.atomic_table.specs.Seated.{TableId}
-use Rattle.dob_board.specs.declared.seat.NodeSeat.{NodeSeat}
-use Rattle.dob_board.specs.Seats.{stand_of, IsSeatOf}
-use Rattle.dob_pieces.proofs.Elements.{at_end}
-use Rattle.dob_board.proofs.Kept.{has_all, one_is_view}
+use Rattle.std.proofs.Common.{◌≡◌, ◌≢◌, ℕ, zero, suc, ◌+◌, ◌-◌, ◌<◌, ◌⊎◌, List, [], ◌∷◌, ◌++◌, length, set, get_or, Some, true, false, eqb, refl, sym, ap, ◌∙◌}
+use Rattle.std.proofs.Common.{subst, ⊎_elim, inl, inr, arith, rules, map, length-set, length-append, get_or-set_same, get_or-set_other}
+use Rattle.dob_board.proofs.Names.{replicate_next, length-replicate, slice_index, slice_set, slice_get, replicate, map-append, some, some-ne-none}
+use Rattle.dob_board.proofs.Names.{some-injective, get_elem?, Splits, at_set, BoardEvent, IsPacked, first_token, Ring, IsLawfulRing, IsStart, black_token}
+use Rattle.dob_board.proofs.Names.{IsSize, Stand, View, posted_word, taken_word, word_count, ring_of, one, KnowsHalt, IsStand, token_moves_of, IsNode, IsView}
+use Rattle.dob_board.proofs.Names.{IsHeld, fresh, whole, others_of, first_of, first_words, behind, TableId, NodeSeat, stand_of, IsSeatOf, at_end}
+use Rattle.dob_board.proofs.Places.{with_at, with_here, with_else}
+use Rattle.dob_board.proofs.Kept.{has_all, one_is_view, knows_now, with_views}
 use Rattle.dob_board.proofs.Allowed.{Seated, Held}
 
 -- ---- split
-
--- the seats of the nodes, where node i has a new one
-abbrev pub port_of : ℕ → ℕ → (ℕ → ℕ) → ℕ → ℕ
-port_of i port owner m = cond (eqb m i) port (owner m)
-
-pub port_here : (i port : ℕ) (owner : ℕ → ℕ) → port_of i port owner i ≡ port
-port_here i port owner = let same : eqb i i ≡ true = eq-eqb i i refl in rw same refl
-
-pub port_else : (i port m : ℕ) (owner : ℕ → ℕ) → m ≢ i → port_of i port owner m ≡ owner m
-port_else i port m owner apart = let other : eqb m i ≡ false = ne_eqb m i apart in rw other refl
 
 views_end : {A : Type 0} → (l : List A) (a b : A) (j : ℕ) → get_elem? (l ++ a ∷ []) j ≡ some b → (get_elem? l j ≡ some b) ⊎ ((j ≡ length l) × (a ≡ b))
 views_end [] a b zero e = inr (refl, some-injective a b e)
@@ -47,7 +19,7 @@ views_end (x ∷ xs) a b (suc j) e = ⊎_elim (λ l. inl l) (λ r. inr (ap suc r
 
 -- the views of other seats, where another seat has node i now
 pub elsewhere : (n i id fresh_port port halt : ℕ) (owner : ℕ → ℕ) (ring : Ring) (log : List BoardEvent) (view : View) → i < n → owner i ≡ id
-    → port ≢ id → IsView n owner ring halt log port view → IsView n (port_of i fresh_port owner) ring halt log port view
+    → port ≢ id → IsView n owner ring halt log port view → IsView n (with_at i fresh_port owner) ring halt log port view
 elsewhere n i id fresh_port port halt owner ring log view within owned apart was = record {
   was_witnessed = was.was_witnessed;
   nodes = λ k stand e.
@@ -56,7 +28,7 @@ elsewhere n i id fresh_port port halt owner ring log view within owned apart was
       record {
         size_is = node.size_is;
         within = node.within;
-        owned = port_else i fresh_port (view.from + k) owner other ∙ node.owned;
+        owned = with_else i (view.from + k) fresh_port owner other ∙ node.owned;
         is_stand = node.is_stand;
       };
   alone = was.alone;
@@ -77,49 +49,36 @@ splits n i id words views stand rest witnessed held at =
     let own : IsNode n held.owner ring halt id n i stand = subst (λ (x : ℕ). IsNode n held.owner ring halt id n x stand) first (was.nodes 0 stand refl) in
     let still : token_moves_of i held.log ≡ token_moves_of i witnessed = subst (λ (x : ℕ). token_moves_of x held.log ≡ token_moves_of x witnessed) first (was.alone refl 0 stand refl) in
     let port' : ℕ = length views in
-    let owner : ℕ → ℕ = port_of i port' held.owner in
-    record {
-      size = held.size;
-      wide = held.wide;
-      nodes = held.nodes;
-      black = held.black;
-      token = held.token;
-      packed = held.packed;
-      lawful = held.lawful;
-      halt_within = held.halt_within;
-      log = held.log;
-      runs = held.runs;
-      told = held.told;
-      owner = owner;
-      views_are = λ port view e.
-          ⊎_elim
-          (λ (there : get_elem? (set views id (view_from n (suc i) rest witnessed)) port ≡ some view).
-          ⊎_elim
-          (λ (x : (port ≡ id) × (view_from n (suc i) rest witnessed ≡ view)).
-          subst (λ (p : ℕ × View). IsView n owner ring halt held.log p.0 p.1) (λ q. (sym x.0 q, x.1 q))
-          (record {
-            was_witnessed = was.was_witnessed;
-            nodes = λ k at' e'.
-                let node = was.nodes (suc k) at' e' in
-                let apart : i + suc k ≢ i = λ same. omega (arith, same) in
-                let place : i + suc k ≡ suc i + k = omega arith in
-                subst (λ (x : ℕ). IsNode n owner ring halt id n x at') place
-                (record
-                { size_is = refl; within = node.within; owned = port_else i port' (i + suc k) held.owner apart ∙ node.owned; is_stand = node.is_stand });
-            alone = λ own k at' e'.
-                let place : i + suc k ≡ suc i + k = omega arith in
-                subst (λ (x : ℕ). token_moves_of x held.log ≡ token_moves_of x witnessed) place (was.alone refl (suc k) at' e');
-            is_closed = λ e'. absurd (cc);
-          }))
-          (λ (x : (port ≢ id) × (get_elem? views port ≡ some view)).
-          elsewhere n i id port' port halt held.owner ring held.log view own.within own.owned x.0 (held.views_are port view x.1))
-          (at_set views id port (view_from n (suc i) rest witnessed) view there))
-          (λ (last : (port ≡ length (set views id (view_from n (suc i) rest witnessed))) × (one n i stand witnessed ≡ view)).
-          let port_is : port' ≡ port = sym (length-set views id (view_from n (suc i) rest witnessed)) ∙ sym last.0 in
-          subst (λ (p : ℕ × View). IsView n owner ring halt held.log p.0 p.1) (λ q. (port_is q, last.1 q))
-          (one_is_view n i port' halt owner ring held.log witnessed stand own.within (port_here i port' held.owner) was.was_witnessed still own.is_stand))
-          (views_end (set views id (view_from n (suc i) rest witnessed)) (one n i stand witnessed) view port e);
-    }
+    let owner : ℕ → ℕ = with_at i port' held.owner in
+    with_views n words views (slice_set views id (view_from n (suc i) rest witnessed) ++ one n i stand witnessed ∷ []) owner held
+    (λ port view e.
+    ⊎_elim
+    (λ (there : get_elem? (set views id (view_from n (suc i) rest witnessed)) port ≡ some view).
+    ⊎_elim
+    (λ (x : (port ≡ id) × (view_from n (suc i) rest witnessed ≡ view)).
+    subst (λ (p : ℕ × View). IsView n owner ring halt held.log p.0 p.1) (λ q. (sym x.0 q, x.1 q))
+    (record {
+      was_witnessed = was.was_witnessed;
+      nodes = λ k at' e'.
+          let node = was.nodes (suc k) at' e' in
+          let apart : i + suc k ≢ i = λ same. omega (arith, same) in
+          let place : i + suc k ≡ suc i + k = omega arith in
+          subst (λ (x : ℕ). IsNode n owner ring halt id n x at') place
+          (record
+          { size_is = refl; within = node.within; owned = with_else i (i + suc k) port' held.owner apart ∙ node.owned; is_stand = node.is_stand });
+      alone = λ own k at' e'.
+          let place : i + suc k ≡ suc i + k = omega arith in
+          subst (λ (x : ℕ). token_moves_of x held.log ≡ token_moves_of x witnessed) place (was.alone refl (suc k) at' e');
+      is_closed = λ e'. absurd (cc);
+    }))
+    (λ (x : (port ≢ id) × (get_elem? views port ≡ some view)).
+    elsewhere n i id port' port halt held.owner ring held.log view own.within own.owned x.0 (held.views_are port view x.1))
+    (at_set views id port (view_from n (suc i) rest witnessed) view there))
+    (λ (last : (port ≡ length (set views id (view_from n (suc i) rest witnessed))) × (one n i stand witnessed ≡ view)).
+    let port_is : port' ≡ port = sym (length-set views id (view_from n (suc i) rest witnessed)) ∙ sym last.0 in
+    subst (λ (p : ℕ × View). IsView n owner ring halt held.log p.0 p.1) (λ q. (port_is q, last.1 q))
+    (one_is_view n i port' halt owner ring held.log witnessed stand own.within (with_here i port' held.owner) was.was_witnessed still own.is_stand))
+    (views_end (set views id (view_from n (suc i) rest witnessed)) (one n i stand witnessed) view port e))
 
 abbrev stands_behind : ℕ → ℕ → List Stand
 stands_behind n m = replicate m (fresh n)
@@ -151,10 +110,6 @@ zeros zero k = refl
 zeros (suc m) zero = refl
 zeros (suc m) (suc k) = zeros m k
 
-zeros_len : (m : ℕ) → length (zeros_of m) ≡ m
-zeros_len zero = refl
-zeros_len (suc m) = ap suc (zeros_len m)
-
 first_zero : (n word k : ℕ) → 1 < k → get_or (first_words n word) k 0 ≡ 0
 first_zero n word k behind_first =
     get_or-set_other (set (zeros_of (word_count n)) 0 n) 1 k word 0 (λ e. omega (arith, e))
@@ -162,7 +117,7 @@ first_zero n word k behind_first =
     ∙ zeros (word_count n) k
 
 first_len : (n word : ℕ) → length (first_words n word) ≡ word_count n
-first_len n word = length-set (set (zeros_of (word_count n)) 0 n) 1 word ∙ length-set (zeros_of (word_count n)) 0 n ∙ zeros_len (word_count n)
+first_len n word = length-set (set (zeros_of (word_count n)) 0 n) 1 word ∙ length-set (zeros_of (word_count n)) 0 n ∙ length-replicate {A = ℕ} (word_count n) 0
 
 abbrev first_ring : ℕ → ℕ → Ring
 first_ring n word = ring_of n (first_words n word) (λ k. true) first_token
@@ -194,9 +149,7 @@ fresh_stand : (n word i : ℕ) → i < n → IsStand n (first_ring n word) (slic
 fresh_stand n word i within =
     let start = first_start n word in
     record {
-      posted_len = zeros_len n;
-      taken_len = zeros_len n;
-      seen_len = zeros_len n;
+      long = record { posted = length-replicate {A = ℕ} n 0; taken = length-replicate {A = ℕ} n 0; seen = length-replicate {A = ℕ} n 0 };
       shows = record {
         posted = λ j j_in. zeros n j ∙ sym (start.posted i j within j_in);
         taken = λ j j_in. zeros n j ∙ sym (start.taken j i j_in within);
@@ -206,9 +159,7 @@ fresh_stand n word i within =
       };
       none_own = zeros n i;
       seen = λ j j_in. omega (arith, zeros n j);
-      halt_seen = λ ne. absurd (ne refl);
-      failed = λ e. absurd (omega (arith, e, first_zero n word 2 (omega arith)));
-      announced = λ first e. absurd (omega (arith, e, first_zero n word 2 (omega arith)));
+      knows = subst (λ (h : ℕ). KnowsHalt i h 0) (sym (first_zero n word 2 (omega arith))) (knows_now i 0);
     }
 
 at_fresh : (m k : ℕ) (x stand : Stand) → get_elem? (replicate m x) k ≡ some stand → (k < m) × (x ≡ stand)
@@ -221,11 +172,11 @@ begins n word size packed = record {
   size = size;
   wide = first_len n word;
   nodes = get_or-set_other (set (zeros_of (word_count n)) 0 n) 1 0 word 0 (λ e. omega (arith, e))
-      ∙ get_or-set_same (zeros_of (word_count n)) 0 n 0 (omega (arith, zeros_len (word_count n)));
+      ∙ get_or-set_same (zeros_of (word_count n)) 0 n 0 (omega (arith, length-replicate {A = ℕ} (word_count n) 0));
   black = λ k. true;
   token = first_token;
   packed = subst (IsPacked first_token)
-      (sym (get_or-set_same (set (zeros_of (word_count n)) 0 n) 1 word 0 (omega (arith, length-set (zeros_of (word_count n)) 0 n, zeros_len (word_count n)))))
+      (sym (get_or-set_same (set (zeros_of (word_count n)) 0 n) 1 word 0 (omega (arith, length-set (zeros_of (word_count n)) 0 n, length-replicate {A = ℕ} (word_count n) 0))))
       packed;
   lawful = first_lawful n word size;
   halt_within = omega (arith, first_zero n word 2 (omega arith));
@@ -258,14 +209,11 @@ pub record AreFirst (board : TableId) (n k : ℕ) (seats : List NodeSeat) : Type
   pub seats_are : (m : ℕ) (seat : NodeSeat) → slice_get seats m ≡ Some seat → IsSeatOf board n m seat
   pub are_fresh : map stand_of seats ≡ replicate k (fresh n)
 
-one_more_fresh : (k : ℕ) (x : Stand) → replicate k x ++ x ∷ [] ≡ replicate (suc k) x
-one_more_fresh zero x = refl
-one_more_fresh (suc k) x = ap (λ (xs : List Stand). x ∷ xs) (one_more_fresh k x)
-
 pub push_first : (board : TableId) (n k : ℕ) (seats pushed : List NodeSeat) (seat : NodeSeat) → AreFirst board n k seats → IsSeatOf board n k seat
     → stand_of seat ≡ fresh n →
     pushed ≡ seats ++ seat ∷ [] → AreFirst board n (suc k) pushed
 push_first board n k seats pushed seat first is is_fresh pushed_is =
+    let next : k + 1 ≡ suc k = omega arith in
     subst (AreFirst board n (suc k)) (sym pushed_is) (record {
       count = omega (arith, length-append seats (seat ∷ []), first.count);
       seats_are = λ m other e. ⊎_elim
@@ -274,5 +222,5 @@ push_first board n k seats pushed seat first is is_fresh pushed_is =
           (at_end seats seat other m e);
       are_fresh =
           map-append stand_of seats (seat ∷ []) ∙ ap (λ (s : Stand). map stand_of seats ++ s ∷ []) is_fresh ∙ ap (λ (ss : List Stand). ss ++ fresh n ∷ []) first.are_fresh
-          ∙ one_more_fresh k (fresh n);
+          ∙ sym (replicate_next k (fresh n)) ∙ ap (λ (m : ℕ). replicate m (fresh n)) next;
     })

@@ -1,26 +1,11 @@
 -- The steps of a seat.
-use Rattle.std.proofs.Common.{◌≡◌, ◌≢◌, ℕ, suc, ◌^◌, ◌<◌, ◌≤◌, List, ◌∷◌, length, set, get_or, Bool, true, false, cond, eqb, eq-eqb, ne_eqb, refl, sym, ap}
-use Rattle.std.proofs.Common.{◌∙◌, subst, inl, inr, arith, length-set, get_or-set_same, get_or-set_other}
-use Rattle.std.specs.Prelude.{slice_index, slice_set}
-use Rattle.std.proofs.lemmas.Bool.{cases_Bool, cases_eq}
-use mathlib.Core.Option.{some}
-use lib.ListN.{get_elem?}
-use Rattle.dob_safra.specs.declared.token.Token.{Token}
-use Rattle.dob_board.specs.declared.view.BoardEvent.{BoardEvent}
-use Rattle.dob_board.specs.declared.view.BoardEvent.TheVariants.{OfRing}
-use Rattle.dob_safra.specs.declared.event.RingEvent.TheVariants.{Post, Take}
-use Rattle.dob_safra.specs.Tokens.{IsPacked}
-use Rattle.dob_safra.specs.Rings.{Ring, IsLawfulRing, Colours, Posts, Takes}
-use Rattle.dob_safra.specs.Laws.{HasFew}
-use Rattle.dob_safra.proofs.Kept.{raised_at_least, raised_at_most}
-use Rattle.dob_board.specs.declared.view.Stand.{Stand}
-use Rattle.dob_board.specs.declared.view.View.{View}
-use Rattle.dob_board.specs.Words.{posted_word, taken_word, word_count, ring_of}
-use Rattle.dob_board.specs.Views.{one, posts_more, takes_more, sees, IsStand}
-use Rattle.dob_board.specs.Histories.{MakesEvent, Observes, HasPosted}
-use Rattle.dob_board.specs.Rule.{IsHeld}
-use Rattle.dob_board.proofs.Places.{posted_in, taken_in, posted_raised, taken_raised, taken_stays, posted_stays, head_stays}
-use Rattle.dob_board.proofs.Kept.{Leaves, own_node, happened, known}
+use Rattle.std.proofs.Common.{◌≡◌, ◌≢◌, ℕ, suc, ◌^◌, ◌<◌, ◌≤◌, List, ◌∷◌, length, set, get_or, Bool, true, true≢false, eqb, refl, sym, ap, ◌∙◌, subst, inl, inr}
+use Rattle.std.proofs.Common.{arith, length-set, get_or-set_same, get_or-set_other}
+use Rattle.dob_board.proofs.Names.{slice_index, slice_set, false_from_ne_true, cases_eq, some, get_elem?, Token, BoardEvent, OfRing, Post, Take, IsPacked, Ring}
+use Rattle.dob_board.proofs.Names.{IsLawfulRing, Colours, Posts, Takes, HasFew, raised_at_least, raised_at_most, Stand, View, posted_word, taken_word}
+use Rattle.dob_board.proofs.Names.{word_count, ring_of, one, posts_more, takes_more, sees, KnowsHalt, IsStand, MakesEvent, Observes, HasPosted, IsHeld}
+use Rattle.dob_board.proofs.Places.{with_at, with_here, with_else, posted_in, taken_in, posted_raised, taken_raised, taken_stays, posted_stays, head_stays}
+use Rattle.dob_board.proofs.Kept.{Leaves, halt_stays, own_node, happened, known}
 
 -- a list with one number changed
 changed : (xs : List ℕ) (j k v : ℕ) → j < length xs → (k ≡ j → get_or (set xs j v) k 0 ≡ v) × (k ≢ j → get_or (set xs j v) k 0 ≡ get_or xs k 0)
@@ -53,22 +38,18 @@ posts_leaves n i j old new halt now moved same = record {
   taken = λ k l k_in l_in apart. moved.taken k l k_in l_in;
   colour = λ k k_in apart. moved.colours k k_in;
   token = λ k apart e. moved.token;
-  halt_seen = λ word ne e. same ∙ e;
-  failed = λ k apart e. sym same ∙ e;
-  ended = λ k apart first e. sym same ∙ e;
   announced = λ e. moved.announced ∙ e;
+  of_halt = halt_stays i halt now same;
 }
 
 -- what node i knows after its post
 posts_stand : (n i j : ℕ) (old new : Ring) (halt now : ℕ) (stand : Stand) → j ≢ i → Posts n old i j new → now ≡ halt → IsStand n old halt i stand →
     IsStand n new now i (posts_more stand j)
 posts_stand n i j old new halt now stand other moved same is = record {
-  posted_len = length-set stand.posted j (suc (slice_index stand.posted j)) ∙ is.posted_len;
-  taken_len = is.taken_len;
-  seen_len = is.seen_len;
+  long = record { posted = length-set stand.posted j (suc (slice_index stand.posted j)) ∙ is.long.posted; taken = is.long.taken; seen = is.long.seen };
   shows = record {
     posted = λ k k_in.
-        let place = changed stand.posted j k (suc (slice_index stand.posted j)) (omega (arith, is.posted_len, moved.to)) in
+        let place = changed stand.posted j k (suc (slice_index stand.posted j)) (omega (arith, is.long.posted, moved.to)) in
         elim (cases_eq k j) [
           | inl e ↦ place.0 e ∙ ap suc (is.shows.posted j moved.to) ∙ sym moved.posted.one_more ∙ ap (new.posted i) (sym e)
           | inr apart ↦ place.1 apart ∙ is.shows.posted k k_in ∙ sym (moved.posted.others i k moved.from k_in (inr apart))
@@ -80,18 +61,8 @@ posts_stand n i j old new halt now stand other moved same is = record {
   };
   none_own = get_or-set_other stand.posted j i (suc (slice_index stand.posted j)) 0 (λ e. other (sym e)) ∙ is.none_own;
   seen = λ k k_in. omega (arith, is.seen k k_in, raised_at_least n i j k i old.posted new.posted k_in moved.from moved.posted);
-  halt_seen = λ ne. same ∙ is.halt_seen ne;
-  failed = λ e. is.failed (sym same ∙ e);
-  announced = λ first e. is.announced first (sym same ∙ e);
+  knows = subst (λ (h : ℕ). KnowsHalt i h stand.halt) (sym same) is.knows;
 }
-
--- a ring with a black node isn't announced
-not_announced : (n i : ℕ) (ring : Ring) → IsLawfulRing n ring → i < n → ring.black i ≡ true → ring.announced ≡ false
-not_announced n i ring lawful within black =
-    elim (cases_Bool ring.announced) [
-      | inl ended ↦ let white : ring.black i ≡ false = lawful.all_white ended i within in absurd (cc)
-      | inr going ↦ going
-    ]
 
 -- no other count passes 2^40
 posts_few : (n i j : ℕ) (old new : Ring) → IsLawfulRing n old → Posts n old i j new → old.posted i j < 2 ^ 40 → HasFew n new
@@ -117,7 +88,7 @@ posts n i j id words views stand witnessed held at j_in other is_black room =
     (head_stays words (posted_word n i j) (suc (posted_in n words i j)) 0 (omega arith) (omega arith))
     (subst (IsPacked held.token) (sym (head_stays words (posted_word n i j) (suc (posted_in n words i j)) 1 (omega arith) (omega arith))) held.packed)
     (omega (arith, halt, held.halt_within))
-    (not_announced n i old held.lawful mine.within painted_black) moved few (halt ∙ held.told) (λ k apart. refl)
+    (false_from_ne_true old.announced (λ ended. true≢false (sym painted_black ∙ held.lawful.all_white ended i mine.within))) moved few (halt ∙ held.told) (λ k apart. refl)
     (posts_leaves n i j old new (slice_index words 2) (slice_index (posted_after n i j words) 2) moved halt)
     (posts_stand n i j old new (slice_index words 2) (slice_index (posted_after n i j words) 2) stand other moved halt is)
 
@@ -126,58 +97,37 @@ posts n i j id words views stand witnessed held at j_in other is_black room =
 sees_stand : (n i j halt : ℕ) (ring : Ring) (stand : Stand) → i < n → j < n → IsStand n ring halt i stand
     → IsStand n ring halt i (sees stand j (ring.posted j i))
 sees_stand n i j halt ring stand i_in j_in is = record {
-  posted_len = is.posted_len;
-  taken_len = is.taken_len;
-  seen_len = length-set stand.seen j (ring.posted j i) ∙ is.seen_len;
+  long = record { posted = is.long.posted; taken = is.long.taken; seen = length-set stand.seen j (ring.posted j i) ∙ is.long.seen };
   shows = record { posted = is.shows.posted; taken = is.shows.taken; colour = is.shows.colour; token = is.shows.token; ended = is.shows.ended };
   none_own = is.none_own;
   seen = λ k k_in.
-      let place = changed stand.seen j k (ring.posted j i) (omega (arith, is.seen_len, j_in)) in
+      let place = changed stand.seen j k (ring.posted j i) (omega (arith, is.long.seen, j_in)) in
       elim (cases_eq k j) [
         | inl e ↦ omega (arith, place.0 e, ap (λ (a : ℕ). ring.posted a i) e)
         | inr apart ↦ omega (arith, place.1 apart, is.seen k k_in)
       ];
-  halt_seen = is.halt_seen;
-  failed = is.failed;
-  announced = is.announced;
+  knows = is.knows;
 }
 
 pub looks : (n i j id : ℕ) (words : List ℕ) (views : List View) (stand : Stand) (witnessed : List BoardEvent) (held : IsHeld n words views) →
     get_elem? views id ≡ some (one n i stand witnessed) → j < n →
-    (number : ℕ) × (number ≡ slice_index words (posted_word n j i))
-    × IsHeld n words (slice_set views id (one n i (sees stand j number) held.log))
-    × (slice_index stand.seen j ≤ number) × (slice_index stand.taken j ≤ number)
-    × Observes n i (sees stand j number) witnessed held.log (HasPosted j i number)
+    IsHeld n words (slice_set views id (one n i (sees stand j (posted_in n words j i)) held.log))
+    × Observes n i (sees stand j (posted_in n words j i)) witnessed held.log (HasPosted j i (posted_in n words j i))
+    × (slice_index stand.seen j ≤ posted_in n words j i) × (slice_index stand.taken j ≤ posted_in n words j i)
 looks n i j id words views stand witnessed held at j_in =
     let ring : Ring = ring_of n words held.black held.token in
     let mine = own_node n i id words views stand witnessed held at in
     let is = mine.is_stand in
     let made = known n i id words views stand (sees stand j (ring.posted j i)) witnessed (HasPosted j i (ring.posted j i)) held at
-    (sees_stand n i j (slice_index words 2) ring stand mine.within j_in is) refl in (
-      ring.posted j i,
-      refl,
-      made.0,
-      is.seen j j_in,
-      omega (arith, is.shows.taken j j_in, held.lawful.in_order j i j_in mine.within),
-      made.1,
-    )
+    (sees_stand n i j (slice_index words 2) ring stand mine.within j_in is) refl in
+    (made.0, made.1, is.seen j j_in, omega (arith, is.shows.taken j j_in, held.lawful.in_order j i j_in mine.within))
 
 -- ---- take
 
--- the colours, with that of one node as it is now
-abbrev pub painted : ℕ → Bool → (ℕ → Bool) → ℕ → Bool
-painted i colour black k = cond (eqb k i) colour (black k)
-
-pub painted_same : (i : ℕ) (colour : Bool) (black : ℕ → Bool) → painted i colour black i ≡ colour
-painted_same i colour black = let same : eqb i i ≡ true = eq-eqb i i refl in rw same refl
-
-pub painted_other : (i k : ℕ) (colour : Bool) (black : ℕ → Bool) → k ≢ i → painted i colour black k ≡ black k
-painted_other i k colour black apart = let other : eqb k i ≡ false = ne_eqb k i apart in rw other refl
-
-pub painted_colours : (n i : ℕ) (colour : Bool) (old new : Ring) → ((k : ℕ) → new.black k ≡ painted i colour old.black k) → Colours n old new i colour
+pub painted_colours : (n i : ℕ) (colour : Bool) (old new : Ring) → ((k : ℕ) → new.black k ≡ with_at i colour old.black k) → Colours n old new i colour
 painted_colours n i colour old new is = record {
-  colour_is = is i ∙ painted_same i colour old.black;
-  others = λ k k_in apart. is k ∙ painted_other i k colour old.black apart;
+  colour_is = is i ∙ with_here i colour old.black;
+  others = λ k k_in apart. is k ∙ with_else i k colour old.black apart;
 }
 
 abbrev pub taken_after : ℕ → ℕ → ℕ → List ℕ → List ℕ
@@ -185,14 +135,14 @@ taken_after n j i words = set words (taken_word n j i) (suc (get_or words (taken
 
 takes_moved : (n i j : ℕ) (words : List ℕ) (black : ℕ → Bool) (token : Token) → length words ≡ word_count n → i < n → j < n →
     taken_in n words j i < posted_in n words j i →
-    Takes n (ring_of n words black token) j i (ring_of n (taken_after n j i words) (painted i true black) token)
+    Takes n (ring_of n words black token) j i (ring_of n (taken_after n j i words) (with_at i true black) token)
 takes_moved n i j words black token wide i_in j_in waiting = record {
   from = j_in;
   to = i_in;
   waiting = waiting;
   posted = posted_stays n j i words (suc (taken_in n words j i)) j_in i_in;
   taken = taken_raised n j i words (suc (taken_in n words j i)) wide j_in i_in refl;
-  colours = painted_colours n i true (ring_of n words black token) (ring_of n (taken_after n j i words) (painted i true black) token) (λ k. refl);
+  colours = painted_colours n i true (ring_of n words black token) (ring_of n (taken_after n j i words) (with_at i true black) token) (λ k. refl);
   token = refl;
   announced = ap (λ (halt : ℕ). eqb halt 1) (head_stays words (taken_word n j i) (suc (taken_in n words j i)) 2 (omega arith) (omega arith));
 }
@@ -204,22 +154,18 @@ takes_leaves n i j old new halt now moved same = record {
   taken = λ k l k_in l_in apart. moved.taken.others k l k_in l_in (inr apart);
   colour = λ k k_in apart. moved.colours.others k k_in apart;
   token = λ k apart e. moved.token;
-  halt_seen = λ word ne e. same ∙ e;
-  failed = λ k apart e. sym same ∙ e;
-  ended = λ k apart first e. sym same ∙ e;
   announced = λ e. moved.announced ∙ e;
+  of_halt = halt_stays i halt now same;
 }
 
 takes_stand : (n i j : ℕ) (old new : Ring) (halt now : ℕ) (stand : Stand) → Takes n old j i new → now ≡ halt → IsStand n old halt i stand →
     IsStand n new now i (takes_more stand j)
 takes_stand n i j old new halt now stand moved same is = record {
-  posted_len = is.posted_len;
-  taken_len = length-set stand.taken j (suc (slice_index stand.taken j)) ∙ is.taken_len;
-  seen_len = is.seen_len;
+  long = record { posted = is.long.posted; taken = length-set stand.taken j (suc (slice_index stand.taken j)) ∙ is.long.taken; seen = is.long.seen };
   shows = record {
     posted = λ k k_in. is.shows.posted k k_in ∙ sym (moved.posted i k moved.to k_in);
     taken = λ k k_in.
-        let place = changed stand.taken j k (suc (slice_index stand.taken j)) (omega (arith, is.taken_len, moved.from)) in
+        let place = changed stand.taken j k (suc (slice_index stand.taken j)) (omega (arith, is.long.taken, moved.from)) in
         elim (cases_eq k j) [
           | inl e ↦ place.0 e ∙ ap suc (is.shows.taken j moved.from) ∙ sym moved.taken.one_more ∙ ap (λ (a : ℕ). new.taken a i) (sym e)
           | inr apart ↦ place.1 apart ∙ is.shows.taken k k_in ∙ sym (moved.taken.others k i k_in moved.to (inl apart))
@@ -230,25 +176,15 @@ takes_stand n i j old new halt now stand moved same is = record {
   };
   none_own = is.none_own;
   seen = λ k k_in. omega (arith, is.seen k k_in, moved.posted k i k_in moved.to);
-  halt_seen = λ ne. same ∙ is.halt_seen ne;
-  failed = λ e. is.failed (sym same ∙ e);
-  announced = λ first e. is.announced first (sym same ∙ e);
+  knows = subst (λ (h : ℕ). KnowsHalt i h stand.halt) (sym same) is.knows;
 }
-
--- a ring with a batch that isn't taken isn't announced
-not_announced_yet : (n i j : ℕ) (ring : Ring) → IsLawfulRing n ring → i < n → j < n → ring.taken i j < ring.posted i j → ring.announced ≡ false
-not_announced_yet n i j ring lawful i_in j_in waiting =
-    elim (cases_Bool ring.announced) [
-      | inl ended ↦ absurd (omega (arith, lawful.all_taken ended i j i_in j_in, waiting))
-      | inr going ↦ going
-    ]
 
 pub takes : (n i j id : ℕ) (words : List ℕ) (views : List View) (stand : Stand) (witnessed : List BoardEvent) (held : IsHeld n words views) →
     get_elem? views id ≡ some (one n i stand witnessed) → j < n → slice_index stand.taken j < slice_index stand.seen j →
     IsHeld n (taken_after n j i words) (slice_set views id (one n i (takes_more stand j) (OfRing (Take j i) ∷ held.log)))
     × MakesEvent n i (Take j i) stand (takes_more stand j) witnessed (OfRing (Take j i) ∷ held.log)
 takes n i j id words views stand witnessed held at j_in waiting =
-    let black : ℕ → Bool = painted i true held.black in
+    let black : ℕ → Bool = with_at i true held.black in
     let old : Ring = ring_of n words held.black held.token in
     let new : Ring = ring_of n (taken_after n j i words) black held.token in
     let mine = own_node n i id words views stand witnessed held at in
@@ -263,6 +199,6 @@ takes n i j id words views stand witnessed held at j_in waiting =
     (head_stays words (taken_word n j i) write 0 (omega arith) (omega arith))
     (subst (IsPacked held.token) (sym (head_stays words (taken_word n j i) write 1 (omega arith) (omega arith))) held.packed)
     (omega (arith, halt, held.halt_within))
-    (not_announced_yet n j i old held.lawful j_in mine.within in_flight) moved few (halt ∙ held.told) (λ k apart. refl)
+    (false_from_ne_true old.announced (λ ended. omega (arith, held.lawful.all_taken ended j i j_in mine.within, in_flight))) moved few (halt ∙ held.told) (λ k apart. refl)
     (takes_leaves n i j old new (slice_index words 2) (slice_index (taken_after n j i words) 2) moved halt)
     (takes_stand n i j old new (slice_index words 2) (slice_index (taken_after n j i words) 2) stand moved halt is)

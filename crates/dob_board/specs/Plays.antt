@@ -2,80 +2,103 @@
 use Rattle.std.specs.Prelude.{◌≡◌, ◌≢◌, ℕ, suc, ◌+◌, ◌<◌, ◌≤◌, List, [], ◌∷◌, Some, slice_index}
 use Rattle.atomic_table.specs.Table.{Me, Step}
 use Rattle.dob_safra.specs.declared.token.Token.{Token}
+use Rattle.dob_safra.specs.declared.event.RingEvent.{RingEvent}
 use Rattle.dob_safra.specs.declared.event.RingEvent.TheVariants.{Post, Take, Pass, Announce}
 use Rattle.dob_safra.specs.Tokens.{IsPacked}
+use Rattle.dob_safra.specs.Rings.{Ring}
+use Rattle.dob_board.specs.declared.view.BoardEvent.{BoardEvent}
 use Rattle.dob_board.specs.declared.view.Stand.{Stand}
 use Rattle.dob_board.specs.declared.view.View.{View}
 use Rattle.dob_board.specs.Words.{posted_word, taken_word, halt_after}
 use Rattle.dob_board.specs.Views.{one, posts_more, takes_more, sees, meets, passes, finds}
 use Rattle.dob_board.specs.Histories.{MakesEvent, Observes, HasPosted, HasToken, HasHalt, halt_told}
+use Rattle.dob_board.specs.Rule.{fresh}
+
+-- All events so far give the halt word that node i finds or leaves, and it is the one that the node knew if it knew one.
+pub record IsTold (n : ℕ) (stand : Stand) (now : List BoardEvent) (word : ℕ) : Type 0 where
+  pub within : word < 2 + n
+  pub stays : stand.halt ≢ 0 → word ≡ stand.halt
+  pub told : word ≡ halt_told now
+
+-- Node i found the halt word at one number and left it at another, which is the end to node 0 only where that node knew it.
+pub record LooksAt (n i : ℕ) (stand : Stand) (witnessed now : List BoardEvent) (was word : ℕ) : Type 0 where
+  pub is_told : IsTold n stand now word
+  pub announced : i ≡ 0 → word ≡ 1 → stand.halt ≡ 1
+  pub observed : Observes n i (finds stand word) witnessed now (HasHalt was)
+
+-- Node i, which may announce the end, found the halt word at one number and left it at another: it made the event where it found
+-- 0, and else it observed the halt that it found, which is the end only where the node knew it; a failure of its own it knew.
+pub record Announcing (n i : ℕ) (stand : Stand) (witnessed now : List BoardEvent) (was word : ℕ) : Type 0 where
+  pub is_told : IsTold n stand now word
+  pub own : word ≡ 2 + i → stand.halt ≡ 2 + i
+  pub made : was ≡ 0 → MakesEvent n i Announce stand (finds stand 1) witnessed now
+  pub ended : was ≡ 1 → stand.halt ≡ 1
+  pub observed : was ≢ 0 → Observes n i (finds stand was) witnessed now (HasHalt was)
+
+-- what is known of the first node
+abbrev pub first_stand : List Stand → Stand
+first_stand [] = fresh 0
+first_stand (stand ∷ stands) = stand
 
 module _ {S : Type 0} where
+  -- how the seat's node stands
+  abbrev pub own_stand : Me S View → Stand
+  own_stand me = first_stand me.0.stands
+
+  -- its node stands like that afterwards
+  abbrev pub Stands : Me S View → Stand → Me S View → Type 0
+  Stands me new after = after ≡ (one me.0.size me.0.from new after.0.witnessed, me.1)
+
+  -- it made that event, and its node stands like that afterwards
+  abbrev pub Makes : Me S View → RingEvent → Stand → Me S View → Type 0
+  Makes me event new after = Stands me new after × MakesEvent me.0.size me.0.from event (own_stand me) new me.0.witnessed after.0.witnessed
+
+  -- it observed what is so of the ring, and its node stands like that afterwards
+  abbrev pub Notes : Me S View → (Ring → Type 0) → Stand → Me S View → Type 0
+  Notes me IsSo new after = Stands me new after × Observes me.0.size me.0.from new me.0.witnessed after.0.witnessed IsSo
+
   -- one more on the word of what this node posted to j
   abbrev pub Posted : Step S → Me S View → ℕ → Me S View → Type 0
-  Posted st me found after = (j : ℕ) (stand : Stand) → j < me.0.size → st.word ≡ posted_word me.0.size me.0.from j → me.0.stands ≡ stand ∷ [] →
-      (after ≡ (one me.0.size me.0.from (posts_more stand j) after.0.witnessed, me.1))
-      × MakesEvent me.0.size me.0.from (Post me.0.from j) stand (posts_more stand j) me.0.witnessed after.0.witnessed
+  Posted st me found after = (j : ℕ) → j < me.0.size → st.word ≡ posted_word me.0.size me.0.from j →
+      Makes me (Post me.0.from j) (posts_more (own_stand me) j) after
 
   -- a load of the word of what j posted to this node
   abbrev pub Looked : Step S → Me S View → ℕ → Me S View → Type 0
-  Looked st me found after = (j : ℕ) (stand : Stand) → j < me.0.size → st.word ≡ posted_word me.0.size j me.0.from → me.0.stands ≡ stand ∷ [] →
-      (after ≡ (one me.0.size me.0.from (sees stand j found) after.0.witnessed, me.1))
-      × (slice_index stand.seen j ≤ found) × (slice_index stand.taken j ≤ found)
-      × Observes me.0.size me.0.from (sees stand j found) me.0.witnessed after.0.witnessed (HasPosted j me.0.from found)
+  Looked st me found after = (j : ℕ) → j < me.0.size → st.word ≡ posted_word me.0.size j me.0.from →
+      Notes me (HasPosted j me.0.from found) (sees (own_stand me) j found) after
+      × (slice_index (own_stand me).seen j ≤ found) × (slice_index (own_stand me).taken j ≤ found)
 
   -- one more on the word of what this node took of j
   abbrev pub Took : Step S → Me S View → ℕ → Me S View → Type 0
-  Took st me found after = (j : ℕ) (stand : Stand) → j < me.0.size → st.word ≡ taken_word me.0.size j me.0.from → me.0.stands ≡ stand ∷ [] →
-      (after ≡ (one me.0.size me.0.from (takes_more stand j) after.0.witnessed, me.1))
-      × MakesEvent me.0.size me.0.from (Take j me.0.from) stand (takes_more stand j) me.0.witnessed after.0.witnessed
+  Took st me found after = (j : ℕ) → j < me.0.size → st.word ≡ taken_word me.0.size j me.0.from →
+      Makes me (Take j me.0.from) (takes_more (own_stand me) j) after
 
   -- a load of the token
   abbrev pub Met : Step S → Me S View → ℕ → Me S View → Type 0
-  Met st me found after = (stand : Stand) → st.word ≡ 1 → me.0.stands ≡ stand ∷ [] →
-      (token : Token) × IsPacked token found
-      × (after ≡ (one me.0.size me.0.from (meets me.0.from stand token) after.0.witnessed, me.1))
-      × ((known : Token) → stand.token ≡ Some known → token ≡ known)
-      × Observes me.0.size me.0.from (meets me.0.from stand token) me.0.witnessed after.0.witnessed (HasToken token)
+  Met st me found after = (token : Token) × IsPacked token found × Notes me (HasToken token) (meets me.0.from (own_stand me) token) after
+      × ((known : Token) → (own_stand me).token ≡ Some known → token ≡ known)
 
   -- a store of the token that this node has, passed
   abbrev pub Passed : Step S → Me S View → ℕ → Me S View → Type 0
-  Passed st me found after = (stand : Stand) (token : Token) → st.word ≡ 1 → me.0.stands ≡ stand ∷ [] → stand.token ≡ Some token →
-      (after ≡ (one me.0.size me.0.from (passes me.0.size me.0.from stand token) after.0.witnessed, me.1))
-      × MakesEvent me.0.size me.0.from (Pass me.0.from) stand (passes me.0.size me.0.from stand token) me.0.witnessed after.0.witnessed
+  Passed st me found after = (token : Token) → (own_stand me).token ≡ Some token →
+      Makes me (Pass me.0.from) (passes me.0.size me.0.from (own_stand me) token) after
 
-  -- this node found that halt word, which all events so far give, and the one that it knew if it knew one
-  abbrev pub Found : Me S View → Stand → ℕ → Me S View → Type 0
-  Found me stand word after = (after ≡ (one me.0.size me.0.from (finds stand word) after.0.witnessed, me.1))
-      × (word < 2 + me.0.size) × (stand.halt ≢ 0 → word ≡ stand.halt)
-      × (word ≡ halt_told after.0.witnessed)
+  -- it found the halt word at one number, and left it at another
+  abbrev pub Halts : Me S View → ℕ → ℕ → Me S View → Type 0
+  Halts me was word after = Stands me (finds (own_stand me) word) after × LooksAt me.0.size me.0.from (own_stand me) me.0.witnessed after.0.witnessed was word
 
-  -- the halt word is that of this node's failure only where the node knew that
-  abbrev pub Knew : Me S View → Stand → ℕ → Type 0
-  Knew me stand word = word ≡ 2 + me.0.from → stand.halt ≡ 2 + me.0.from
-
-  -- and it is the end to node 0 only where that node knew it
-  abbrev pub KnewEnd : Me S View → Stand → ℕ → Type 0
-  KnewEnd me stand word = me.0.from ≡ 0 → word ≡ 1 → stand.halt ≡ 1
-
-  -- a load of the halt word
+  -- a load of the halt word, which is that of this node's failure only where the node knew that
   abbrev pub Halted : Step S → Me S View → ℕ → Me S View → Type 0
-  Halted st me found after = (stand : Stand) → st.word ≡ 2 → me.0.stands ≡ stand ∷ [] →
-      Found me stand found after × Knew me stand found × KnewEnd me stand found
-      × Observes me.0.size me.0.from (finds stand found) me.0.witnessed after.0.witnessed (HasHalt found)
+  Halted st me found after = Halts me found found after × (found ≡ 2 + me.0.from → (own_stand me).halt ≡ 2 + me.0.from)
 
   -- an exchange of the halt word from 0 to that of this node's failure
   abbrev pub FailedRun : Step S → Me S View → ℕ → Me S View → Type 0
-  FailedRun st me found after = (stand : Stand) → st.word ≡ 2 → st.second ≡ 2 + me.0.from → me.0.stands ≡ stand ∷ [] →
-      Found me stand (halt_after found st.second) after × KnewEnd me stand (halt_after found st.second)
-      × Observes me.0.size me.0.from (finds stand (halt_after found st.second)) me.0.witnessed after.0.witnessed (HasHalt found)
+  FailedRun st me found after = Halts me found (halt_after found (2 + me.0.from)) after
 
   -- an exchange of the halt word from 0 to 1
   abbrev pub Announced : Step S → Me S View → ℕ → Me S View → Type 0
-  Announced st me found after = (stand : Stand) → st.word ≡ 2 → me.0.stands ≡ stand ∷ [] →
-      Found me stand (halt_after found 1) after × Knew me stand (halt_after found 1)
-      × (found ≡ 0 → MakesEvent me.0.size me.0.from Announce stand (finds stand 1) me.0.witnessed after.0.witnessed)
-      × (found ≢ 0 → (found ≡ 1 → stand.halt ≡ 1) × Observes me.0.size me.0.from (finds stand found) me.0.witnessed after.0.witnessed (HasHalt found))
+  Announced st me found after = Stands me (finds (own_stand me) (halt_after found 1)) after
+      × Announcing me.0.size me.0.from (own_stand me) me.0.witnessed after.0.witnessed found (halt_after found 1)
 
 -- the first node of a view, with a seat of its own, and the others
 abbrev pub first_node : List Stand → List Stand

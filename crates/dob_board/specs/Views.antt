@@ -63,20 +63,28 @@ pub record Shows (n : ℕ) (ring : Ring) (i : ℕ) (stand : Stand) : Type 0 wher
   pub token : (token : Token) → stand.token ≡ Some token → (token ≡ ring.token) × (token.at ≡ i)
   pub ended : stand.halt ≡ 1 → ring.announced ≡ true
 
+-- the lists of a node have a number for each of n nodes
+pub record AreLong (n : ℕ) (posts takes looks : List ℕ) : Type 0 where
+  pub posted : length posts ≡ n
+  pub taken : length takes ≡ n
+  pub seen : length looks ≡ n
+
+-- What node i knows of the halt is right: a halt seen is the halt; the halt names i only where i knows that it failed the run;
+-- and it is the end only where node 0 knows that it announced it.
+pub record KnowsHalt (i halt known : ℕ) : Type 0 where
+  pub seen : known ≢ 0 → halt ≡ known
+  pub failed : halt ≡ 2 + i → known ≡ 2 + i
+  pub announced : i ≡ 0 → halt ≡ 1 → known ≡ 1
+
 -- What node i knows is right where the ring and the halt word are these: its lists have a number for each node; its
 -- counts, its colour and a token that it knows are those of the ring; it posted nothing to itself; numbers seen are at most
--- what was posted; a halt seen is the halt; the halt names i only where i knows that it failed the run; and it is the end
--- only where node 0 knows that it announced it.
+-- what was posted; and what it knows of the halt is right.
 pub record IsStand (n : ℕ) (ring : Ring) (halt i : ℕ) (stand : Stand) : Type 0 where
-  pub posted_len : length stand.posted ≡ n
-  pub taken_len : length stand.taken ≡ n
-  pub seen_len : length stand.seen ≡ n
+  pub long : AreLong n stand.posted stand.taken stand.seen
   pub shows : Shows n ring i stand
   pub none_own : slice_index stand.posted i ≡ 0
   pub seen : (j : ℕ) → j < n → slice_index stand.seen j ≤ ring.posted j i
-  pub halt_seen : stand.halt ≢ 0 → halt ≡ stand.halt
-  pub failed : halt ≡ 2 + i → stand.halt ≡ 2 + i
-  pub announced : i ≡ 0 → halt ≡ 1 → stand.halt ≡ 1
+  pub knows : KnowsHalt i halt stand.halt
 
 -- what a seat knows of its node, by its fields
 abbrev pub stand_from : List ℕ → List ℕ → List ℕ → Bool → Option Token → Halt → Stand

@@ -26,7 +26,7 @@ pub(crate) const ENDED: u64 = 1;
 // The halt where node 0 failed it; those of the others come behind.
 pub(crate) const FAILED: u64 = 2;
 
-/// How many words a board of `nodes` nodes has.
+// How many words a board of `nodes` nodes has.
 pub(crate) fn word_count(nodes: NodeCount) -> usize
     ensures { result ≡ word_count nodes }
 {
@@ -35,7 +35,7 @@ pub(crate) fn word_count(nodes: NodeCount) -> usize
 }
 
 impl NodeSeat {
-    /// The word of what node `from` posted to node `to` of the seat's board.
+    // The word of what node `from` posted to node `to` of the seat's board.
     pub(crate) fn posted_index(&self, from: usize, to: usize) -> usize
         requires from { from < self.now.nodes }
         requires to { to < self.now.nodes }
@@ -44,7 +44,7 @@ impl NodeSeat {
         COUNTS + (from * self.nodes + to)
     }
 
-    /// The word of what node `to` took of node `from` of the seat's board.
+    // The word of what node `to` took of node `from` of the seat's board.
     pub(crate) fn taken_index(&self, from: usize, to: usize) -> usize
         requires from { from < self.now.nodes }
         requires to { to < self.now.nodes }
@@ -54,7 +54,7 @@ impl NodeSeat {
     }
 }
 
-/// The halt of the word.
+// The halt of the word.
 pub(crate) fn halt_of(word: u64) -> Halt
     ensures { halt_word result ≡ word }
 {
@@ -65,7 +65,7 @@ pub(crate) fn halt_of(word: u64) -> Halt
     }
 }
 
-/// The halt word after it was found as it was and, if the run went on, exchanged for the mark.
+// The halt word after it was found as it was and, if the run went on, exchanged for the mark.
 pub(crate) fn halt_after(found: u64, mark: u64) -> u64
     ensures { result ≡ halt_after found mark }
 {

@@ -1,20 +1,16 @@
 -- Each step of a pass keeps the rule of an inbox.
-use Rattle.std.proofs.Common.{◌≡◌, ◌≢◌, ◌≤◌, ◌<◌, ℕ, zero, suc, true, true≢false, cond, List, [], ◌∷◌, ◌++◌, length, set, sym, refl, ap, ◌∙◌, subst, ⊎_elim, slice_index_or, nat_eq}
-use Rattle.std.proofs.Common.{append_assoc, length-append, arith}
-use Rattle.std.specs.Prelude.{All}
+use Rattle.dob_chan.proofs.Common.{◌++◌, ◌<◌, ◌∙◌, ◌∷◌, ◌≡◌, ◌≢◌, ◌≤◌, List, [], ap, append_assoc, arith, cond, length, length-append, nat_eq, refl, set}
+use Rattle.dob_chan.proofs.Common.{slice_index_or, subst, suc, sym, true, true≢false, zero, ℕ, ⊎_elim, eqb_tells, append-nil, All, Forks, Learns, Merges, Pops}
+use Rattle.dob_chan.proofs.Common.{Pushes, BatchView, AreLeft, IsLawfulInbox, batches_of, sent_by_ended, taking, untold, Note}
 use Rattle.std.proofs.lemmas.Bool.{cond-true, cond-false, eq-eqb, cases_lt}
-use Rattle.std.proofs.lemmas.Bool.Decides.{eqb_tells}
-use Rattle.std.proofs.lemmas.List.{append-nil}
 use Rattle.std.proofs.lemmas.List.Elements.{filter-append, All-append}
 use mathlib.Core.Option.{Option, some, none, some-ne-none, some-injective}
 use lib.ListN.{get_elem?}
-use Rattle.crossbeam_queue.specs.Fifo.{Pushes, Pops, Forks, Merges, Learns}
 use Rattle.crossbeam_queue.proofs.Lists.{at_set, at_snoc}
-use Rattle.dob_update.specs.Batches.{BatchView}
 use Rattle.dob_pieces.specs.Lists.{IsBeginning}
-use Rattle.dob_chan.specs.declared.rule.Note.{Note}
 use Rattle.dob_chan.specs.declared.rule.Told.{Told}
-use Rattle.dob_chan.specs.Inboxes.{most_batches, batches_of, sending, taking, resting, untold, sent_by_ended, IsLawfulInbox, AreOf, AreHeldSince, AreNext, AreLeft, IsAfterTold, HasSent, HasReceived, FitsSender, FitsTaker, IsDelivered}
+use Rattle.dob_chan.specs.Inboxes.{most_batches, sending, resting, AreOf, AreHeldSince, AreNext, IsAfterTold, HasSent, HasReceived, FitsSender, FitsTaker}
+use Rattle.dob_chan.specs.Inboxes.{IsDelivered}
 
 at_end : {V : Type 0} → (l : List V) (a b : V) (j : ℕ) → get_elem? l j ≢ some b → get_elem? (l ++ a ∷ []) j ≡ some b → j ≡ length l
 at_end [] a b zero n e = refl

@@ -1,11 +1,5 @@
 -- Sending ends that are opened one after another.
-use Rattle.std.proofs.Common.{◌≡◌, ℕ, List, [], ◌∷◌, ◌++◌, length, sym, ◌∙◌, subst, ⊎_elim}
-use Rattle.crossbeam_queue.specs.Passes.{Pass}
-use Rattle.dob_pieces.proofs.Elements.{at_end}
-use Rattle.dob_update.specs.Batches.{BatchView}
-use Rattle.dob_chan.specs.declared.rule.Note.{Note}
-use Rattle.dob_chan.specs.declared.ends.SendEnd.{SendEnd}
-use Rattle.dob_chan.specs.Ends.{IsEndOpened, AreOpened}
+use Rattle.dob_chan.proofs.Common.{◌++◌, ◌∙◌, ◌∷◌, ◌≡◌, List, [], length, subst, sym, ℕ, ⊎_elim, Pass, at_end, BatchView, AreOpened, IsEndOpened, SendEnd, Note}
 
 -- the ends with the next one behind them; the taking pass is still of the same inbox
 pub one_opened : (old new : Pass BatchView Note) (capacity senders : ℕ) (sends : List SendEnd) (send : SendEnd) → new.table_id ≡ old.table_id

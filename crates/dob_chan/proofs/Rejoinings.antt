@@ -1,21 +1,12 @@
 -- The ends of an inbox are joined again: passes end, and what is left goes into its sender's room.
-use Rattle.std.proofs.Common.{◌≡◌, ◌≢◌, ◌≤◌, ◌<◌, ◌+◌, ℕ, zero, suc, List, [], ◌∷◌, ◌++◌, length, map, Some, sym, refl, ap, ◌∙◌, subst, ⊎_elim, slice_index, slice_index_or, vec_len, vec_capacity}
-use Rattle.std.proofs.Common.{append_assoc, length-append, arith}
-use Rattle.std.specs.Prelude.{slice_get}
-use Rattle.std.proofs.lemmas.Bool.Decides.{eqb_tells}
-use Rattle.std.proofs.lemmas.List.{append-nil, map-append}
+use Rattle.dob_chan.proofs.Common.{◌++◌, ◌<◌, ◌∙◌, ◌∷◌, ◌≡◌, ◌≢◌, ◌≤◌, List, [], ap, append_assoc, arith, length, length-append, refl, slice_index}
+use Rattle.dob_chan.proofs.Common.{slice_index_or, subst, suc, sym, vec_len, zero, ℕ, ⊎_elim, eqb_tells, append-nil, map-append, slice_get, Held, IsSamePass}
+use Rattle.dob_chan.proofs.Common.{Pass, view, at_end, middle, some_at, BatchView, AreEndsOf, AreRejoined, place_of, sent_by, taken_by, AreLeft, IsLawfulInbox}
+use Rattle.dob_chan.proofs.Common.{batches_of, sent_by_ended, taking, AreFilled, AreRooms, AreRoomy, HasRoom, SendEnd, TakeEnd, Note}
+use Rattle.std.proofs.Common.{◌+◌, map, Some, vec_capacity}
 use Rattle.std.proofs.lemmas.Option.{slice_get_within, same_Some}
-use Rattle.crossbeam_queue.specs.Fifo.{Held}
-use Rattle.crossbeam_queue.specs.Passes.{Pass, view, IsSamePass}
-use Rattle.dob_pieces.proofs.Elements.{at_end, middle, some_at}
-use Rattle.dob_update.specs.Batches.{BatchView}
-use Rattle.dob_chan.specs.declared.rule.Note.{Note}
-use Rattle.dob_chan.specs.declared.ends.SendEnd.{SendEnd}
-use Rattle.dob_chan.specs.declared.ends.TakeEnd.{TakeEnd}
 use Rattle.dob_chan.specs.declared.ends.Rejoined.{Rejoined}
-use Rattle.dob_chan.specs.Inboxes.{batches_of, taking, sent_by_ended, AreLeft, IsLawfulInbox}
-use Rattle.dob_chan.specs.Ends.{sent_by, place_of, taken_by, AreEndsOf, AreRejoined}
-use Rattle.dob_chan.specs.Rooms.{HasRoom, AreRooms, AreRoomy, AreFilled, HasOneMoreWaiting}
+use Rattle.dob_chan.specs.Rooms.{HasOneMoreWaiting}
 use Rattle.dob_chan.proofs.Deliveries.{own_more, others_more}
 
 one_thing : {X : Type 0} → (xs : List X) (k : ℕ) (a b : X) → slice_get xs k ≡ Some a → slice_get xs k ≡ Some b → a ≡ b

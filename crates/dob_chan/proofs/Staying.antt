@@ -1,10 +1,6 @@
 -- The ends of an inbox stay its ends, whatever is sent and taken.
-use Rattle.std.proofs.Common.{List, sym, refl, ◌∙◌, subst, arith}
+use Rattle.dob_chan.proofs.Common.{◌∙◌, List, arith, refl, subst, sym, some_at, AreEndsOf, AreStill, SendsToSame, TakesFromSame, SendEnd, TakeEnd}
 use Rattle.std.proofs.lemmas.Option.{slice_get_within, same_Some}
-use Rattle.dob_pieces.proofs.Elements.{some_at}
-use Rattle.dob_chan.specs.declared.ends.SendEnd.{SendEnd}
-use Rattle.dob_chan.specs.declared.ends.TakeEnd.{TakeEnd}
-use Rattle.dob_chan.specs.Ends.{AreEndsOf, AreStill, SendsToSame, TakesFromSame}
 
 -- the ends of all senders of an inbox are so after more calls
 pub ends_stay : (take now : TakeEnd) (sends later : List SendEnd) → TakesFromSame take now → AreStill sends later → AreEndsOf take sends → AreEndsOf now later

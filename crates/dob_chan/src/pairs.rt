@@ -37,9 +37,7 @@ pub fn rejoin<R: Wait>(
     let Ok(mut sends) = Vec::with_capacity(alloc, 1) else {
         return Err(RejoinFault { sends: send, take });
     };
-    let Ok(()) = sends.push(send) else {
-        unreachable!()
-    };
+    sends.push_reserved(send);
     match rejoin_inbox(rt, alloc, sends, take) {
         Ok(joined) => Ok(only_one(joined)),
         Err(RejoinFault { sends, take }) => Err(RejoinFault {
@@ -50,13 +48,9 @@ pub fn rejoin<R: Wait>(
 }
 
 // The one thing of a vector of one.
-fn only_one<T: Drop>(things: Vec<T>) -> T
+fn only_one<T: Drop>(mut things: Vec<T>) -> T
     requires { length things.items ≡ 1 }
     ensures { things.items ≡ result ∷ [] }
 {
-    let mut left = things.into_iter();
-    let Some(thing) = left.next() else {
-        unreachable!()
-    };
-    thing
+    things.swap_remove(0)
 }

@@ -126,8 +126,6 @@ impl Rejoined {
         requires { length self.old.waiting.items < vec_capacity self.old.waiting }
         ensures { HasOneMoreWaiting self.old batch self.new }
     {
-        let Ok(()) = self.waiting.push(batch) else {
-            unreachable!()
-        };
+        self.waiting.push_reserved(batch);
     }
 }

@@ -3,15 +3,15 @@ use crossbeam_queue::protocol::{Join, Lesson, Outcome, Protocol, Split};
 use dob_update::Batch;
 use std::collections::LinkedList;
 
-/// What was learned of an inbox: the batches that had been sent, by all senders, and those that had been taken. No value of it is
-/// made.
+// What was learned of an inbox: the batches that had been sent, by all senders, and those that had been taken. No value of it is
+// made.
 pub(crate) struct Told {
     pub sent: LinkedList<Batch>,
     pub taken: LinkedList<Batch>,
 }
 
-/// What a pass of an inbox may do, send as one of the senders or take, what it has sent and taken, and what it has learned. The
-/// taking pass also knows how many senders' passes were made, and what those sent that have ended. No value of it is made.
+// What a pass of an inbox may do, send as one of the senders or take, what it has sent and taken, and what it has learned. The
+// taking pass also knows how many senders' passes were made, and what those sent that have ended. No value of it is made.
 pub(crate) struct Note {
     pub senders: usize,
     pub sends: bool,
@@ -24,7 +24,7 @@ pub(crate) struct Note {
     pub told: Told,
 }
 
-/// The rule: the batches of each sender come out in the order in which they went in, each once.
+// The rule: the batches of each sender come out in the order in which they went in, each once.
 pub(crate) struct InOrder;
 
 impl Protocol<Batch, Note> for InOrder {

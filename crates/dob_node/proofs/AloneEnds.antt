@@ -1,21 +1,8 @@
 -- One node that owns all classes: the values that it shows, and its end.
-use Rattle.std.proofs.Common.{◌≡◌, ℕ, zero, suc, ◌<◌, ◌⊎◌, inl, inr, sym, ap, ◌∙◌, subst, arith, List, ◌++◌, lit<, ◌==◌}
-use Rattle.std.proofs.lemmas.List.{take_all, append-nil}
-use Rattle.dob_pieces.specs.declared.profile.Family.{Family}
-use Rattle.dob_rank.specs.Families.{classes_of}
-use Rattle.dob_value.specs.declared.value.Value.{Value}
-use Rattle.dob_value.specs.declared.value.Value.TheVariants.{Draw}
-use Rattle.dob_value.specs.Follows.{IsEntry, AreGiven, IsValueTable}
-use Rattle.dob_unmove.specs.Edges.{predecessors}
-use Rattle.dob_share.specs.declared.news.Settlement.{Settlement}
-use Rattle.dob_share.specs.declared.opening.Opening.{Opening}
-use Rattle.dob_share.specs.Shares.{status_at, cell_at, HasValueNow}
-use Rattle.dob_update.specs.Items.{items_from}
-use Rattle.dob_node.specs.Histories.{value_of, AreValuesBelow}
-use Rattle.dob_node.specs.Openings.{AreOpenings}
-use Rattle.dob_node.specs.Lawful.{AreLawfulNodes}
-use Rattle.dob_node.specs.NodeViews.{NodeView}
-use Rattle.dob_node.specs.Alone.{alone_history, alone_applied, alone_items, cells_below, HasCome, HasMade, IsDone, IsUnderWay}
+use Rattle.dob_node.proofs.Common.{◌++◌, ◌<◌, ◌==◌, ◌∙◌, ◌≡◌, ◌⊎◌, List, ap, arith, inl, inr, lit<, subst, suc, sym, zero, ℕ, append-nil, take_all, Family}
+use Rattle.dob_node.proofs.Common.{classes_of, AreGiven, IsEntry, IsValueTable, Value, Draw, predecessors, HasValueNow, cell_at, status_at, Settlement, Opening}
+use Rattle.dob_node.proofs.Common.{items_from, HasCome, HasMade, IsDone, IsUnderWay, alone_applied, alone_history, alone_items, cells_below, AreValuesBelow}
+use Rattle.dob_node.proofs.Common.{value_of, AreLawfulNodes, NodeView, AreOpenings}
 use Rattle.dob_node.proofs.Kept.{last_now-entry}
 use Rattle.dob_node.proofs.ShownValues.{value_shown, values_given}
 use Rattle.dob_node.proofs.AloneParts.{cell_below}

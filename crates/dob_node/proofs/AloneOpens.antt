@@ -1,38 +1,10 @@
 -- One node that owns all classes, as it is opened: it is lawful.
-use Rattle.std.proofs.Common.{◌≡◌, ℕ, zero, suc, ◌+◌, ◌*◌, ◌%◌, ◌<◌, inl, inr, refl, sym, ap, ◌∙◌, subst}
-use Rattle.std.proofs.Common.{arith, List, [], ◌++◌, length, take, get_or, Result, Ok, Err, IfOk}
-use Rattle.std.specs.List.{All}
-use Rattle.std.proofs.lemmas.Bool.{cases_order}
-use Rattle.std.proofs.lemmas.Option.{slice_get-get_or}
-use Rattle.dob_pieces.specs.declared.profile.Family.{Family}
-use Rattle.dob_moves.specs.declared.position_status.Status.{Status}
-use Rattle.dob_moves.specs.declared.position_status.Status.TheVariants.{Stuck, Open}
-use Rattle.dob_moves.specs.MoveLists.{moves_of}
-use Rattle.dob_moves.specs.Statuses.{HasStatus}
-use Rattle.dob_moves.proofs.Cases.{one_status}
-use Rattle.dob_rank.specs.Families.{classes_of}
-use Rattle.dob_rank.specs.Families.{class_setup}
-use Rattle.dob_value.specs.declared.value.Value.TheVariants.{Draw}
-use Rattle.dob_value.specs.Follows.{IsEntry}
-use Rattle.dob_unmove.specs.Edges.{predecessors}
-use Rattle.dob_share.specs.declared.news.Settlement.{Settlement}
-use Rattle.dob_share.specs.declared.news.Item.{Item}
-use Rattle.dob_share.specs.declared.opening.Opening.{Opening}
-use Rattle.dob_share.specs.Owners.{owner_of}
-use Rattle.dob_share.specs.Cells.{SameCell, CellValue, fresh}
-use Rattle.dob_share.specs.Openings.{opening_of}
-use Rattle.dob_share.specs.Shares.{places_of, IsOwn, status_at, cell_at}
-use Rattle.dob_share.proofs.Applied.{CellValue-same}
-use Rattle.dob_update.specs.Items.{items_from}
-use Rattle.dob_node.specs.Histories.{value_of, IsChained}
-use Rattle.dob_node.specs.Quiet.{FollowsAtStatus}
-use Rattle.dob_node.specs.Openings.{IsOpening, AreOpenings}
-use Rattle.dob_node.specs.Lawful.{known_of, AreLawfulNodes}
-use Rattle.dob_node.specs.Falls.{IsFirst, HaveFalls}
-use Rattle.dob_node.specs.OpeningLists.{opening_value, opening_settlements, opening_status}
-use Rattle.dob_node.specs.NodeViews.{NodeView}
-use Rattle.dob_node.specs.Nodes.{IsSound, IsOpened}
-use Rattle.dob_node.specs.Alone.{alone_history, alone_applied, alone_items, cells_below, IsAlone, HasCome, HasMade}
+use Rattle.dob_node.proofs.Common.{◌%◌, ◌*◌, ◌++◌, ◌+◌, ◌<◌, ◌∙◌, ◌≡◌, Err, IfOk, List, Ok, Result, [], ap, arith, get_or, inl, inr, length, refl, subst, suc}
+use Rattle.dob_node.proofs.Common.{sym, take, zero, ℕ, cases_order, slice_get-get_or, All, Family, one_status, moves_of, HasStatus, Status, Open, Stuck}
+use Rattle.dob_node.proofs.Common.{class_setup, classes_of, IsEntry, Draw, predecessors, CellValue-same, CellValue, SameCell, fresh, opening_of, owner_of}
+use Rattle.dob_node.proofs.Common.{IsOwn, cell_at, places_of, status_at, Item, Settlement, Opening, items_from, HasCome, HasMade, IsAlone, alone_applied}
+use Rattle.dob_node.proofs.Common.{alone_history, alone_items, cells_below, HaveFalls, IsFirst, IsChained, value_of, AreLawfulNodes, known_of, NodeView}
+use Rattle.dob_node.proofs.Common.{IsOpened, IsSound, opening_settlements, opening_status, opening_value, AreOpenings, IsOpening, FollowsAtStatus}
 use Rattle.dob_node.proofs.Beginnings.{or_else, closed_follows, opened_value, opened_chained, opened_entries}
 use Rattle.dob_node.proofs.ValuesFollow.{SumsUp-same}
 use Rattle.dob_node.proofs.Totals.{start_sums}
@@ -84,20 +56,15 @@ module _ (family : Family) (openings : List Opening) (node : NodeView) (are : Ar
 
   -- as many places as classes
   all_places : places_of node.share ≡ classes
-  all_places = elim (cases_order (places_of node.share) classes) [
-    | inl same ↦ same
-    | inr order ↦ elim order [
-      | inl less ↦
-          let there : places_of node.share * 1 + 0 < length openings = subst (λ (m : ℕ). places_of node.share * 1 + 0 < m) (sym are.whole)
-          (let same : places_of node.share * 1 + 0 ≡ places_of node.share = alone_place (places_of node.share) in omega arith) in
-          let low : places_of node.share < places_of node.share = (opened.places (places_of node.share)).1 there in
-          absurd (omega arith)
-      | inr more ↦
-          let there : classes * 1 + 0 < length openings = (opened.places classes).0 more in
-          let low : classes * 1 + 0 < classes = subst (λ (m : ℕ). classes * 1 + 0 < m) are.whole there in
-          absurd (let same : classes * 1 + 0 ≡ classes = alone_place classes in omega arith)
-    ]
-  ]
+  all_places =
+      let whole = are.whole in
+      elim (cases_order (places_of node.share) classes) [
+        | inl same ↦ same
+        | inr order ↦ elim order [
+          | inl less ↦ let low = (opened.places (places_of node.share)).1 (omega arith) in absurd (omega arith)
+          | inr more ↦ let there = (opened.places classes).0 more in absurd (omega arith)
+        ]
+      ]
 
   history_is : node.history.settlements ≡ h
   history_is = opened.history ∙ ap (λ k. opening_settlements status 1 0 k) all_places

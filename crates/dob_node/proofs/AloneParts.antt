@@ -1,22 +1,10 @@
 -- The steps of one node that owns all classes.
-use Rattle.std.proofs.Common.{◌≡◌, ◌≢◌, ℕ, zero, suc, ◌%◌, ◌<◌, nat_lt, cond, refl, sym, ap, subst, arith, List, [], ◌∷◌, ◌++◌, lit<}
-use Rattle.std.proofs.lemmas.Bool.{lt-ltb, ltb-true}
-use Rattle.dob_pieces.specs.declared.profile.Family.{Family}
-use Rattle.dob_rank.specs.Families.{classes_of}
-use Rattle.dob_share.specs.declared.news.Settlement.{Settlement}
-use Rattle.dob_share.specs.declared.news.Item.{Item}
-use Rattle.dob_share.specs.declared.share.Share.{Share}
-use Rattle.dob_share.specs.Cells.{SameCell, CellValue, changed, fresh}
-use Rattle.dob_share.specs.Shares.{IsOwn, cell_at}
+use Rattle.dob_node.proofs.Common.{◌%◌, ◌++◌, ◌<◌, ◌∷◌, ◌≡◌, ◌≢◌, List, [], ap, arith, cond, lit<, nat_lt, refl, subst, suc, sym, zero, ℕ, lt-ltb, ltb-true}
+use Rattle.dob_node.proofs.Common.{Family, classes_of, cell_short, CellValue, SameCell, changed, fresh, IsOwn, cell_at, Item, Settlement, Share, alone_applied}
+use Rattle.dob_node.proofs.Common.{alone_history, alone_items, cells_below, HaveFalls, value_of, AreAfter, AreLawfulNodes, AreSettled, CanApply, IsNextItem}
+use Rattle.dob_node.proofs.Common.{IsOneMore, HistoryView, AreKept, IsTaken}
 use Rattle.dob_share.proofs.Changing.{short_value}
-use Rattle.dob_node.specs.Stores.{HistoryView}
-use Rattle.dob_node.specs.Histories.{value_of}
-use Rattle.dob_node.specs.Lawful.{AreLawfulNodes, IsNextItem, CanApply, AreAfter, IsOneMore, AreSettled}
-use Rattle.dob_node.specs.Falls.{HaveFalls}
-use Rattle.dob_node.specs.TakenItems.{AreKept, IsTaken}
-use Rattle.dob_node.specs.Alone.{alone_history, alone_applied, alone_items, cells_below}
 use Rattle.dob_node.proofs.ItemChanges.{same_by, Change, item_changes}
-use Rattle.dob_node.proofs.Parity.{short_own}
 use Rattle.dob_node.proofs.Kepts.{fits_own}
 use Rattle.dob_node.proofs.Steps.{can_apply, lawful_after}
 use Rattle.dob_node.proofs.Rises.{falls_stay}
@@ -87,7 +75,7 @@ module _ (family : Family) (share after : Share) (history grown : HistoryView) (
     cell_is = subst (λ c. SameCell c (changed item.was item.now (cells_below (classes_of family) share item.to))) (sym (cell_below (classes_of family) after item.to low))
         (subst (λ c. SameCell (cell_at after item.to) (changed item.was item.now c)) (sym (cell_below (classes_of family) share item.to low)) taken.cell);
     gives = subst (λ c. CellValue c (value_of g item.to)) (sym (cell_below (classes_of family) after item.to low)) changes.gives;
-    short = short_value (cell_at after item.to) (value_of g item.to) (short_own after item.to there_after) changes.gives;
+    short = short_value (cell_at after item.to) (value_of g item.to) (cell_short after item.to there_after) changes.gives;
     better = changes.better;
     others = λ p other. (cells_after p other, changes.others p other);
   }

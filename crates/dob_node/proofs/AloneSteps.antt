@@ -1,25 +1,8 @@
 -- The steps of one node that owns all classes: it stays lawful, and makes one step more.
-use Rattle.std.proofs.Common.{◌≡◌, ℕ, ◌+◌, ◌<◌, ◌≤◌, inl, inr, sym, ap, ◌∙◌, subst, arith, add-one, append_assoc}
-use Rattle.std.proofs.Common.{List, [], ◌∷◌, ◌++◌, length, take, drop, slice_get, Some}
-use Rattle.std.proofs.lemmas.List.{length-append}
-use Rattle.dob_pieces.specs.declared.profile.Family.{Family}
-use Rattle.dob_moves.specs.Statuses.{HasStatus}
-use Rattle.dob_rank.specs.Families.{classes_of}
-use Rattle.dob_rank.specs.Families.{class_setup}
-use Rattle.dob_unmove.specs.Edges.{predecessors}
-use Rattle.dob_share.specs.declared.news.Settlement.{Settlement}
-use Rattle.dob_share.specs.declared.news.Item.{Item}
-use Rattle.dob_share.specs.declared.share.Share.{Share}
-use Rattle.dob_share.specs.Shares.{status_at}
-use Rattle.dob_update.specs.Items.{items_of}
-use Rattle.dob_node.specs.Stores.{HistoryView}
-use Rattle.dob_node.specs.Histories.{value_of}
-use Rattle.dob_node.specs.Lawful.{AreLawfulNodes}
-use Rattle.dob_node.specs.Falls.{HaveFalls}
-use Rattle.dob_node.specs.TakenItems.{AreKept, listed}
-use Rattle.dob_node.specs.NodeViews.{NodeView}
-use Rattle.dob_node.specs.Nodes.{IsSound, IsExpanded, HasApplied}
-use Rattle.dob_node.specs.Alone.{alone_history, alone_applied, alone_items, cells_below, IsAlone, IsAloneStep, HasCome, HasMade}
+use Rattle.dob_node.proofs.Common.{◌++◌, ◌+◌, ◌<◌, ◌∙◌, ◌∷◌, ◌≡◌, ◌≤◌, List, Some, [], add-one, ap, append_assoc, arith, drop, inl, inr, length, slice_get}
+use Rattle.dob_node.proofs.Common.{subst, sym, take, ℕ, length-append, Family, HasStatus, class_setup, classes_of, predecessors, status_at, Item, Settlement}
+use Rattle.dob_node.proofs.Common.{Share, items_of, HasCome, HasMade, IsAlone, IsAloneStep, alone_applied, alone_history, alone_items, cells_below, HaveFalls}
+use Rattle.dob_node.proofs.Common.{value_of, AreLawfulNodes, NodeView, HasApplied, IsExpanded, IsSound, HistoryView, AreKept, listed}
 use Rattle.dob_node.proofs.Settles.{emitted_more, emitted_grown, emitted_all}
 use Rattle.dob_node.proofs.AloneParts.{still_lawful, still_falls}
 
@@ -96,7 +79,7 @@ module _ (old new : NodeView) (applied : List Item) (alone : IsAlone old applied
   alone_after = record {
     sound = sound;
     alone = (step.same.2 ∙ alone.alone.0, step.same.1 ∙ alone.alone.1);
-    statuses = λ class low. subst (λ status. HasStatus new.family.profile (class_setup new.family class) status) (sym (step.taken.statuses class))
+    statuses = λ class low. subst (λ status. HasStatus new.family.profile (class_setup new.family class) status) (sym (step.taken.classes.statuses class))
         (subst (λ st. HasStatus st.profile (class_setup st class) (status_at old.share class)) (sym family_is)
         (alone.statuses class (subst (λ st. class < classes_of st) family_is low)));
     emitted = subst (λ st. alone_items st (take new.expanded new.history.settlements) ≡ after ++ new.own) (sym family_is)

@@ -1,28 +1,12 @@
 -- One node that owns all classes: where it stops, and when it has nothing left to do.
-use Rattle.std.proofs.Common.{◌≡◌, ℕ, ◌<◌, ◌%◌, lit<, inl, inr, refl, sym, ap, ◌∙◌, subst, arith, List, [], ◌∷◌, ◌++◌, length, drop}
-use Rattle.std.proofs.Math.ListN.{get_or-eq_default}
-use Rattle.std.proofs.lemmas.Bool.{cases_eq}
-use Rattle.dob_moves.specs.declared.position_status.Status.TheVariants.{Open}
-use Rattle.dob_moves.proofs.Cases.{one_status}
-use Rattle.dob_rank.specs.Families.{classes_of}
-use Rattle.dob_rank.specs.Families.{class_setup}
-use Rattle.dob_pieces.specs.declared.profile.Family.{Family}
-use Rattle.dob_share.specs.declared.news.Settlement.{Settlement}
-use Rattle.dob_share.specs.declared.news.Item.{Item}
-use Rattle.dob_share.specs.Cells.{CellCanTake, changed}
-use Rattle.dob_share.specs.Steps.{IsTooDeep}
-use Rattle.dob_share.specs.Shares.{status_at, Fits, GoesTooDeep}
-use Rattle.dob_update.specs.Batches.{OutboxView, empty_outbox}
-use Rattle.dob_stops.specs.declared.cause.Cause.{Cause}
+use Rattle.dob_node.proofs.Common.{◌%◌, ◌++◌, ◌<◌, ◌∙◌, ◌∷◌, ◌≡◌, List, [], ap, arith, drop, inl, inr, length, lit<, refl, subst, sym, ℕ, get_or-eq_default}
+use Rattle.dob_node.proofs.Common.{cases_eq, Family, one_status, Open, class_setup, classes_of, CellCanTake, changed, Fits, GoesTooDeep, status_at, IsTooDeep}
+use Rattle.dob_node.proofs.Common.{Item, Settlement, OutboxView, empty_outbox, Cause, HasMade, HasStoppedAlone, IsDone, IsTooDeepWithin, alone_applied}
+use Rattle.dob_node.proofs.Common.{alone_history, alone_items, cells_below, value_of, CanApply, IsNextItem, NodeView, HasItemFault, IsIdle, outbox_to}
 use Rattle.dob_stops.specs.declared.cause.Cause.TheVariants as cause
 use Rattle.dob_node.specs.declared.fault.Fault.{Fault}
 use Rattle.dob_node.specs.declared.fault.Fault.TheVariants as fault
-use Rattle.dob_node.specs.NodeViews.{NodeView}
 use Rattle.dob_node.specs.Faults.{IsFaultOf}
-use Rattle.dob_node.specs.Histories.{value_of}
-use Rattle.dob_node.specs.Lawful.{IsNextItem, CanApply}
-use Rattle.dob_node.specs.Nodes.{outbox_to, HasItemFault, IsIdle}
-use Rattle.dob_node.specs.Alone.{alone_history, alone_applied, alone_items, cells_below, HasMade, IsDone, IsTooDeepWithin, HasStoppedAlone}
 use Rattle.dob_node.proofs.AloneParts.{cell_below, one_owner}
 use Rattle.dob_node.proofs.AloneSteps.{all_items}
 use Rattle.dob_node.proofs.Steps.{can_apply}

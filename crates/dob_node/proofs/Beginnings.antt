@@ -1,22 +1,9 @@
 -- The histories of nodes at their opening.
-use Rattle.std.proofs.Common.{◌≡◌, ◌≢◌, ℕ, zero, suc, ◌+◌, ◌*◌, ◌%◌, ◌<◌, ◌≤◌, inl, inr, eqb, Bool, true, false, cond, refl}
-use Rattle.std.proofs.Common.{sym, ap, ◌∙◌, subst, arith, List, [], ◌++◌, length, Option, None, Some, lit≤}
-use Rattle.std.specs.List.{All}
-use Rattle.std.proofs.Math.Nat.{mul-add-mod_self_right, mod-eq_of_lt}
-use Rattle.std.proofs.lemmas.Nat.{same_from_place}
-use Rattle.std.proofs.lemmas.Bool.{cases_order, eq-eqb, ne_eqb}
-use Rattle.std.proofs.lemmas.List.{append-nil}
-use Rattle.std.proofs.lemmas.List.Elements.{All-append, All-nil, All-cons}
-use Rattle.dob_moves.specs.declared.position_status.Status.{Status}
-use Rattle.dob_moves.specs.declared.position_status.Status.TheVariants.{Caught, Tried, Stuck, Open}
-use Rattle.dob_value.specs.declared.value.Value.{Value}
-use Rattle.dob_value.specs.declared.value.Value.TheVariants.{Draw}
-use Rattle.dob_value.specs.Follows.{IsEntry}
-use Rattle.dob_share.specs.declared.news.Settlement.{Settlement}
-use Rattle.dob_share.specs.Values.{Better}
-use Rattle.dob_node.specs.Histories.{value_of, IsChained}
-use Rattle.dob_node.specs.Quiet.{FollowsAtStatus}
-use Rattle.dob_node.specs.OpeningLists.{opening_value, opening_settlement, opening_settlements}
+use Rattle.dob_node.proofs.Common.{◌%◌, ◌*◌, ◌++◌, ◌+◌, ◌<◌, ◌∙◌, ◌≡◌, ◌≢◌, ◌≤◌, Bool, List, None, Option, Some, [], ap, arith, cond, eqb, false, inl, inr}
+use Rattle.dob_node.proofs.Common.{length, lit≤, refl, subst, suc, sym, true, zero, ℕ, mod-eq_of_lt, mul-add-mod_self_right, cases_eq, eq-eqb, ne_eqb}
+use Rattle.dob_node.proofs.Common.{append-nil, same_from_place, All, Status, Caught, Open, Stuck, Tried, IsEntry, Value, Draw, Better, Settlement, IsChained}
+use Rattle.dob_node.proofs.Common.{value_of, opening_settlement, opening_settlements, opening_value, FollowsAtStatus}
+use Rattle.dob_node.proofs.Opens.{all_started}
 use Rattle.dob_node.proofs.Settles.{chained_more, chained_none, value_of-more}
 
 -- the value, where there is one, or else another
@@ -51,10 +38,6 @@ closed_follows Tried closed = refl
 closed_follows Stuck closed = refl
 closed_follows Open closed = absurd (closed refl)
 
-one_entry : (number class : ℕ) (o : Option Value) → IsEntry (or_else o Draw) → All (λ (s : Settlement). IsEntry s.now) (opening_settlement number class o)
-one_entry number class None entry = All-nil (λ (s : Settlement). IsEntry s.now)
-one_entry number class (Some now) entry = All-cons (λ (s : Settlement). IsEntry s.now) _ [] entry (All-nil (λ (s : Settlement). IsEntry s.now))
-
 module _ (n id : ℕ) (one_of_n : id < n) (status : ℕ → Status) where
   abbrev class : ℕ → ℕ
   class place = place * n + id
@@ -86,14 +69,11 @@ module _ (n id : ℕ) (one_of_n : id < n) (status : ℕ → Status) where
     where
       at : (q < k → value_of (settled k) (class q) ≡ or_else (opening_value (status (class q))) Draw) →
           chosen k q (eqb (class k) (class q)) ≡ or_else (opening_value (status (class q))) Draw
-      at earlier = elim (cases_order q k) [
+      at earlier = elim (cases_eq q k) [
         | inl same ↦ ap (λ b. chosen k q b) (eq-eqb (class k) (class q) (ap class (sym same)))
             ∙ ap (λ p. or_else (opening_value (status (class p))) (value_of (settled k) (class q))) (sym same)
             ∙ ap (λ v. or_else (opening_value (status (class q))) v) (later_draw k q (omega arith))
-        | inr order ↦ elim order [
-          | inl less ↦ ap (λ b. chosen k q b) (ne_eqb (class k) (class q) (apart k q (λ same. omega arith))) ∙ earlier less
-          | inr more ↦ absurd (omega arith)
-        ]
+        | inr other ↦ ap (λ b. chosen k q b) (ne_eqb (class k) (class q) (apart k q (λ same. other (sym same)))) ∙ earlier (omega arith)
       ]
 
   pub opened_chained : (classes k : ℕ) → ((q : ℕ) → q < k → class q < classes) → IsChained classes n id (settled k)
@@ -115,7 +95,5 @@ module _ (n id : ℕ) (one_of_n : id < n) (status : ℕ → Status) where
           own q = let e : (q * n + id) % n ≡ id % n = mul-add-mod_self_right q n id in e ∙ mod-eq_of_lt one_of_n
 
   pub opened_entries : (k : ℕ) → All (λ (s : Settlement). IsEntry s.now) (settled k)
-  opened_entries zero = All-nil (λ (s : Settlement). IsEntry s.now)
-  opened_entries (suc k) =
-      All-append (λ (s : Settlement). IsEntry s.now) (settled k) _ (opened_entries k)
-      (one_entry (length (settled k)) (class k) (opening_value (status (class k))) (entry_opened (status (class k))))
+  opened_entries k = all_started (λ (s : Settlement). IsEntry s.now) (λ place. status (class place)) n id k
+      (λ place number now low is. subst (λ (o : Option Value). IsEntry (or_else o Draw)) is (entry_opened (status (class place))))

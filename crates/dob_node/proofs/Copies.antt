@@ -1,14 +1,7 @@
 -- What the copies of an edge know.
-use Rattle.std.proofs.Common.{◌≡◌, ℕ, ◌+◌, ◌<◌, ◌≤◌, ◌&&◌, eqb, ltb, Bool, false, cond, inl, inr, refl, sym}
-use Rattle.std.proofs.Common.{subst, ap, ◌∙◌, arith, List, [], ◌∷◌, ◌++◌, append_assoc}
-use Rattle.std.proofs.lemmas.Bool.{lt-ltb, eqb-true, cases_Bool}
-use Rattle.dob_value.specs.declared.value.Value.{Value}
-use Rattle.dob_value.specs.declared.value.Value.TheVariants.{Draw}
-use Rattle.dob_share.specs.declared.news.Settlement.{Settlement}
-use Rattle.dob_share.specs.declared.news.Item.{Item}
-use Rattle.dob_share.specs.Owners.{owner_of}
-use Rattle.dob_update.specs.Items.{items_of, items_from}
-use Rattle.dob_node.specs.Histories.{copies, items_to, last_now, value_of, known}
+use Rattle.dob_node.proofs.Common.{◌&&◌, ◌++◌, ◌+◌, ◌<◌, ◌∙◌, ◌∷◌, ◌≡◌, ◌≤◌, Bool, List, [], ap, append_assoc, arith, cond, eqb, false, inl, inr, ltb, refl}
+use Rattle.dob_node.proofs.Common.{subst, sym, ℕ, cases_Bool, eqb-true, lt-ltb, Value, Draw, owner_of, Item, Settlement, items_from, items_of, copies, items_to}
+use Rattle.dob_node.proofs.Common.{known, last_now, value_of}
 use Rattle.dob_node.proofs.Counts.{items_to-append, items_to-items_of}
 
 -- two tests agree on each settlement of a list

@@ -1,13 +1,7 @@
 -- How many items of each settlement a list of items has for a class.
-use Rattle.std.proofs.Common.{◌≡◌, ◌≢◌, ℕ, ◌+◌, ◌&&◌, eqb, Bool, true, false, cond, refl, sym, subst, ap, ◌∙◌, arith, List, [], ◌∷◌, ◌++◌, map}
-use Rattle.std.specs.List.{filter, count_by}
-use Rattle.std.proofs.lemmas.Bool.{both_ways, eq-eqb, ne_eqb}
+use Rattle.dob_node.proofs.Common.{◌&&◌, ◌++◌, ◌+◌, ◌∙◌, ◌∷◌, ◌≡◌, ◌≢◌, Bool, List, [], ap, arith, cond, eqb, false, map, refl, subst, sym, true, ℕ, both_ways}
+use Rattle.dob_node.proofs.Common.{eq-eqb, ne_eqb, count_by, filter, owner_of, Item, Settlement, item_for, items_of, copies, items_to}
 use Rattle.std.proofs.lemmas.List.Sums.{sum_by-cons, sum_by-append}
-use Rattle.dob_share.specs.declared.news.Settlement.{Settlement}
-use Rattle.dob_share.specs.declared.news.Item.{Item}
-use Rattle.dob_share.specs.Owners.{owner_of}
-use Rattle.dob_update.specs.Items.{item_for, items_of}
-use Rattle.dob_node.specs.Histories.{copies, items_to}
 
 pub items_to-append : (xs ys : List Item) (number to : ℕ) → items_to (xs ++ ys) number to ≡ items_to xs number to + items_to ys number to
 items_to-append xs ys number to = sum_by-append (λ (item : Item). cond (eqb item.number number && eqb item.to to) 1 0) xs ys

@@ -1,30 +1,8 @@
 -- Lawful nodes that have applied all their items hold the value table.
-use Rattle.std.proofs.Common.{◌≡◌, ℕ, ◌<◌, refl, sym, subst, ap, ◌∙◌, arith, List, [], ◌∷◌, length, Some, slice_get, get_or, eqb}
-use Rattle.std.proofs.lemmas.Option.{slice_get-get_or, same_Some}
-use Rattle.std.proofs.lemmas.List.{take_all}
-use Rattle.dob_pieces.specs.declared.profile.Family.{Family}
-use Rattle.dob_moves.specs.declared.position_status.Status.{Status}
-use Rattle.dob_moves.specs.declared.position_status.Status.TheVariants.{Caught, Tried, Stuck, Open}
-use Rattle.dob_moves.specs.Statuses.{HasStatus}
-use Rattle.dob_rank.specs.Families.{classes_of}
-use Rattle.dob_rank.specs.Families.{class_setup}
-use Rattle.dob_rank.proofs.OfFamilies.Present.{HasClasses-classes_of}
-use Rattle.dob_classes.proofs.OfFamilies.FamilyRepresentatives.{class_setup_only}
-use Rattle.dob_value.specs.declared.value.Value.{Value}
-use Rattle.dob_value.specs.declared.value.Value.TheVariants.{Draw}
-use Rattle.dob_value.specs.Follows.{IsEntry}
-use Rattle.dob_unmove.specs.Edges.{predecessors}
-use Rattle.dob_unmove.proofs.Edges.{representative_below}
-use Rattle.dob_share.specs.declared.news.Settlement.{Settlement}
-use Rattle.dob_share.specs.declared.news.Item.{Item}
-use Rattle.dob_share.specs.declared.opening.Opening.{Opening}
-use Rattle.dob_share.specs.Owners.{owner_of}
-use Rattle.dob_share.specs.Cells.{Cell}
-use Rattle.dob_update.specs.Items.{items_from}
-use Rattle.dob_node.specs.Histories.{value_of}
-use Rattle.dob_node.specs.Quiet.{FollowsAtStatus, IsQuiet, AreGathered}
-use Rattle.dob_node.specs.Openings.{IsOpening, AreOpenings}
-use Rattle.dob_node.specs.Lawful.{known_of, AreLawfulNodes}
+use Rattle.dob_node.proofs.Common.{◌<◌, ◌∙◌, ◌∷◌, ◌≡◌, List, Some, [], ap, arith, eqb, get_or, length, refl, slice_get, subst, sym, ℕ, take_all, same_Some}
+use Rattle.dob_node.proofs.Common.{slice_get-get_or, Family, HasStatus, Status, Caught, Open, Stuck, Tried, HasClasses-classes_of, class_setup, classes_of}
+use Rattle.dob_node.proofs.Common.{class_setup_only, IsEntry, Value, Draw, representative_below, predecessors, Cell, owner_of, Item, Settlement, Opening}
+use Rattle.dob_node.proofs.Common.{items_from, value_of, AreLawfulNodes, known_of, AreOpenings, IsOpening, AreGathered, FollowsAtStatus, IsQuiet}
 use Rattle.dob_node.specs.Laws.{LawfulIsRight}
 use Rattle.dob_node.proofs.Rest.{below_owner, quiet_is_right}
 use Rattle.dob_node.proofs.Kept.{last_now-entry}

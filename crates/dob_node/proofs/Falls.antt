@@ -1,22 +1,12 @@
 -- Falls: how far they go, and what goes before one. A settlement is no better than its class's present value.
-use Rattle.std.proofs.Common.{◌≡◌, ◌≢◌, ℕ, ◌+◌, ◌<◌, ◌≤◌, inl, inr, cond, refl, sym, ap, ◌∙◌, subst, arith}
-use Rattle.std.proofs.Common.{List, [], ◌∷◌, ◌++◌, length, map, get_or, append_assoc, Contains, All, AllPairs}
-use Rattle.std.specs.List.{range_with_len}
-use Rattle.std.proofs.lemmas.Bool.{cases_eq, eq-eqb, ne_eqb}
-use Rattle.std.proofs.lemmas.List.{append-nil, length-map}
+use Rattle.dob_node.proofs.Common.{◌++◌, ◌+◌, ◌<◌, ◌∙◌, ◌∷◌, ◌≡◌, ◌≢◌, ◌≤◌, Contains, List, [], ap, append_assoc, arith, cond, get_or, inl, inr, length, map}
+use Rattle.dob_node.proofs.Common.{refl, subst, sym, ℕ, cases_eq, eq-eqb, ne_eqb, append-nil, length-map, All-cons, All-contains, All-head, All-nil, All-tail}
+use Rattle.dob_node.proofs.Common.{range_with_len, cons_cases, none_in_empty, plies_of, Value, Draw, Loss, Win, owner_of, Better, NoWorse, Settlement, Falls}
+use Rattle.dob_node.proofs.Common.{IsFall, IsFirst, IsSettlement, RestsOn, IsChained, IsNext, value_of}
+use Rattle.std.proofs.Common.{All, AllPairs}
 use Rattle.std.proofs.lemmas.List.FromFn.{length-range_with_len, get_or-range_with_len}
-use Rattle.std.proofs.lemmas.List.Elements.{All-contains, All-nil, All-cons, All-head, All-tail}
 use Rattle.std.proofs.lemmas.List.Kept.{AllPairs-cons}
-use Rattle.dob_pieces.proofs.Lists.{none_in_empty, cons_cases}
 use Rattle.dob_classes.proofs.OfFamilies.Counted.{no_longer, pairs-head, pairs-tail}
-use Rattle.dob_value.specs.declared.value.Value.{Value}
-use Rattle.dob_value.specs.declared.value.Value.TheVariants.{Win, Loss, Draw}
-use Rattle.dob_value.specs.Bounds.{plies_of}
-use Rattle.dob_share.specs.declared.news.Settlement.{Settlement}
-use Rattle.dob_share.specs.Owners.{owner_of}
-use Rattle.dob_share.specs.Values.{Better, NoWorse}
-use Rattle.dob_node.specs.Histories.{value_of, IsNext, IsChained}
-use Rattle.dob_node.specs.Falls.{IsFirst, RestsOn, Falls, IsSettlement, IsFall}
 use Rattle.dob_node.proofs.Settles.{value_of-more}
 
 -- ---- better values

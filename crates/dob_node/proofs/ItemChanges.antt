@@ -1,22 +1,8 @@
 -- What an item that a share takes changes: the value of its class, told by the settlement that is listed, and no other value.
-use Rattle.std.proofs.Common.{◌≡◌, ◌≢◌, ℕ, ◌+◌, ◌<◌, ◌≤◌, ◌⊎◌, inl, inr, eqb, Bool, true, false, cond, refl, sym, ap}
-use Rattle.std.proofs.Common.{◌∙◌, subst, arith, List, [], ◌∷◌, ◌++◌, length, Option, None, Some}
-use Rattle.std.proofs.lemmas.Bool.{eq-eqb, ne_eqb}
-use Rattle.std.proofs.lemmas.List.{append-nil}
-use Rattle.std.proofs.lemmas.Option.{same_Some}
-use Rattle.dob_moves.specs.declared.position_status.Status.{Status}
-use Rattle.dob_moves.specs.declared.position_status.Status.TheVariants.{Open}
-use Rattle.dob_value.specs.declared.value.Value.{Value}
-use Rattle.dob_value.specs.declared.value.Value.TheVariants.{Win, Loss, Draw}
-use Rattle.dob_share.specs.declared.news.Settlement.{Settlement}
-use Rattle.dob_share.specs.declared.news.Item.{Item}
-use Rattle.dob_share.specs.declared.share.Share.{Share}
-use Rattle.dob_share.specs.Cells.{Cell, SameCell, CellValue, IsGreatest}
-use Rattle.dob_share.specs.Shares.{status_at, cell_at, IsValue, HasValueNow, Fits, HasSettled}
-use Rattle.dob_share.specs.Values.{Better, NoWorse}
-use Rattle.dob_node.specs.Stores.{HistoryView}
-use Rattle.dob_node.specs.Histories.{value_of}
-use Rattle.dob_node.specs.TakenItems.{IsTaken, listed}
+use Rattle.dob_node.proofs.Common.{◌++◌, ◌+◌, ◌<◌, ◌∙◌, ◌∷◌, ◌≡◌, ◌≢◌, ◌≤◌, ◌⊎◌, Bool, List, None, Option, Some, [], ap, arith, cond, eqb, false, inl, inr}
+use Rattle.dob_node.proofs.Common.{length, refl, subst, sym, true, ℕ, eq-eqb, ne_eqb, append-nil, same_Some, Status, Open, Value, Draw, Loss, Win, Cell}
+use Rattle.dob_node.proofs.Common.{CellValue, IsGreatest, SameCell, Fits, HasSettled, HasValueNow, IsValue, cell_at, status_at, Better, NoWorse, Item}
+use Rattle.dob_node.proofs.Common.{Settlement, Share, value_of, HistoryView, IsTaken, listed}
 use Rattle.dob_node.proofs.Settles.{value_of-more}
 use Rattle.dob_node.proofs.Kept.{better_apart}
 use Rattle.dob_node.proofs.Stored.{same_settlement}
@@ -101,7 +87,7 @@ module _ (item : Item) (share after : Share) (history grown : HistoryView) (take
       (open_value (status_at share item.to) (cell_at share item.to) v (fits_open share item taken.fits) is) gave
 
   value_after : (v : Value) → HasValueNow after item.to v → CellValue (cell_at after item.to) v
-  value_after v is = open_value (status_at after item.to) (cell_at after item.to) v (taken.statuses item.to ∙ fits_open share item taken.fits) is
+  value_after v is = open_value (status_at after item.to) (cell_at after item.to) v (taken.classes.statuses item.to ∙ fits_open share item taken.fits) is
 
   change : (given : Option Settlement) → HasSettled share after item.to given → g ≡ h ++ listed given → Change item after h g
   change None settled is =

@@ -1,19 +1,7 @@
 -- What the copies know, where histories or the items applied are the same, and which values they can know.
-use Rattle.std.proofs.Common.{◌≡◌, ℕ, ◌+◌, ◌%◌, ◌<◌, ◌&&◌, eqb, ltb, Bool, cond, subst, ap, ◌∙◌, arith, List, [], ◌∷◌, Contains}
-use Rattle.std.specs.List.{All}
-use Rattle.std.proofs.lemmas.Bool.{cond_both}
-use Rattle.std.proofs.lemmas.List.Elements.{All-head, All-tail}
-use Rattle.dob_pieces.specs.Lists.{each_below}
-use Rattle.dob_value.specs.declared.value.Value.{Value}
-use Rattle.dob_value.specs.declared.value.Value.TheVariants.{Win, Loss, Draw}
-use Rattle.dob_value.specs.Codes.{IsShort}
-use Rattle.dob_value.specs.Follows.{IsEntry}
-use Rattle.dob_share.specs.declared.news.Settlement.{Settlement}
-use Rattle.dob_share.specs.declared.news.Item.{Item}
-use Rattle.dob_share.specs.Owners.{owner_of}
-use Rattle.dob_share.specs.Values.{Better}
-use Rattle.dob_node.specs.Histories.{copies, items_to, last_now, known, all_known}
-use Rattle.dob_node.specs.Quiet.{FollowsFromKnown}
+use Rattle.dob_node.proofs.Common.{◌%◌, ◌&&◌, ◌+◌, ◌<◌, ◌∙◌, ◌∷◌, ◌≡◌, Bool, Contains, List, [], ap, arith, cond, eqb, ltb, subst, ℕ, cond_both, All-head}
+use Rattle.dob_node.proofs.Common.{All-tail, All, each_below, IsShort, IsEntry, Value, Draw, Loss, Win, owner_of, Better, Item, Settlement, all_known, copies}
+use Rattle.dob_node.proofs.Common.{items_to, known, last_now, FollowsFromKnown}
 use Rattle.dob_node.proofs.Runs.{each_below-same, from_each_below, only_one}
 use Rattle.dob_node.proofs.Rest.{below_owner}
 

@@ -1,47 +1,19 @@
 -- What an item taken makes of a node's cells and of its history.
-use Rattle.std.proofs.Common.{◌≡◌, ◌≢◌, ℕ, ◌+◌, ◌/◌, ◌%◌, ◌^◌, ◌<◌, ◌≤◌, inl, inr, refl, sym, ap, ◌∙◌, subst}
-use Rattle.std.proofs.Common.{arith, List, [], ◌∷◌, ◌++◌, length, Option, None, Some}
-use Rattle.std.specs.List.{All}
-use Rattle.std.proofs.Math.Nat.{div-le_self}
-use Rattle.std.proofs.lemmas.Bool.{cases_order}
-use Rattle.std.proofs.lemmas.List.{length-append, append-nil}
-use Rattle.std.proofs.lemmas.List.Elements.{All-append, All-nil, All-cons}
-use Rattle.dob_pieces.specs.declared.profile.Family.{Family}
-use Rattle.dob_moves.specs.declared.position_status.Status.{Status}
-use Rattle.dob_moves.specs.declared.position_status.Status.TheVariants.{Caught, Tried, Stuck, Open}
-use Rattle.dob_rank.specs.Families.{classes_of}
-use Rattle.dob_value.specs.declared.value.Value.{Value}
-use Rattle.dob_value.specs.declared.value.Value.TheVariants.{Win, Loss, Draw}
-use Rattle.dob_value.specs.Follows.{IsEntry}
-use Rattle.dob_share.specs.declared.news.Settlement.{Settlement}
-use Rattle.dob_share.specs.declared.news.Item.{Item}
-use Rattle.dob_share.specs.declared.share.Share.{Share}
-use Rattle.dob_share.specs.Owners.{owner_of}
-use Rattle.dob_share.specs.Cells.{Cell, SameCell, CellCanTake, KnowsLossWithin, changed}
-use Rattle.dob_share.specs.Shares.{places_of, IsOwn, status_at, cell_at, Fits, SameClasses, HasSettled}
-use Rattle.dob_node.specs.Stores.{HistoryView}
-use Rattle.dob_node.specs.TakenItems.{HasItemEntries, HasParities, AreKept, listed}
+use Rattle.dob_node.proofs.Common.{◌%◌, ◌++◌, ◌+◌, ◌/◌, ◌<◌, ◌^◌, ◌∙◌, ◌∷◌, ◌≡◌, ◌≢◌, ◌≤◌, List, None, Ok, Option, Some, [], ap, arith, inl, inr, length, refl}
+use Rattle.dob_node.proofs.Common.{subst, sym, take, ℕ, div-le_self, cases_eq, cases_lt, append-nil, length-append, All-append, All-cons, All-nil, All, Family}
+use Rattle.dob_node.proofs.Common.{Status, Caught, Open, Stuck, Tried, classes_of, IsEntry, Value, Draw, Loss, Win, Cell, CellCanTake, KnowsLossWithin, changed}
+use Rattle.dob_node.proofs.Common.{owner_of, Fits, HasSettled, IsApplication, IsOwn, SameClasses, cell_at, places_of, status_at, StatusesView, Item, Settlement}
+use Rattle.dob_node.proofs.Common.{Share, HistoryView, starts_count, AreKept, HasItemEntries, HasParities, IsTaken, listed, Stored}
+use Rattle.dob_node.proofs.Stored.{seen, count_is}
 use Rattle.dob_node.proofs.Parity.{parities_same, parities_changed, entry_now}
 
 -- ---- what is not refused fits
 
 sure_less : (a b : ℕ) → ¬ ¬ (a < b) → a < b
-sure_less a b sure = elim (cases_order a b) [
-  | inl same ↦ absurd (sure (λ less. omega arith))
-  | inr order ↦ elim order [
-    | inl less ↦ less
-    | inr more ↦ absurd (sure (λ less. omega arith))
-  ]
-]
+sure_less a b sure = elim (cases_lt a b) [ inl less ↦ less | inr more ↦ absurd (sure (λ less. omega arith)) ]
 
 sure_same : (a b : ℕ) → ¬ ¬ (a ≡ b) → a ≡ b
-sure_same a b sure = elim (cases_order a b) [
-  | inl same ↦ same
-  | inr order ↦ elim order [
-    | inl less ↦ absurd (sure (λ same. omega arith))
-    | inr more ↦ absurd (sure (λ same. omega arith))
-  ]
-]
+sure_same a b sure = elim (cases_eq a b) [ inl same ↦ same | inr other ↦ absurd (sure other) ]
 
 sure_within : (plies : ℕ) (least : Option ℕ) → ¬ ¬ KnowsLossWithin plies least → KnowsLossWithin plies least
 sure_within plies None sure = absurd (sure (λ none. none))
@@ -96,58 +68,71 @@ same_owned old new same class own =
       subst (λ (m : ℕ). class / m < old.statuses.places) n_is (subst (λ (m : ℕ). class / new.nodes < m) same.places own.1),
     )
 
--- ---- what is asked of a settlement
+-- ---- an item that is applied is taken
 
-module _ (family : Family) (n id : ℕ) (share after : Share) (history : HistoryView) (item : Item) (kept : AreKept family n id share history)
-    (entries : HasItemEntries item) (same : SameClasses share after) (fits : Fits share item)
-    (cell : SameCell (cell_at after item.to) (changed item.was item.now (cell_at share item.to)))
-    (others : (class : ℕ) → IsOwn share class → class ≢ item.to → SameCell (cell_at after class) (cell_at share class)) where
+pub taken_by : (share after : Share) (item : Item) (given : Option Settlement) (history grown : HistoryView) → IsApplication share item (Ok given) after →
+    grown ≡ record history { settlements = history.settlements ++ listed given; room = grown.room } → IsTaken item share after history grown
+taken_by share after item given history grown applied is = record {
+  fits = sure_fits share item (λ no. let e = applied.contradiction.1 no in cc);
+  classes = applied.classes;
+  cell = applied.cell;
+  others = applied.others;
+  settled = (given, applied.settled, is);
+}
+
+-- A settlement with that number, of a class of owner `id` among n, such as a history can store.
+pub record IsNews (n id number : ℕ) (s : Settlement) : Type 0 where
+  pub number_is : s.number ≡ number
+  pub own : owner_of n s.class ≡ id
+  pub place : s.class / n < 2 ^ 32
+  pub was : IsEntry s.was
+  pub now : IsEntry s.now
+
+-- it is stored behind those that are there
+pub news_seen : (n id room count : ℕ) (starts : StatusesView) (stored : List Stored) (view : HistoryView) (s : Settlement) → count + room ≤ length stored →
+    seen n id room starts (take count stored) ≡ view → IsNews view.n view.id (length view.settlements) s → IsNews n id (starts_count starts + count) s
+news_seen n id room count starts stored view s all is news =
+    subst (λ (k : ℕ). IsNews n id k s) (sym (count_is n id room count starts stored view all is))
+    (subst (λ (v : HistoryView). IsNews v.n v.id (length view.settlements) s) (sym is) news)
+
+module _ (family : Family) (n id : ℕ) (share after : Share) (history grown : HistoryView) (item : Item) (kept : AreKept family n id share history)
+    (entries : HasItemEntries item) (taken : IsTaken item share after history grown) where
   own : IsOwn share item.to
-  own = fits_own share item fits
+  own = fits_own share item taken.fits
 
   mine : (owner_of n item.to ≡ id) × (item.to < classes_of family)
   mine = (kept.owned item.to).0 own
 
   parities_there : HasParities (cell_at after item.to)
-  parities_there = parities_same (cell_at after item.to) (changed item.was item.now (cell_at share item.to)) cell
+  parities_there = parities_same (cell_at after item.to) (changed item.was item.now (cell_at share item.to)) taken.cell
       (parities_changed item.was item.now (cell_at share item.to) entries.0 entries.1 (kept.parities item.to own))
 
   parities_all : (class : ℕ) → IsOwn after class → HasParities (cell_at after class)
-  parities_all class own_after = elim (cases_order class item.to) [
+  parities_all class own_after = elim (cases_eq class item.to) [
     | inl is ↦ subst (λ (k : ℕ). HasParities (cell_at after k)) (sym is) parities_there
-    | inr order ↦ elsewhere (λ is. elim order [ inl less ↦ omega arith | inr more ↦ omega arith ])
+    | inr other ↦
+        let before : IsOwn share class = same_owned share after taken.classes class own_after in
+        parities_same (cell_at after class) (cell_at share class) (taken.others class before other) (kept.parities class before)
   ]
-    where
-      elsewhere : class ≢ item.to → HasParities (cell_at after class)
-      elsewhere other =
-          let before : IsOwn share class = same_owned share after same class own_after in
-          parities_same (cell_at after class) (cell_at share class) (others class before other) (kept.parities class before)
 
-  module _ (s : Settlement) (settled : HasSettled share after item.to (Some s)) where
-    pub number_is : s.number ≡ length history.settlements
-    number_is = settled.1 ∙ kept.counted
-
-    pub own_is : owner_of history.n s.class ≡ history.id
-    own_is = subst (λ (k : ℕ). owner_of history.n k ≡ history.id) (sym settled.2)
-        (subst (λ (m : ℕ). owner_of m item.to ≡ history.id) (sym kept.history_is.0) (mine.0 ∙ sym kept.history_is.1))
-
-    pub place_is : s.class / history.n < 2 ^ 32
-    place_is =
+  -- what is asked of a settlement
+  pub news_is : (s : Settlement) → HasSettled share after item.to (Some s) → IsNews history.n history.id (length history.settlements) s
+  news_is s settled = record {
+    number_is = settled.1 ∙ kept.counted;
+    own = subst (λ (k : ℕ). owner_of history.n k ≡ history.id) (sym settled.2)
+        (subst (λ (m : ℕ). owner_of m item.to ≡ history.id) (sym kept.history_is.0) (mine.0 ∙ sym kept.history_is.1));
+    place =
         let low : item.to < classes_of family = mine.1 in
         let few : classes_of family ≤ 2 ^ 32 = kept.few in
         let less : s.class / history.n ≤ s.class = div-le_self s.class history.n in
         let is : s.class ≡ item.to = settled.2 in
         let both : s.class < 2 ^ 32 = omega arith in
-        omega arith
+        omega arith;
+    was = entry_now share item.to s.was own (kept.parities item.to own) settled.3;
+    now = entry_now after item.to s.now (taken.classes.owned item.to own) parities_there settled.4;
+  }
 
-    pub was_is : IsEntry s.was
-    was_is = entry_now share item.to s.was own (kept.parities item.to own) settled.3
-
-    pub now_is : IsEntry s.now
-    now_is = entry_now after item.to s.now (same.owned item.to own) parities_there settled.4
-
-  -- ---- what is kept
-
+  -- what is kept
   settled_count : (given : Option Settlement) → HasSettled share after item.to given →
       after.settled ≡ length (history.settlements ++ listed given)
   settled_count None settled = settled.0 ∙ kept.counted ∙ ap length (sym (append-nil history.settlements))
@@ -163,18 +148,18 @@ module _ (family : Family) (n id : ℕ) (share after : Share) (history : History
   settled_classes (Some s) settled = All-cons (λ (s : Settlement). s.class < classes_of family) s []
       (subst (λ (k : ℕ). k < classes_of family) (sym settled.2) mine.1) (All-nil (λ (s : Settlement). s.class < classes_of family))
 
-  pub kept_still : (given : Option Settlement) → HasSettled share after item.to given → (grown : HistoryView) →
-      grown ≡ record history { settlements = history.settlements ++ listed given; room = grown.room } → AreKept family n id after grown
-  kept_still given settled grown is = subst (λ (view : HistoryView). AreKept family n id after view) (sym is) (record {
-    share_is = (same.nodes ∙ kept.share_is.0, same.id ∙ kept.share_is.1);
+  pub kept_still : AreKept family n id after grown
+  kept_still = subst (λ (view : HistoryView). AreKept family n id after view) (sym taken.settled.2) (record {
+    share_is = (taken.classes.nodes ∙ kept.share_is.0, taken.classes.id ∙ kept.share_is.1);
     history_is = kept.history_is;
     one_of_n = kept.one_of_n;
     few = kept.few;
     owned = λ class. (
-      λ own_after. (kept.owned class).0 (same_owned share after same class own_after),
-      λ it. same.owned class ((kept.owned class).1 it),
+      λ own_after. (kept.owned class).0 (same_owned share after taken.classes class own_after),
+      λ it. taken.classes.owned class ((kept.owned class).1 it),
     );
-    counted = settled_count given settled;
-    classes = All-append (λ (s : Settlement). s.class < classes_of family) history.settlements (listed given) kept.classes (settled_classes given settled);
+    counted = settled_count taken.settled.0 taken.settled.1;
+    classes = All-append (λ (s : Settlement). s.class < classes_of family) history.settlements (listed taken.settled.0) kept.classes
+        (settled_classes taken.settled.0 taken.settled.1);
     parities = parities_all;
   })

@@ -1,17 +1,8 @@
 -- The next item of a history teaches one copy of an edge, and no other.
-use Rattle.std.proofs.Common.{◌≡◌, ◌≢◌, ℕ, suc, ◌+◌, ◌<◌, ◌≤◌, ◌⊎◌, ◌&&◌, inl, inr, eqb, ltb, Bool, true, cond, refl}
-use Rattle.std.proofs.Common.{sym, subst, ap, ◌∙◌, arith, List, [], ◌∷◌, ◌++◌, length, append_assoc}
-use Rattle.std.specs.List.{filter}
-use Rattle.std.proofs.lemmas.Bool.{eq-eqb, ne_eqb, cases_eq, cases_order, lt-ltb, le-ltb, and_right, and_left}
-use Rattle.dob_pieces.specs.Lists.{each_below}
-use Rattle.dob_value.specs.declared.value.Value.{Value}
-use Rattle.dob_value.specs.declared.value.Value.TheVariants.{Draw}
-use Rattle.dob_share.specs.declared.news.Settlement.{Settlement}
-use Rattle.dob_share.specs.declared.news.Item.{Item}
-use Rattle.dob_share.specs.Owners.{owner_of}
-use Rattle.dob_share.specs.Cells.{Changes}
-use Rattle.dob_update.specs.Items.{items_of, items_from}
-use Rattle.dob_node.specs.Histories.{copies, items_to, last_now, value_of, known, all_known, IsNext, IsChained}
+use Rattle.dob_node.proofs.Common.{◌&&◌, ◌++◌, ◌+◌, ◌<◌, ◌∙◌, ◌∷◌, ◌≡◌, ◌≢◌, ◌≤◌, ◌⊎◌, Bool, List, [], ap, append_assoc, arith, cond, eqb, inl, inr, length}
+use Rattle.dob_node.proofs.Common.{ltb, refl, subst, suc, sym, true, ℕ, and_left, and_right, cases_eq, cases_lt, eq-eqb, le-ltb, lt-ltb, ne_eqb, filter}
+use Rattle.dob_node.proofs.Common.{each_below, Value, Draw, Changes, owner_of, Item, Settlement, items_from, items_of, IsChained, IsNext, all_known, copies}
+use Rattle.dob_node.proofs.Common.{items_to, known, last_now, value_of}
 use Rattle.dob_node.proofs.Runs.{Changes-one, Changes-each_below, each_below-same}
 use Rattle.dob_node.proofs.Counts.{items_to-append, items_to-cons, items_to-items_of, no_other}
 use Rattle.dob_node.proofs.Copies.{AreFull, NonePass, last_now-agree, last_now-none, last_now-append, full_after, full_agree}
@@ -89,12 +80,9 @@ part_alone targets n node s xs ys is number p other =
     omega arith
 
 other_copy : (copy at : ℕ) → copy ≢ at → ltb copy at ≡ ltb copy (suc at)
-other_copy copy at other = elim (cases_order copy at) [
-  | inl same ↦ absurd (other same)
-  | inr order ↦ elim order [
-    | inl below ↦ lt-ltb copy at below ∙ sym (lt-ltb copy (suc at) (omega arith))
-    | inr above ↦ le-ltb copy at (omega arith) ∙ sym (le-ltb copy (suc at) (omega arith))
-  ]
+other_copy copy at other = elim (cases_lt copy at) [
+  | inl below ↦ lt-ltb copy at below ∙ sym (lt-ltb copy (suc at) (omega arith))
+  | inr above ↦ le-ltb copy at above ∙ sym (le-ltb copy (suc at) (omega arith))
 ]
 
 module _ (targets : ℕ → List ℕ) (classes n : ℕ) (histories : ℕ → List Settlement) (applied after : ℕ → List Item) (i j : ℕ) (item : Item)

@@ -1,4 +1,5 @@
 -- The lemmas, in the order in which they are read. First lists and values.
+mod Common  -- names of other crates and of this one's definitions, for the proofs
 pub mod Runs  -- lists made piece by piece, and a change in one piece
 pub mod Parity  -- what cells count and know keeps its parity, and so do values
 -- What the copies of edges know.
@@ -20,6 +21,7 @@ pub mod Ends  -- lawful nodes that have applied all items hold the value table
 -- A node with its outboxes.
 pub mod Starts  -- the openings of the classes so far, and one more
 pub mod Opens  -- a node as it is opened
+pub mod Found  -- each family has openings, whether they were listed or not, and those of an owner's classes are among them
 pub mod StartLists  -- the settlements of the start, by the statuses of the classes
 pub mod Stored  -- what is stored of a history is read again
 pub mod Kepts  -- what an item taken makes of a node's cells and history

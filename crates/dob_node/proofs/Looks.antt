@@ -1,13 +1,8 @@
 -- Items looked at before they are taken.
-use Rattle.std.proofs.Common.{◌≡◌, ◌≢◌, ℕ, zero, suc, [], ◌∷◌, refl, ◌+◌, ◌%◌, ◌<◌, ◌≤◌, List, length, Option, sym, ◌∙◌, ap, subst, inl, inr, arith, get_or}
+use Rattle.dob_node.proofs.Common.{◌%◌, ◌+◌, ◌<◌, ◌∙◌, ◌∷◌, ◌≡◌, ◌≢◌, ◌≤◌, List, Option, [], ap, arith, get_or, inl, inr, length, refl, subst, suc, sym, zero}
+use Rattle.dob_node.proofs.Common.{ℕ, cases_eq, get_or-set_other, get_or-set_same, get_or_default, IsSeen, Item, Share, AreSeen}
 use Rattle.std.proofs.Math.ListN.{set}
-use Rattle.std.proofs.lemmas.List.{get_or-set_same, get_or-set_other, get_or_default}
-use Rattle.std.proofs.lemmas.Bool.{cases_eq}
-use Rattle.dob_share.specs.declared.news.Item.{Item}
 use Rattle.dob_share.specs.declared.share.Seen.{Seen}
-use Rattle.dob_share.specs.declared.share.Share.{Share}
-use Rattle.dob_share.specs.Shares.{IsSeen}
-use Rattle.dob_node.specs.SeenItems.{AreSeen}
 
 -- the items from the first up to the end have been looked at
 unfoldable pub AreLooked : ℕ → ℕ → Share → List Item → List (Option Seen) → Type 0

@@ -1,10 +1,5 @@
 -- What a node has, told by its family, its number and how many nodes there are.
-use Rattle.std.proofs.Common.{◌≡◌, ℕ, ap, ◌∙◌, subst}
-use Rattle.dob_pieces.specs.declared.profile.Family.{Family}
-use Rattle.dob_node.specs.TakenItems.{AreKept}
-use Rattle.dob_node.specs.NodeViews.{NodeView}
-use Rattle.dob_node.specs.Nodes.{IsSound, outbox_to}
-use Rattle.dob_node.specs.Outboxes.{outbox_in}
+use Rattle.dob_node.proofs.Common.{◌∙◌, ◌≡◌, ap, subst, ℕ, Family, NodeView, IsSound, outbox_to, outbox_in, AreKept}
 
 pub outbox_same : (old new : NodeView) (to : ℕ) → new.family ≡ old.family → new.id ≡ old.id → new.n ≡ old.n → new.outboxes ≡ old.outboxes →
     outbox_to new to ≡ outbox_to old to

@@ -1,11 +1,7 @@
 -- What holds of a node's core holds of the node, whatever has failed of it.
-use Rattle.std.proofs.Common.{◌≡◌, List, Option, None, Result, Ok, Err, sym, subst}
-use Rattle.dob_share.specs.declared.news.Item.{Item}
-use Rattle.dob_stops.specs.declared.cause.Cause.{Cause}
+use Rattle.dob_node.proofs.Common.{◌≡◌, Err, List, None, Ok, Option, Result, subst, sym, Item, Cause, AppliesAll, AppliesEveryOwn, NodeView, going, node_of}
+use Rattle.dob_node.proofs.Common.{HasTaken, HasTakenBefore, IsSound, IsUnchanged}
 use Rattle.dob_node.specs.declared.node_core.Core.{Core}
-use Rattle.dob_node.specs.NodeViews.{NodeView, node_of, going}
-use Rattle.dob_node.specs.Nodes.{IsSound, HasTaken, HasTakenBefore, IsUnchanged}
-use Rattle.dob_node.specs.NodeSteps.{AppliesEveryOwn, AppliesAll}
 
 sound_noted : (core : Core) (was failed : Option Cause) → IsSound (node_of core was) → IsSound (node_of core failed)
 sound_noted core was failed sound = record {

@@ -1,69 +1,46 @@
 -- A node as it is opened.
-use Rattle.std.proofs.Common.{◌≡◌, ◌↔◌, ℕ, zero, suc, ◌+◌, ◌*◌, ◌/◌, ◌%◌, ◌^◌, ◌<◌, ◌≤◌, refl, sym, ap, ◌∙◌, subst}
-use Rattle.std.proofs.Common.{arith, List, [], ◌++◌, length, get_or, Option, None, Some}
-use Rattle.std.specs.List.{All}
-use Rattle.std.proofs.lemmas.List.{length-append}
-use Rattle.std.proofs.lemmas.List.Elements.{All-append, All-nil, All-cons}
-use Rattle.std.proofs.lemmas.Nat.{mod-mul-add, div-mul-add}
-use Rattle.std.proofs.lemmas.Option.{slice_get-get_or}
-use Rattle.dob_pieces.specs.declared.profile.Family.{Family}
-use Rattle.dob_pieces.specs.declared.profile.Profile.{Profile}
-use Rattle.dob_pieces.specs.declared.setup.Setup.{Setup}
-use Rattle.dob_moves.specs.declared.position_status.Status.{Status}
-use Rattle.dob_moves.specs.declared.position_status.Status.TheVariants.{Caught, Tried, Stuck, Open}
-use Rattle.dob_moves.specs.MoveLists.{moves_of}
-use Rattle.dob_moves.specs.Statuses.{HasStatus}
+use Rattle.dob_node.proofs.Common.{◌%◌, ◌*◌, ◌++◌, ◌+◌, ◌/◌, ◌<◌, ◌^◌, ◌↔◌, ◌∙◌, ◌≡◌, ◌≤◌, List, None, Option, Some, [], ap, arith, get_or, length, refl, subst}
+use Rattle.dob_node.proofs.Common.{suc, sym, zero, ℕ, length-append, All-append, All-cons, All-nil, div-mul-add, mod-mul-add, slice_get-get_or, All, Family}
+use Rattle.dob_node.proofs.Common.{Profile, Setup, moves_of, HasStatus, Status, Caught, Open, Stuck, Tried, HasClasses-classes_of, class_setup, classes_of}
+use Rattle.dob_node.proofs.Common.{class_setup_is, Value, Draw, SameCell, fresh, cell_moves, moves_where, opening_of, settled_among, settles, class_of_place}
+use Rattle.dob_node.proofs.Common.{IsOwn, cell_at, places_of, status_at, Settlement, Opening, Share, opening_settlement, opening_settlements, opening_status}
+use Rattle.dob_node.proofs.Common.{opening_value, start_settlements, AreOpenings, HistoryView, start_status, AreKept, HasParities}
 use Rattle.dob_moves.proofs.MoveCounts.{other_count}
-use Rattle.dob_rank.specs.Families.{classes_of, class_setup}
-use Rattle.dob_classes.proofs.OfFamilies.FamilyRepresentatives.{class_setup_is}
-use Rattle.dob_rank.proofs.OfFamilies.Present.{HasClasses-classes_of}
 use Rattle.dob_rank.proofs.OfFamilies.ClassBounds.{classes_of-below}
-use Rattle.dob_value.specs.declared.value.Value.{Value}
-use Rattle.dob_share.specs.declared.news.Settlement.{Settlement}
-use Rattle.dob_share.specs.declared.opening.Opening.{Opening}
-use Rattle.dob_share.specs.declared.share.Share.{Share}
-use Rattle.dob_share.specs.Owners.{class_of_place}
-use Rattle.dob_share.specs.Cells.{SameCell, fresh}
-use Rattle.dob_share.specs.Openings.{opening_of, moves_where, cell_moves, settles, settled_among}
-use Rattle.dob_share.specs.Shares.{places_of, IsOwn, status_at, cell_at}
-use Rattle.dob_node.specs.Stores.{HistoryView, start_status}
-use Rattle.dob_node.specs.OpeningLists.{opening_value, opening_settlement, opening_settlements, opening_status}
-use Rattle.dob_node.specs.Openings.{AreOpenings}
-use Rattle.dob_node.specs.TakenItems.{HasParities, AreKept}
 use Rattle.dob_node.proofs.Parity.{parities_same}
 
 -- ---- the settlements
 
-pub one_settles : (status : Status) (number class : ℕ) → settles status ≡ length (opening_settlement number class (opening_value status))
+one_settles : (status : Status) (number class : ℕ) → settles status ≡ length (opening_settlement number class (opening_value status))
 one_settles Caught number class = refl
 one_settles Tried number class = refl
 one_settles Stuck number class = refl
 one_settles Open number class = refl
 
 -- as many as a share counts
-pub settled_length : (status : ℕ → Status) (n id k : ℕ) →
-    settled_among (λ place. status (class_of_place n id place)) k ≡ length (opening_settlements status n id k)
-settled_length status n id zero = refl
-settled_length status n id (suc k) =
-    let before = opening_settlements status n id k in
-    let more = opening_settlement (length before) (class_of_place n id k) (opening_value (status (class_of_place n id k))) in
+pub start_length : (status : ℕ → Status) (n id k : ℕ) → length (start_settlements status n id k) ≡ settled_among status k
+start_length status n id zero = refl
+start_length status n id (suc k) =
+    let before = start_settlements status n id k in
+    let more = opening_settlement (length before) (class_of_place n id k) (opening_value (status k)) in
     let sum : length (before ++ more) ≡ length before + length more = length-append before more in
-    let same : settled_among (λ place. status (class_of_place n id place)) k ≡ length before = settled_length status n id k in
-    let one : settles (status (class_of_place n id k)) ≡ length more = one_settles (status (class_of_place n id k)) (length before) (class_of_place n id k) in
+    let same : length before ≡ settled_among status k = start_length status n id k in
+    let one : settles (status k) ≡ length more = one_settles (status k) (length before) (class_of_place n id k) in
     omega arith
 
-one_low : (count number class : ℕ) (o : Option Value) → class < count → All (λ (s : Settlement). s.class < count) (opening_settlement number class o)
-one_low count number class None low = All-nil (λ (s : Settlement). s.class < count)
-one_low count number class (Some now) low = All-cons (λ (s : Settlement). s.class < count) _ [] low (All-nil (λ (s : Settlement). s.class < count))
-
--- of the classes at the places
-pub settled_low : (status : ℕ → Status) (n id count k : ℕ) → ((place : ℕ) → place < k → place * n + id < count) →
-    All (λ (s : Settlement). s.class < count) (opening_settlements status n id k)
-settled_low status n id count zero low = All-nil (λ (s : Settlement). s.class < count)
-settled_low status n id count (suc k) low =
-    let before = opening_settlements status n id k in
-    All-append (λ (s : Settlement). s.class < count) before _ (settled_low status n id count k (λ place less. low place (omega arith)))
-    (one_low count (length before) (class_of_place n id k) (opening_value (status (class_of_place n id k))) (low k (omega arith)))
+-- what each of them has
+pub all_started : (P : Settlement → Type 0) (status : ℕ → Status) (n id k : ℕ) →
+    ((place number : ℕ) (now : Value) → place < k → opening_value (status place) ≡ Some now →
+    P (record { number = number; class = class_of_place n id place; was = Draw; now = now })) → All P (start_settlements status n id k)
+all_started P status n id zero each = All-nil P
+all_started P status n id (suc k) each =
+    let before = start_settlements status n id k in
+    All-append P before _ (all_started P status n id k (λ place number now low. each place number now (omega arith)))
+    (last (length before) (opening_value (status k)) refl)
+  where
+    last : (number : ℕ) (o : Option Value) → opening_value (status k) ≡ o → All P (opening_settlement number (class_of_place n id k) o)
+    last number None is = All-nil P
+    last number (Some now) is = All-cons P _ [] (each k number now (omega arith) is) (All-nil P)
 
 -- ---- the places
 
@@ -106,7 +83,7 @@ few_listed family openings are = omega (arith, are.whole, classes_of-below famil
 
 -- ---- what is kept
 
-twelve_squares : (family : Family) (class : ℕ) → class < classes_of family → length (class_setup family class).board ≡ 12
+pub twelve_squares : (family : Family) (class : ℕ) → class < classes_of family → length (class_setup family class).board ≡ 12
 twelve_squares family class low = (class_setup_is family class (classes_of family) (HasClasses-classes_of family) low).0.0.of_set.legal.squares
 
 -- a class that isn't open has no move
@@ -149,9 +126,9 @@ opened_kept family openings n id share history are less few who owned cells sett
     λ own. let there = (owned class).0 own in (there.0, subst (λ (count : ℕ). class < count) are.whole there.1),
     λ mine. (owned class).1 (mine.0, subst (λ (count : ℕ). class < count) (sym are.whole) mine.1),
   );
-  counted = settled ∙ settled_length (opening_status openings) n id (places_of share);
-  classes = settled_low (opening_status openings) n id (classes_of family) (places_of share)
-      (λ place low. subst (λ (count : ℕ). place * n + id < count) are.whole ((places_are share openings n id who less owned place).0 low));
+  counted = settled ∙ sym (start_length (λ place. opening_status openings (class_of_place n id place)) n id (places_of share));
+  classes = all_started (λ (s : Settlement). s.class < classes_of family) (λ place. opening_status openings (class_of_place n id place)) n id (places_of share)
+      (λ place number now low is. subst (λ (count : ℕ). place * n + id < count) are.whole ((places_are share openings n id who less owned place).0 low));
   parities = λ class own. parities_same (cell_at share class) (fresh (opening_of openings class).moves) (cells class own)
       (fresh_parities (opening_of openings class).moves);
 })

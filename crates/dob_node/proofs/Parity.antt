@@ -1,19 +1,9 @@
 -- Values at odd and even distances: what cells count and know keeps its parity, and so do their values.
-use Rattle.std.proofs.Common.{◌≡◌, ℕ, ◌+◌, ◌-◌, ◌%◌, ◌<◌, ◌==◌, if◌then◌else◌, Bool, true, false, refl, sym, ◌∙◌, subst, arith, Option, None, Some, lit≤}
-use Rattle.std.proofs.lemmas.Option.{same_Some}
-use Rattle.dob_moves.specs.declared.position_status.Status.{Status}
-use Rattle.dob_moves.specs.declared.position_status.Status.TheVariants.{Caught, Tried, Stuck, Open}
-use Rattle.dob_value.specs.declared.value.Value.{Value}
-use Rattle.dob_value.specs.declared.value.Value.TheVariants.{Win, Loss, Draw}
+use Rattle.dob_node.proofs.Common.{if◌then◌else◌, ◌%◌, ◌+◌, ◌-◌, ◌<◌, ◌==◌, ◌∙◌, ◌≡◌, Bool, None, Option, Some, arith, false, lit≤, refl, subst, sym, true, ℕ}
+use Rattle.dob_node.proofs.Common.{same_Some, Status, Caught, Open, Stuck, Tried, lesser_of, IsEntry, Value, Draw, Loss, Win, cell_short, Cell, CellValue}
+use Rattle.dob_node.proofs.Common.{SameCell, changed, less_at, HasValueNow, IsOwn, IsValue, cell_at, status_at, Share, HasParities}
 use Rattle.dob_value.specs.declared.sweep.TheConstants.{MAX_DISTANCE}
-use Rattle.dob_value.specs.Follows.{IsEntry}
-use Rattle.dob_value.specs.Distances.{lesser_of}
-use Rattle.dob_share.specs.declared.share.Share.{Share}
-use Rattle.dob_share.specs.Cells.{Cell, SameCell, CellValue, changed, less_at}
 use Rattle.dob_share.specs.Slots.{IsShortCell}
-use Rattle.dob_share.specs.Shares.{IsOwn, status_at, cell_at, IsValue, HasValueNow}
-use Rattle.dob_share.proofs.Owning.{cell_short}
-use Rattle.dob_node.specs.TakenItems.{HasParities}
 
 -- cells that say the same
 pub parities_same : (a b : Cell) → SameCell a b → HasParities b → HasParities a
@@ -77,10 +67,6 @@ parities_entry cell (Loss plies) known short (none, done, greatest, great, more)
     (omega arith, omega arith)
 parities_entry cell Draw known short is = tt
 
--- the cells of a share have short values
-pub short_own : (share : Share) (class : ℕ) → IsOwn share class → IsShortCell (cell_at share class)
-short_own = cell_short
-
 entry_by : (status : Status) (cell : Cell) (v : Value) → HasParities cell → IsShortCell cell → IsValue status cell v → IsEntry v
 entry_by Caught cell v known short is = subst (λ u. IsEntry u) (sym is) (refl, lit≤ tt)
 entry_by Tried cell v known short is = subst (λ u. IsEntry u) (sym is) (refl, lit≤ tt)
@@ -89,4 +75,4 @@ entry_by Open cell v known short is = parities_entry cell v known short is
 
 -- the present value of an own class
 pub entry_now : (share : Share) (class : ℕ) (v : Value) → IsOwn share class → HasParities (cell_at share class) → HasValueNow share class v → IsEntry v
-entry_now share class v own known is = entry_by (status_at share class) (cell_at share class) v known (short_own share class own) is
+entry_now share class v own known is = entry_by (status_at share class) (cell_at share class) v known (cell_short share class own) is

@@ -1,17 +1,7 @@
 -- The values of a node's own classes, by their places.
-use Rattle.std.proofs.Common.{◌≡◌, ℕ, ◌+◌, ◌*◌, ◌^◌, ◌<◌, ◌≤◌, inl, inr, refl, sym, ap, ◌∙◌, subst, arith, List, [], ◌∷◌, ◌++◌, length, Some, slice_get}
-use Rattle.std.proofs.lemmas.List.{length-append}
-use Rattle.std.proofs.lemmas.Nat.{mod-mul-add, div-mul-add}
-use Rattle.std.proofs.lemmas.Option.{slice_get_within}
-use Rattle.dob_pieces.specs.declared.profile.Family.{Family}
-use Rattle.dob_pieces.proofs.Elements.{at_end}
-use Rattle.dob_rank.specs.Families.{classes_of}
-use Rattle.dob_value.specs.declared.value.Value.{Value}
-use Rattle.dob_share.specs.declared.share.Share.{Share}
-use Rattle.dob_share.specs.Owners.{class_of_place}
-use Rattle.dob_share.specs.Shares.{places_of, IsOwn, HasValueNow}
-use Rattle.dob_node.specs.Stores.{HistoryView}
-use Rattle.dob_node.specs.TakenItems.{AreKept}
+use Rattle.dob_node.proofs.Common.{◌*◌, ◌++◌, ◌+◌, ◌<◌, ◌^◌, ◌∙◌, ◌∷◌, ◌≡◌, ◌≤◌, List, Some, [], ap, arith, inl, inr, length, refl, slice_get, subst, sym, ℕ}
+use Rattle.dob_node.proofs.Common.{length-append, div-mul-add, mod-mul-add, slice_get_within, at_end, Family, classes_of, Value, class_of_place, HasValueNow}
+use Rattle.dob_node.proofs.Common.{IsOwn, places_of, Share, HistoryView, AreKept}
 
 module _ (family : Family) (n id : ℕ) (share : Share) (history : HistoryView) (kept : AreKept family n id share history) (place : ℕ)
     (low : place < places_of share) where

@@ -1,38 +1,18 @@
 -- Quiet nodes hold the value table.
-use Rattle.std.proofs.Common.{◌≡◌, ℕ, ◌<◌, inl, inr, ◌⊎◌, refl, sym, subst, ap, ◌∙◌, arith, List, [], ◌∷◌, length, Some, Contains, take, slice_get}
-use Rattle.std.proofs.lemmas.Option.{slice_get_within, same_Some}
-use Rattle.std.proofs.lemmas.List.{take_all}
-use Rattle.dob_pieces.specs.declared.profile.Family.{Family}
-use Rattle.dob_pieces.specs.declared.setup.Setup.{Setup}
-use Rattle.dob_pieces.specs.Lists.{each_below}
+use Rattle.dob_node.proofs.Common.{◌<◌, ◌∙◌, ◌∷◌, ◌≡◌, ◌⊎◌, Contains, List, Some, [], ap, arith, inl, inr, length, refl, slice_get, subst, sym, take, ℕ}
+use Rattle.dob_node.proofs.Common.{take_all, same_Some, slice_get_within, each_below, Family, Setup, HasStatus, Move, Status, Caught, Open, Stuck, Tried}
+use Rattle.dob_node.proofs.Common.{HasClasses-classes_of, HasClasses, IsPositionOf, classes_of, consistent_is_right, moves_keep_the_family, FollowsAt}
+use Rattle.dob_node.proofs.Common.{FollowsFromSuccessors, HasInTable, HasSuccessor, IsConsistent, Value, Draw, Loss, Win, ArePredecessors-predecessors}
+use Rattle.dob_node.proofs.Common.{predecessors, owner_of, Item, Settlement, items_from, all_known, copies, known, value_of, AreGathered, FollowsAtStatus}
+use Rattle.dob_node.proofs.Common.{FollowsFromKnown, IsQuiet, QuietIsRight}
 use Rattle.dob_pieces.specs.Setups.{mirrored}
 use Rattle.dob_pieces.proofs.Symmetries.{mirrored-mirrored}
-use Rattle.dob_moves.specs.declared.game_move.Move.{Move}
-use Rattle.dob_moves.specs.declared.position_status.Status.{Status}
-use Rattle.dob_moves.specs.declared.position_status.Status.TheVariants.{Caught, Tried, Stuck, Open}
 use Rattle.dob_moves.specs.Moves.{Goes}
-use Rattle.dob_moves.specs.Statuses.{HasStatus}
-use Rattle.dob_rank.specs.Families.{IsPositionOf, HasClasses}
-use Rattle.dob_rank.specs.Families.{classes_of}
-use Rattle.dob_rank.proofs.OfFamilies.Present.{HasClasses-classes_of}
-use Rattle.dob_value.specs.declared.value.Value.{Value}
-use Rattle.dob_value.specs.declared.value.Value.TheVariants.{Win, Loss, Draw}
-use Rattle.dob_value.specs.Follows.{HasInTable, HasSuccessor, FollowsFromSuccessors, FollowsAt, IsConsistent}
 use Rattle.dob_value.specs.ClassRows.{class_setup}
-use Rattle.dob_value.proofs.Successors.{moves_keep_the_family}
 use Rattle.dob_value.proofs.ClassNumbers.{has_entry, one_entry, representative_is}
 use Rattle.dob_value.proofs.Rows.{class_setup_is}
-use Rattle.dob_value.proofs.Consistency.{consistent_is_right}
 use Rattle.dob_unmove.specs.Classes.{RepresentsClass}
-use Rattle.dob_unmove.specs.Edges.{predecessors}
-use Rattle.dob_unmove.proofs.Edges.{ArePredecessors-predecessors}
 use Rattle.dob_unmove.specs.Unmoves.{ArePredecessors, IsEither, LeadsInto}
-use Rattle.dob_share.specs.declared.news.Settlement.{Settlement}
-use Rattle.dob_share.specs.declared.news.Item.{Item}
-use Rattle.dob_share.specs.Owners.{owner_of}
-use Rattle.dob_update.specs.Items.{items_from}
-use Rattle.dob_node.specs.Histories.{copies, value_of, known, all_known}
-use Rattle.dob_node.specs.Quiet.{FollowsFromKnown, FollowsAtStatus, IsQuiet, AreGathered, QuietIsRight}
 use Rattle.dob_node.proofs.Runs.{in_each_below, from_each_below, only_one, the_one}
 use Rattle.dob_node.proofs.Copies.{all_applied}
 

@@ -1,35 +1,16 @@
 -- What the next item makes of a class has a fall: so each settlement keeps one, and no distance exceeds the classes.
-use Rattle.std.proofs.Common.{◌≡◌, ◌≢◌, ℕ, zero, suc, ◌<◌, ◌≤◌, ◌⊎◌, ◌&&◌, inl, inr, eqb, ltb, cond, Bool, refl, sym, ap, ◌∙◌, subst, arith}
-use Rattle.std.proofs.Common.{List, [], ◌∷◌, ◌++◌, length, get_or, Contains, All, Some}
-use Rattle.std.proofs.lemmas.Bool.{cases_eq, cases_Bool, eq-eqb, ne_eqb, and_right, and_left}
-use Rattle.std.proofs.lemmas.List.Elements.{All-nil, All-cons, All-append, All-contains, Contains-append_left, Contains-append_right, Contains-append_cases}
-use Rattle.dob_pieces.specs.declared.profile.Family.{Family}
-use Rattle.dob_pieces.specs.Lists.{each_below}
-use Rattle.dob_pieces.proofs.Lists.{head_in}
-use Rattle.dob_moves.specs.declared.position_status.Status.{Status}
-use Rattle.dob_moves.specs.declared.position_status.Status.TheVariants.{Caught, Tried, Stuck, Open}
-use Rattle.dob_rank.specs.Families.{classes_of}
-use Rattle.dob_value.specs.declared.value.Value.{Value}
-use Rattle.dob_value.specs.declared.value.Value.TheVariants.{Win, Loss, Draw}
-use Rattle.dob_value.specs.Bounds.{plies_of}
-use Rattle.dob_value.specs.Codes.{IsShort}
-use Rattle.dob_value.specs.Distances.{IsLeastLoss}
-use Rattle.dob_unmove.specs.Edges.{predecessors}
-use Rattle.dob_share.specs.declared.news.Settlement.{Settlement}
-use Rattle.dob_share.specs.declared.news.Item.{Item}
-use Rattle.dob_share.specs.Owners.{owner_of, class_of_place}
-use Rattle.dob_share.specs.Values.{NoWorse, is_win_in}
-use Rattle.dob_share.specs.Cells.{Cell, SameCell, CellValue, SumsUp, changed, fresh}
-use Rattle.dob_share.specs.Steps.{IsTooDeep}
-use Rattle.dob_share.proofs.Applied.{CellValue-same}
+use Rattle.dob_node.proofs.Common.{◌&&◌, ◌++◌, ◌<◌, ◌∙◌, ◌∷◌, ◌≡◌, ◌≢◌, ◌≤◌, ◌⊎◌, Bool, Contains, List, Option, Some, [], ap, arith, cond, eqb, get_or, inl}
+use Rattle.dob_node.proofs.Common.{inr, length, ltb, refl, subst, suc, sym, zero, ℕ, and_left, and_right, cases_Bool, cases_eq, eq-eqb, ne_eqb, All-contains}
+use Rattle.dob_node.proofs.Common.{All-nil, Contains-append_cases, Contains-append_left, Contains-append_right, head_in, each_below, Family, Status, Caught}
+use Rattle.dob_node.proofs.Common.{Open, Stuck, Tried, classes_of, plies_of, IsShort, IsLeastLoss, Value, Draw, Loss, Win, predecessors, CellValue-same}
+use Rattle.dob_node.proofs.Common.{counted, sums_up_after, Cell, CellValue, SameCell, SumsUp, changed, fresh, class_of_place, owner_of, IsTooDeep, NoWorse}
+use Rattle.dob_node.proofs.Common.{is_win_in, Item, Settlement, HaveFalls, IsCellWithin, IsFall, IsFirst, IsSettlement, RestsOn, IsChained, all_known, copies}
+use Rattle.dob_node.proofs.Common.{items_to, known, last_now, value_of, AreAfter, AreLawfulNodes, AreSettled, CanApply, IsNextItem, IsOneMore, known_of}
+use Rattle.dob_node.proofs.Common.{opening_settlements, opening_value, FollowsFromKnown}
+use Rattle.std.proofs.Common.{All}
 use Rattle.dob_share.proofs.Growing.{no_worse}
-use Rattle.dob_share.proofs.Learning.{counted}
-use Rattle.dob_share.proofs.Sums.{sums_up_after}
-use Rattle.dob_node.specs.Histories.{copies, items_to, last_now, value_of, known, all_known, IsChained}
-use Rattle.dob_node.specs.Quiet.{FollowsFromKnown}
-use Rattle.dob_node.specs.Lawful.{known_of, AreLawfulNodes, IsNextItem, CanApply, AreAfter, IsOneMore, AreSettled}
-use Rattle.dob_node.specs.OpeningLists.{opening_value, opening_settlement, opening_settlements}
-use Rattle.dob_node.specs.Falls.{IsFirst, RestsOn, IsSettlement, IsFall, IsCellWithin, HaveFalls}
+use Rattle.dob_node.proofs.Beginnings.{or_else}
+use Rattle.dob_node.proofs.Opens.{all_started}
 use Rattle.dob_node.proofs.Runs.{from_each_below, only_one}
 use Rattle.dob_node.proofs.Rest.{below_owner}
 use Rattle.dob_node.proofs.Kept.{better_apart}
@@ -102,18 +83,15 @@ same_back a b same = record { left = sym same.left; wins = λ plies. sym (same.w
 -- ---- the start
 
 -- what is settled at an opening rests on nothing
-one_first : (number class : ℕ) (status : Status) → All (λ (s : Settlement). IsFirst s.now) (opening_settlement number class (opening_value status))
-one_first number class Caught = All-cons (λ (s : Settlement). IsFirst s.now) _ [] refl (All-nil (λ (s : Settlement). IsFirst s.now))
-one_first number class Tried = All-cons (λ (s : Settlement). IsFirst s.now) _ [] refl (All-nil (λ (s : Settlement). IsFirst s.now))
-one_first number class Stuck = All-cons (λ (s : Settlement). IsFirst s.now) _ [] refl (All-nil (λ (s : Settlement). IsFirst s.now))
-one_first number class Open = All-nil (λ (s : Settlement). IsFirst s.now)
+one_first : (status : Status) (now : Value) → opening_value status ≡ Some now → IsFirst now
+one_first Caught now is = subst (λ (o : Option Value). IsFirst (or_else o Draw)) is refl
+one_first Tried now is = subst (λ (o : Option Value). IsFirst (or_else o Draw)) is refl
+one_first Stuck now is = subst (λ (o : Option Value). IsFirst (or_else o Draw)) is refl
+one_first Open now is = absurd cc
 
 pub opened_first : (status : ℕ → Status) (n id places : ℕ) → All (λ (s : Settlement). IsFirst s.now) (opening_settlements status n id places)
-opened_first status n id zero = All-nil (λ (s : Settlement). IsFirst s.now)
-opened_first status n id (suc places) =
-    let before = opening_settlements status n id places in
-    All-append (λ (s : Settlement). IsFirst s.now) before _ (opened_first status n id places)
-    (one_first (length before) (class_of_place n id places) (status (class_of_place n id places)))
+opened_first status n id places = all_started (λ (s : Settlement). IsFirst s.now) (λ place. status (class_of_place n id place)) n id places
+    (λ place number now low is. one_first (status (class_of_place n id place)) now is)
 
 -- Histories whose settlements all rest on nothing have falls, where no cell knows anything.
 pub falls_start : (family : Family) (n : ℕ) (histories : ℕ → List Settlement) (cell : ℕ → Cell) →

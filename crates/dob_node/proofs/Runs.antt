@@ -1,20 +1,13 @@
 -- Lists made piece by piece: what they contain, and what one change in one piece does to the whole.
-use Rattle.std.proofs.Common.{◌≡◌, ◌≢◌, ℕ, zero, suc, ◌<◌, inl, inr, refl, sym, subst, ap, ◌∙◌, arith, List, [], ◌∷◌, ◌++◌, Contains, append_assoc}
-use Rattle.std.proofs.lemmas.Bool.{cases_order}
-use Rattle.std.proofs.lemmas.List.Elements.{Contains-append_left, Contains-append_right, Contains-append_cases}
-use Rattle.dob_pieces.specs.Lists.{each_below}
-use Rattle.dob_value.specs.declared.value.Value.{Value}
-use Rattle.dob_share.specs.Cells.{Changes}
+use Rattle.dob_node.proofs.Common.{◌++◌, ◌<◌, ◌∙◌, ◌∷◌, ◌≡◌, ◌≢◌, Contains, List, [], ap, append_assoc, arith, inl, inr, refl, subst, suc, sym, zero, ℕ}
+use Rattle.dob_node.proofs.Common.{cases_eq, Contains-append_cases, Contains-append_left, Contains-append_right, each_below, Value, Changes}
 
 -- what a piece contains, the whole does
 pub in_each_below : {X : Type 0} (g : ℕ → List X) (n k : ℕ) (x : X) → k < n → Contains (g k) x → Contains (each_below g n) x
 in_each_below g zero k x below there = absurd (omega arith)
-in_each_below g (suc n) k x below there = elim (cases_order k n) [
+in_each_below g (suc n) k x below there = elim (cases_eq k n) [
   | inl same ↦ Contains-append_right (each_below g n) (g n) x (subst (λ j. Contains (g j) x) same there)
-  | inr order ↦ elim order [
-    | inl before ↦ Contains-append_left (each_below g n) (g n) x (in_each_below g n k x before there)
-    | inr after ↦ absurd (omega arith)
-  ]
+  | inr other ↦ Contains-append_left (each_below g n) (g n) x (in_each_below g n k x (omega arith) there)
 ]
 
 -- and what the whole contains, some piece does
@@ -70,17 +63,14 @@ each_below-same f g (suc n) same =
 pub Changes-each_below : (f g : ℕ → List Value) (n k : ℕ) (was now : Value) → k < n → Changes (f k) (g k) was now →
     ((m : ℕ) → m < n → m ≢ k → f m ≡ g m) → Changes (each_below f n) (each_below g n) was now
 Changes-each_below f g zero k was now below change same = absurd (omega arith)
-Changes-each_below f g (suc n) k was now below change same = elim (cases_order k n) [
+Changes-each_below f g (suc n) k was now below change same = elim (cases_eq k n) [
   | inl is ↦
       let earlier : each_below f n ≡ each_below g n = each_below-same f g n (λ m low. same m (omega arith) (λ e. absurd (omega (arith, e)))) in
       subst (λ xs. Changes (each_below f n ++ f n) (xs ++ g n) was now) earlier
       (Changes-behind (each_below f n) (f n) (g n) was now (subst (λ m. Changes (f m) (g m) was now) is change))
-  | inr order ↦ elim order [
-    | inl low ↦
-        let last : f n ≡ g n = same n (omega arith) (λ e. absurd (omega (arith, e))) in
-        subst (λ xs. Changes (each_below f n ++ f n) (each_below g n ++ xs) was now) last
-        (Changes-before (f n) (each_below f n) (each_below g n) was now
-        (Changes-each_below f g n k was now low change (λ m at. same m (omega arith))))
-    | inr high ↦ absurd (omega arith)
-  ]
+  | inr other ↦
+      let last : f n ≡ g n = same n (omega arith) (λ e. other (sym e)) in
+      subst (λ xs. Changes (each_below f n ++ f n) (each_below g n ++ xs) was now) last
+      (Changes-before (f n) (each_below f n) (each_below g n) was now
+      (Changes-each_below f g n k was now (omega arith) change (λ m at. same m (omega arith))))
 ]

@@ -1,23 +1,10 @@
 -- The outboxes of a node: empty ones, and what one settlement more adds to them.
-use Rattle.std.proofs.Common.{◌≡◌, ◌≢◌, ℕ, ◌+◌, ◌<◌, inl, inr, refl, sym, ap, ◌∙◌, subst, arith, List, [], ◌∷◌}
-use Rattle.std.proofs.Common.{◌++◌, length, get_or, set, drop, ◌==◌, Option, None, Some}
-use Rattle.std.specs.Prelude.{IfSome, IsNone}
-use Rattle.std.specs.List.{All, filter}
-use Rattle.std.proofs.Math.ListN.{get_or-eq_default}
-use Rattle.std.proofs.Math.Seq.{drop-nil}
-use Rattle.std.proofs.lemmas.Bool.{cases_order, cases_lt}
-use Rattle.std.proofs.lemmas.List.{length-append, length-set, get_or-set_same, get_or-set_other, get_or_append_left, get_or_push, get_or_default}
-use Rattle.std.proofs.lemmas.List.Elements.{All-append, All-nil, All-drop, All-take}
-use Rattle.dob_pieces.specs.declared.profile.Family.{Family}
-use Rattle.dob_value.specs.Follows.{IsEntry}
-use Rattle.dob_unmove.specs.Edges.{predecessors}
-use Rattle.dob_share.specs.declared.news.Settlement.{Settlement}
-use Rattle.dob_share.specs.declared.news.Item.{Item}
-use Rattle.dob_share.specs.Owners.{owner_of}
-use Rattle.dob_update.specs.Items.{items_of}
-use Rattle.dob_update.specs.Batches.{BatchView, OutboxView, empty_outbox, added, IsCut}
-use Rattle.dob_node.specs.TakenItems.{HasItemEntries}
-use Rattle.dob_node.specs.Outboxes.{outbox_in, IsOutboxTo, AreAdded, IsCutFrom}
+use Rattle.dob_node.proofs.Common.{◌++◌, ◌+◌, ◌<◌, ◌==◌, ◌∙◌, ◌∷◌, ◌≡◌, ◌≢◌, List, None, Option, Some, [], ap, arith, drop, get_or, inl, inr, length, refl, set}
+use Rattle.dob_node.proofs.Common.{subst, sym, ℕ, get_or-eq_default, drop-nil, cases_eq, cases_lt, cases_order, get_or-set_other, get_or-set_same}
+use Rattle.dob_node.proofs.Common.{get_or_append_left, get_or_default, length-append, length-set, All-append, All-drop, All-nil, All-take, All, filter, IfSome}
+use Rattle.dob_node.proofs.Common.{IsNone, Family, IsEntry, predecessors, owner_of, Item, Settlement, BatchView, IsCut, OutboxView, added, empty_outbox}
+use Rattle.dob_node.proofs.Common.{items_of, AreAdded, IsCutFrom, IsOutboxTo, outbox_in, HasItemEntries}
+use Rattle.std.proofs.lemmas.List.{get_or_push}
 use Rattle.dob_node.proofs.Sounds.{entries_of}
 
 -- ---- empty ones
@@ -53,14 +40,11 @@ module _ (targets : List ℕ) (settlement : Settlement) (n from k : ℕ) (old mi
       AreAdded targets settlement n from (k + 1) old new
   added_one any new other low is = record {
     whole = ap length (is any) ∙ length-set mid k (more any) ∙ so_far.whole;
-    sent = λ to default below apart. elim (cases_order to k) [
+    sent = λ to default below apart. elim (cases_eq to k) [
       | inl same ↦ subst (λ (j : ℕ). get_or new j default ≡ added (get_or old j default) settlement (items_of (λ _. targets) n j settlement)) (sym same)
           (ap (λ xs. get_or xs k default) (is default) ∙ get_or-set_same mid k (more default) default (subst (λ (m : ℕ). k < m) (sym so_far.whole) low)
           ∙ ap (λ (o : OutboxView). added o settlement (items_of (λ _. targets) n k settlement)) (so_far.later k default (omega arith)))
-      | inr order ↦ elim order [
-        | inl less ↦ elsewhere to default (λ same. omega arith) ∙ so_far.sent to default less apart
-        | inr more ↦ absurd (omega arith)
-      ]
+      | inr before ↦ elsewhere to default before ∙ so_far.sent to default (omega arith) apart
     ];
     unsent = λ default. elsewhere from default (λ same. other (sym same)) ∙ so_far.unsent default;
     later = λ to default high. elsewhere to default (λ same. omega arith) ∙ so_far.later to default (omega arith);
@@ -120,18 +104,15 @@ added_to family n from to o s targets was now is = record {
 pub addressed_added : (family : Family) (targets : List ℕ) (s : Settlement) (n from : ℕ) (old new : List OutboxView) → IsEntry s.was → IsEntry s.now →
     AreAdded targets s n from n old new → ((to : ℕ) → IsOutboxTo family n from to (outbox_in family n from old to)) →
     (to : ℕ) → IsOutboxTo family n from to (outbox_in family n from new to)
-addressed_added family targets s n from old new was now are all to = elim (cases_order to from) [
+addressed_added family targets s n from old new was now are all to = elim (cases_eq to from) [
   | inl own ↦ subst (λ (j : ℕ). IsOutboxTo family n from j (outbox_in family n from new j)) (sym own)
       (subst (λ (o : OutboxView). IsOutboxTo family n from from o) (sym (are.unsent (empty_outbox family n from from))) (all from))
-  | inr order ↦ other (λ same. elim order [ inl less ↦ omega arith | inr more ↦ omega arith ])
+  | inr apart ↦ elim (cases_lt to n) [
+    | inl low ↦ subst (λ (o : OutboxView). IsOutboxTo family n from to o) (sym (are.sent to (empty_outbox family n from to) low apart))
+        (added_to family n from to (outbox_in family n from old to) s targets was now (all to))
+    | inr high ↦ subst (λ (o : OutboxView). IsOutboxTo family n from to o) (sym (are.later to (empty_outbox family n from to) high)) (all to)
+  ]
 ]
-  where
-    other : to ≢ from → IsOutboxTo family n from to (outbox_in family n from new to)
-    other apart = elim (cases_lt to n) [
-      | inl low ↦ subst (λ (o : OutboxView). IsOutboxTo family n from to o) (sym (are.sent to (empty_outbox family n from to) low apart))
-          (added_to family n from to (outbox_in family n from old to) s targets was now (all to))
-      | inr high ↦ subst (λ (o : OutboxView). IsOutboxTo family n from to o) (sym (are.later to (empty_outbox family n from to) high)) (all to)
-    ]
 
 -- ---- what is empty
 
@@ -193,25 +174,22 @@ cut_of family n from to size batch old new cut is = (
 
 pub addressed_cut : (family : Family) (n from to size : ℕ) (batch : BatchView) (old new : List OutboxView) → IsCutFrom to size batch old new →
     ((k : ℕ) → IsOutboxTo family n from k (outbox_in family n from old k)) → (k : ℕ) → IsOutboxTo family n from k (outbox_in family n from new k)
-addressed_cut family n from to size batch old new cut all k = elim (cases_order k to) [
+addressed_cut family n from to size batch old new cut all k = elim (cases_eq k to) [
   | inl same ↦ subst (λ (j : ℕ). IsOutboxTo family n from j (outbox_in family n from new j)) (sym same)
       (cut_to family n from to size batch (outbox_in family n from old to) (outbox_in family n from new to) (cut.cut (empty_outbox family n from to)) (all to))
-  | inr order ↦ other (λ same. elim order [ inl less ↦ omega arith | inr more ↦ omega arith ])
+  | inr apart ↦ subst (λ (o : OutboxView). IsOutboxTo family n from k o) (sym (cut.others k (empty_outbox family n from k) apart)) (all k)
 ]
-  where
-    other : k ≢ to → IsOutboxTo family n from k (outbox_in family n from new k)
-    other apart = subst (λ (o : OutboxView). IsOutboxTo family n from k o) (sym (cut.others k (empty_outbox family n from k) apart)) (all k)
 
 drop_none : (size : ℕ) (xs : List Item) → xs ≡ [] → drop size xs ≡ []
 drop_none size xs none = ap (λ (ys : List Item). drop size ys) none ∙ drop-nil size
 
 pub nothing_cut : (family : Family) (n from own to size : ℕ) (batch : BatchView) (old new : List OutboxView) → IsCutFrom to size batch old new →
     (outbox_in family n from old own).items ≡ [] → (outbox_in family n from new own).items ≡ []
-nothing_cut family n from own to size batch old new cut none = elim (cases_order own to) [
+nothing_cut family n from own to size batch old new cut none = elim (cases_eq own to) [
   | inl same ↦ subst (λ (j : ℕ). (outbox_in family n from new j).items ≡ []) (sym same)
       ((cut.cut (empty_outbox family n from to)).left ∙ drop_none size (outbox_in family n from old to).items
       (subst (λ (j : ℕ). (outbox_in family n from old j).items ≡ []) same none))
-  | inr order ↦ ap (λ (o : OutboxView). o.items) (cut.others own (empty_outbox family n from own) (λ same. elim order [ inl less ↦ omega arith | inr more ↦ omega arith ])) ∙ none
+  | inr apart ↦ ap (λ (o : OutboxView). o.items) (cut.others own (empty_outbox family n from own) apart) ∙ none
 ]
 
 -- ---- all of them

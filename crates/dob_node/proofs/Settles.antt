@@ -1,17 +1,8 @@
 -- One more settlement of a history: what it leaves, and what it makes.
-use Rattle.std.proofs.Common.{◌≡◌, ◌≢◌, ℕ, ◌+◌, ◌≤◌, ◌⊎◌, ◌&&◌, inl, inr, eqb, ltb, cond, refl, sym, subst, ap, ◌∙◌, arith}
-use Rattle.std.proofs.Common.{add-one, List, [], ◌∷◌, ◌++◌, length, append_assoc, take, drop, slice_get, Some}
-use Rattle.std.proofs.Math.Seq.{take-suc}
-use Rattle.std.proofs.lemmas.Bool.{cases_eq, le-ltb, and_right}
-use Rattle.std.proofs.lemmas.List.{append-nil, take-append-drop, take-append-le}
-use Rattle.std.proofs.lemmas.Option.{slice_get_within, get_or_from_slice_get}
-use Rattle.dob_pieces.specs.Lists.{each_below}
-use Rattle.dob_value.specs.declared.value.Value.TheVariants.{Draw}
-use Rattle.dob_share.specs.declared.news.Settlement.{Settlement}
-use Rattle.dob_share.specs.declared.news.Item.{Item}
-use Rattle.dob_share.specs.Owners.{owner_of}
-use Rattle.dob_update.specs.Items.{items_of, items_from}
-use Rattle.dob_node.specs.Histories.{copies, items_to, value_of, known, all_known, IsNext, IsChained}
+use Rattle.dob_node.proofs.Common.{◌&&◌, ◌++◌, ◌+◌, ◌∙◌, ◌∷◌, ◌≡◌, ◌≢◌, ◌≤◌, ◌⊎◌, List, Some, [], add-one, ap, append_assoc, arith, cond, drop, eqb, inl, inr}
+use Rattle.dob_node.proofs.Common.{length, ltb, refl, slice_get, subst, sym, take, ℕ, take-suc, and_right, cases_eq, le-ltb, append-nil, take-append-drop}
+use Rattle.dob_node.proofs.Common.{take-append-le, get_or_from_slice_get, slice_get_within, each_below, Draw, owner_of, Item, Settlement, items_from, items_of}
+use Rattle.dob_node.proofs.Common.{IsChained, IsNext, all_known, copies, items_to, known, value_of}
 use Rattle.dob_node.proofs.Runs.{each_below-same}
 use Rattle.dob_node.proofs.Counts.{items_to-append}
 use Rattle.dob_node.proofs.Copies.{last_now-append}

@@ -1,21 +1,7 @@
 -- The value that a class of a lawful world shows, and lists of the values that all classes show.
-use Rattle.std.proofs.Common.{◌≡◌, ℕ, ◌<◌, sym, ap, ◌∙◌, subst, List, Some, get_or}
-use Rattle.std.proofs.lemmas.Option.{slice_get-get_or}
-use Rattle.dob_pieces.specs.declared.profile.Family.{Family}
-use Rattle.dob_moves.specs.declared.position_status.Status.{Status}
-use Rattle.dob_moves.specs.declared.position_status.Status.TheVariants.{Caught, Tried, Stuck, Open}
-use Rattle.dob_moves.specs.Statuses.{HasStatus}
-use Rattle.dob_rank.specs.Families.{classes_of}
-use Rattle.dob_rank.specs.Families.{class_setup}
-use Rattle.dob_value.specs.declared.value.Value.{Value}
-use Rattle.dob_value.specs.declared.value.Value.TheVariants.{Draw}
-use Rattle.dob_value.specs.Follows.{AreGiven}
-use Rattle.dob_share.specs.declared.news.Settlement.{Settlement}
-use Rattle.dob_share.specs.declared.news.Item.{Item}
-use Rattle.dob_share.specs.Cells.{Cell, CellValue}
-use Rattle.dob_share.specs.Shares.{IsValue}
-use Rattle.dob_node.specs.Histories.{AreValuesBelow}
-use Rattle.dob_node.specs.Lawful.{AreLawfulNodes}
+use Rattle.dob_node.proofs.Common.{◌<◌, ◌∙◌, ◌≡◌, List, Some, ap, get_or, subst, sym, ℕ, slice_get-get_or, Family, HasStatus, Status, Caught, Open, Stuck}
+use Rattle.dob_node.proofs.Common.{Tried, class_setup, classes_of, AreGiven, Value, Draw, Cell, CellValue, IsValue, Item, Settlement, AreValuesBelow}
+use Rattle.dob_node.proofs.Common.{AreLawfulNodes}
 use Rattle.dob_node.proofs.ItemChanges.{one_value}
 
 -- where the cell is that of its class, the value of its status and cell is that of the class

@@ -1,21 +1,7 @@
 -- A node stays sound.
-use Rattle.std.proofs.Common.{◌≡◌, ℕ, ◌+◌, ◌<◌, ◌≤◌, inl, inr, sym, ap, ◌∙◌, subst, arith, map, slice_get, ◌*◌, List, [], ◌∷◌, ◌++◌, length, Some}
-use Rattle.std.specs.List.{All}
-use Rattle.std.proofs.lemmas.Bool.{cases_order}
-use Rattle.std.proofs.lemmas.List.{length-append}
-use Rattle.std.proofs.lemmas.List.Elements.{All-append, All-nil, All-cons}
-use Rattle.std.proofs.lemmas.Nat.{mod-mul-add}
-use Rattle.std.proofs.lemmas.Option.{slice_get_within, get_or_from_slice_get}
-use Rattle.dob_pieces.specs.declared.profile.Family.{Family}
-use Rattle.dob_share.specs.declared.news.Settlement.{Settlement}
-use Rattle.dob_share.specs.declared.news.Item.{Item}
-use Rattle.dob_share.specs.declared.share.Share.{Share}
-use Rattle.dob_share.specs.Owners.{owner_of}
-use Rattle.dob_value.specs.Follows.{IsEntry}
-use Rattle.dob_rank.specs.Families.{classes_of}
-use Rattle.dob_update.specs.Items.{item_for}
-use Rattle.dob_node.specs.Stores.{HistoryView}
-use Rattle.dob_node.specs.TakenItems.{HasItemEntries, AreKept, IsTaken, listed}
+use Rattle.dob_node.proofs.Common.{◌*◌, ◌++◌, ◌+◌, ◌<◌, ◌∙◌, ◌∷◌, ◌≡◌, ◌≤◌, List, Some, [], ap, arith, length, map, slice_get, subst, sym, ℕ, length-append}
+use Rattle.dob_node.proofs.Common.{All-append, All-cons, All-nil, mod-mul-add, get_or_from_slice_get, slice_get_within, All, Family, classes_of, IsEntry}
+use Rattle.dob_node.proofs.Common.{owner_of, Item, Settlement, Share, item_for, HistoryView, AreKept, HasItemEntries, IsTaken, StayKept, listed}
 
 -- by the share's own numbers
 pub kept_own : (family : Family) (n id : ℕ) (share : Share) (history : HistoryView) → AreKept family n id share history →
@@ -24,7 +10,7 @@ kept_own family n id share history kept = subst (λ (m : ℕ). AreKept family m 
     (subst (λ (k : ℕ). AreKept family n k share history) (sym kept.share_is.1) kept)
 
 pub kept_back : (family : Family) (n id : ℕ) (share after : Share) (history grown : HistoryView) → AreKept family n id share history →
-    ((any : Family) → AreKept any share.nodes share.id share history → AreKept any share.nodes share.id after grown) → AreKept family n id after grown
+    StayKept share history after grown → AreKept family n id after grown
 kept_back family n id share after history grown kept still = subst (λ (m : ℕ). AreKept family m id after grown) kept.share_is.0
     (subst (λ (k : ℕ). AreKept family share.nodes k after grown) kept.share_is.1 (still family (kept_own family n id share history kept)))
 
@@ -41,13 +27,7 @@ emitted_still item share after history grown expanded taken emitted =
 
 -- one more is expanded where not all were
 pub next_emitted : (expanded all count : ℕ) → expanded ≤ all → count ≡ all → (expanded ≡ count → ⊥) → expanded + 1 ≤ all
-next_emitted expanded all count emitted is other = elim (cases_order expanded count) [
-  | inl same ↦ absurd (other same)
-  | inr order ↦ elim order [
-    | inl less ↦ omega arith
-    | inr more ↦ absurd (omega arith)
-  ]
-]
+next_emitted expanded all count emitted is other = omega arith
 
 -- a settlement of the history is of a class of the family
 pub class_low : (family : Family) (n id : ℕ) (share : Share) (history : HistoryView) (number : ℕ) (s : Settlement) →

@@ -1,13 +1,6 @@
 -- Where an item stands among the items of a history: the settlement that made it, and what was made before.
-use Rattle.std.proofs.Common.{◌≡◌, ℕ, suc, ◌+◌, ◌≤◌, ◌⊎◌, inl, inr, eqb, Bool, true, false, cond, refl, sym, subst}
-use Rattle.std.proofs.Common.{ap, ◌∙◌, arith, List, [], ◌∷◌, ◌++◌, length, map, append_assoc}
-use Rattle.std.specs.List.{filter}
-use Rattle.std.proofs.lemmas.Bool.{eqb-true}
-use Rattle.dob_share.specs.declared.news.Settlement.{Settlement}
-use Rattle.dob_share.specs.declared.news.Item.{Item}
-use Rattle.dob_share.specs.Owners.{owner_of}
-use Rattle.dob_update.specs.Items.{item_for, items_of, items_from}
-use Rattle.dob_node.specs.Histories.{items_to, IsChained}
+use Rattle.dob_node.proofs.Common.{◌++◌, ◌+◌, ◌∙◌, ◌∷◌, ◌≡◌, ◌≤◌, ◌⊎◌, Bool, List, [], ap, append_assoc, arith, cond, eqb, false, inl, inr, length, map, refl}
+use Rattle.dob_node.proofs.Common.{subst, suc, sym, true, ℕ, eqb-true, filter, owner_of, Item, Settlement, item_for, items_from, items_of, IsChained, items_to}
 use Rattle.dob_node.proofs.Counts.{block, items_to-append, no_other}
 
 -- ---- two ways to divide a list

@@ -1,37 +1,15 @@
 -- The settlements of the start: how many there are, where each stands, and that they are those of the opening.
-use Rattle.std.proofs.Common.{◌≡◌, ℕ, zero, suc, ◌+◌, ◌*◌, ◌<◌, ◌≤◌, inl, inr, refl, sym, ap, ◌∙◌, subst, arith}
-use Rattle.std.proofs.Common.{List, [], ◌∷◌, ◌++◌, length, Option, Some, slice_get, get_or}
-use Rattle.std.specs.List.{All}
-use Rattle.std.proofs.lemmas.List.{length-append, get_or_append_left}
-use Rattle.std.proofs.lemmas.List.Elements.{All-append, All-nil, All-cons}
-use Rattle.std.proofs.lemmas.Option.{get_or_from_slice_get}
-use Rattle.std.proofs.lemmas.Bool.{cases_eq}
-use Rattle.dob_pieces.proofs.Elements.{middle, get_front}
-use Rattle.dob_moves.specs.declared.position_status.Status.{Status}
-use Rattle.dob_moves.specs.declared.position_status.Status.TheVariants.{Caught, Tried, Stuck, Open}
-use Rattle.dob_value.specs.declared.value.Value.{Value}
-use Rattle.dob_value.specs.declared.value.Value.TheVariants.{Draw}
-use Rattle.dob_value.specs.Follows.{IsEntry}
-use Rattle.dob_share.specs.declared.news.Settlement.{Settlement}
-use Rattle.dob_share.specs.declared.opening.Opening.{Opening}
-use Rattle.dob_share.specs.declared.share.Share.{Share}
-use Rattle.dob_share.specs.Openings.{opening_of, settles, settled_among}
-use Rattle.dob_share.specs.Owners.{class_of_place}
-use Rattle.dob_share.specs.Shares.{places_of, IsOwn, status_at}
-use Rattle.dob_share.specs.Statuses.{StatusesView}
-use Rattle.dob_node.specs.OpeningLists.{opening_value, opening_settlement, start_settlements, opening_settlements, opening_status}
-use Rattle.dob_node.specs.Levels.{level_of}
-use Rattle.dob_node.specs.Stores.{start_status, starts_of, starts_count}
+use Rattle.dob_node.proofs.Common.{◌*◌, ◌++◌, ◌+◌, ◌<◌, ◌∙◌, ◌∷◌, ◌≡◌, ◌≤◌, List, Option, Some, [], ap, arith, get_or, inl, inr, length, max, refl, slice_get}
+use Rattle.dob_node.proofs.Common.{subst, suc, sym, zero, ℕ, cases_eq, get_or_append_left, length-append, get_or_from_slice_get, All, get_front, middle, Status}
+use Rattle.dob_node.proofs.Common.{Caught, Open, Stuck, Tried, IsEntry, Value, Draw, opening_of, settled_among, settles, class_of_place, IsOwn, places_of}
+use Rattle.dob_node.proofs.Common.{status_at, StatusesView, Settlement, Opening, Share, opening_settlement, opening_settlements, opening_status, opening_value}
+use Rattle.dob_node.proofs.Common.{start_settlements, start_status, starts_count, starts_of}
+use Rattle.dob_share.proofs.Opened.{settles_most}
+use Rattle.dob_node.specs.Levels.{plies_of, level_of}
 use Rattle.dob_node.proofs.Beginnings.{or_else, entry_opened}
-use Rattle.dob_node.proofs.Opens.{one_settles, status_listed}
+use Rattle.dob_node.proofs.Opens.{start_length, all_started, status_listed}
 
 -- ---- how many there are
-
-settles_most : (status : Status) → settles status ≤ 1
-settles_most Open = omega arith
-settles_most Caught = omega arith
-settles_most Tried = omega arith
-settles_most Stuck = omega arith
 
 -- no more than places
 pub settled_few : (status : ℕ → Status) (k : ℕ) → settled_among status k ≤ k
@@ -39,16 +17,6 @@ settled_few status zero = omega arith
 settled_few status (suc k) =
     let rest : settled_among status k ≤ k = settled_few status k in
     let one : settles (status k) ≤ 1 = settles_most (status k) in
-    omega arith
-
-pub start_length : (status : ℕ → Status) (n id k : ℕ) → length (start_settlements status n id k) ≡ settled_among status k
-start_length status n id zero = refl
-start_length status n id (suc k) =
-    let before = start_settlements status n id k in
-    let more = opening_settlement (length before) (class_of_place n id k) (opening_value (status k)) in
-    let sum : length (before ++ more) ≡ length before + length more = length-append before more in
-    let same : length before ≡ settled_among status k = start_length status n id k in
-    let one : settles (status k) ≡ length more = one_settles (status k) (length before) (class_of_place n id k) in
     omega arith
 
 pub starts_length : (n id : ℕ) (starts : StatusesView) → length (starts_of n id starts) ≡ starts_count starts
@@ -111,18 +79,11 @@ share_opened share openings n id who less statuses =
 
 -- ---- on which level they are
 
-level_once : (number class : ℕ) (status : Status) → All (λ (s : Settlement). level_of s ≡ 1) (opening_settlement number class (opening_value status))
-level_once number class Open = All-nil (λ (s : Settlement). level_of s ≡ 1)
-level_once number class Caught = All-cons (λ (s : Settlement). level_of s ≡ 1) _ [] refl (All-nil (λ (s : Settlement). level_of s ≡ 1))
-level_once number class Tried = All-cons (λ (s : Settlement). level_of s ≡ 1) _ [] refl (All-nil (λ (s : Settlement). level_of s ≡ 1))
-level_once number class Stuck = All-cons (λ (s : Settlement). level_of s ≡ 1) _ [] refl (All-nil (λ (s : Settlement). level_of s ≡ 1))
-
-start_levels : (status : ℕ → Status) (n id k : ℕ) → All (λ (s : Settlement). level_of s ≡ 1) (start_settlements status n id k)
-start_levels status n id zero = All-nil (λ (s : Settlement). level_of s ≡ 1)
-start_levels status n id (suc k) =
-    let before = start_settlements status n id k in
-    All-append (λ (s : Settlement). level_of s ≡ 1) before (opening_settlement (length before) (class_of_place n id k) (opening_value (status k)))
-    (start_levels status n id k) (level_once (length before) (class_of_place n id k) (status k))
+level_once : (status : Status) (now : Value) → opening_value status ≡ Some now → max (plies_of now) 1 ≡ 1
+level_once Caught now is = subst (λ (o : Option Value). max (plies_of (or_else o Draw)) 1 ≡ 1) is refl
+level_once Tried now is = subst (λ (o : Option Value). max (plies_of (or_else o Draw)) 1 ≡ 1) is refl
+level_once Stuck now is = subst (λ (o : Option Value). max (plies_of (or_else o Draw)) 1 ≡ 1) is refl
+level_once Open now is = absurd cc
 
 -- each is on the first
 pub start_level : (n id number : ℕ) (starts : StatusesView) (others : List Settlement) (s : Settlement) → number < starts_count starts →
@@ -131,4 +92,5 @@ start_level n id number starts others s low there =
     let front : List Settlement = starts_of n id starts in
     let within : number < length front = omega (arith, low, starts_length n id starts) in
     let is : get_or front number s ≡ s = sym (get_or_append_left front others s number within) ∙ get_or_from_slice_get (front ++ others) number s s there in
-    subst (λ (t : Settlement). level_of t ≡ 1) is (start_levels (start_status starts) n id starts.places number s within)
+    subst (λ (t : Settlement). level_of t ≡ 1) is (all_started (λ (t : Settlement). level_of t ≡ 1) (start_status starts) n id starts.places
+    (λ place number now low here. level_once (start_status starts place) now here) number s within)

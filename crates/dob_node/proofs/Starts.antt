@@ -1,12 +1,6 @@
 -- The openings of the classes so far, and of one more.
-use Rattle.std.proofs.Common.{ℕ, ◌+◌, ◌<◌, inl, inr, refl, sym, subst, ap, ◌∙◌, arith, List, [], ◌∷◌, ◌++◌}
-use Rattle.std.proofs.lemmas.List.{length-append}
-use Rattle.std.proofs.lemmas.Option.{slice_get_within}
-use Rattle.dob_pieces.specs.declared.profile.Family.{Family}
-use Rattle.dob_pieces.proofs.Elements.{at_end}
-use Rattle.dob_rank.specs.Families.{class_setup}
-use Rattle.dob_share.specs.declared.opening.Opening.{Opening}
-use Rattle.dob_node.specs.Openings.{IsOpening, AreOpeningsBelow}
+use Rattle.dob_node.proofs.Common.{◌++◌, ◌+◌, ◌<◌, ◌∙◌, ◌∷◌, List, [], ap, arith, inl, inr, refl, subst, sym, ℕ, length-append, slice_get_within, at_end}
+use Rattle.dob_node.proofs.Common.{Family, class_setup, Opening, AreOpeningsBelow, IsOpening}
 
 -- the opening of one more class
 pub openings_more : (family : Family) (upto : ℕ) (openings : List Opening) (given : Opening) → AreOpeningsBelow family upto openings →

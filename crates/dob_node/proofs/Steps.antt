@@ -1,40 +1,16 @@
 -- What is lawful stays so: the next item fits its cell, and after it the cells and histories are lawful again.
-use Rattle.std.proofs.Common.{◌≡◌, ◌≢◌, ℕ, ◌<◌, ◌⊎◌, inl, inr, eqb, cond, refl, sym, subst, ap, ◌∙◌, arith, List, [], ◌∷◌, ◌++◌, length, append_assoc}
-use Rattle.std.specs.List.{All}
-use Rattle.std.proofs.lemmas.Bool.{eqb-true, eq-eqb, ne_eqb, cases_eq}
-use Rattle.std.proofs.lemmas.List.Elements.{All-contains, All-nil, All-cons, All-append}
-use Rattle.dob_pieces.specs.declared.profile.Family.{Family}
-use Rattle.dob_pieces.specs.declared.setup.Setup.{Setup}
-use Rattle.dob_moves.specs.declared.position_status.Status.TheVariants.{Open}
-use Rattle.dob_moves.specs.Statuses.{HasStatus}
-use Rattle.dob_rank.specs.Families.{RepresentsClass}
-use Rattle.dob_rank.specs.Families.{classes_of}
-use Rattle.dob_rank.specs.Families.{class_setup}
-use Rattle.dob_rank.proofs.OfFamilies.Present.{HasClasses-classes_of}
-use Rattle.dob_classes.proofs.OfFamilies.FamilyRepresentatives.{class_setup_is}
-use Rattle.dob_value.specs.declared.value.Value.{Value}
-use Rattle.dob_value.specs.Follows.{IsEntry}
-use Rattle.dob_unmove.specs.Edges.{predecessors}
-use Rattle.dob_unmove.proofs.Edges.{ArePredecessors-predecessors, representative_below}
-use Rattle.dob_share.specs.declared.news.Settlement.{Settlement}
-use Rattle.dob_share.specs.declared.news.Item.{Item}
-use Rattle.dob_share.specs.Owners.{owner_of}
-use Rattle.dob_share.specs.Values.{Better}
-use Rattle.dob_share.specs.Cells.{Cell, CellValue, SumsUp, Changes, changed}
-use Rattle.dob_update.specs.Items.{items_from}
-use Rattle.dob_node.specs.Histories.{copies, value_of, all_known, IsNext, IsChained}
-use Rattle.dob_node.specs.Quiet.{FollowsAtStatus}
-use Rattle.dob_node.specs.Lawful.{known_of, AreLawfulNodes, IsNextItem, CanApply, AreAfter, IsOneMore, AreSettled}
+use Rattle.dob_node.proofs.Common.{◌++◌, ◌<◌, ◌∙◌, ◌∷◌, ◌≡◌, ◌≢◌, ◌⊎◌, List, [], ap, append_assoc, arith, cond, eqb, inl, inr, length, refl, subst, sym, ℕ}
+use Rattle.dob_node.proofs.Common.{cases_eq, eq-eqb, eqb-true, ne_eqb, All-append, All-cons, All-contains, All-nil, All, Family, Setup, one_status, HasStatus}
+use Rattle.dob_node.proofs.Common.{Open, HasClasses-classes_of, RepresentsClass, class_setup, classes_of, class_setup_is, IsEntry, Value}
+use Rattle.dob_node.proofs.Common.{ArePredecessors-predecessors, representative_below, predecessors, CellValue-same, counted, takes_next, sums_up_after, Cell}
+use Rattle.dob_node.proofs.Common.{CellValue, Changes, SumsUp, changed, owner_of, Better, Item, Settlement, items_from, IsChained, IsNext, all_known, copies}
+use Rattle.dob_node.proofs.Common.{value_of, AreAfter, AreLawfulNodes, AreSettled, CanApply, IsNextItem, IsOneMore, known_of, FollowsAtStatus}
 use Rattle.dob_node.proofs.Rest.{some_of, below_owner}
 use Rattle.dob_node.proofs.Splits.{IsMade, IsFrom, split, made_from}
 use Rattle.dob_node.proofs.Learns.{has_copy, learnt, nothing_learnt}
-use Rattle.dob_moves.proofs.Cases.{one_status}
 use Rattle.dob_node.proofs.Settles.{chained_more, value_of-more, still_begun, known_still}
 use Rattle.dob_node.proofs.Totals.{some_known}
 use Rattle.dob_node.proofs.Kept.{all_known-same, known_entries, follows_entry, better_apart}
-use Rattle.dob_share.proofs.Learning.{counted, takes_next}
-use Rattle.dob_share.proofs.Sums.{sums_up_after}
-use Rattle.dob_share.proofs.Applied.{CellValue-same}
 use Rattle.dob_node.proofs.ValuesFollow.{value_follows, SumsUp-same}
 
 -- ---- a class that has a copy is open

@@ -1,16 +1,10 @@
 -- What is stored and read again.
-use Rattle.std.proofs.Common.{◌≡◌, ℕ, zero, suc, ◌+◌, ◌*◌, ◌/◌, ◌%◌, ◌<◌, refl, sym, subst, ap, ◌∙◌, arith, ◌≤◌}
-use Rattle.std.proofs.Common.{List, [], ◌∷◌, ◌++◌, length, take, Some, slice_get, get_or, set}
-use Rattle.std.proofs.lemmas.List.{length-append, append_assoc, get_or-append-add, length-take-le, get_or-take, take_more_set}
-use Rattle.std.proofs.lemmas.Option.{slice_get_within, slice_get-get_or, get_or_from_slice_get}
-use Rattle.dob_share.specs.declared.news.Settlement.{Settlement}
-use Rattle.dob_share.specs.Statuses.{StatusesView}
-use Rattle.dob_node.specs.declared.history.Stored.{Stored}
-use Rattle.dob_value.specs.declared.value.Value.{Value}
-use Rattle.dob_value.specs.Codes.{value_of_code}
-use Rattle.std.proofs.Math.Nat.{div-add-mod, mul_comm}
-use Rattle.dob_node.specs.Stores.{HistoryView, settlement_of, settlements_from, starts_count, starts_of, settlements_of}
-use Rattle.dob_node.proofs.StartLists.{starts_length}
+use Rattle.dob_node.proofs.Common.{◌%◌, ◌*◌, ◌++◌, ◌+◌, ◌-◌, ◌/◌, ◌<◌, ◌∙◌, ◌∷◌, ◌≡◌, ◌≤◌, List, Some, [], ap, arith, get_or, length, refl, set, slice_get}
+use Rattle.dob_node.proofs.Common.{subst, suc, sym, take, zero, ℕ, div-add-mod, mul_comm, length-append, get_or_from_slice_get, slice_get-get_or}
+use Rattle.dob_node.proofs.Common.{slice_get_within, value_of_code, IsEntry, Value, Draw, settled_among, class_of_place, StatusesView, Settlement}
+use Rattle.dob_node.proofs.Common.{opening_value, HistoryView, settlement_of, settlements_from, settlements_of, start_status, starts_count, starts_of, Stored}
+use Rattle.std.proofs.lemmas.List.{append_assoc, get_or-append-add, length-take-le, get_or-take, take_more_set}
+use Rattle.dob_node.proofs.StartLists.{starts_length, start_found, start_entry}
 
 pub length-settlements_from : (n id number : ℕ) (stored : List Stored) → length (settlements_from n id number stored) ≡ length stored
 length-settlements_from n id number [] = refl
@@ -118,6 +112,45 @@ got_within count k stored s low all there =
     let long : length (take count stored) ≡ count = length-take-le count stored all in
     slice_get-get_or (take count stored) k s (omega arith)
     ∙ ap Some (get_or-take count stored k s low ∙ get_or_from_slice_get stored k s s there)
+
+-- ---- what is read of a history
+
+-- A settlement of that number is read, and has such values as a table can have.
+pub record IsGot (settlements : List Settlement) (number : ℕ) (given : Settlement) : Type 0 where
+  pub get : slice_get settlements number ≡ Some given
+  pub was : IsEntry given.was
+  pub now : IsEntry given.now
+
+-- one of the start
+pub got_start : (n id room number place : ℕ) (starts : StatusesView) (list : List Stored) (view : HistoryView) (now : Value) (given : Settlement) →
+    seen n id room starts list ≡ view → place < starts.places → settled_among (start_status starts) place ≡ number →
+    opening_value (start_status starts place) ≡ Some now → given ≡ record { number = number; class = class_of_place n id place; was = Draw; now = now } →
+    IsGot view.settlements number given
+got_start n id room number place starts list view now given is low count value given_is =
+    subst (λ (s : Settlement). IsGot view.settlements number s) (sym given_is) (record {
+      get = ap (λ (v : HistoryView). slice_get v.settlements number) (sym is)
+          ∙ start_found n id number place starts now (settlements_from n id (length (starts_of n id starts)) list) low count value;
+      was = tt;
+      now = start_entry (start_status starts place) now value;
+    })
+
+-- one behind those of the start, of which there are `first`
+module _ (n id room count : ℕ) (starts : StatusesView) (stored : List Stored) (view : HistoryView) (all : count + room ≤ length stored)
+    (is : seen n id room starts (take count stored) ≡ view) (number first : ℕ) (low : number < length view.settlements)
+    (first_is : first ≡ starts_count starts) (behind : first ≤ number) where
+  counted : number - first < count
+  counted = let counts = count_is n id room count starts stored view all is in omega (arith, counts, low, first_is, behind)
+
+  pub stored_there : number - first < length stored
+  stored_there = let there = all_there count room stored all in omega (arith, counted, there)
+
+  pub got_stored : (s : Stored) (given : Settlement) → slice_get stored (number - first) ≡ Some s → settlement_of n id number s ≡ given →
+      slice_get view.settlements number ≡ Some given
+  got_stored s given there same = seen_at n id room (number - first) number starts (take count stored) view s given is
+      (let sum : number ≡ starts_count starts + (number - first) = omega (arith, first_is, behind) in sum)
+      (got_within count (number - first) stored s counted (all_there count room stored all) there) same
+
+-- ---- what is written
 
 -- what is written behind them is the next
 pub stored_more : (n id first count : ℕ) (stored : List Stored) (s : Stored) (given : Settlement) → count < length stored →

@@ -1,13 +1,7 @@
 -- Outboxes from which a settlement is taken back.
-use Rattle.std.proofs.Common.{◌≡◌, ◌≢◌, ℕ, ◌+◌, ◌<◌, ◌≤◌, inl, inr, refl, sym, ap, ◌∙◌, subst, arith, List, length, get_or, set}
-use Rattle.std.proofs.lemmas.Bool.{cases_order, cases_lt}
-use Rattle.std.proofs.lemmas.List.{length-set, get_or-set_same, get_or-set_other, get_or_default, same_lists}
-use Rattle.dob_pieces.specs.declared.profile.Family.{Family}
-use Rattle.dob_unmove.specs.Edges.{predecessors}
-use Rattle.dob_share.specs.declared.news.Settlement.{Settlement}
-use Rattle.dob_update.specs.Items.{items_of}
-use Rattle.dob_update.specs.Batches.{OutboxView, empty_outbox, HasOneMore}
-use Rattle.dob_node.specs.Outboxes.{outbox_in, IsOutboxTo, AreAdded, HaveOneMore}
+use Rattle.dob_node.proofs.Common.{◌+◌, ◌<◌, ◌∙◌, ◌≡◌, ◌≢◌, ◌≤◌, List, ap, arith, get_or, inl, inr, length, refl, set, subst, sym, ℕ, cases_eq, cases_lt}
+use Rattle.dob_node.proofs.Common.{get_or-set_other, get_or-set_same, get_or_default, length-set, same_lists, Family, predecessors, Settlement, HasOneMore}
+use Rattle.dob_node.proofs.Common.{OutboxView, empty_outbox, items_of, AreAdded, HaveOneMore, IsOutboxTo, outbox_in}
 use Rattle.dob_node.proofs.Sends.{asked_of}
 
 -- the outboxes for the nodes so far have a settlement more, where nothing else has changed since
@@ -59,14 +53,11 @@ module _ (targets : List ℕ) (from upto : ℕ) (before outboxes : List OutboxVi
       ((default : OutboxView) → new ≡ set now k (get_or before k default)) → AreBack (k + 1) before outboxes new
   back_one k now new so_far within is = record {
     whole = ap length (is any) ∙ length-set now k (get_or before k any) ∙ so_far.whole;
-    back = λ to default below. elim (cases_order to k) [
+    back = λ to default below. elim (cases_eq to k) [
       | inl same ↦ subst (λ (j : ℕ). get_or new j default ≡ get_or before j default) (sym same)
           (ap (λ xs. get_or xs k default) (is default)
           ∙ get_or-set_same now k (get_or before k default) default (subst (λ (m : ℕ). k < m) (sym so_far.whole) within))
-      | inr order ↦ elim order [
-        | inl less ↦ elsewhere to default (λ same. omega arith) ∙ so_far.back to default less
-        | inr greater ↦ absurd (omega arith)
-      ]
+      | inr other ↦ elsewhere to default other ∙ so_far.back to default (omega arith)
     ];
     later = λ to default high. elsewhere to default (λ same. omega arith) ∙ so_far.later to default (omega arith);
   }
@@ -81,13 +72,10 @@ module _ (targets : List ℕ) (from upto : ℕ) (before outboxes : List OutboxVi
   pub back_own : (k : ℕ) (now : List OutboxView) → AreBack k before outboxes now → k ≡ from → AreBack (k + 1) before outboxes now
   back_own k now so_far own = record {
     whole = so_far.whole;
-    back = λ to default below. elim (cases_order to k) [
+    back = λ to default below. elim (cases_eq to k) [
       | inl same ↦ subst (λ (j : ℕ). get_or now j default ≡ get_or before j default) (sym (same ∙ own))
           (so_far.later from default (omega arith) ∙ more.are_added.unsent default)
-      | inr order ↦ elim order [
-        | inl less ↦ so_far.back to default less
-        | inr greater ↦ absurd (omega arith)
-      ]
+      | inr other ↦ so_far.back to default (omega arith)
     ];
     later = λ to default high. so_far.later to default (omega arith);
   }

@@ -1,19 +1,11 @@
 -- Items taken one after the other.
-use Rattle.std.proofs.Common.{◌≡◌, ℕ, ◌+◌, ◌<◌, ◌≤◌, refl, sym, ap, ◌∙◌, subst, add-one, arith, List, [], ◌∷◌, ◌++◌, length, take, drop, get_or, Result}
-use Rattle.std.specs.Result.{IfErr, IsErrAnd}
-use Rattle.std.proofs.lemmas.Result.{err_from_is_err_and}
-use Rattle.std.proofs.Math.Seq.{take-suc, drop-cons}
-use Rattle.std.proofs.lemmas.List.{take-append-drop, length-take-le}
-use Rattle.dob_share.specs.declared.news.Item.{Item}
-use Rattle.dob_share.specs.declared.share.Share.{Share}
-use Rattle.dob_pieces.specs.declared.profile.Family.{Family}
-use Rattle.dob_stops.specs.declared.cause.Cause.{Cause}
+use Rattle.dob_node.proofs.Common.{◌++◌, ◌+◌, ◌<◌, ◌∙◌, ◌∷◌, ◌≡◌, ◌≤◌, List, Result, [], add-one, ap, arith, drop, get_or, length, refl, subst, sym, take, ℕ}
+use Rattle.dob_node.proofs.Common.{drop-cons, take-suc, take-append-drop, err_from_is_err_and, All, IfErr, IsErrAnd, Family, Item, Share, Cause, NodeView}
+use Rattle.dob_node.proofs.Common.{HasTaken, HasTakenBefore, IsSound, IsUnchanged, HistoryView, AreKept, AreTaken, AreTakenBefore, HasItemEntries, IsHistory}
+use Rattle.dob_node.proofs.Common.{IsReason, IsTaken, StayKept, StopsAt}
+use Rattle.std.proofs.lemmas.List.{length-take-le}
 use Rattle.dob_stops.specs.declared.cause.Cause.TheVariants as cause
-use Rattle.dob_node.specs.NodeViews.{NodeView}
-use Rattle.dob_node.specs.Nodes.{IsUnchanged, HasTaken, HasTakenBefore}
-use Rattle.dob_node.specs.Stores.{HistoryView}
-use Rattle.dob_node.proofs.Sounds.{emitted_still}
-use Rattle.dob_node.specs.TakenItems.{AreKept, IsTaken, AreTaken, IsHistory, IsReason, StopsAt, AreTakenBefore}
+use Rattle.dob_node.proofs.Sounds.{kept_back, emitted_still}
 
 -- ---- room doesn't matter
 
@@ -24,7 +16,6 @@ one_with_room item share after history grown room taken = record {
   classes = taken.classes;
   cell = taken.cell;
   others = taken.others;
-  statuses = taken.statuses;
   settled = taken.settled;
 }
 
@@ -163,6 +154,42 @@ before_first (item ∷ items) old new some none same = record {
   taken = record { taken = (same.kept.0, same.kept.1); same = same.same; own = same.kept.2; outboxes = same.outboxes };
   reason = tt;
 }
+
+-- ---- what is taken of a node, whose history may have had other room
+
+module _ (node : NodeView) (after : Share) (mid grown : HistoryView) (same : IsHistory node.history mid) where
+  pub has_taken : (items : List Item) (count : ℕ) → AreTaken items node.share after mid grown →
+      HasTaken items node (record node { share = after; history = grown; taken = count })
+  has_taken items count taken = record {
+    taken = all_with_room items node.share after node.history mid grown same taken;
+    same = (refl, refl, refl, refl);
+    own = refl;
+    outboxes = refl;
+  }
+
+  pub has_taken_before : (items : List Item) (count : ℕ) (why : Cause) → AreTakenBefore items count node.share after mid grown why →
+      HasTakenBefore items node (record node { share = after; history = grown; taken = count }) why
+  has_taken_before items count why before = record {
+    front = before.front;
+    item = before.item;
+    behind = before.behind;
+    items_are = before.items_are;
+    counted = before.counted;
+    taken = has_taken before.front count before.taken;
+    reason = before.reason;
+  }
+
+  -- it stays sound
+  pub still_sound : (items own : List Item) (count : ℕ) → IsSound node → AreTaken items node.share after mid grown →
+      StayKept node.share mid after grown → All HasItemEntries own → IsSound (record node { share = after; history = grown; own = own; taken = count })
+  still_sound items own count sound taken still entries = record {
+    kept = kept_back node.family node.n node.id node.share after mid grown (kept_with_room node.family node.n node.id node.share node.history mid same sound.kept) still;
+    emitted = emitted_all items node.share after node.history grown node.expanded (all_with_room items node.share after node.history mid grown same taken) sound.emitted;
+    entries = entries;
+    receivers = sound.receivers;
+    addressed = sound.addressed;
+    nothing_to_self = sound.nothing_to_self;
+  }
 
 -- ---- what is taken of a node that made room before
 

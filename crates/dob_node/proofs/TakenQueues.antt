@@ -1,17 +1,8 @@
 -- A queue of items, of which the first ones are taken and gone.
-use Rattle.std.proofs.Common.{◌≡◌, ◌≢◌, ℕ, ◌+◌, ◌-◌, ◌<◌, refl, sym, ap, ◌∙◌, subst, arith, append_assoc, List, [], ◌∷◌, ◌++◌, length, length-append, take, drop, Result, Ok, Err}
-use Rattle.std.specs.Result.{IfErr}
-use Rattle.std.specs.Prelude.{OnOk}
-use Rattle.std.specs.List.{All}
-use Rattle.std.proofs.Math.Seq.{drop-append_seam, take-append_seam}
-use Rattle.std.proofs.lemmas.List.Elements.{All-take, All-drop}
-use Rattle.dob_share.specs.declared.news.Item.{Item}
-use Rattle.dob_share.specs.declared.share.Share.{Share}
-use Rattle.dob_stops.specs.declared.cause.Cause.{Cause}
-use Rattle.dob_node.specs.Stores.{HistoryView}
-use Rattle.dob_node.specs.NodeViews.{NodeView}
-use Rattle.dob_node.specs.Nodes.{HasItemFault}
-use Rattle.dob_node.specs.TakenItems.{HasItemEntries, AreTaken, AreTakenBefore, TakesFirst, StopsFirst}
+use Rattle.dob_node.proofs.Common.{◌++◌, ◌+◌, ◌-◌, ◌<◌, ◌∙◌, ◌∷◌, ◌≡◌, ◌≢◌, Err, List, Ok, Result, [], ap, append_assoc, arith, drop, length, refl, subst, sym}
+use Rattle.dob_node.proofs.Common.{take, ℕ, drop-append_seam, take-append_seam, All-drop, All-take, All, OnOk, IfErr, Item, Share, Cause, NodeView}
+use Rattle.dob_node.proofs.Common.{HasItemFault, HistoryView, AreTaken, AreTakenBefore, HasItemEntries, StopsFirst, TakesFirst}
+use Rattle.std.proofs.Common.{length-append}
 use Rattle.dob_node.proofs.TakenLists.{all_with_room}
 
 -- ---- two parts

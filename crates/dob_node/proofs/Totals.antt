@@ -1,48 +1,21 @@
 -- How many copies a class's moves have in all: one each. Before anything is settled they know nothing.
-use Rattle.std.proofs.Common.{◌≡◌, ℕ, zero, suc, ◌+◌, ◌<◌, ◌≤◌, ◌&&◌, inl, inr, eqb, ltb, false, cond, refl}
-use Rattle.std.proofs.Common.{sym, ap, ◌∙◌, arith, List, [], ◌∷◌, ◌++◌, length, Contains, None}
-use Rattle.std.specs.List.{count_by, All}
-use Rattle.std.proofs.lemmas.Bool.{eq-eqb, ne_eqb, cases_eq, le-ltb, and_right, false≢true}
-use Rattle.std.proofs.lemmas.List.{length-append}
-use Rattle.std.proofs.lemmas.List.Elements.{All-head, All-tail, All-contains_itself, Contains-append_right}
+use Rattle.dob_node.proofs.Common.{◌&&◌, ◌++◌, ◌+◌, ◌<◌, ◌∙◌, ◌∷◌, ◌≡◌, ◌≤◌, Contains, List, None, [], ap, arith, cond, eqb, false, inl, inr, length, ltb, refl}
+use Rattle.dob_node.proofs.Common.{suc, sym, zero, ℕ, and_right, cases_eq, eq-eqb, false≢true, le-ltb, ne_eqb, length-append, All-contains_itself, All-head}
+use Rattle.dob_node.proofs.Common.{All-tail, Contains-append_right, All, count_by, head_in, each_below, Family, Setup, AreMoves-moves_of, moves_of, HasStatus}
+use Rattle.dob_node.proofs.Common.{Move, Open, HasClasses-classes_of, RepresentsClass, class_number, class_setup, classes_of, class_setup_is, not_draw_loss}
+use Rattle.dob_node.proofs.Common.{moves_keep_the_family, is_draw, Value, Draw, Loss, times-predecessors, predecessors, counted, SumsUp, owner_of, is_win_in}
+use Rattle.dob_node.proofs.Common.{Item, Settlement, all_known, copies, items_to, known}
 use Rattle.std.proofs.lemmas.List.Sums.{sum_by-cons}
-use Rattle.dob_pieces.specs.declared.profile.Family.{Family}
-use Rattle.dob_pieces.specs.declared.setup.Setup.{Setup}
-use Rattle.dob_pieces.specs.Lists.{each_below}
 use Rattle.dob_pieces.specs.Setups.{turned}
 use Rattle.dob_pieces.proofs.MaskWalks.{length-each}
-use Rattle.dob_pieces.proofs.Lists.{head_in}
-use Rattle.dob_moves.specs.declared.game_move.Move.{Move}
-use Rattle.dob_moves.specs.declared.position_status.Status.TheVariants.{Open}
-use Rattle.dob_moves.specs.MoveLists.{moves_of}
 use Rattle.dob_moves.specs.Outcomes.{moved}
-use Rattle.dob_moves.specs.Statuses.{HasStatus}
-use Rattle.dob_moves.proofs.MoveLists.{AreMoves-moves_of}
 use Rattle.dob_moves.proofs.ProfileMoves.{Goes-moved}
-use Rattle.dob_rank.specs.Families.{RepresentsClass}
 use Rattle.dob_rank.specs.Numbers.{sum_below}
-use Rattle.dob_rank.specs.Families.{classes_of, class_number}
-use Rattle.dob_rank.specs.Families.{class_setup}
 use Rattle.dob_lists.proofs.Sums.{sum_same}
-use Rattle.dob_rank.proofs.OfFamilies.Present.{HasClasses-classes_of}
 use Rattle.dob_classes.proofs.OfFamilies.FamilyNumbers.{class_number-below}
-use Rattle.dob_classes.proofs.OfFamilies.FamilyRepresentatives.{class_setup_is}
-use Rattle.dob_value.specs.declared.value.Value.{Value}
-use Rattle.dob_value.specs.declared.value.Value.TheVariants.{Loss, Draw}
-use Rattle.dob_value.specs.Entries.{is_draw}
-use Rattle.dob_value.proofs.Successors.{moves_keep_the_family}
-use Rattle.dob_value.proofs.Consistency.{not_draw_loss}
-use Rattle.dob_unmove.specs.Edges.{edges, predecessors}
-use Rattle.dob_unmove.proofs.Edges.{times-predecessors}
-use Rattle.dob_share.specs.declared.news.Settlement.{Settlement}
-use Rattle.dob_share.specs.declared.news.Item.{Item}
-use Rattle.dob_share.specs.Owners.{owner_of}
-use Rattle.dob_share.specs.Values.{is_win_in}
-use Rattle.dob_share.specs.Cells.{SumsUp}
-use Rattle.dob_node.specs.Histories.{copies, items_to, known, all_known}
+use Rattle.dob_unmove.specs.Edges.{edges}
 use Rattle.dob_node.proofs.Runs.{from_each_below, only_one}
 use Rattle.dob_node.proofs.Copies.{NonePass, last_now-none}
-use Rattle.dob_share.proofs.Learning.{counted}
 
 -- ---- each move leads into one class
 

@@ -1,18 +1,8 @@
 -- Cells that sum up what is known: their value follows.
-use Rattle.std.proofs.Common.{◌≡◌, ℕ, ◌<◌, inl, inr, true, refl, sym, subst, ap, ◌∙◌, arith, List, [], ◌∷◌, length, Contains, Some, None}
-use Rattle.std.specs.List.{count_by}
-use Rattle.std.proofs.lemmas.Bool.{eqb-true, eq-eqb}
-use Rattle.dob_pieces.proofs.Lists.{head_in}
-use Rattle.dob_value.specs.declared.value.Value.{Value}
-use Rattle.dob_value.specs.declared.value.Value.TheVariants.{Win, Loss, Draw}
-use Rattle.dob_value.specs.Entries.{is_draw}
-use Rattle.dob_value.specs.Distances.{IsLeastLoss}
-use Rattle.dob_value.proofs.Consistency.{not_draw_win}
+use Rattle.dob_node.proofs.Common.{◌<◌, ◌∙◌, ◌∷◌, ◌≡◌, Contains, List, None, Some, [], ap, arith, inl, inr, length, refl, subst, sym, true, ℕ, eq-eqb, eqb-true}
+use Rattle.dob_node.proofs.Common.{count_by, head_in, not_draw_win, IsLeastLoss, is_draw, Value, Draw, Loss, Win, counted, counts, Cell, CellValue, IsGreatest}
+use Rattle.dob_node.proofs.Common.{SameCell, SumsUp, is_win_in, FollowsFromKnown}
 use Rattle.dob_value.proofs.Tables.{draw_is}
-use Rattle.dob_share.specs.Values.{is_win_in}
-use Rattle.dob_share.specs.Cells.{Cell, SameCell, IsGreatest, CellValue, SumsUp}
-use Rattle.dob_share.proofs.Learning.{counted, counts}
-use Rattle.dob_node.specs.Quiet.{FollowsFromKnown}
 
 -- ---- the cell's value follows
 

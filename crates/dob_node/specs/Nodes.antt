@@ -11,11 +11,12 @@ use Rattle.dob_share.specs.declared.share.Share.{Share}
 use Rattle.dob_share.specs.Owners.{class_of_place}
 use Rattle.dob_share.specs.Cells.{SameCell, fresh}
 use Rattle.dob_share.specs.Openings.{opening_of}
-use Rattle.dob_share.specs.Shares.{places_of, IsOwn, status_at, cell_at, HasValueNow}
+use Rattle.dob_share.specs.Shares.{places_of, IsOwn, IsNewShare, status_at, cell_at, HasValueNow}
 use Rattle.dob_update.specs.Items.{items_of}
 use Rattle.dob_update.specs.Batches.{BatchView, OutboxView, empty_outbox, added, IsCut}
 use Rattle.dob_stops.specs.declared.cause.Cause.{Cause}
 use Rattle.dob_node.specs.NodeViews.{NodeView}
+use Rattle.dob_node.specs.Openings.{AreOpenings}
 use Rattle.dob_node.specs.OpeningLists.{opening_settlements, opening_status}
 use Rattle.dob_node.specs.TakenItems.{HasItemEntries, AreKept, IsHistory, IsTaken, AreTaken, IsReason}
 use Rattle.dob_node.specs.Outboxes.{outbox_in, IsOutboxTo}
@@ -46,6 +47,18 @@ pub record IsOpened (openings : List Opening) (family : Family) (id n : ℕ) (no
   pub nothing : (node.expanded ≡ 0) × (node.own ≡ [])
   pub outboxes : (to : ℕ) → outbox_to node to ≡ empty_outbox family n id to
   pub going : node.failed ≡ None
+
+-- so it is, of the openings that the family's classes have
+abbrev pub IsOpenedOf : Family → ℕ → ℕ → NodeView → Type 0
+IsOpenedOf family id n node = (openings : List Opening) × AreOpenings family openings × IsOpened openings family id n node
+
+-- the node is so opened of any openings of the family of which the share is
+abbrev pub IsOpenedBy : Share → Family → ℕ → ℕ → NodeView → Type 0
+IsOpenedBy share family id n node = (openings : List Opening) → AreOpenings family openings → IsNewShare openings n id share → IsOpened openings family id n node
+
+-- the share is one of openings of the family
+abbrev pub IsShareOf : Family → ℕ → ℕ → Share → Type 0
+IsShareOf family id n share = (openings : List Opening) × AreOpenings family openings × IsNewShare openings n id share
 
 -- The first settlement that wasn't expanded is: its items for the node itself are the last that it has to apply, and
 -- those for each other node are added to the outbox for it.

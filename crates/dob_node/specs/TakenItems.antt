@@ -9,7 +9,7 @@ use Rattle.dob_share.specs.declared.news.Item.{Item}
 use Rattle.dob_share.specs.declared.share.Share.{Share}
 use Rattle.dob_share.specs.Owners.{owner_of}
 use Rattle.dob_share.specs.Cells.{Cell, SameCell, changed}
-use Rattle.dob_share.specs.Shares.{IsOwn, status_at, cell_at, Fits, GoesTooDeep, SameClasses, HasSettled}
+use Rattle.dob_share.specs.Shares.{IsOwn, cell_at, Fits, GoesTooDeep, SameClasses, HasSettled}
 use Rattle.dob_node.specs.Stores.{HistoryView}
 use Rattle.dob_stops.specs.declared.cause.Cause.{Cause}
 use Rattle.dob_stops.specs.declared.cause.Cause.TheVariants.{TooDeep, Contradiction, Memory, Held, Counts}
@@ -35,6 +35,10 @@ pub record AreKept (family : Family) (n id : ℕ) (share : Share) (history : His
   pub classes : All (λ (s : Settlement). s.class < classes_of family) history.settlements
   pub parities : (class : ℕ) → IsOwn share class → HasParities (cell_at share class)
 
+-- what the share and the history of an owner of a family's classes keep, they keep after that
+abbrev pub StayKept : Share → HistoryView → Share → HistoryView → Type 0
+StayKept share history after grown = (family : Family) → AreKept family share.nodes share.id share history → AreKept family share.nodes share.id after grown
+
 -- the settlement, where there is one
 abbrev pub listed : Option Settlement → List Settlement
 listed None = []
@@ -51,7 +55,6 @@ pub record IsTaken (item : Item) (share after : Share) (history grown : HistoryV
   pub classes : SameClasses share after
   pub cell : SameCell (cell_at after item.to) (changed item.was item.now (cell_at share item.to))
   pub others : (class : ℕ) → IsOwn share class → class ≢ item.to → SameCell (cell_at after class) (cell_at share class)
-  pub statuses : (class : ℕ) → status_at after class ≡ status_at share class
   pub settled : (given : Option Settlement) × HasSettled share after item.to given
       × (grown ≡ record history { settlements = history.settlements ++ listed given; room = grown.room })
 

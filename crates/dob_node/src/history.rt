@@ -11,7 +11,7 @@ ghost use Rattle.dob_share.specs.Shares.{Fits, GoesTooDeep, IsSeen};
 ghost use Rattle.dob_stops.specs.declared.cause.Cause.TheVariants as cause;
 ghost use Rattle.dob_node.specs.Stores.{settlement_of, settlements_from, starts_of};
 ghost use Rattle.dob_node.specs.Levels.{plies_of, level_of};
-ghost use Rattle.dob_node.specs.TakenItems.{HasItemEntries, AreKept, IsHistory, IsTaken, IsReason};
+ghost use Rattle.dob_node.specs.TakenItems.{HasItemEntries, AreKept, StayKept, IsHistory, IsTaken, IsReason};
 
 use crate::start_statuses::{StartStatuses, StartValue};
 use dob_lists::{SegmentLength, Segments};
@@ -168,7 +168,7 @@ impl History {
         ensures room { OnOk result (self.old.room ≤ self.new.room + 1) }
         ensures unchanged { OnErr result ((share.new ≡ share.old) × (self.new ≡ self.old)) }
         ensures taken { OnOk result (IsTaken item share.old share.new self.old self.new) }
-        ensures kept { OnOk result ((family : Set) → AreKept family share.old.nodes share.old.id share.old self.old → AreKept family share.old.nodes share.old.id share.new self.new) }
+        ensures kept { OnOk result (StayKept share.old self.old share.new self.new) }
         ensures seen { OnOk result ((class : ℕ) (look : Option Seen) → IsSeen share.old class look → IsSeen share.new class look) }
     {
         // Numbers of settlements always fit.

@@ -9,6 +9,7 @@ pub fn law_quiet()
 {}
 
 /// Before anything is applied, a cell with all the moves of its class left sums up what their copies know.
+#[tactic(auto, using(crate::proofs::Totals::start_sums))]
 pub fn nothing_is_known()
     ensures { NothingIsKnown }
 {}
@@ -19,11 +20,13 @@ pub fn next_item_fits()
 {}
 
 /// It teaches its class by one copy, which knew what the item says that was, and no other class.
+#[tactic(auto, using(crate::proofs::Steps::learns_here, crate::proofs::Steps::still))]
 pub fn next_item_teaches_one()
     ensures { NextItemTeachesOne }
 {}
 
 /// After it, and after the settlement that it makes, the nodes are lawful.
+#[tactic(auto, using(crate::proofs::Steps::lawful_after))]
 pub fn lawful_stays()
     ensures { LawfulStays }
 {}

@@ -3,9 +3,11 @@ ghost use Rattle.std.specs.Prelude.{◌≡◌, ◌<◌, ◌≤◌, ◌^◌, ◌�
 ghost use Rattle.std.specs.List.{All};
 ghost use Rattle.dob_node.specs.Stores.{starts_of};
 ghost use Rattle.dob_node.specs.TakenItems.{HasItemEntries};
+ghost use Rattle.dob_node.specs.Nodes.{IsSound, IsShareOf, IsOpenedBy};
 
 use crate::history::History;
 use crate::node_core::Core;
+use crate::openings::own_openings;
 use crate::outboxes::{are_empty, empty_outboxes};
 use crate::start_statuses::StartStatuses;
 use dob_classes::Classes;
@@ -45,7 +47,7 @@ pub struct Part {
 
 impl Node {
     ghost use Rattle.dob_node.specs.Openings.{AreOpenings};
-    ghost use Rattle.dob_node.specs.Nodes.{outbox_to, IsSound, IsOpened, IsIdle, AreValuesNow};
+    ghost use Rattle.dob_node.specs.Nodes.{outbox_to, IsOpened, IsOpenedOf, IsIdle, AreValuesNow};
     ghost use Rattle.dob_node.specs.Levels.{HasLevel};
     ghost use Rattle.dob_node.specs.NodeSteps.{Keeps, Expands, AppliesOwn, AppliesEveryOwn, AppliesAll, MakesRoom, Cuts};
     ghost use Rattle.dob_share.specs.Shares.{IsOwn, HasValueNow};
@@ -69,22 +71,34 @@ impl Node {
         ensures sound { IfOk result (λ node. IsSound node) }
     {
         let share = Share::open(alloc, openings, id, nodes)?;
-        let history = opening_history(alloc, &share, id, nodes, openings.segment_length())?;
-        let outboxes = empty_outboxes(alloc, family, nodes, id)?;
-        let core = Core {
+        node_with(alloc, share, family, id, nodes, openings.segment_length())
+    }
+
+    /// The node as above, which finds the openings of its own classes itself, those of no others. Its lists have the longest segments.
+    ///
+    /// # Errors
+    ///
+    /// `Memory`.
+    pub fn open_own(
+        alloc: Global,
+        classes: &Classes,
+        id: usize,
+        nodes: NodeCount,
+    ) -> Result<Node, Memory>
+        requires { id < nodes }
+        ensures opened { IfOk result (IsOpenedOf classes.now.family id nodes) }
+        ensures sound { IfOk result (λ node. IsSound node) }
+    {
+        let own = own_openings(alloc, classes, id, nodes)?;
+        let share = Share::open_own(alloc, &own, id, nodes)?;
+        node_with(
             alloc,
-            family,
+            share,
+            classes.family,
             id,
             nodes,
-            share,
-            history,
-            expanded: 0,
-            own: VecDeque::new(alloc),
-            outboxes,
-            targets: Vec::new(alloc),
-            taken: 0,
-        };
-        Ok(Node { core, failed: None })
+            own.segment_length(),
+        )
     }
 
     /// Expands the first settlement of the history that isn't: its items for the own classes are to be applied, those for
@@ -300,6 +314,38 @@ impl Node {
             values,
         })
     }
+}
+
+// The node of owner `id`, one of `nodes`, that has this share of the family's classes, before its first step.
+fn node_with(
+    alloc: Global,
+    share: Share,
+    family: Family,
+    id: usize,
+    nodes: NodeCount,
+    segment_length: SegmentLength,
+) -> Result<Node, Memory>
+    requires owner { id < nodes }
+    requires share { IsShareOf family id nodes share }
+    ensures opened { IfOk result (IsOpenedBy share family id nodes) }
+    ensures sound { IfOk result (λ node. IsSound node) }
+{
+    let history = opening_history(alloc, &share, id, nodes, segment_length)?;
+    let outboxes = empty_outboxes(alloc, family, nodes, id)?;
+    let core = Core {
+        alloc,
+        family,
+        id,
+        nodes,
+        share,
+        history,
+        expanded: 0,
+        own: VecDeque::new(alloc),
+        outboxes,
+        targets: Vec::new(alloc),
+        taken: 0,
+    };
+    Ok(Node { core, failed: None })
 }
 
 // The answer of a step, whose failure is noted.

@@ -3,13 +3,14 @@ ghost use Rattle.std.specs.Prelude.{◌<◌, IfOk};
 ghost use Rattle.dob_classes.specs.Bitboards.{AreBitboards};
 ghost use Rattle.dob_rank.specs.Families.{classes_of};
 ghost use Rattle.dob_rank.specs.Families.{class_setup};
-ghost use Rattle.dob_node.specs.Openings.{IsOpening, AreOpenings};
+ghost use Rattle.dob_node.specs.Openings.{IsOpening, AreOpenings, AreOwnOpenings};
 
 use dob_classes::{Classes, Shown};
 use dob_lists::{SegmentLength, Segments};
 use dob_moves::status_and_count_shown;
 use dob_pieces::{Memory, Profile, Side};
-use dob_share::Opening;
+use dob_safra::NodeCount;
+use dob_share::{Opening, places_among};
 use std::alloc::Global;
 
 /// The status and number of moves, by the rules of the profile, of the position that the sets show to the mover. The position only
@@ -58,4 +59,23 @@ pub fn opening(
         openings.push(opening_in(classes, class))?;
     }
     Ok(openings)
+}
+
+/// Those of the classes of owner `id` among `nodes`, in their order.
+pub(crate) fn own_openings(
+    alloc: Global,
+    classes: &Classes,
+    id: usize,
+    nodes: NodeCount,
+) -> Result<Segments<Opening>, Memory>
+    requires { id < nodes }
+    ensures { IfOk result (AreOwnOpenings classes.now.family nodes id) }
+{
+    let places = places_among(classes.class_count(), id as u64, nodes);
+    let mut own = Segments::new(alloc, SegmentLength::longest());
+    for place in 0..places {
+        let class = place * nodes.get() as u64 + id as u64;
+        own.push(opening_in(classes, class))?;
+    }
+    Ok(own)
 }

@@ -3,7 +3,7 @@ ghost use Rattle.std.specs.Prelude.{◌≡◌, ◌≢◌, ◌<◌, ◌%◌, [], 
 ghost use Rattle.std.specs.List.{All};
 ghost use Rattle.dob_pieces.specs.declared.profile.Family.{Family as Set};
 ghost use Rattle.dob_stops.specs.declared.cause.Cause.TheVariants as cause;
-ghost use Rattle.dob_node.specs.TakenItems.{HasItemEntries, AreKept, AreTaken, StopsAt, AreTakenBefore, TakesFirst, StopsFirst};
+ghost use Rattle.dob_node.specs.TakenItems.{HasItemEntries, AreKept, StayKept, AreTaken, StopsAt, AreTakenBefore, TakesFirst, StopsFirst};
 ghost use Rattle.dob_node.specs.SeenItems.{AreSeen};
 
 use crate::history::History;
@@ -33,7 +33,7 @@ pub(crate) fn take_items(
     ensures taken { OnOk result (AreTaken items.now share.old share.new history.old history.new) }
     ensures all { OnOk result (taken.new ≡ length items.now) }
     ensures memory { result ≡ Err cause.Memory → history.old.room < length items.now }
-    ensures kept { ((family : Set) → AreKept family share.old.nodes share.old.id share.old history.old → AreKept family share.old.nodes share.old.id share.new history.new) }
+    ensures kept { StayKept share.old history.old share.new history.new }
 {
     *taken = 0;
     let mut looks = [None; AHEAD];
@@ -77,7 +77,7 @@ pub(crate) fn take_queue(
     ensures taken { TakesFirst queue.old.items queue.new.items share.old share.new history.old history.new }
     ensures all { OnOk result (queue.new.items ≡ []) }
     ensures stopped { IfErr result (λ why. StopsFirst queue.new.items share.new why) }
-    ensures kept { ((family : Set) → AreKept family share.old.nodes share.old.id share.old history.old → AreKept family share.old.nodes share.old.id share.new history.new) }
+    ensures kept { StayKept share.old history.old share.new history.new }
 {
     while !queue.is_empty() {
         take_front(share, history, queue)?;
@@ -96,7 +96,7 @@ fn take_front(
     ensures taken { TakesFirst queue.old.items queue.new.items share.old share.new history.old history.new }
     ensures fewer { OnOk result (queue.old.items ≢ [] → length queue.new.items < length queue.old.items) }
     ensures stopped { IfErr result (λ why. StopsFirst queue.new.items share.new why) }
-    ensures kept { ((family : Set) → AreKept family share.old.nodes share.old.id share.old history.old → AreKept family share.old.nodes share.old.id share.new history.new) }
+    ensures kept { StayKept share.old history.old share.new history.new }
 {
     let (front, _behind) = queue.as_slices();
     let mut taken = 0;

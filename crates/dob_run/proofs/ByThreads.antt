@@ -1,37 +1,15 @@
 -- A crew that was run, from what its threads promise to what is made of it.
-use Rattle.std.proofs.Common.{◌≡◌, ℕ, Bool, true, ◌<◌, ◌≤◌, List, Option, Result, Ok, Err, map, length, sym, refl, ap, subst, ◌∙◌, arith, length-append}
-use Rattle.std.specs.Prelude.{IfOk, IfErr, OnOk, Some, slice_get}
-use Rattle.std.specs.List.{AllZip}
-use Rattle.dob_pieces.proofs.Elements.{some_at}
-use Rattle.dob_pieces.specs.declared.profile.Family.{Family}
-use Rattle.dob_update.specs.Batches.{BatchView}
-use Rattle.dob_board.specs.declared.board.Board.{Board}
-use Rattle.dob_chan.specs.Ends.{sent_by, taken_by, place_of}
-use Rattle.dob_stops.specs.declared.cause.Cause.{Cause}
-use Rattle.dob_stops.specs.declared.fault.Fault.{Fault}
-use Rattle.dob_stops.specs.declared.fault.Fault.TheVariants.{Nodes, Sizes, Stopped, Memory}
-use Rattle.dob_run.specs.declared.build_end.Built.{Built}
-use Rattle.dob_runner.specs.declared.slots.Outlet.{Outlet}
-use Rattle.dob_runner.specs.declared.runner.Runner.{Runner}
-use Rattle.dob_run.specs.declared.bounded_run.Turned.{Turned}
-use Rattle.dob_runner.specs.declared.turn_loop.Until.{Until}
+use Rattle.dob_run.proofs.Common.{◌<◌, ◌∙◌, ◌≡◌, ◌≤◌, Bool, List, Option, Result, ap, arith, length, length-append, map, refl, subst, sym, true, ℕ, AllZip}
+use Rattle.dob_run.proofs.Common.{IfOk, slice_get, some_at, zip_at, Family, BatchView, Cause, Fault, Memory, Nodes, Sizes, Stopped, Board, place_of, sent_by}
+use Rattle.dob_run.proofs.Common.{taken_by, few_of, offered, worked, IsReasonFor, KeepsRunner, in_slot, worked_of, Ends, EndsBy, Runner, Inlet, Outlet, Until}
+use Rattle.dob_run.proofs.Common.{AreUnfailed, CarriesFew, HasLeft, IsFirstFailed, IsTurned, IsUnheld, StopsSo, HaveStopped, IsFailureOf, IsBuilt, IsCrew}
+use Rattle.dob_run.proofs.Common.{IsNewCrew, endpoint_of, AreLetOn, HasRun, AreWithin, HasBuildFault, Turned, Built}
+use Rattle.std.proofs.Common.{Ok, Err}
+use Rattle.std.specs.Prelude.{IfErr, OnOk, Some}
 use Rattle.dob_runner.specs.declared.turn_loop.Until.TheVariants as until
-use Rattle.dob_run.specs.Built.{IsBuilt}
-use Rattle.dob_run.specs.CrewClose.{IsCrew}
-use Rattle.dob_runner.specs.Slots.{in_slot, worked_of}
-use Rattle.dob_runner.specs.declared.slots.Inlet.{Inlet}
-use Rattle.dob_runner.specs.Links.{offered, worked}
-use Rattle.dob_runner.proofs.Senders.{few_of}
-use Rattle.dob_run.specs.BuildEnd.{HaveStopped, IsFailureOf}
-use Rattle.dob_run.specs.CrewRunners.{endpoint_of, IsNewCrew}
-use Rattle.dob_run.specs.Faults.{AreWithin, HasBuildFault}
-use Rattle.dob_runner.specs.Runners.{KeepsRunner, IsReasonFor}
-use Rattle.dob_run.specs.BoundedRun.{IsTurned, CarriesFew, AreUnfailed, IsFirstFailed, HasLeft, StopsSo, IsUnheld}
-use Rattle.dob_runner.specs.TurnLoop.{Ends, EndsBy}
-use Rattle.dob_run.specs.CrewTurns.{AreLetOn, HasRun}
 use Rattle.dob_run.proofs.CrewLeaves.{for_kept, turned_is}
 use Rattle.dob_runner.proofs.Keeping.{there_is}
-use Rattle.dob_run.proofs.CrewRunners.{zip_at, seat_at, seat_there, are_linked, crew_many, crew_low, outlet_at, crew_kept}
+use Rattle.dob_run.proofs.CrewRunners.{seat_at, seat_there, are_linked, crew_many, crew_low, outlet_at, crew_kept}
 use Rattle.dob_run.proofs.RunFaults.{stops_so}
 use Rattle.dob_run.proofs.Threaded.{all_kept}
 

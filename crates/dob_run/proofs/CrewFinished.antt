@@ -1,49 +1,20 @@
 -- A crew that has come to its end holds the value table.
-use Rattle.std.proofs.Common.{◌≡◌, ◌≢◌, ℕ, ◌+◌, ◌-◌, ◌<◌, inl, inr, refl, sym, ap, ◌∙◌, subst, arith, List, [], ◌∷◌}
-use Rattle.std.proofs.Common.{◌++◌, length, length-append, take, get_or, Option, None, Some}
-use Rattle.std.specs.Prelude.{slice_get}
-use Rattle.std.proofs.lemmas.Bool.{cases_eq}
-use Rattle.std.proofs.lemmas.List.{append-nil, take_all}
-use Rattle.std.proofs.lemmas.Option.{slice_get-get_or}
-use Rattle.dob_pieces.specs.declared.profile.Family.{Family}
-use Rattle.dob_pieces.proofs.Elements.{some_at}
+use Rattle.dob_run.proofs.Common.{◌++◌, ◌+◌, ◌-◌, ◌<◌, ◌∙◌, ◌∷◌, ◌≡◌, ◌≢◌, List, None, Option, Some, [], ap, arith, get_or, inl, inr, length, length-append}
+use Rattle.dob_run.proofs.Common.{refl, subst, sym, take, ℕ, cases_eq, append-nil, take_all, slice_get-get_or, slice_get, some_at, Family, classes_of}
+use Rattle.dob_run.proofs.Common.{IsValueTable, Value, owner_of, HasValueNow, IsValue, cell_at, Item, Settlement, Share, BatchView, items_of_batches}
+use Rattle.dob_run.proofs.Common.{items_from, below_owner, value_of, IsIdle, Node, sent_by, taken_of, applied_else, applied_here, parts, AreOut, CanHaveMade}
+use Rattle.dob_run.proofs.Common.{KnowsRight, IsLawfulRunner, SendsRight, applied_from, items_worked, own_applied, planned, offered, worked_from, held_from}
+use Rattle.dob_run.proofs.Common.{in_slot, Endpoint, Runner, Inlet, Outlet, AreFinished, AreShown, IsLawfulAt}
 use Rattle.dob_moves.specs.declared.position_status.Status.{Status}
 use Rattle.dob_moves.specs.declared.position_status.Status.TheVariants.{Caught, Tried, Stuck, Open}
-use Rattle.dob_rank.specs.Families.{classes_of}
-use Rattle.dob_value.specs.declared.value.Value.{Value}
-use Rattle.dob_value.specs.Follows.{IsValueTable}
 use Rattle.dob_unmove.specs.Edges.{predecessors}
-use Rattle.dob_share.specs.declared.news.Settlement.{Settlement}
-use Rattle.dob_share.specs.declared.news.Item.{Item}
 use Rattle.dob_share.specs.declared.opening.Opening.{Opening}
-use Rattle.dob_share.specs.declared.share.Share.{Share}
-use Rattle.dob_share.specs.Owners.{owner_of}
 use Rattle.dob_share.specs.Cells.{Cell}
-use Rattle.dob_share.specs.Shares.{cell_at, IsValue, HasValueNow}
-use Rattle.dob_update.specs.Items.{items_from}
-use Rattle.dob_update.specs.Batches.{BatchView, items_of_batches}
-use Rattle.dob_node.specs.Histories.{value_of}
 use Rattle.dob_node.specs.Quiet.{FollowsAtStatus}
 use Rattle.dob_node.specs.Lawful.{known_of, AreLawfulNodes as AreLawful}
 use Rattle.dob_node.specs.Openings.{AreOpenings}
-use Rattle.dob_node.proofs.Rest.{below_owner}
 use Rattle.dob_node.proofs.Ends.{lawful_is_right}
-use Rattle.dob_node.specs.declared.node.Node.{Node}
-use Rattle.dob_node.specs.Nodes.{IsIdle}
-use Rattle.dob_chan.specs.Ends.{sent_by, taken_of}
-use Rattle.dob_runner.specs.declared.slots.Outlet.{Outlet}
-use Rattle.dob_runner.specs.declared.slots.Inlet.{Inlet}
-use Rattle.dob_runner.specs.declared.endpoint.Endpoint.{Endpoint}
-use Rattle.dob_runner.specs.declared.runner.Runner.{Runner}
-use Rattle.dob_runner.specs.Slots.{in_slot, held_from}
-use Rattle.dob_runner.specs.Links.{offered, worked_from}
-use Rattle.dob_runner.specs.Endpoints.{AreOut}
-use Rattle.dob_runner.specs.Knows.{CanHaveMade, KnowsRight}
-use Rattle.dob_runner.specs.LawfulRunners.{planned, items_worked, own_applied, applied_from, SendsRight, IsLawfulRunner}
-use Rattle.dob_run.specs.Finished.{IsLawfulAt, AreFinished, AreShown}
 use Rattle.dob_run.proofs.CrewRunners.{are_linked}
-use Rattle.dob_runner.proofs.Senders.{parts}
-use Rattle.dob_runner.proofs.Applied.{applied_here, applied_else}
 use Rattle.dob_runner.proofs.Summing.{sums_by}
 
 closed_follows : (status : Status) (cell : Cell) (v : Value) → status ≢ Open → IsValue status cell v → FollowsAtStatus status [] v

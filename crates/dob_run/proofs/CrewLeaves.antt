@@ -1,41 +1,14 @@
 -- What a crew's runners leave when they are closed, put together from their parts.
-use Rattle.std.proofs.Common.{◌≡◌, ◌≢◌, ℕ, ◌+◌, ◌-◌, ◌*◌, ◌<◌, ◌≤◌, inl, List, [], ◌∷◌, ◌++◌, Option, Some, None}
-use Rattle.std.proofs.Common.{length, map, take, drop, refl, sym, ap, ◌∙◌, subst, arith, length-append}
-use Rattle.std.proofs.Common.{Global}
-use Rattle.std.specs.Prelude.{slice_get}
-use Rattle.std.proofs.lemmas.List.{length-map, take-append-drop}
-use Rattle.std.specs.declared.vec.Vec.{Vec}
-use Rattle.std.specs.List.{AllZip}
-use Rattle.std.proofs.lemmas.Option.{slice_get_within, same_Some}
-use Rattle.dob_pieces.specs.declared.profile.Family.{Family}
-use Rattle.dob_share.specs.declared.news.Item.{Item}
-use Rattle.dob_update.specs.Batches.{BatchView, items_of_batches}
-use Rattle.dob_board.specs.declared.board.Board.{Board}
-use Rattle.dob_board.specs.declared.board.Closed.{Closed}
-use Rattle.dob_board.specs.Seats.{AreWords}
-use Rattle.dob_chan.specs.declared.ends.Rejoined.{Rejoined}
-use Rattle.dob_chan.specs.Ends.{sent_by, taken_by, taken_of, IsRejoined}
-use Rattle.dob_node.specs.declared.node.Node.{Node}
-use Rattle.dob_node.specs.Nodes.{outbox_to}
-use Rattle.dob_runner.specs.declared.slots.Outlet.{Outlet}
-use Rattle.dob_runner.specs.declared.slots.Inlet.{Inlet}
-use Rattle.dob_runner.specs.declared.endpoint.Endpoint.{Endpoint}
-use Rattle.dob_runner.specs.declared.runner.Runner.{Runner}
+use Rattle.dob_run.proofs.Common.{◌*◌, ◌++◌, ◌+◌, ◌-◌, ◌<◌, ◌∙◌, ◌∷◌, ◌≡◌, ◌≢◌, ◌≤◌, Global, List, None, Option, Some, [], ap, arith, drop, inl, length}
+use Rattle.dob_run.proofs.Common.{length-append, map, refl, subst, sym, take, ℕ, length-map, take-append-drop, same_Some, slice_get_within, AllZip, slice_get}
+use Rattle.dob_run.proofs.Common.{Vec, zip_at, Family, Item, BatchView, items_of_batches, outbox_to, Node, AreWords, Board, Closed, IsRejoined, sent_by}
+use Rattle.dob_run.proofs.Common.{taken_by, taken_of, Rejoined, applied_else, applied_here, front, parts, KnowsRight, AreLast, IsLawfulRunner, SendsRight}
+use Rattle.dob_run.proofs.Common.{applied_from, planned, offered, worked_from, KeepsRunner, held_from, in_slot, Endpoint, Runner, Inlet, Outlet, AreUnfailed}
+use Rattle.dob_run.proofs.Common.{AreWorkers, HasLeft, IsLink, IsTurned, IsWorker, AreClosed, AreLinked, IsCrew, row_of, seat_in, slots_in, slots_out}
+use Rattle.dob_run.proofs.Common.{AreRunnersFor, endpoint_of, node_of, outlet_slot, Turned}
 use Rattle.dob_run.specs.declared.crew_close.ClosedCrew.{ClosedCrew}
 use Rattle.dob_run.specs.declared.bounded_run.Worker.{Worker}
-use Rattle.dob_run.specs.declared.bounded_run.Turned.{Turned}
-use Rattle.dob_run.specs.CrewClose.{AreLinked, seat_in, IsCrew, row_of, slots_out, slots_in, AreClosed}
-use Rattle.dob_run.specs.InboxClose.{outlet_slot}
-use Rattle.dob_runner.specs.Slots.{in_slot, held_from}
-use Rattle.dob_runner.specs.Knows.{KnowsRight}
-use Rattle.dob_runner.specs.Links.{offered, worked_from}
-use Rattle.dob_run.specs.CrewRunners.{endpoint_of, node_of, AreRunnersFor}
-use Rattle.dob_runner.specs.Runners.{KeepsRunner}
-use Rattle.dob_run.specs.BoundedRun.{IsWorker, IsLink, IsTurned, AreUnfailed, AreWorkers, HasLeft}
-use Rattle.dob_runner.specs.LawfulRunners.{planned, applied_from, AreLast, SendsRight, IsLawfulRunner}
-use Rattle.dob_runner.proofs.Senders.{parts, front}
-use Rattle.dob_runner.proofs.Applied.{applied_here, applied_else}
-use Rattle.dob_run.proofs.CrewRunners.{zip_at, seat_there, are_linked, rejoined_at, seat_at, crew_many, crew_low, outlet_at}
+use Rattle.dob_run.proofs.CrewRunners.{seat_there, are_linked, rejoined_at, seat_at, crew_many, crew_low, outlet_at}
 use Rattle.dob_run.proofs.Places.{at_row, each_more, none_at, get_map, map_got, next_is, then_left, gone_all}
 
 -- ---- workers, one by one

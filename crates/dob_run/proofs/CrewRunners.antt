@@ -1,48 +1,13 @@
 -- The runners of a crew's endpoints, before and after their turns.
-use Rattle.std.proofs.Common.{◌≡◌, ℕ, zero, suc, ◌<◌, List, [], ◌∷◌, length, map, Some, refl, sym, ap, ◌∙◌, subst, arith}
-use Rattle.std.specs.Prelude.{slice_get}
-use Rattle.std.proofs.lemmas.List.{length-map}
-use Rattle.std.specs.List.{AllZip}
-use Rattle.std.proofs.lemmas.Option.{slice_get_within, same_Some}
-use Rattle.dob_pieces.specs.declared.profile.Family.{Family}
-use Rattle.dob_pieces.proofs.Elements.{some_at}
-use Rattle.dob_board.specs.declared.board.Board.{Board}
-use Rattle.dob_board.specs.Seats.{IsSeatOf}
-use Rattle.dob_update.specs.Batches.{BatchView}
-use Rattle.dob_chan.specs.declared.ends.SendEnd.{SendEnd}
-use Rattle.dob_chan.specs.declared.ends.Rejoined.{Rejoined}
-use Rattle.dob_chan.specs.Inboxes.{IsLawfulInbox, batches_of}
-use Rattle.dob_chan.specs.Ends.{sent_by, place_of, IsEndOf, IsRejoined}
-use Rattle.dob_runner.specs.declared.slots.Outlet.{Outlet}
-use Rattle.dob_runner.specs.declared.slots.Inlet.{Inlet}
-use Rattle.dob_runner.specs.declared.endpoint.Endpoint.{Endpoint}
-use Rattle.dob_runner.specs.declared.runner.Runner.{Runner}
-use Rattle.dob_runner.specs.Links.{KeepsInlet}
-use Rattle.dob_run.specs.CrewClose.{AreLinked, seat_in, IsCrew}
-use Rattle.dob_run.specs.CrewOpen.{IsNewEndpoint, AreNewEndpoints}
-use Rattle.dob_runner.specs.Runners.{KeepsRunner, IsNew}
+use Rattle.dob_run.proofs.Common.{◌<◌, ◌∙◌, ◌∷◌, ◌≡◌, List, Some, [], ap, arith, length, map, refl, subst, sym, ℕ, length-map, slice_get_within, AllZip}
+use Rattle.dob_run.proofs.Common.{slice_get, some_at, zip_at, zip_long, Family, BatchView, IsSeatOf, Board, IsRejoined, place_of, sent_by, IsLawfulInbox}
+use Rattle.dob_run.proofs.Common.{batches_of, Rejoined, SendEnd, KeepsInlet, IsNew, KeepsRunner, Endpoint, Runner, Inlet, Outlet, Until, AreLinked, IsCrew}
+use Rattle.dob_run.proofs.Common.{seat_in, AreNewEndpoints, IsNewEndpoint, AreRunnersFor, IsNewCrew, IsRunnerOf, endpoint_of, AllSuit, HasRun}
+use Rattle.dob_chan.specs.Ends.{IsEndOf}
 use Rattle.dob_run.specs.declared.limits.CrewSizes.{CrewSizes}
-use Rattle.dob_runner.specs.declared.turn_loop.Until.{Until}
 use Rattle.dob_run.specs.CrewSizes.{AreThese}
-use Rattle.dob_run.specs.CrewTurns.{AllSuit, HasRun}
-use Rattle.dob_run.specs.CrewRunners.{endpoint_of, AreRunnersFor, IsRunnerOf, IsNewCrew}
 use Rattle.dob_run.proofs.Places.{get_map, map_got}
 use Rattle.dob_run.proofs.EndpointParts.{count_is}
-
--- what stands at a place has its other at that place
-pub zip_at : {X Y : Type 0} → (R : X → Y → Type 0) (xs : List X) (ys : List Y) (k : ℕ) (y : Y) → AllZip R xs ys → slice_get ys k ≡ Some y →
-    (x : X) × (slice_get xs k ≡ Some x) × R x y
-zip_at R [] [] k y are at = absurd (cc)
-zip_at R [] (b ∷ ys) k y are at = absurd are
-zip_at R (a ∷ xs) [] k y are at = absurd are
-zip_at R (a ∷ xs) (b ∷ ys) zero y are at = (a, refl, subst (R a) (same_Some b y at) are.0)
-zip_at R (a ∷ xs) (b ∷ ys) (suc k) y are at = zip_at R xs ys k y are.1 at
-
-pub zip_long : {X Y : Type 0} → (R : X → Y → Type 0) (xs : List X) (ys : List Y) → AllZip R xs ys → length ys ≡ length xs
-zip_long R [] [] are = refl
-zip_long R [] (b ∷ ys) are = absurd are
-zip_long R (a ∷ xs) [] are = absurd are
-zip_long R (a ∷ xs) (b ∷ ys) are = let h = zip_long R xs ys are.1 in omega (arith, h)
 
 pub endpoints_are : (family : Family) (size : ℕ) (endpoints : List Endpoint) (runners : List Runner) → AllZip (IsRunnerOf family size) endpoints runners → map endpoint_of runners ≡ endpoints
 endpoints_are family size [] [] are = refl

@@ -1,49 +1,16 @@
 -- A crew that has stopped: what its board's words say of its runners, and that its end leaves what it should.
-use Rattle.std.proofs.lemmas.Bool.{cases_lt}
-use Rattle.std.proofs.Common.{◌≡◌, ◌≢◌, ℕ, ◌+◌, ◌-◌, ◌*◌, ◌<◌, ◌≤◌, inl, inr, List, ◌++◌, Option, Some, None}
-use Rattle.std.proofs.Common.{length, length-append, map, false, refl, sym, ap, ◌∙◌, subst, arith}
-use Rattle.std.proofs.Common.{Global}
-use Rattle.std.specs.Prelude.{slice_get, slice_index}
-use Rattle.std.specs.declared.vec.Vec.{Vec}
-use Rattle.std.proofs.lemmas.List.{length-map, append-nil}
-use Rattle.dob_pieces.specs.declared.profile.Family.{Family}
-use Rattle.dob_pieces.proofs.Elements.{some_at}
-use Rattle.dob_rank.specs.Families.{classes_of}
-use Rattle.dob_value.specs.declared.value.Value.{Value}
-use Rattle.dob_share.specs.Owners.{owner_of}
-use Rattle.dob_update.specs.Batches.{BatchView}
-use Rattle.dob_board.specs.declared.board.Board.{Board}
-use Rattle.dob_board.specs.declared.board.Closed.{Closed}
-use Rattle.dob_board.specs.declared.halt.Halt.TheVariants.{Running, Ended, Failed}
-use Rattle.dob_board.specs.Words.{posted_word, halt_word}
-use Rattle.dob_board.specs.Seats.{AreWords}
-use Rattle.dob_board.proofs.Halting.{same_halt}
-use Rattle.dob_chan.specs.declared.ends.Rejoined.{Rejoined}
-use Rattle.dob_chan.specs.Inboxes.{IsLawfulInbox}
-use Rattle.dob_chan.specs.Ends.{sent_by, taken_by, taken_of, IsRejoined}
-use Rattle.dob_stops.specs.declared.cause.Cause.{Cause}
-use Rattle.dob_share.specs.declared.share.Share.{Share}
-use Rattle.dob_node.specs.Nodes.{IsIdle}
-use Rattle.dob_runner.specs.declared.slots.Outlet.{Outlet}
-use Rattle.dob_runner.specs.declared.slots.Inlet.{Inlet}
-use Rattle.dob_runner.specs.declared.endpoint.Endpoint.{Endpoint}
-use Rattle.dob_runner.specs.declared.runner.Runner.{Runner}
+use Rattle.dob_run.proofs.Common.{◌*◌, ◌++◌, ◌+◌, ◌-◌, ◌<◌, ◌∙◌, ◌≡◌, ◌≢◌, ◌≤◌, Global, List, None, Option, Some, ap, arith, false, inl, inr, length}
+use Rattle.dob_run.proofs.Common.{length-append, map, refl, subst, sym, ℕ, cases_lt, append-nil, length-map, slice_get, slice_index, Vec, some_at, Family}
+use Rattle.dob_run.proofs.Common.{classes_of, Value, owner_of, Share, BatchView, Cause, IsIdle, same_halt, AreWords, halt_word, posted_word, Board, Closed}
+use Rattle.dob_run.proofs.Common.{Ended, Failed, Running, IsRejoined, sent_by, taken_by, taken_of, IsLawfulInbox, Rejoined, parts, AreOut, IsLawfulRunner}
+use Rattle.dob_run.proofs.Common.{offered, worked_from, held_from, in_slot, Endpoint, Runner, Inlet, Outlet, AllKnow, AreShownBelow, HaveStopped, share_in}
+use Rattle.dob_run.proofs.Common.{IsBuilt, IsLinkDone, needed, AreClosed, IsCrew, seat_in, endpoint_of, node_of, AreFinished, AreShown, Built}
 use Rattle.dob_run.specs.declared.crew_close.ClosedCrew.{ClosedCrew as Left}
-use Rattle.dob_run.specs.declared.build_end.Built.{Built}
-use Rattle.dob_runner.specs.Slots.{in_slot, held_from}
-use Rattle.dob_runner.specs.Links.{offered, worked_from}
-use Rattle.dob_runner.proofs.Senders.{parts}
-use Rattle.dob_runner.specs.Endpoints.{AreOut}
-use Rattle.dob_run.specs.CrewClose.{seat_in, IsCrew, AreClosed}
-use Rattle.dob_run.specs.CrewRunners.{endpoint_of, node_of}
-use Rattle.dob_runner.specs.LawfulRunners.{IsLawfulRunner}
-use Rattle.dob_run.specs.Built.{needed, IsLinkDone, IsBuilt}
-use Rattle.dob_run.specs.Finished.{AreFinished, AreShown}
-use Rattle.dob_run.specs.BuildEnd.{HaveStopped, AllKnow, IsFailure, AreFailureless, share_in, IsOwner, AreOwners, AreShownBelow}
+use Rattle.dob_run.specs.BuildEnd.{IsFailure, AreFailureless, IsOwner, AreOwners}
 use Rattle.dob_run.proofs.CrewFinished.{nothing_of, finished_right}
 use Rattle.dob_run.proofs.CrewRunners.{seat_there, are_linked, rejoined_at, seat_at, crew_many, crew_low, outlet_at}
 use Rattle.dob_run.proofs.Needed.{needed_fits}
-use Rattle.dob_run.proofs.Openings.{some_openings}
+use Rattle.dob_node.proofs.Found.{some_openings}
 use Rattle.dob_run.proofs.Places.{get_map, map_got}
 use Rattle.dob_run.proofs.Shown.{owner_is}
 

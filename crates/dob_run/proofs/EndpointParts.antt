@@ -1,23 +1,11 @@
 -- Endpoints taken apart one by one, and what their ends are then.
-use Rattle.std.proofs.Common.{◌≡◌, ℕ, ◌+◌, ◌*◌, ◌<◌, inl, inr, List, [], ◌∷◌, ◌++◌, length, map, Some, refl}
-use Rattle.std.proofs.Common.{sym, ap, ◌∙◌, subst, arith, length-append, append_assoc}
-use Rattle.std.specs.Prelude.{slice_get}
-use Rattle.std.proofs.lemmas.List.{length-map, append-nil}
-use Rattle.std.specs.declared.vec.Vec.{Vec}
-use Rattle.std.proofs.lemmas.Option.{slice_get_within, same_Some}
-use Rattle.dob_board.specs.declared.board.Board.{Board}
-use Rattle.dob_pieces.proofs.Elements.{at_end, some_at, get_front, middle}
-use Rattle.dob_chan.specs.declared.ends.SendEnd.{SendEnd}
-use Rattle.dob_chan.specs.declared.ends.TakeEnd.{TakeEnd}
-use Rattle.dob_chan.specs.declared.ends.Rejoined.{Rejoined}
-use Rattle.dob_chan.specs.Ends.{taken_by, IsEndOf, IsRejoined, senders_of}
-use Rattle.dob_runner.specs.declared.slots.Outlet.{Outlet}
-use Rattle.dob_runner.specs.declared.slots.Inlet.{Inlet}
-use Rattle.dob_runner.specs.declared.endpoint.Endpoint.{Endpoint}
+use Rattle.dob_run.proofs.Common.{◌*◌, ◌++◌, ◌+◌, ◌<◌, ◌∙◌, ◌∷◌, ◌≡◌, List, Some, [], ap, append_assoc, arith, inl, inr, length, length-append, map, refl}
+use Rattle.dob_run.proofs.Common.{subst, sym, ℕ, append-nil, length-map, same_Some, slice_get_within, slice_get, Vec, at_end, get_front, middle, some_at, Board}
+use Rattle.dob_run.proofs.Common.{IsRejoined, taken_by, Rejoined, SendEnd, TakeEnd, Endpoint, Inlet, Outlet, AreLinked, ArePartsOf, IsCrew, row_of, seat_in}
+use Rattle.dob_run.proofs.Common.{slots_in, slots_out, AreEnds, AreJoined, outlet_end, AreDealt, StandsAt}
+use Rattle.dob_chan.specs.Ends.{IsEndOf, senders_of}
 use Rattle.dob_run.specs.declared.crew_close.Parts.{Parts}
-use Rattle.dob_run.specs.Rows.{StandsAt, AreDealt}
-use Rattle.dob_run.specs.InboxClose.{outlet_end, AreEnds, AreJoined}
-use Rattle.dob_run.specs.CrewClose.{AreLinked, seat_in, IsCrew, row_of, ends_out, end_in, slots_out, slots_in, HasRowMore, HasAdded, ArePartsOf}
+use Rattle.dob_run.specs.CrewClose.{ends_out, end_in, HasRowMore, HasAdded}
 use Rattle.dob_run.proofs.Places.{get_map, map_got}
 
 map_end : {A B : Type 0} → (f : A → B) (xs : List A) (x : A) → map f (xs ++ x ∷ []) ≡ map f xs ++ f x ∷ []

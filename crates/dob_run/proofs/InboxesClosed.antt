@@ -1,18 +1,8 @@
 -- Things dealt, rows joined and inboxes ended one by one.
-use Rattle.std.proofs.Common.{◌≡◌, ℕ, ◌+◌, ◌*◌, ◌<◌, ◌≤◌, inl, inr, List, [], ◌∷◌, ◌++◌, length, set, drop, Some, sym}
-use Rattle.std.proofs.Common.{ap, ◌∙◌, subst, arith, rules, length-append, length-set, append_assoc}
-use Rattle.std.specs.Prelude.{slice_get}
-use Rattle.std.proofs.lemmas.List.{append-nil}
-use Rattle.std.specs.declared.vec.Vec.{Vec}
-use Rattle.std.proofs.lemmas.Option.{slice_get_within, same_Some}
-use Rattle.std.proofs.lemmas.Bool.{cases_eq}
-use Rattle.dob_chan.specs.declared.ends.SendEnd.{SendEnd}
-use Rattle.dob_chan.specs.declared.ends.TakeEnd.{TakeEnd}
-use Rattle.dob_chan.specs.declared.ends.Rejoined.{Rejoined}
-use Rattle.dob_chan.specs.Ends.{taken_by, AreEndsOf, IsRejoined, AreRejoined}
-use Rattle.dob_pieces.proofs.Elements.{at_end, some_at, get_front, get_set_other}
-use Rattle.dob_run.specs.Rows.{StandsAt, AreRows, AreDealt, AreInOrder}
-use Rattle.dob_run.specs.InboxClose.{AreEnds, AreJoined}
+use Rattle.dob_run.proofs.Common.{◌*◌, ◌++◌, ◌+◌, ◌<◌, ◌∙◌, ◌∷◌, ◌≡◌, ◌≤◌, List, Some, [], ap, append_assoc, arith, drop, inl, inr, length, length-append}
+use Rattle.dob_run.proofs.Common.{length-set, rules, set, subst, sym, ℕ, cases_eq, append-nil, same_Some, slice_get_within, slice_get, Vec, at_end, get_front}
+use Rattle.dob_run.proofs.Common.{get_set_other, some_at, AreEndsOf, AreRejoined, IsRejoined, taken_by, Rejoined, SendEnd, TakeEnd, AreEnds, AreJoined}
+use Rattle.dob_run.proofs.Common.{AreDealt, AreInOrder, AreRows, StandsAt}
 use Rattle.dob_runner.proofs.Counted.{there_set}
 use Rattle.dob_run.proofs.Places.{next_is, then_left, gone_all, behind, none_stands}
 

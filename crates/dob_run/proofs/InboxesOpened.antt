@@ -1,16 +1,7 @@
 -- Inboxes laid one by one.
-use Rattle.std.proofs.Common.{◌≡◌, ℕ, ◌+◌, ◌<◌, ◌≤◌, inl, inr, List, [], ◌∷◌, ◌++◌, length, drop, Some, None}
-use Rattle.std.proofs.Common.{sym, ap, ◌∙◌, subst, arith, length-append}
-use Rattle.std.specs.Prelude.{slice_get}
-use Rattle.std.specs.declared.vec.Vec.{Vec}
-use Rattle.std.proofs.lemmas.Option.{slice_get_within}
-use Rattle.dob_chan.specs.declared.ends.SendEnd.{SendEnd}
-use Rattle.dob_chan.specs.declared.ends.TakeEnd.{TakeEnd}
-use Rattle.dob_chan.specs.Ends.{taken_by, senders_of, IsEndOf, AreEndsOf, AreOpened}
-use Rattle.dob_pieces.proofs.Elements.{at_end}
-use Rattle.dob_runner.specs.declared.slots.Outlet.{Outlet}
-use Rattle.dob_runner.specs.declared.slots.Inlet.{Inlet}
-use Rattle.dob_run.specs.Rows.{StandsAt, AreRows, AreDealt}
+use Rattle.dob_run.proofs.Common.{◌++◌, ◌+◌, ◌<◌, ◌∙◌, ◌∷◌, ◌≡◌, ◌≤◌, List, None, Some, [], ap, arith, drop, inl, inr, length, length-append, subst, sym, ℕ}
+use Rattle.dob_run.proofs.Common.{slice_get_within, slice_get, Vec, at_end, AreEndsOf, taken_by, SendEnd, TakeEnd, Inlet, Outlet, AreDealt, AreRows, StandsAt}
+use Rattle.dob_chan.specs.Ends.{senders_of, IsEndOf, AreOpened}
 use Rattle.dob_run.specs.InboxOpen.{AreOutlets, IsLaid, IsUntaken, IsOneLaid, AreLaidUpto}
 use Rattle.dob_run.proofs.Places.{each_more, none_at, next_is, then_left, gone_all}
 use Rattle.dob_run.proofs.InboxesClosed.{rows_longer}

@@ -1,15 +1,7 @@
 -- A failure of a run that each of its runners knows of, and that there is none.
-use Rattle.std.proofs.Common.{◌≡◌, ℕ, inl, inr, List, Option, Some, None, sym, ap, ◌∙◌, subst, arith}
-use Rattle.std.specs.Prelude.{MatchOption, slice_get}
-use Rattle.dob_board.specs.declared.halt.Halt.{Halt}
-use Rattle.dob_board.specs.declared.halt.Halt.TheVariants.{Running, Ended, Failed}
-use Rattle.dob_board.specs.Words.{halt_word}
-use Rattle.dob_stops.specs.declared.cause.Cause.{Cause}
-use Rattle.dob_stops.specs.declared.fault.Fault.{Fault}
-use Rattle.dob_stops.specs.declared.fault.Fault.TheVariants.{Nodes, Sizes, Stopped, Memory}
-use Rattle.dob_runner.specs.declared.runner.Runner.{Runner}
-use Rattle.dob_run.specs.BoundedRun.{AreUnfailed, IsFirstFailed}
-use Rattle.dob_run.specs.BuildEnd.{AllKnow, IsFailure, IsFailureOf, AreFailureless}
+use Rattle.dob_run.proofs.Common.{◌∙◌, ◌≡◌, List, None, Option, Some, ap, arith, inl, inr, subst, sym, ℕ, MatchOption, slice_get, Cause, Fault, Memory, Nodes}
+use Rattle.dob_run.proofs.Common.{Sizes, Stopped, halt_word, Halt, Ended, Failed, Running, Runner, AreUnfailed, IsFirstFailed, AllKnow, IsFailureOf}
+use Rattle.dob_run.specs.BuildEnd.{IsFailure, AreFailureless}
 
 -- what is answered where none is known
 abbrev pub IsNone : List Runner → Type 0

@@ -1,8 +1,8 @@
 -- The lemmas, in the order in which they are read. First lists and counts.
+mod Common  -- names of other crates and of this one's definitions, for the proofs
 pub mod Places  -- what stands where in a list, and in one that was changed
--- The openings of the classes.
+-- What threads find of the classes.
 pub mod Scanned  -- what was found of each class, in the order of the classes
-pub mod Openings  -- each family has openings, whether they were listed or not
 -- What a node knows, and what it has for the others.
 pub mod Needed  -- enough batches were cut for what the classes have to tell
 -- The steps of a runner.

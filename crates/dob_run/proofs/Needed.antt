@@ -1,33 +1,13 @@
 -- A runner that has nothing left to do cut enough batches for what its classes have to tell another node.
-use Rattle.std.proofs.Common.{◌≡◌, ◌≢◌, ℕ, zero, suc, ◌+◌, ◌*◌, ◌<◌, ◌≤◌, inl, inr, eqb, Bool, true, false, cond, refl, sym, ap}
-use Rattle.std.proofs.Common.{◌∙◌, subst, arith, List, [], ◌∷◌, ◌++◌, length, length-append, get_or, Some}
-use Rattle.std.specs.Prelude.{slice_get}
-use Rattle.std.specs.List.{All, sum_by, count_by, filter, range_with_len}
-use Rattle.std.proofs.lemmas.Bool.{cases_Bool, cases_eq, eq-eqb, ne_eqb, eqb-true}
-use Rattle.std.proofs.lemmas.List.{append-nil, length-map, take_all}
+use Rattle.dob_run.proofs.Common.{◌*◌, ◌++◌, ◌+◌, ◌<◌, ◌∙◌, ◌∷◌, ◌≡◌, ◌≢◌, ◌≤◌, Bool, List, Some, [], ap, arith, cond, eqb, false, get_or, inl, inr, length}
+use Rattle.dob_run.proofs.Common.{length-append, refl, subst, suc, sym, true, zero, ℕ, cases_Bool, cases_eq, eq-eqb, eqb-true, ne_eqb, append-nil, length-map}
+use Rattle.dob_run.proofs.Common.{take_all, slice_get-get_or, All, count_by, filter, range_with_len, sum_by, slice_get, Family, classes_of, Value, Draw}
+use Rattle.dob_run.proofs.Common.{owner_of, HasValueNow, Item, Settlement, BatchView, items_of_batches, item_for, items_from, items_of, last_now, value_of}
+use Rattle.dob_run.proofs.Common.{IsIdle, Node, IsLawfulRunner, SendsRight, offered, Endpoint, Outlet, edges_to, needed}
 use Rattle.std.proofs.lemmas.List.Concat.{length-flat_map}
 use Rattle.std.proofs.lemmas.List.Sums.{sum_by-cons, sum_by-le, length-filter}
-use Rattle.std.proofs.lemmas.Option.{slice_get-get_or}
-use Rattle.dob_pieces.specs.declared.profile.Family.{Family}
-use Rattle.dob_rank.specs.Families.{classes_of}
-use Rattle.dob_value.specs.declared.value.Value.{Value}
-use Rattle.dob_value.specs.declared.value.Value.TheVariants.{Draw}
 use Rattle.dob_value.specs.Entries.{is_draw}
 use Rattle.dob_unmove.specs.Edges.{predecessors}
-use Rattle.dob_share.specs.declared.news.Settlement.{Settlement}
-use Rattle.dob_share.specs.declared.news.Item.{Item}
-use Rattle.dob_share.specs.Owners.{owner_of}
-use Rattle.dob_share.specs.Shares.{HasValueNow}
-use Rattle.dob_update.specs.Items.{item_for, items_of, items_from}
-use Rattle.dob_update.specs.Batches.{BatchView, items_of_batches}
-use Rattle.dob_node.specs.declared.node.Node.{Node}
-use Rattle.dob_node.specs.Histories.{last_now, value_of}
-use Rattle.dob_node.specs.Nodes.{IsIdle}
-use Rattle.dob_runner.specs.declared.slots.Outlet.{Outlet}
-use Rattle.dob_runner.specs.declared.endpoint.Endpoint.{Endpoint}
-use Rattle.dob_runner.specs.Links.{offered}
-use Rattle.dob_runner.specs.LawfulRunners.{SendsRight, IsLawfulRunner}
-use Rattle.dob_run.specs.Built.{edges_to, needed}
 
 -- ---- sums over numbers that follow one another
 

@@ -1,15 +1,7 @@
 -- What stands where in a list, also after one thing more, after one was exchanged, and in a function of all its things.
-use Rattle.std.proofs.Common.{◌≡◌, ◌≢◌, ℕ, zero, suc, ◌+◌, ◌<◌, ◌≤◌, Option, inl, inr, List, [], ◌∷◌, ◌++◌, length, map, drop, take}
-use Rattle.std.proofs.Common.{Some, refl, sym, ap, ◌∙◌, subst, arith, append_assoc, length-append}
-use Rattle.std.proofs.lemmas.List.{append-nil}
-use Rattle.std.specs.Prelude.{slice_get}
-use Rattle.std.specs.List.{range_with_len}
-use Rattle.dob_update.specs.Batches.{BatchView}
-use Rattle.dob_runner.specs.Slots.{held_from, slot_row}
-use Rattle.std.specs.declared.vec.Vec.{Vec}
-use Rattle.std.proofs.lemmas.Option.{slice_get_within, same_Some}
-use Rattle.dob_pieces.proofs.Elements.{at_end}
-use Rattle.dob_run.specs.Rows.{StandsAt, AreRows}
+use Rattle.dob_run.proofs.Common.{◌++◌, ◌+◌, ◌<◌, ◌∙◌, ◌∷◌, ◌≡◌, ◌≢◌, ◌≤◌, List, Option, Some, [], ap, append_assoc, arith, drop, inl, inr, length}
+use Rattle.dob_run.proofs.Common.{length-append, map, refl, subst, suc, sym, take, zero, ℕ, append-nil, same_Some, slice_get_within, range_with_len, slice_get}
+use Rattle.dob_run.proofs.Common.{Vec, at_end, BatchView, held_from, slot_row, AreRows, StandsAt}
 
 pub none_at : {A L : Type 0} → (l : List A) (k : ℕ) (a : A) → l ≡ [] → slice_get l k ≡ Some a → L
 none_at {A} l k a none e = absurd (let nothing : slice_get [] k ≡ Some a = ap (λ (xs : List A). slice_get xs k) (sym none) ∙ e in cc)

@@ -1,14 +1,6 @@
 -- Faults, from the ones that limits give to the ones that a crew gives.
-use Rattle.std.proofs.Common.{ℕ, List}
-use Rattle.dob_pieces.specs.declared.profile.Family.{Family}
-use Rattle.dob_board.specs.declared.board.Board.{Board}
-use Rattle.dob_stops.specs.declared.fault.Fault.{Fault}
-use Rattle.dob_stops.specs.declared.fault.Fault.TheVariants.{Nodes, Sizes, Stopped, Memory}
-use Rattle.dob_runner.specs.declared.runner.Runner.{Runner}
-use Rattle.dob_runner.specs.declared.turn_loop.Until.{Until}
-use Rattle.dob_run.specs.CrewTurns.{HasRun}
-use Rattle.dob_run.specs.Faults.{HasSizeFault, HasCrewFault, HasBuildFault}
-use Rattle.dob_run.specs.BoundedRun.{StopsSo, IsUnheld}
+use Rattle.dob_run.proofs.Common.{List, ℕ, Family, Fault, Memory, Nodes, Sizes, Stopped, Board, Runner, Until, IsUnheld, StopsSo, HasRun, HasBuildFault}
+use Rattle.dob_run.proofs.Common.{HasCrewFault, HasSizeFault}
 
 -- sizes outside their limits
 pub outside_none : (n batch capacity : ℕ) (fault : Fault) → HasSizeFault n batch capacity fault → HasCrewFault n batch capacity fault

@@ -1,31 +1,12 @@
 -- Seats that get their rows of outlets and their inlets one by one, and what their endpoints are then.
-use Rattle.std.proofs.Common.{◌≡◌, ℕ, zero, suc, ◌+◌, ◌-◌, ◌<◌, ◌≤◌, List, [], ◌∷◌, ◌++◌, length, map, drop, take}
-use Rattle.std.proofs.Common.{replicate, Some, refl, sym, ap, ◌∙◌, subst, arith, length-append}
-use Rattle.std.specs.Prelude.{slice_get, slice_index}
-use Rattle.std.proofs.lemmas.List.{length-map}
-use Rattle.std.specs.declared.vec.Vec.{Vec}
-use Rattle.std.proofs.lemmas.Option.{slice_get_within, same_Some}
-use Rattle.dob_pieces.proofs.Elements.{some_at}
-use Rattle.dob_update.specs.Batches.{BatchView}
-use Rattle.dob_board.specs.declared.board.Board.{Board}
-use Rattle.dob_board.specs.declared.seat.NodeSeat.{NodeSeat}
+use Rattle.dob_run.proofs.Common.{◌++◌, ◌+◌, ◌-◌, ◌<◌, ◌∙◌, ◌∷◌, ◌≡◌, ◌≤◌, List, Some, [], ap, arith, drop, length, length-append, map, refl, subst, suc, sym}
+use Rattle.dob_run.proofs.Common.{take, zero, ℕ, length-map, same_Some, slice_get_within, slice_get, slice_index, Vec, some_at, BatchView, same_halt, fresh}
+use Rattle.dob_run.proofs.Common.{AreSeats, IsSeatOf, stand_of, Board, Running, NodeSeat, batches_of, offered, worked, in_slot, Endpoint, Inlet, Outlet}
+use Rattle.dob_run.proofs.Common.{AreLinked, seat_in, AreNewEndpoints, StandsAt, AreSeated, CanSeat, CanSeatAll, IsSeated}
+use Rattle.std.proofs.Common.{replicate}
 use Rattle.dob_board.specs.declared.view.Stand.{Stand}
-use Rattle.dob_board.specs.Rule.{fresh}
-use Rattle.dob_board.specs.declared.halt.Halt.TheVariants.{Running}
-use Rattle.dob_board.specs.Seats.{AreSeats, IsSeatOf, stand_of}
-use Rattle.dob_board.proofs.Halting.{same_halt}
-use Rattle.dob_chan.specs.Inboxes.{batches_of}
 use Rattle.dob_chan.specs.Ends.{IsEndOf}
-use Rattle.dob_runner.specs.declared.slots.Outlet.{Outlet}
-use Rattle.dob_runner.specs.declared.slots.Inlet.{Inlet}
-use Rattle.dob_runner.specs.declared.endpoint.Endpoint.{Endpoint}
-use Rattle.dob_runner.specs.Slots.{in_slot}
-use Rattle.dob_runner.specs.Links.{offered, worked}
-use Rattle.dob_run.specs.Rows.{StandsAt}
 use Rattle.dob_run.specs.InboxOpen.{IsLaid, IsUntaken, AreLaid}
-use Rattle.dob_run.specs.CrewClose.{AreLinked, seat_in}
-use Rattle.dob_run.specs.CrewOpen.{AreNewEndpoints}
-use Rattle.dob_run.specs.Seating.{CanSeat, CanSeatAll, IsSeated, AreSeated}
 use Rattle.dob_run.proofs.Places.{each_more, none_at, get_map, map_got, next_is, then_left, gone_all}
 
 -- So many seats have their endpoints, and these seats, rows and inlets are left.

@@ -1,26 +1,10 @@
 -- The values that the nodes of a crew show.
-use Rattle.std.proofs.Common.{◌≡◌, ℕ, ◌+◌, ◌<◌, arith, List, length, refl, eqb, sym, ap, ◌∙◌, subst}
-use Rattle.std.proofs.lemmas.List.{length-map}
-use Rattle.std.proofs.lemmas.Option.{slice_get-get_or}
-use Rattle.std.specs.List.{All}
-use Rattle.std.specs.Prelude.{slice_index_or}
-use Rattle.dob_pieces.proofs.Elements.{some_at}
-use Rattle.dob_pieces.specs.declared.profile.Family.{Family}
-use Rattle.dob_rank.specs.Families.{classes_of}
-use Rattle.dob_value.specs.declared.value.Value.{Value}
-use Rattle.dob_value.specs.declared.value.Value.TheVariants.{Draw}
+use Rattle.dob_run.proofs.Common.{◌+◌, ◌<◌, ◌∙◌, ◌≡◌, List, ap, arith, eqb, length, refl, subst, sym, ℕ, length-map, slice_get-get_or, All, slice_index_or}
+use Rattle.dob_run.proofs.Common.{some_at, Family, classes_of, IsEntry, Value, Draw, owner_of, Settlement, Share, below_owner, Node, IsLawfulRunner, Endpoint}
+use Rattle.dob_run.proofs.Common.{AreShownBelow, IsCodeShown, IsShownByOwner, AreFrom}
 use Rattle.dob_value.specs.Codes.{value_of_code, values_of_codes}
-use Rattle.dob_value.specs.Follows.{IsEntry}
-use Rattle.dob_share.specs.declared.news.Settlement.{Settlement}
-use Rattle.dob_share.specs.Owners.{owner_of}
-use Rattle.dob_node.specs.declared.node.Node.{Node}
-use Rattle.dob_share.specs.declared.share.Share.{Share}
 use Rattle.dob_node.proofs.Kept.{last_now-entry}
-use Rattle.dob_node.proofs.Rest.{below_owner}
-use Rattle.dob_runner.specs.declared.endpoint.Endpoint.{Endpoint}
-use Rattle.dob_runner.specs.LawfulRunners.{IsLawfulRunner}
-use Rattle.dob_run.specs.BuildEnd.{IsOwner, AreOwners, IsShownByOwner, IsCodeShown, AreShownBelow}
-use Rattle.dob_run.specs.Scans.{AreFrom}
+use Rattle.dob_run.specs.BuildEnd.{IsOwner, AreOwners}
 use Rattle.dob_run.proofs.Places.{map_got}
 
 -- a lawful runner's node owns its classes

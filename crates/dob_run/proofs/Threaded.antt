@@ -1,34 +1,17 @@
 -- Things that go one by one, each with its answer, and runners whose threads are started and ended so.
-use Rattle.std.proofs.Common.{◌≡◌, ℕ, Bool, List, [], ◌∷◌, ◌++◌, length, map, Some, sym, ap, ◌∙◌, subst, append_assoc, arith}
-use Rattle.std.specs.Prelude.{slice_get, IfOk, Result, MatchResult, Ok, Err}
-use Rattle.std.proofs.lemmas.List.{append-nil}
-use Rattle.std.proofs.lemmas.Option.{same_Some}
-use Rattle.std.specs.List.{AllZip, Contains}
-use Rattle.std.specs.declared.vec.Vec.{Vec}
-use Rattle.dob_pieces.proofs.Elements.{middle}
-use Rattle.dob_runner.specs.declared.runner.Runner.{Runner}
-use Rattle.dob_run.specs.declared.threads.Kept.{Kept}
+use Rattle.dob_run.proofs.Common.{◌++◌, ◌∙◌, ◌∷◌, ◌≡◌, Bool, List, Some, [], ap, append_assoc, arith, length, subst, sym, ℕ, append-nil, same_Some, AllZip}
+use Rattle.dob_run.proofs.Common.{IfOk, slice_get, Vec, ConsumerLooked, IsPair, ProducerLooked, SameConsumer, SameProducer, known_items, received, sent, middle}
+use Rattle.dob_run.proofs.Common.{zip_at, zip_one, HasFailed, KeepsRunner, says_no, Ends, EndsBy, Runner, Until, IsEndOf, IsStartOf, Handed, Kept}
+use Rattle.std.specs.Prelude.{Result, Ok, Err}
 use Rattle.dob_run.specs.declared.threads.Started.{Started}
 use Rattle.dob_run.specs.declared.threads.Started.TheVariants.{Runs, GaveUp}
 use Rattle.dob_stops.specs.declared.cause.Cause.TheVariants.{Memory}
-use Rattle.dob_runner.specs.Runners.{KeepsRunner, HasFailed, says_no}
-use Rattle.dob_runner.specs.declared.turn_loop.Until.{Until}
-use Rattle.dob_runner.specs.TurnLoop.{Ends, EndsBy}
 use Rattle.dob_runner.proofs.Ending.{ended_without_memory}
-use Rattle.dob_run.specs.declared.handed.Handed.{Handed}
 use Rattle.std.specs.Global.{Global}
 use Rattle.rtrb.specs.declared.AnyItems.{AnyItems}
 use Rattle.rtrb.specs.declared.producer.Producer.{Producer}
 use Rattle.rtrb.specs.declared.consumer.Consumer.{Consumer}
-use Rattle.rtrb.specs.Ring.{sent, received, known_items, IsPair, SameProducer, SameConsumer, ProducerLooked, ConsumerLooked}
-use Rattle.dob_run.specs.Started.{IsHandedOn, IsStartOf, IsEndOf, IsJoinable, AreJoinable}
-use Rattle.dob_run.proofs.CrewRunners.{zip_at}
-
-zip_one : {X Y : Type 0} → (R : X → Y → Type 0) (xs : List X) (ys : List Y) (x : X) (y : Y) → AllZip R xs ys → R x y → AllZip R (xs ++ x ∷ []) (ys ++ y ∷ [])
-zip_one R [] [] x y are is = (is, tt)
-zip_one R [] (b ∷ ys) x y are is = absurd are
-zip_one R (a ∷ xs) [] x y are is = absurd are
-zip_one R (a ∷ xs) (b ∷ ys) x y are is = (are.0, zip_one R xs ys x y are.1 is)
+use Rattle.dob_run.specs.Started.{IsHandedOn, IsJoinable, AreJoinable}
 
 -- Of all things some went, each with its answer, and these are left.
 pub record AreGoing {X Y : Type 0} (R : X → Y → Type 0) (all left : List X) (answers : List Y) : Type 0 where
@@ -57,22 +40,6 @@ module _ {X Y : Type 0} (R : X → Y → Type 0) where
       (k : ℕ) × (slice_get all k ≡ Some x)
   next_one all left after answers x on is =
       (length on.gone, ap (λ (l : List X). slice_get l (length on.gone)) (on.split ∙ ap (λ (l : List X). on.gone ++ l) is) ∙ middle on.gone after x)
-
--- answers that are all Ok, in order
-all_ok : {X Y : Type 0} → (E : Type 0) (R : X → Y → Type 0) (xs : List X) (ys : List Y) → AllZip (λ (x : X) (r : Result Y E). IfOk r (R x)) xs (map Ok ys) → AllZip R xs ys
-all_ok E R [] [] are = tt
-all_ok E R [] (y ∷ ys) are = absurd are
-all_ok E R (x ∷ xs) [] are = absurd are
-all_ok E R (x ∷ xs) (y ∷ ys) are = (are.0, all_ok E R xs ys are.1)
-
--- things that were made side by side, all of them or none
-pub made_all : {X Y E Z : Type 0} → (R : X → Y → Type 0) (xs : List X) (given : List (Result Y E)) (result : Result (Vec Y Z) E) →
-    AllZip (λ (x : X) (r : Result Y E). IfOk r (R x)) xs given →
-    MatchResult result (λ made. (ys : List Y) × (given ≡ map Ok ys) × (made.items ≡ ys)) (λ why. Contains given (Err why)) →
-    IfOk result (λ made. AllZip R xs made.items)
-made_all {X} {Y} {E} R xs given (Ok made) are is = subst (AllZip R xs) (sym is.2)
-    (all_ok E R xs is.0 (subst (λ (l : List (Result Y E)). AllZip (λ (x : X) (r : Result Y E). IfOk r (R x)) xs l) is.1 are))
-made_all R xs given (Err why) are is = tt
 
 -- ---- what goes over a ring for one
 

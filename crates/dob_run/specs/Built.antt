@@ -11,7 +11,7 @@ use Rattle.dob_unmove.specs.Edges.{predecessors}
 use Rattle.dob_share.specs.Owners.{owner_of}
 use Rattle.dob_board.specs.Words.{posted_word, taken_word, word_count}
 use Rattle.dob_chan.specs.declared.ends.Rejoined.{Rejoined}
-use Rattle.dob_run.specs.declared.build_end.Built.{Built}
+use Rattle.dob_run.specs.declared.built_table.Built.{Built}
 
 -- how many items give node j the value of a class: one for each move into it from a class of node j
 abbrev pub edges_to : Family → ℕ → ℕ → ℕ → ℕ

@@ -4,6 +4,7 @@ pub mod InboxClose
 pub mod Faults
 pub mod Finished
 pub mod BuildEnd
+pub mod Gathering
 pub mod InboxOpen
 pub mod CrewRunners
 pub mod CrewSizes

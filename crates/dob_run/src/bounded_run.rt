@@ -9,7 +9,7 @@ ghost use Rattle.dob_run.specs.BoundedRun.{IsTurned, CarriesFew, AreUnfailed, Is
 
 use crate::crew_close::{ClosedCrew, close_endpoints};
 use crate::limits::CrewSizes;
-use crate::threads::run_crew;
+use crate::threads::{EndedCrew, run_crew};
 use dob_board::{Board, Closed};
 use dob_chan::Rejoined;
 use dob_node::{Cause, Node};
@@ -63,9 +63,16 @@ pub fn run_turns<R: Threads + Wait + Sync, G: Gate + Sync>(
     ensures stopped { IfErr result (StopsSo IsFirstFailed (says_no (G.says gate.now)) (until_turns turns) family nodes batch_size capacity) }
 {
     let sizes = CrewSizes::new(nodes, batch_size, capacity)?;
-    let (_, board, ended) = run_crew(rt, alloc, family, &sizes, gate, &Until::Turns(turns))?;
-    find_failed(&ended)?;
-    let turned = close_crew(rt, alloc, board, ended)?;
+    let EndedCrew { board, runners, .. } = run_crew(
+        rt,
+        alloc,
+        family,
+        &sizes,
+        gate,
+        &Until::Turns(turns),
+    )?;
+    find_failed(&runners)?;
+    let turned = close_crew(rt, alloc, board, runners)?;
     Ok(turned)
 }
 

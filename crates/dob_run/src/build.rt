@@ -7,9 +7,10 @@ ghost use Rattle.dob_runner.specs.Runners.{says_no};
 ghost use Rattle.dob_runner.specs.TurnLoop.{until_halted};
 ghost use Rattle.dob_run.specs.BoundedRun.{StopsSo, IsUnheld};
 
-use crate::build_end::{Built, finish};
+use crate::build_end::finish;
+use crate::built_table::Built;
 use crate::limits::CrewSizes;
-use crate::threads::run_crew;
+use crate::threads::{EndedCrew, run_crew};
 use dob_pieces::Family;
 use dob_runner::{Gate, Until};
 use dob_stops::Fault;
@@ -43,6 +44,10 @@ pub fn run_nodes<R: Threads + Wait + Sync, G: Gate + Sync>(
     ensures stopped { IfErr result (StopsSo IsFailureOf (says_no (G.says gate.now)) until_halted family nodes batch_size capacity) }
 {
     let sizes = CrewSizes::new(nodes, batch_size, capacity)?;
-    let (classes, board, ended) = run_crew(rt, alloc, family, &sizes, gate, &Until::Halted)?;
-    finish(rt, alloc, classes, board, ended)
+    let EndedCrew {
+        classes,
+        board,
+        runners,
+    } = run_crew(rt, alloc, family, &sizes, gate, &Until::Halted)?;
+    finish(rt, alloc, classes, board, runners)
 }

@@ -1,45 +1,27 @@
 // What a build by threads leaves, when its crew has come to its end.
-ghost use Rattle.std.specs.Prelude.{◌≡◌, ◌↔◌, ◌<◌, ◌≤◌, ℕ, IsTrue, Some, IfOk, IfErr, OnOk, MatchOption, map, length, slice_get};
-ghost use Rattle.dob_pieces.specs.declared.profile.Family.{Family};
-ghost use Rattle.dob_rank.specs.Families.{classes_of};
-ghost use Rattle.dob_share.specs.Owners.{owner_of};
-ghost use Rattle.dob_share.specs.Shares.{IsOwn};
+ghost use Rattle.std.specs.Prelude.{◌≡◌, ◌↔◌, ℕ, IsTrue, IfOk, IfErr, OnOk, MatchOption, map};
 ghost use Rattle.dob_stops.specs.declared.cause.Cause.{Cause};
-ghost use Rattle.dob_share.specs.declared.share.Share.{Share as Shower};
 ghost use Rattle.dob_runner.specs.declared.runner.Runner.{Runner};
 ghost use Rattle.dob_run.specs.CrewRunners.{endpoint_of, node_of};
 ghost use Rattle.dob_run.specs.CrewClose.{IsCrew, AreClosed};
 ghost use Rattle.dob_run.specs.Built.{IsBuilt};
 ghost use Rattle.dob_run.specs.BoundedRun.{AreUnfailed};
-ghost use Rattle.dob_run.specs.BuildEnd.{HaveStopped, AllKnow, IsFailure, IsFailureOf, AreFailureless, AreOwners, IsShownByOwner, IsCodeShown, AreShownBelow, share_in};
-ghost use Rattle.dob_run.specs.Scans.{AreFrom};
+ghost use Rattle.dob_run.specs.BuildEnd.{HaveStopped, AllKnow, IsFailure, IsFailureOf, AreFailureless, share_in};
 
 use crate::bounded_run::{failure_at, find_failed, part_runners};
+use crate::built_table::Built;
 use crate::crew_close::{ClosedCrew, close_endpoints};
-use crate::scans::AT_A_TIME;
-use dob_board::{Board, Closed, Halt};
-use dob_chan::Rejoined;
+use crate::gathering::{Gathered, gather};
+use dob_board::{Board, Halt};
 use dob_classes::Classes;
-use dob_lists::{SegmentLength, Segments};
 use dob_node::Node;
-use dob_pieces::{Family, Memory};
+use dob_pieces::Memory;
 use dob_runner::Runner;
-use dob_share::{Share, owner};
+use dob_share::Share;
 use dob_stops::Fault;
-use dob_value::{Table, Value, code_of_value};
-use rayon::prelude::*;
 use std::alloc::Global;
 use std::sync::Wait;
 use std::thread::Threads;
-
-/// What a build by threads leaves: the table of the values, the words of its board, and what went over each link, by sender
-/// and then by receiver.
-#[derive(Drop)]
-pub struct Built {
-    pub table: Table,
-    pub closed: Closed,
-    pub links: Vec<Rejoined>,
-}
 
 /// Closes a whole crew whose runners have all stopped: if the end was announced, the table of the values that its
 /// nodes show, which is the value table, with the words of the board and what went over the links. Its promises hold if it
@@ -68,10 +50,11 @@ pub fn finish<R: Threads + Wait + Sync>(
     }
     let (nodes, ended) = close_all(rt, alloc, board, runners)?;
     let shares = shares_of(alloc, nodes)?;
-    let table = table_of(rt, alloc, classes, &shares)?;
+    let Gathered { table, digest, .. } = gather(rt, alloc, classes, &shares)?;
     let ClosedCrew { closed, links, .. } = ended;
     Ok(Built {
         table,
+        digest,
         closed,
         links,
     })
@@ -152,73 +135,4 @@ fn shares_of(alloc: Global, nodes: Vec<Node>) -> Result<Vec<Share>, Memory>
         shares.push(node.into_share())?;
     }
     Ok(shares)
-}
-
-// The table of the values that the nodes' shares show, which threads gather part after part.
-fn table_of(
-    rt: &(impl Threads + Sync),
-    alloc: Global,
-    classes: Classes,
-    shares: &[Share],
-) -> Result<Table, Memory>
-    requires some { 0 < length shares.now }
-    requires owners { AreOwners classes.family (length shares.now) shares.now }
-    ensures family { IfOk result (λ table. table.family ≡ classes.family) }
-    ensures values { IfOk result (λ table. AreShownBelow (length shares.now) (classes_of classes.family) shares.now table.values) }
-{
-    let count = classes.class_count();
-    let mut codes = Segments::new(alloc, SegmentLength::longest());
-    let mut class = 0;
-    'parts: while class < count {
-        let end = count.min(class + AT_A_TIME);
-        let part = codes_of(rt, alloc, shares, class, end)?;
-        codes.append(&part)?;
-        class = end;
-    }
-    Ok(Table::new(classes, codes))
-}
-
-// The codes of the values that the shares show for the classes from `first` on, before `end`.
-fn codes_of(
-    rt: &(impl Threads + Sync),
-    alloc: Global,
-    shares: &[Share],
-    first: u64,
-    end: u64,
-) -> Result<Vec<u16>, Memory>
-    requires order { first ≤ end }
-    requires some { 0 < length shares.now }
-    requires owned { (family : Family) × (end ≤ classes_of family) × AreOwners family (length shares.now) shares.now }
-    ensures { IfOk result (λ codes. AreFrom (IsCodeShown (length shares.now) shares.now) first end codes.items) }
-{
-    let codes = (first..end)
-        .into_par_iter()
-        .map(
-            |class: u64| -> u16
-                requires some { 0 < length shares.now }
-                requires owned { (family : Family) × (class < classes_of family) × AreOwners family (length shares.now) shares.now }
-                ensures { IsCodeShown (length shares.entry.now) shares.entry.now class result }
-            { code_of(shares, class) },
-        )
-        .collect::<Vec<_>>(rt, alloc)?;
-    Ok(codes)
-}
-
-// The code of the value that the class's owner shows.
-fn code_of(shares: &[Share], class: u64) -> u16
-    requires some { 0 < length shares.now }
-    requires owned { (family : Family) × (class < classes_of family) × AreOwners family (length shares.now) shares.now }
-    ensures { IsCodeShown (length shares.now) shares.now class result }
-{
-    code_of_value(value_of(shares, class))
-}
-
-// The value that the class's owner shows.
-fn value_of(shares: &[Share], class: u64) -> Value
-    requires some { 0 < length shares.now }
-    requires own { (share : Shower) → slice_get shares.now (owner_of (length shares.now) class) ≡ Some share → IsOwn share class }
-    ensures { IsShownByOwner (length shares.now) shares.now class result }
-{
-    let node = owner(class, shares.len());
-    shares[node].value(class)
 }

@@ -5,7 +5,6 @@ ghost use Rattle.dob_board.specs.Rule.{fresh};
 ghost use Rattle.dob_board.specs.Seats.{AreSeats, stand_of};
 ghost use Rattle.dob_run.specs.InboxOpen.{AreLaid};
 ghost use Rattle.dob_run.specs.CrewClose.{IsCrew};
-ghost use Rattle.dob_node.specs.Openings.{AreOpenings};
 ghost use Rattle.dob_run.specs.CrewOpen.{IsNewEndpoint, AreNewEndpoints};
 ghost use Rattle.dob_run.specs.CrewRunners.{IsRunnerOf, IsNewCrew};
 ghost use Rattle.dob_run.specs.Faults.{AreWithin, HasCrewFault};
@@ -15,9 +14,8 @@ use crate::inbox_open::lay;
 use crate::limits::CrewSizes;
 use dob_board::{Board, NodeSeat};
 use dob_classes::Classes;
-use dob_lists::{SegmentLength, Segments};
-use dob_node::{Node, Opening, opening};
-use dob_pieces::{Family, Memory};
+use dob_node::Node;
+use dob_pieces::Memory;
 use dob_runner::{Endpoint, Inlet, Outlet, Pace, Runner};
 use dob_safra::NodeCount;
 use dob_stops::Fault;
@@ -47,12 +45,11 @@ pub fn crew(
     ensures fault { IfErr result (HasCrewFault nodes batch_size capacity) }
 {
     let sizes = CrewSizes::new(nodes, batch_size, capacity)?;
-    let openings = opening(alloc, classes, SegmentLength::longest())?;
-    let opened = crew_of(rt, alloc, classes.family, openings, &sizes)?;
+    let opened = crew_of(rt, alloc, classes, &sizes)?;
     Ok(opened)
 }
 
-/// A crew as above, by what was found of each class of the family, which is given up.
+/// A crew as above, of these sizes.
 ///
 /// # Errors
 ///
@@ -60,30 +57,26 @@ pub fn crew(
 pub(crate) fn crew_of(
     rt: &(impl Threads + Sync),
     alloc: Global,
-    family: Family,
-    openings: Segments<Opening>,
+    classes: &Classes,
     sizes: &CrewSizes,
 ) -> Result<(Board, Vec<Runner>), Memory>
-    requires { AreOpenings family openings }
-    ensures { IfOk result (λ opened. IsNewCrew family sizes.now.nodes sizes.now.batch_size sizes.now.capacity opened.0 opened.1.items) }
+    ensures { IfOk result (λ opened. IsNewCrew classes.now.family sizes.now.nodes sizes.now.batch_size sizes.now.capacity opened.0 opened.1.items) }
 {
     let (board, endpoints) = open_endpoints(alloc, sizes.nodes, sizes.capacity)?;
-    let runners = runners_of(rt, alloc, family, &openings, endpoints, sizes.batch_size)?;
+    let runners = runners_of(rt, alloc, classes, endpoints, sizes.batch_size)?;
     Ok((board, runners))
 }
 
-// The runner of each endpoint. As many nodes are opened side by side as there are processors.
+// The runner of each endpoint. As many nodes are opened side by side as there are processors, and each finds what is known of its own classes.
 fn runners_of(
     rt: &(impl Threads + Sync),
     alloc: Global,
-    family: Family,
-    openings: &Segments<Opening>,
+    classes: &Classes,
     endpoints: Vec<Endpoint>,
     batch_size: BatchSize,
 ) -> Result<Vec<Runner>, Memory>
-    requires openings { AreOpenings family openings.now }
-    requires new { (capacity : ℕ) × AreNewEndpoints capacity endpoints.items }
-    ensures { IfOk result (λ runners. AllZip (IsRunnerOf family batch_size) endpoints.items runners.items) }
+    requires { (capacity : ℕ) × AreNewEndpoints capacity endpoints.items }
+    ensures { IfOk result (λ runners. AllZip (IsRunnerOf classes.now.family batch_size) endpoints.items runners.items) }
 {
     let pace = Pace::open(alloc, endpoints.len())?;
     let pace = &pace;
@@ -92,10 +85,9 @@ fn runners_of(
         .with_min_len(1)
         .map(
             |endpoint: Endpoint| -> Result<Runner, Memory>
-                requires openings { AreOpenings family openings.now }
-                requires new { (capacity : ℕ) × IsNewEndpoint capacity endpoint }
-                ensures { IfOk result (IsRunnerOf family batch_size endpoint) }
-            { open_runner(alloc, family, openings, endpoint, batch_size, pace) },
+                requires { (capacity : ℕ) × IsNewEndpoint capacity endpoint }
+                ensures { IfOk result (IsRunnerOf classes.entry.now.family batch_size endpoint) }
+            { open_runner(alloc, classes, endpoint, batch_size, pace) },
         )
         .collect::<Result<Vec<Runner>, Memory>>(rt, alloc)?
 }
@@ -103,22 +95,20 @@ fn runners_of(
 // The runner of an endpoint, with a node that is opened for its seat, which keeps the pace of its crew.
 fn open_runner(
     alloc: Global,
-    family: Family,
-    openings: &Segments<Opening>,
+    classes: &Classes,
     endpoint: Endpoint,
     batch_size: BatchSize,
     pace: &Pace,
 ) -> Result<Runner, Memory>
-    requires openings { AreOpenings family openings.now }
-    requires new { (capacity : ℕ) × IsNewEndpoint capacity endpoint }
-    ensures { IfOk result (IsRunnerOf family batch_size endpoint) }
+    requires { (capacity : ℕ) × IsNewEndpoint capacity endpoint }
+    ensures { IfOk result (IsRunnerOf classes.now.family batch_size endpoint) }
 {
     let Some(nodes) = NodeCount::new(endpoint.seat.nodes) else {
         unreachable!()
     };
     let pace = pace.of(endpoint.seat.node)?;
-    let node = Node::open(alloc, openings, family, endpoint.seat.node, nodes)?;
-    let mut runner = Runner::new(node, endpoint, family, batch_size);
+    let node = Node::open_own(alloc, classes, endpoint.seat.node, nodes)?;
+    let mut runner = Runner::new(node, endpoint, classes.family, batch_size);
     runner.keep_pace(pace);
     Ok(runner)
 }

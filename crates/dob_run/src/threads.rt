@@ -11,10 +11,8 @@ ghost use Rattle.dob_run.specs.Started.{HasTaken, GivesUp, IsStartOf, IsEndOf, I
 use crate::crew_open::crew_of;
 use crate::handed::{Handed, next_handed};
 use crate::limits::CrewSizes;
-use crate::scans::scan;
 use dob_board::Board;
 use dob_classes::Classes;
-use dob_lists::SegmentLength;
 use dob_node::Cause;
 use dob_pieces::{Family, Memory};
 use dob_runner::{Gate, Runner, Until};
@@ -54,9 +52,15 @@ pub(crate) enum Started<'s, G: Gate> {
     GaveUp(Runner),
 }
 
-/// Opens a crew of these sizes for the family, and lets its runners make their turns as below. Threads find what is known of
-/// each class; that is given up before the first turn. The classes, the board, and what became of each runner. Its promises
-/// hold if it returns.
+/// What a crew is after its turns: the classes of its family, its board, and what became of each runner.
+#[derive(Drop)]
+pub(crate) struct EndedCrew {
+    pub(crate) classes: Classes,
+    pub(crate) board: Board,
+    pub(crate) runners: Vec<Runner>,
+}
+
+/// Opens a crew of these sizes for the family, and lets its runners make their turns as below. Its promises hold if it returns.
 ///
 /// # Errors
 ///
@@ -68,17 +72,20 @@ pub(crate) fn run_crew<R: Threads + Wait + Sync, G: Gate + Sync>(
     sizes: &CrewSizes,
     gate: &G,
     until: &Until,
-) -> Result<(Classes, Board, Vec<Runner>), Memory>
-    ensures family { IfOk result (λ ran. ran.0.family ≡ family) }
-    ensures ran { IfOk result (λ ran. (nodes batch_size capacity : ℕ) → AreThese nodes batch_size capacity sizes.now →
-        HasRun (says_no (G.says gate.now)) until.now family nodes batch_size capacity ran.1 ran.2.items) }
-    ensures let_on { IfOk result (λ ran. AreLetOn (G.says gate.now) until.now ran.2.items) }
+) -> Result<EndedCrew, Memory>
+    ensures family { IfOk result (λ crew. crew.classes.family ≡ family) }
+    ensures ran { IfOk result (λ crew. (nodes batch_size capacity : ℕ) → AreThese nodes batch_size capacity sizes.now →
+        HasRun (says_no (G.says gate.now)) until.now family nodes batch_size capacity crew.board crew.runners.items) }
+    ensures let_on { IfOk result (λ crew. AreLetOn (G.says gate.now) until.now crew.runners.items) }
 {
     let classes = Classes::open(alloc, family)?;
-    let openings = scan(rt, alloc, &classes, SegmentLength::longest())?;
-    let (board, runners) = crew_of(rt, alloc, family, openings, sizes)?;
+    let (board, runners) = crew_of(rt, alloc, &classes, sizes)?;
     let ended = run_each(rt, alloc, runners, &classes, gate, until)?;
-    Ok((classes, board, ended))
+    Ok(EndedCrew {
+        classes,
+        board,
+        runners: ended,
+    })
 }
 
 // Lets each runner make turns for so long, in a thread of its own, and waits for all of them. What became of each, in order.

@@ -1,19 +1,8 @@
 -- What a node has applied from each node, after each step of its runner.
-use Rattle.std.proofs.Common.{◌≡◌, ◌≢◌, ℕ, zero, suc, ◌-◌, eqb, cond, refl, sym, ap, ◌∙◌, subst, arith, List, [], ◌∷◌, ◌++◌}
-use Rattle.std.proofs.Common.{length, length-append, length-drop, take, drop}
-use Rattle.std.proofs.lemmas.Bool.{eq-eqb, ne_eqb}
-use Rattle.std.proofs.lemmas.List.{take-append-le}
-use Rattle.dob_pieces.specs.declared.profile.Family.{Family}
-use Rattle.dob_share.specs.declared.news.Item.{Item}
-use Rattle.dob_update.specs.Batches.{BatchView, items_of_batches}
-use Rattle.dob_update.proofs.BatchItems.{items_in_more}
-use Rattle.dob_node.specs.declared.node.Node.{Node}
-use Rattle.dob_runner.specs.declared.slots.Inlet.{Inlet}
-use Rattle.dob_chan.specs.Inboxes.{batches_of}
+use Rattle.dob_runner.proofs.Common.{◌++◌, ◌-◌, ◌∙◌, ◌∷◌, ◌≡◌, ◌≢◌, List, [], ap, arith, cond, drop, eqb, length, length-append, length-drop, refl, subst, suc}
+use Rattle.dob_runner.proofs.Common.{sym, take, zero, ℕ, eq-eqb, ne_eqb, take-append-le, Family, Item, items_in_more, BatchView, items_of_batches, Node}
+use Rattle.dob_runner.proofs.Common.{batches_of, KnowsRight, AreLast, applied_from, items_worked, own_applied, planned, worked, worked_from, Inlet}
 use Rattle.dob_chan.proofs.Deliveries.{own_more as batch_more, others_more}
-use Rattle.dob_runner.specs.Links.{worked, worked_from}
-use Rattle.dob_runner.specs.Knows.{KnowsRight}
-use Rattle.dob_runner.specs.LawfulRunners.{planned, items_worked, own_applied, applied_from, AreLast}
 
 -- ---- own items
 

@@ -1,13 +1,6 @@
 -- The counts of links, after one link changed.
-use Rattle.std.proofs.Common.{◌≡◌, ℕ, zero, suc, ◌<◌, List, [], ◌∷◌, length, set, Some, sym}
-use Rattle.std.proofs.Common.{ap, ◌∙◌, inl, inr, get_or-set_same, get_or-set_other}
-use Rattle.std.specs.Prelude.{slice_get, slice_index}
-use Rattle.std.proofs.lemmas.Bool.{cases_eq}
-use Rattle.dob_pieces.proofs.Elements.{get_set_other}
-use Rattle.dob_update.specs.Batches.{BatchView}
-use Rattle.dob_chan.specs.Ends.{place_of}
-use Rattle.dob_runner.specs.declared.slots.Outlet.{Outlet}
-use Rattle.dob_runner.specs.Endpoints.{AreCounts, AreOwn}
+use Rattle.dob_runner.proofs.Common.{◌<◌, ◌∙◌, ◌∷◌, ◌≡◌, List, Some, [], ap, get_or-set_other, get_or-set_same, inl, inr, length, set, suc, sym, zero, ℕ}
+use Rattle.dob_runner.proofs.Common.{cases_eq, slice_get, slice_index, get_set_other, BatchView, place_of, AreCounts, AreOwn, Outlet}
 
 pub there_set : {L : Type 0} → (xs : List L) (k : ℕ) (new x : L) → slice_get (set xs k new) k ≡ Some x → new ≡ x
 there_set [] k new x e = absurd (cc)

@@ -1,15 +1,9 @@
 -- Turns one after another: what each keeps, and what a runner is when it has ended.
-use Rattle.std.proofs.Common.{◌≡◌, ℕ, Bool, true, None, inl, inr, sym, ◌∙◌, subst}
-use Rattle.std.specs.Prelude.{IfErr, Result, MatchResult, Ok, Err}
-use Rattle.std.proofs.lemmas.Bool.{cases_Bool}
-use Rattle.dob_board.specs.declared.halt.Halt.{Halt}
-use Rattle.dob_stops.specs.declared.cause.Cause.{Cause}
-use Rattle.dob_stops.specs.declared.cause.Cause.TheVariants.{Memory}
-use Rattle.dob_runner.specs.declared.runner.Runner.{Runner}
+use Rattle.dob_runner.proofs.Common.{◌∙◌, ◌≡◌, Bool, None, inl, inr, subst, sym, true, ℕ, cases_Bool, MatchResult, Cause, Memory, Halt, GateIsAsked, GoesOn}
+use Rattle.dob_runner.proofs.Common.{HasFailed, IsReasonFor, IsReasoned, KeepsRunner, says_no, HasTurned, Runner}
+use Rattle.std.specs.Prelude.{IfErr, Result, Ok, Err}
 use Rattle.dob_runner.specs.declared.turn_loop.Until.{Until}
 use Rattle.dob_runner.specs.declared.turn_loop.Until.TheVariants.{Turns, Halted}
-use Rattle.dob_runner.specs.Turns.{HasTurned}
-use Rattle.dob_runner.specs.Runners.{KeepsRunner, GoesOn, HasFailed, GateIsAsked, IsReasonFor, IsReasoned, says_no}
 use Rattle.dob_runner.specs.TurnLoop.{IsThrough, EndsBy, IsLetOn}
 use Rattle.dob_runner.proofs.Pacing.{unfailed_few}
 use Rattle.dob_runner.proofs.Keeping.{reasoned_failed, reasoned_unfailed}

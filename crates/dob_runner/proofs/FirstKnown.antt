@@ -1,37 +1,18 @@
 -- What a node knows when it is opened.
-use Rattle.std.proofs.Common.{◌≡◌, ℕ, ◌+◌, ◌*◌, ◌/◌, ◌%◌, ◌<◌, inr, refl, sym, ap, ◌∙◌, subst, arith, List, [], length}
-use Rattle.std.specs.List.{All}
+use Rattle.dob_runner.proofs.Common.{◌%◌, ◌*◌, ◌+◌, ◌/◌, ◌<◌, ◌∙◌, ◌≡◌, List, [], ap, arith, inr, length, refl, subst, sym, ℕ, All, Family, Status, Caught}
+use Rattle.dob_runner.proofs.Common.{Open, Stuck, Tried, class_setup, classes_of, IsEntry, Value, Draw, CellValue-same, Cell, SameCell, fresh, owner_of, Item}
+use Rattle.dob_runner.proofs.Common.{Settlement, kept_sound, SumsUp-same, IsChained, value_of, IsOpened, IsSound, AreKept, Node, AreCellsSummed, KnowsRight}
 use Rattle.std.proofs.Math.Nat.{mod-add-div'}
-use Rattle.dob_pieces.specs.declared.profile.Family.{Family}
 use Rattle.dob_moves.specs.MoveLists.{moves_of}
-use Rattle.dob_moves.specs.declared.position_status.Status.{Status}
-use Rattle.dob_moves.specs.declared.position_status.Status.TheVariants.{Caught, Tried, Stuck, Open}
 use Rattle.dob_moves.proofs.Cases.{one_status}
-use Rattle.dob_rank.specs.Families.{classes_of}
-use Rattle.dob_rank.specs.Families.{class_setup}
-use Rattle.dob_value.specs.declared.value.Value.{Value}
-use Rattle.dob_value.specs.declared.value.Value.TheVariants.{Draw}
-use Rattle.dob_value.specs.Follows.{IsEntry}
-use Rattle.dob_share.specs.declared.news.Settlement.{Settlement}
-use Rattle.dob_share.specs.declared.news.Item.{Item}
 use Rattle.dob_share.specs.declared.opening.Opening.{Opening}
-use Rattle.dob_share.specs.Owners.{owner_of}
-use Rattle.dob_share.specs.Cells.{Cell, SameCell, fresh}
 use Rattle.dob_share.specs.Shares.{IsOwn, places_of, cell_at, IsValue}
-use Rattle.dob_share.proofs.Applied.{CellValue-same}
-use Rattle.dob_node.specs.Histories.{value_of, IsChained}
 use Rattle.dob_node.specs.Openings.{AreOpenings}
 use Rattle.dob_node.specs.OpeningLists.{opening_value, opening_settlements, opening_status}
-use Rattle.dob_node.specs.TakenItems.{AreKept}
-use Rattle.dob_node.specs.declared.node.Node.{Node}
-use Rattle.dob_node.specs.Nodes.{IsSound, IsOpened}
-use Rattle.dob_node.proofs.ValuesFollow.{SumsUp-same}
 use Rattle.dob_node.proofs.Totals.{start_sums}
 use Rattle.dob_node.proofs.ItemChanges.{one_value}
 use Rattle.dob_node.proofs.AloneOpens.{listed_opening}
-use Rattle.dob_node.proofs.Nodes.{kept_sound}
 use Rattle.dob_node.proofs.Beginnings.{or_else, opened_value, opened_chained, opened_entries}
-use Rattle.dob_runner.specs.Knows.{AreCellsSummed, KnowsRight}
 use Rattle.dob_runner.proofs.Summing.{is_sum}
 use Rattle.dob_runner.proofs.Knowing.{known_by}
 

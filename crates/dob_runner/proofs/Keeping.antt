@@ -1,44 +1,18 @@
 -- What links, endpoints and runners keep, through one step and the next.
-use Rattle.std.proofs.Common.{◌≡◌, ◌≢◌, ℕ, zero, suc, List, [], ◌∷◌, ◌++◌, ◌⊎◌, length, set, Option, Some, None}
-use Rattle.std.proofs.Common.{refl, sym, ap, ◌∙◌, subst, inl, inr, arith, append_assoc}
-use Rattle.std.proofs.lemmas.List.{append-nil}
-use Rattle.std.specs.Prelude.{slice_get, Result, Ok, Err, IfErr, MatchResult}
+use Rattle.dob_runner.proofs.Common.{◌++◌, ◌∙◌, ◌∷◌, ◌≡◌, ◌≢◌, ◌⊎◌, List, None, Option, Some, [], ap, append_assoc, arith, inl, inr, length, refl, set, subst}
+use Rattle.dob_runner.proofs.Common.{suc, sym, zero, ℕ, cases_eq, append-nil, same_Some, MatchResult, slice_get, get_set_other, Item, Share, BatchView, Cause}
+use Rattle.dob_runner.proofs.Common.{Contradiction, Counts, Held, Memory, TooDeep, HasItemFault, IsUnchanged, outbox_to, IsReason, Node, token_moves_of}
+use Rattle.dob_runner.proofs.Common.{IsSameSeat, KnewOwnFailure, MovesNothing, stand_of, witnessed_by, Halt, Ended, Failed, NodeSeat, Stand, SendsToSame}
+use Rattle.dob_runner.proofs.Common.{TakesFromSame, sent_by, taken_by, SendEnd, TakeEnd, KeepsEach, FailsFor, HasSameLinks, KeepsEndpoint, IsSpared, KeepsInlet}
+use Rattle.dob_runner.proofs.Common.{KeepsOutlet, GoesOn, HasBroken, HasCutAll, HasFailed, HasRefused, IsReasonFor, IsReasoned, KeepsRunner, StepsBy, no_gate}
+use Rattle.dob_runner.proofs.Common.{HasSameWork, HasTurned, Endpoint, Runner, Inlet, Outlet}
+use Rattle.std.specs.Prelude.{Result, Ok, Err, IfErr}
 use Rattle.std.specs.Result.{IsErrAnd}
 use Rattle.std.proofs.lemmas.Result.{err_from_is_err_and}
-use Rattle.std.proofs.lemmas.Option.{same_Some}
-use Rattle.std.proofs.lemmas.Bool.{cases_eq}
-use Rattle.dob_pieces.proofs.Elements.{get_set_other}
 use Rattle.dob_pieces.specs.Lists.{IsBeginning}
-use Rattle.dob_share.specs.declared.news.Item.{Item}
-use Rattle.dob_share.specs.declared.share.Share.{Share}
-use Rattle.dob_update.specs.Batches.{BatchView}
 use Rattle.dob_safra.specs.declared.token.Token.{Token}
-use Rattle.dob_board.specs.declared.seat.NodeSeat.{NodeSeat}
-use Rattle.dob_board.specs.declared.halt.Halt.{Halt}
-use Rattle.dob_board.specs.declared.halt.Halt.TheVariants.{Ended, Failed}
-use Rattle.dob_board.specs.declared.view.Stand.{Stand}
 use Rattle.dob_board.specs.Views.{passes}
-use Rattle.dob_board.specs.Seats.{IsSameSeat, KnewOwnFailure, MovesNothing, stand_of, witnessed_by}
-use Rattle.dob_board.specs.Histories.{token_moves_of}
-use Rattle.dob_stops.specs.declared.cause.Cause.{Cause}
-use Rattle.dob_stops.specs.declared.cause.Cause.TheVariants.{TooDeep, Contradiction, Memory, Held, Counts}
-use Rattle.dob_node.specs.declared.node.Node.{Node}
-use Rattle.dob_node.specs.TakenItems.{IsReason}
 use Rattle.dob_node.specs.Outboxes.{outbox_in}
-use Rattle.dob_node.specs.Nodes.{outbox_to, HasItemFault, IsUnchanged}
-use Rattle.dob_chan.specs.declared.ends.SendEnd.{SendEnd}
-use Rattle.dob_chan.specs.declared.ends.TakeEnd.{TakeEnd}
-use Rattle.dob_chan.specs.Ends.{sent_by, taken_by, SendsToSame, TakesFromSame}
-use Rattle.dob_runner.specs.declared.slots.Outlet.{Outlet}
-use Rattle.dob_runner.specs.declared.slots.Inlet.{Inlet}
-use Rattle.dob_runner.specs.declared.endpoint.Endpoint.{Endpoint}
-use Rattle.dob_runner.specs.declared.runner.Runner.{Runner}
-use Rattle.dob_runner.specs.Links.{KeepsOutlet, KeepsInlet}
-use Rattle.dob_runner.specs.LawfulRunners.{IsSpared}
-use Rattle.dob_runner.specs.Endpoints.{KeepsEach}
-use Rattle.dob_runner.specs.Keeps.{KeepsEndpoint, HasSameLinks}
-use Rattle.dob_runner.specs.Runners.{KeepsRunner, GoesOn, HasFailed, HasBroken, HasRefused, HasCutAll, IsReasonFor, IsReasoned, no_gate, StepsBy}
-use Rattle.dob_runner.specs.Turns.{HasTurned, HasSameWork}
 use Rattle.dob_runner.proofs.Counted.{there_set}
 
 -- ---- lists of batches
@@ -165,14 +139,17 @@ passed_counts old new None is some passed = absurd (some is)
 passed_counts old new (Some token) is some passed = (let stand = passed token is in (ap (λ (s : Stand). s.posted) stand, ap (λ (s : Stand). s.taken) stand))
 
 -- one that has failed has a cause
-pub some_cause : (why : Cause) → (let failed : Option Cause = Some why in failed ≡ None) → ⊥
-some_cause why none = absurd (cc)
+pub some_cause : (failed : Option Cause) (why : Cause) → failed ≡ Some why → failed ≢ None
+some_cause failed why is none = absurd (let both = sym is ∙ none in cc)
 
 -- and where its seat didn't find the end, and it failed by an item, nothing is asked of it
-pub failed_first : {L : Type 0} (why : Cause) (halt : Halt) → halt ≢ Ended → (IsSpared (Some why) → ⊥) →
-    (let failed : Option Cause = Some why in failed ≡ None) ⊎ (halt ≡ Ended) ⊎ IsSpared (Some why) → L
-failed_first why halt unended unspared still =
-    elim still [ inl none ↦ absurd (some_cause why none) | inr (inl ended) ↦ absurd (unended ended) | inr (inr spared) ↦ absurd (unspared spared) ]
+pub failed_first : {L : Type 0} (failed : Option Cause) (why : Cause) (halt : Halt) → failed ≡ Some why → halt ≢ Ended → (IsSpared (Some why) → ⊥) →
+    (failed ≡ None) ⊎ (halt ≡ Ended) ⊎ IsSpared failed → L
+failed_first failed why halt is unended unspared still = elim still [
+  | inl none ↦ absurd (some_cause failed why is none)
+  | inr (inl ended) ↦ absurd (unended ended)
+  | inr (inr spared) ↦ absurd (unspared (subst (λ (f : Option Cause). IsSpared f) is spared))
+]
 
 -- no item makes a runner fail for another cause, but for lack of memory
 pub unspared_reason : (item : Item) (share : Share) (why : Cause) → IsReason item share why → (why ≡ Memory → ⊥) → IsSpared (Some why) → ⊥
@@ -193,8 +170,21 @@ node_goes (Some why) failed agrees none = absurd (let both = sym none ∙ agrees
 pub agrees_going : (of_node failed : Option Cause) → of_node ≡ None → (why : Cause) → of_node ≡ Some why → failed ≡ Some why
 agrees_going of_node failed going why is = absurd (let both = sym going ∙ is in cc)
 
-pub agrees_failed : (of_node : Option Cause) (cause : Cause) → of_node ≡ Some cause → (why : Cause) → of_node ≡ Some why → (let failed : Option Cause = Some cause in failed ≡ Some why)
-agrees_failed of_node cause failed why is = sym failed ∙ is
+pub agrees_failed : (of_node failed : Option Cause) (cause : Cause) → of_node ≡ Some cause → failed ≡ Some cause → (why : Cause) → of_node ≡ Some why → failed ≡ Some why
+agrees_failed of_node failed cause node_is failed_is why is = failed_is ∙ sym node_is ∙ is
+
+-- a runner whose node has failed, which its seat has said
+pub broken_for : (old new : Runner) (why : Cause) → FailsFor old.endpoint new.endpoint new.failed why → new.family ≡ old.family → new.batch_size ≡ old.batch_size →
+    IsReasonFor no_gate new why → HasBroken old new why
+broken_for old new why fails family size reason = record {
+  failed = record {
+    keeps = record { endpoint = links_kept old.endpoint new.endpoint fails.keeps.links; family = family; batch_size = size };
+    cause = fails.cause;
+    stopped = fails.stopped;
+  };
+  still = fails.still;
+  reason = reason;
+}
 
 -- ---- reasons
 

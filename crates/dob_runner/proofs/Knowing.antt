@@ -1,38 +1,18 @@
 -- What a node knows stays right, whatever it takes.
-use Rattle.std.proofs.Common.{◌≡◌, ◌≢◌, ℕ, ◌<◌, inl, inr, eqb, cond, refl, sym, ap, ◌∙◌, subst, List, [], ◌∷◌, ◌++◌, append_assoc, Option, None, Some}
-use Rattle.std.specs.List.{All}
-use Rattle.std.proofs.lemmas.Bool.{eq-eqb, ne_eqb, cases_eq}
-use Rattle.std.proofs.lemmas.List.{append-nil}
-use Rattle.std.proofs.lemmas.List.Elements.{All-append, All-nil, All-cons, All-head, All-tail}
-use Rattle.dob_pieces.specs.declared.profile.Family.{Family}
-use Rattle.dob_moves.specs.declared.position_status.Status.{Status}
-use Rattle.dob_moves.specs.declared.position_status.Status.TheVariants.{Caught, Tried, Stuck, Open}
-use Rattle.dob_rank.specs.Families.{classes_of}
-use Rattle.dob_value.specs.declared.value.Value.{Value}
-use Rattle.dob_value.specs.Follows.{IsEntry}
-use Rattle.dob_unmove.specs.Edges.{predecessors}
-use Rattle.dob_share.specs.declared.news.Settlement.{Settlement}
-use Rattle.dob_share.specs.declared.news.Item.{Item}
-use Rattle.dob_share.specs.declared.share.Share.{Share}
-use Rattle.dob_share.specs.Owners.{owner_of}
+use Rattle.dob_runner.proofs.Common.{◌++◌, ◌<◌, ◌∙◌, ◌∷◌, ◌≡◌, ◌≢◌, List, None, Option, Some, [], ap, append_assoc, cond, eqb, inl, inr, refl, subst, sym, ℕ}
+use Rattle.dob_runner.proofs.Common.{cases_eq, eq-eqb, ne_eqb, append-nil, All-append, All-cons, All-head, All-nil, All-tail, All, Family, Status, Caught, Open}
+use Rattle.dob_runner.proofs.Common.{Stuck, Tried, classes_of, IsEntry, Value, predecessors, CellValue-same, Cell, Changes, SameCell, changed, owner_of, Item}
+use Rattle.dob_runner.proofs.Common.{Settlement, Share, items_from, chained_more, value_of-more, SumsUp-same, IsChained, IsNext, all_known, value_of}
+use Rattle.dob_runner.proofs.Common.{HistoryView, AreKept, AreTaken, HasItemEntries, IsTaken, listed, AreCellsSummed, CanHaveMade, KnowsRight, sum_of}
 use Rattle.dob_share.specs.Values.{Better}
-use Rattle.dob_share.specs.Cells.{Cell, SameCell, Changes, changed}
 use Rattle.dob_share.specs.Shares.{status_at, cell_at, IsValue, HasValueNow, HasSettled}
 use Rattle.dob_share.proofs.Sums.{sums_up_after}
-use Rattle.dob_share.proofs.Applied.{CellValue-same}
-use Rattle.dob_update.specs.Items.{items_from}
-use Rattle.dob_node.specs.Histories.{value_of, all_known, IsNext, IsChained}
-use Rattle.dob_node.specs.Stores.{HistoryView}
-use Rattle.dob_node.specs.TakenItems.{HasItemEntries, AreKept, IsTaken, AreTaken, listed}
 use Rattle.dob_node.proofs.Splits.{IsMade, IsFrom, split, made_from}
 use Rattle.dob_node.proofs.Learns.{learnt, nothing_learnt}
-use Rattle.dob_node.proofs.Settles.{chained_more, value_of-more}
 use Rattle.dob_node.proofs.Kept.{all_known-same}
-use Rattle.dob_node.proofs.Kepts.{fits_own, now_is, kept_still}
+use Rattle.dob_node.proofs.Kepts.{fits_own, news_is, kept_still}
 use Rattle.dob_node.proofs.ItemChanges.{one_value, fits_open, value_elsewhere}
 use Rattle.dob_node.proofs.Rises.{same_back}
-use Rattle.dob_node.proofs.ValuesFollow.{SumsUp-same}
-use Rattle.dob_runner.specs.Knows.{sum_of, CanHaveMade, AreCellsSummed, KnowsRight}
 use Rattle.dob_runner.proofs.Summing.{sums_by, is_sum}
 
 abbrev pub known_by : Family → ℕ → (ℕ → List Settlement) → (ℕ → List Item) → ℕ → List Value
@@ -134,7 +114,7 @@ module _ (family : Family) (n id : ℕ) (share mid : Share) (history longer : Hi
     | inr other ↦ same_cells (cell_at mid class) (cell_at share class) (sum_of (known_by family n histories after class))
         (taken.others class ((kept.owned class).1 (own, low_class)) other)
         (summed_else family n id histories applied after i low item could grown same_else class own other (cell_at share class)
-        (knows.sums histories before class low_class own (sym (taken.statuses class) ∙ at_open)))
+        (knows.sums histories before class low_class own (sym (taken.classes.statuses class) ∙ at_open)))
   ]
     where
       before : CanHaveMade family n id histories applied
@@ -156,7 +136,7 @@ module _ (family : Family) (n id : ℕ) (share mid : Share) (history longer : Hi
   entries_after (Some s) settled is = subst (λ xs. All (λ (s : Settlement). IsEntry s.now) xs) (sym is)
       (All-append (λ (s : Settlement). IsEntry s.now) h (s ∷ []) knows.entries
       (All-cons (λ (s : Settlement). IsEntry s.now) s []
-      (now_is family n id share mid history item kept entries taken.classes taken.fits taken.cell taken.others s settled)
+      (news_is family n id share mid history longer item kept entries taken s settled).now
       (All-nil (λ (s : Settlement). IsEntry s.now))))
 
   values_after : (given : Option Settlement) → HasSettled share mid item.to given → g ≡ h ++ listed given →
@@ -165,12 +145,12 @@ module _ (family : Family) (n id : ℕ) (share mid : Share) (history longer : Hi
     | inl same ↦ subst (λ k. HasValueNow mid k v → v ≡ value_of g k) (sym same) (here given settled is) has
     | inr other ↦
         knows.values class v low_class own
-        (value_back share mid class v (taken.statuses class) (taken.others class ((kept.owned class).1 (own, low_class)) other) has)
+        (value_back share mid class v (taken.classes.statuses class) (taken.others class ((kept.owned class).1 (own, low_class)) other) has)
         ∙ sym (value_elsewhere share mid item.to h g given settled is class other)
   ]
     where
       one : (w : Value) → HasValueNow mid item.to v → HasValueNow mid item.to w → v ≡ w
-      one w = one_open_value (status_at mid item.to) (cell_at mid item.to) v w (taken.statuses item.to ∙ is_open)
+      one w = one_open_value (status_at mid item.to) (cell_at mid item.to) v w (taken.classes.statuses item.to ∙ is_open)
 
       here : (o : Option Settlement) → HasSettled share mid item.to o → g ≡ h ++ listed o → HasValueNow mid item.to v → v ≡ value_of g item.to
       here None stays all now =
@@ -187,7 +167,7 @@ module _ (family : Family) (n id : ℕ) (share mid : Share) (history longer : Hi
       let is : g ≡ h ++ listed taken.settled.0 = ap (λ (view : HistoryView). view.settlements) taken.settled.2 in record {
         chained = chained_after taken.settled.0 taken.settled.1 is;
         entries = entries_after taken.settled.0 taken.settled.1 is;
-        statuses = λ class status low_class own has. taken.statuses class ∙ knows.statuses class status low_class own has;
+        statuses = λ class status low_class own has. taken.classes.statuses class ∙ knows.statuses class status low_class own has;
         values = values_after taken.settled.0 taken.settled.1 is;
         sums = sums_after;
       }
@@ -240,7 +220,4 @@ taken_all family n id i low (item ∷ items) share after history grown applied l
     elsewhere k other = ap (λ b. cond b (applied i ++ item ∷ []) (applied k)) (ne_eqb k i other)
 
     kept_between : AreKept family n id taken.0 taken.1
-    kept_between =
-        let step = taken.2 in
-        kept_still family n id share taken.0 history item kept (All-head HasItemEntries item items entries) step.classes step.fits step.cell step.others
-        step.settled.0 step.settled.1 taken.1 step.settled.2
+    kept_between = kept_still family n id share taken.0 history taken.1 item kept (All-head HasItemEntries item items entries) taken.2

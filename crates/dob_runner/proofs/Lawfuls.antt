@@ -1,39 +1,14 @@
 -- Each step of a runner leaves it lawful.
-use Rattle.std.proofs.Common.{◌≡◌, ◌≢◌, ℕ, ◌-◌, ◌^◌, ◌<◌, ◌≤◌, eqb, cond, refl, sym, ap, ◌∙◌, subst, arith, append_assoc}
-use Rattle.std.proofs.Common.{List, [], ◌∷◌, ◌++◌, length, length-append, take, drop, true, false, None, Some, inl, inr}
-use Rattle.std.specs.Prelude.{slice_get, slice_set}
-use Rattle.std.proofs.lemmas.List.{append-nil, take-append-drop, length-take}
-use Rattle.std.specs.List.{All}
-use Rattle.std.proofs.lemmas.Bool.{cases_Bool, cases_lt, cases_eq, true≢false}
-use Rattle.std.proofs.lemmas.List.Elements.{All-head, All-drop}
-use Rattle.std.proofs.lemmas.Option.{slice_get_within}
-use Rattle.dob_pieces.specs.declared.profile.Family.{Family}
-use Rattle.dob_unmove.specs.Edges.{predecessors}
-use Rattle.dob_share.specs.declared.news.Settlement.{Settlement}
-use Rattle.dob_share.specs.declared.news.Item.{Item}
-use Rattle.dob_share.specs.declared.share.Share.{Share}
-use Rattle.dob_update.specs.Items.{items_of, items_from}
-use Rattle.dob_update.specs.Batches.{BatchView, OutboxView, empty_outbox, items_of_batches}
-use Rattle.dob_update.proofs.BatchItems.{items_in_more}
-use Rattle.dob_node.specs.Stores.{HistoryView}
-use Rattle.dob_node.specs.declared.node.Node.{Node}
-use Rattle.dob_node.specs.NodeViews.{NodeView}
-use Rattle.dob_node.specs.TakenItems.{HasItemEntries, IsTaken, listed}
-use Rattle.dob_node.specs.Nodes.{outbox_to, IsSound, IsIdle, IsExpanded, HasApplied, HasAppliedItems, HasTaken, HasCut, IsUnchanged}
-use Rattle.dob_node.proofs.Settles.{emitted_more, emitted_grown}
+use Rattle.dob_runner.proofs.Common.{◌++◌, ◌-◌, ◌<◌, ◌^◌, ◌∙◌, ◌∷◌, ◌≡◌, ◌≢◌, ◌≤◌, List, None, Some, [], ap, append_assoc, arith, cond, drop, eqb, false, inl}
+use Rattle.dob_runner.proofs.Common.{inr, length, length-append, refl, subst, sym, take, true, ℕ, cases_Bool, cases_eq, cases_lt, true≢false, append-nil}
+use Rattle.dob_runner.proofs.Common.{length-take, take-append-drop, All-drop, All-head, slice_get_within, All, slice_get, slice_set, Family, predecessors, Item}
+use Rattle.dob_runner.proofs.Common.{Settlement, Share, items_in_more, BatchView, OutboxView, empty_outbox, items_of_batches, items_from, items_of, outbox_same}
+use Rattle.dob_runner.proofs.Common.{emitted_grown, emitted_more, NodeView, HasApplied, HasAppliedItems, HasCut, HasTaken, IsExpanded, IsIdle, IsSound}
+use Rattle.dob_runner.proofs.Common.{IsUnchanged, outbox_to, HistoryView, HasItemEntries, IsTaken, listed, Node, batches_of, AreOut, HasChangedOne}
+use Rattle.dob_runner.proofs.Common.{HasSameLinksAndColour, KnowsRight, AreLast, IsLawfulRunner, SendsRight, applied_from, items_worked, own_applied, planned}
+use Rattle.dob_runner.proofs.Common.{IsOffered, offered, IsNew, Endpoint, Inlet, Outlet}
 use Rattle.dob_node.proofs.Kepts.{kept_still}
 use Rattle.dob_node.proofs.Sounds.{emitted_still}
-use Rattle.dob_node.proofs.Nodes.{outbox_same}
-use Rattle.dob_runner.specs.declared.slots.Outlet.{Outlet}
-use Rattle.dob_runner.specs.declared.slots.Inlet.{Inlet}
-use Rattle.dob_runner.specs.declared.endpoint.Endpoint.{Endpoint}
-use Rattle.dob_runner.specs.Knows.{KnowsRight}
-use Rattle.dob_chan.specs.Inboxes.{batches_of}
-use Rattle.dob_runner.specs.Links.{offered, IsOffered}
-use Rattle.dob_runner.specs.Keeps.{HasSameLinksAndColour}
-use Rattle.dob_runner.specs.Endpoints.{HasChangedOne, AreOut}
-use Rattle.dob_runner.specs.Runners.{IsNew}
-use Rattle.dob_runner.specs.LawfulRunners.{planned, items_worked, own_applied, applied_from, AreLast, SendsRight, IsLawfulRunner}
 use Rattle.dob_runner.proofs.Applied.{own_less, own_more, own_still, applied_here, applied_else, applied_still, knows_after}
 use Rattle.dob_runner.proofs.Knowing.{taken_one, knows_same, taken_all}
 use Rattle.dob_runner.proofs.FirstKnown.{knows_opened}
@@ -207,10 +182,8 @@ sound_next : (old : NodeView) (item : Item) (rest : List Item) (between : Share)
     IsTaken item old.share between old.history longer → IsSound (record old { share = between; history = longer; own = rest })
 sound_next old item rest between longer sound first taken =
     let entries = subst (λ xs. All HasItemEntries xs) first sound.entries in
-    let settled = taken.settled in
     record {
-      kept = kept_still old.family old.n old.id old.share between old.history item sound.kept (All-head HasItemEntries item rest entries)
-          taken.classes taken.fits taken.cell taken.others settled.0 settled.1 longer settled.2;
+      kept = kept_still old.family old.n old.id old.share between old.history longer item sound.kept (All-head HasItemEntries item rest entries) taken;
       emitted = emitted_still item old.share between old.history longer old.expanded taken sound.emitted;
       entries = All-drop HasItemEntries 1 (item ∷ rest) entries;
       receivers = sound.receivers;

@@ -1,5 +1,6 @@
 -- The lemmas, in the order in which they are read.
 
+mod Common  -- names of other crates and of this one's definitions, for the proofs
 pub mod Counted  -- the counts of links, after one link changed
 pub mod Senders  -- what came out of an inbox, of one sender
 pub mod Summing  -- the sum of what is known, as an equation and as a relation

@@ -1,19 +1,7 @@
 -- How many batches go over each link in so many turns.
-use Rattle.std.proofs.Common.{◌≡◌, ℕ, ◌+◌, ◌<◌, List, length, Bool, Some, None, Result, Ok, Err}
-use Rattle.std.proofs.Common.{sym, ap, ◌∙◌, subst, inl, inr, arith}
-use Rattle.std.specs.Prelude.{slice_get, MatchResult}
-use Rattle.std.proofs.lemmas.Bool.{cases_eq}
-use Rattle.std.proofs.lemmas.Option.{same_Some, slice_get_within}
-use Rattle.dob_chan.specs.Ends.{taken_by}
-use Rattle.dob_stops.specs.declared.cause.Cause.{Cause}
-use Rattle.dob_runner.specs.declared.slots.Outlet.{Outlet}
-use Rattle.dob_runner.specs.declared.slots.Inlet.{Inlet}
-use Rattle.dob_runner.specs.declared.endpoint.Endpoint.{Endpoint}
-use Rattle.dob_runner.specs.declared.runner.Runner.{Runner}
-use Rattle.dob_runner.specs.Keeps.{KeepsEndpoint}
-use Rattle.dob_runner.specs.Links.{offered}
-use Rattle.dob_runner.specs.TurnRounds.{RunnerTakesBatch, SendsAll, AddsFew, Works}
-use Rattle.dob_runner.specs.Runners.{GoesOn, HasFailed, StepsBy}
+use Rattle.dob_runner.proofs.Common.{◌+◌, ◌<◌, ◌∙◌, ◌≡◌, Bool, Err, List, None, Ok, Result, Some, ap, arith, inl, inr, length, subst, sym, ℕ, cases_eq}
+use Rattle.dob_runner.proofs.Common.{same_Some, slice_get_within, MatchResult, slice_get, Cause, taken_by, KeepsEndpoint, offered, GoesOn, HasFailed, StepsBy}
+use Rattle.dob_runner.proofs.Common.{AddsFew, RunnerTakesBatch, SendsAll, Works, Endpoint, Runner, Inlet, Outlet}
 use Rattle.dob_runner.proofs.Keeping.{there_is}
 
 -- and one more in one turn more

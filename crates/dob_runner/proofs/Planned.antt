@@ -1,14 +1,7 @@
 -- How a history goes on with the items taken, the last of a list of items, and lists of batches.
-use Rattle.std.proofs.Common.{◌≡◌, ℕ, zero, suc, ◌-◌, sym, ap, ◌∙◌, subst, arith, append_assoc, List, [], ◌∷◌}
-use Rattle.std.proofs.Common.{◌++◌, length, length-append, length-drop, drop, slice_get, Some}
-use Rattle.std.proofs.lemmas.List.{append-nil, drop-append-le}
-use Rattle.dob_share.specs.declared.news.Settlement.{Settlement}
-use Rattle.dob_share.specs.declared.news.Item.{Item}
-use Rattle.dob_share.specs.declared.share.Share.{Share}
-use Rattle.dob_update.specs.Batches.{BatchView}
-use Rattle.dob_node.specs.Stores.{HistoryView}
-use Rattle.dob_node.specs.TakenItems.{AreTaken, listed}
-use Rattle.dob_runner.specs.LawfulRunners.{AreLast}
+use Rattle.dob_runner.proofs.Common.{◌++◌, ◌-◌, ◌∙◌, ◌∷◌, ◌≡◌, List, Some, [], ap, append_assoc, arith, drop, length, length-append, length-drop, subst, suc}
+use Rattle.dob_runner.proofs.Common.{sym, zero, ℕ, append-nil, drop-append-le, Item, Settlement, Share, BatchView, HistoryView, AreTaken, listed, AreLast}
+use Rattle.std.proofs.Common.{slice_get}
 
 -- items that are taken make a history that goes on
 pub history_grown : (items : List Item) (share after : Share) (history grown : HistoryView) → AreTaken items share after history grown →

@@ -1,19 +1,10 @@
 -- What came out of an inbox and lies in its slot, of one sender.
-use Rattle.std.proofs.Common.{◌≡◌, ℕ, ◌-◌, ◌≤◌, ◌<◌, suc, Bool, true, false, not, cond, List, [], ◌∷◌, ◌++◌, length, take, set, Option, Some, None}
-use Rattle.std.proofs.Common.{nat_eq, refl, sym, ap, ◌∙◌, inl, inr, arith, length-append, get_or-set_same, get_or-set_other}
-use Rattle.std.specs.Prelude.{slice_index}
-use Rattle.std.proofs.lemmas.Bool.{cases_eq}
-use Rattle.std.proofs.lemmas.List.{take_all, take-append-le}
-use Rattle.std.proofs.lemmas.List.Elements.{filter-append}
+use Rattle.dob_runner.proofs.Common.{◌++◌, ◌-◌, ◌<◌, ◌∙◌, ◌∷◌, ◌≡◌, ◌≤◌, Bool, List, None, Option, Some, [], ap, arith, cond, false, get_or-set_other}
+use Rattle.dob_runner.proofs.Common.{get_or-set_same, inl, inr, length, length-append, nat_eq, not, refl, set, suc, sym, take, true, ℕ, cases_eq}
+use Rattle.dob_runner.proofs.Common.{take-append-le, take_all, filter-append, slice_index, BatchView, taken_of, batches_of, AreBatchesTaken, worked}
+use Rattle.dob_runner.proofs.Common.{worked_from, held_from, in_slot, Inlet}
 use Rattle.std.proofs.lemmas.List.Filters.{length-filter_both}
-use Rattle.dob_update.specs.Batches.{BatchView}
-use Rattle.dob_chan.specs.Inboxes.{batches_of}
-use Rattle.dob_chan.specs.Ends.{taken_of}
 use Rattle.dob_chan.proofs.Deliveries.{own_more, others_more}
-use Rattle.dob_runner.specs.declared.slots.Inlet.{Inlet}
-use Rattle.dob_runner.specs.Slots.{in_slot, held_from}
-use Rattle.dob_runner.specs.Links.{worked, worked_from}
-use Rattle.dob_runner.specs.Endpoints.{AreBatchesTaken}
 
 -- no more than there are of all
 pub few_of : (k : ℕ) (xs : List BatchView) → length (batches_of k xs) ≤ length xs

@@ -1,25 +1,10 @@
 -- What sending to one node after another does.
-use Rattle.std.proofs.Common.{◌≡◌, ◌≢◌, ◌⊎◌, ℕ, ◌+◌, ◌<◌, ◌≤◌, List, ◌∷◌, [], ◌++◌, length, Bool, true, false, not, ◌||◌, Option, Some, None, Result, Ok, Err}
-use Rattle.std.proofs.Common.{refl, sym, ap, ◌∙◌, subst, inl, inr, arith, length-append, get_or}
-use Rattle.std.specs.Prelude.{slice_get, vec_len, ◌^◌}
-use Rattle.std.proofs.lemmas.Bool.{cases_eq, cases_Bool, both_ways}
-use Rattle.std.proofs.lemmas.Option.{same_Some}
-use Rattle.dob_pieces.proofs.Elements.{read_there}
-use Rattle.std.proofs.lemmas.List.{append-nil, append_cancel_right}
-use Rattle.dob_update.specs.Batches.{BatchView, OutboxView}
-use Rattle.dob_chan.specs.declared.ends.SendEnd.{SendEnd}
-use Rattle.dob_chan.specs.Ends.{sent_by}
-use Rattle.dob_stops.specs.declared.cause.Cause.{Cause}
-use Rattle.dob_node.specs.Nodes.{outbox_to, HasCut}
-use Rattle.dob_runner.specs.declared.slots.Outlet.{Outlet}
-use Rattle.dob_runner.specs.declared.endpoint.Endpoint.{Endpoint}
-use Rattle.dob_runner.specs.declared.runner.Runner.{Runner}
-use Rattle.dob_runner.specs.Slots.{in_slot}
-use Rattle.dob_runner.specs.Keeps.{KeepsEndpoint}
-use Rattle.dob_runner.specs.Links.{offered, IsOffered}
-use Rattle.dob_runner.specs.Endpoints.{HasChangedOne}
-use Rattle.dob_runner.specs.TurnRounds.{HasToSend, IsToFill, IsMoreOut, CutsFor, CutsLeft, FillsFor, IsSent, HasSentOne, SendsTo, SendsBelow}
-use Rattle.dob_runner.specs.Runners.{KeepsRunner, GoesOn, StepsBy}
+use Rattle.dob_runner.proofs.Common.{◌++◌, ◌+◌, ◌<◌, ◌||◌, ◌∙◌, ◌∷◌, ◌≡◌, ◌≢◌, ◌≤◌, ◌⊎◌, Bool, Err, List, None, Ok, Option, Result, Some, [], ap, arith, false}
+use Rattle.dob_runner.proofs.Common.{get_or, inl, inr, length, length-append, not, refl, subst, sym, true, ℕ, both_ways, cases_Bool, cases_eq, append-nil}
+use Rattle.dob_runner.proofs.Common.{append_cancel_right, same_Some, slice_get, read_there, BatchView, OutboxView, Cause, HasCut, outbox_to, sent_by, SendEnd}
+use Rattle.dob_runner.proofs.Common.{HasChangedOne, KeepsEndpoint, IsOffered, offered, GoesOn, KeepsRunner, StepsBy, in_slot, CutsFor, CutsLeft, FillsFor}
+use Rattle.dob_runner.proofs.Common.{HasSentOne, HasToSend, IsMoreOut, IsSent, IsToFill, SendsBelow, SendsTo, Endpoint, Runner, Outlet}
+use Rattle.std.specs.Prelude.{vec_len, ◌^◌}
 use Rattle.dob_runner.proofs.Keeping.{endpoint_same, runner_same, goes_trans, still_same}
 use Rattle.dob_runner.proofs.Taking.{changed_there, changed_at, changed_else}
 

@@ -1,14 +1,11 @@
 -- Cells that are the sum of what is known, as an equation and as a relation.
-use Rattle.std.proofs.Common.{◌≡◌, ℕ, ◌≤◌, inl, inr, refl, sym, ap, subst, arith, List, [], ◌∷◌, Contains, Option, None, Some, min}
-use Rattle.std.proofs.lemmas.List.Elements.{Contains-append_right}
+use Rattle.dob_runner.proofs.Common.{◌∷◌, ◌≡◌, ◌≤◌, List, None, Option, Some, [], ap, arith, inl, inr, refl, subst, sym, ℕ, Contains-append_right, Value, Draw}
+use Rattle.dob_runner.proofs.Common.{Loss, Win, Cell, SameCell, SumsUp, least_loss, sum_of}
+use Rattle.std.proofs.Common.{Contains, min}
 use Rattle.std.proofs.lemmas.Bool.{cases_order}
 use Rattle.dob_pieces.proofs.Lists.{none_in_empty, head_in, cons_cases}
-use Rattle.dob_value.specs.declared.value.Value.{Value}
-use Rattle.dob_value.specs.declared.value.Value.TheVariants.{Win, Loss, Draw}
 use Rattle.dob_value.specs.Distances.{IsLeastLoss, lesser_of}
 use Rattle.dob_value.proofs.Distances.{same_loss}
-use Rattle.dob_share.specs.Cells.{Cell, SameCell, SumsUp}
-use Rattle.dob_runner.specs.Knows.{least_loss, sum_of}
 
 behind : (known : List Value) (v w : Value) → Contains known w → Contains (v ∷ known) w
 behind known v w there = Contains-append_right (v ∷ []) known w there

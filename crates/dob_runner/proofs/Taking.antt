@@ -1,22 +1,7 @@
 -- What taking from an inbox does, and what changed of several links.
-use Rattle.std.proofs.Common.{◌≡◌, ◌≢◌, ℕ, ◌∷◌, [], ◌++◌, length, true, false, List, Some}
-use Rattle.std.proofs.Common.{refl, sym, ap, ◌∙◌, subst, arith}
-use Rattle.std.specs.Prelude.{slice_get}
-use Rattle.std.proofs.lemmas.Option.{same_Some, slice_get_within}
-use Rattle.dob_pieces.proofs.Elements.{get_set_other, get_set_same}
-use Rattle.dob_pieces.specs.declared.profile.Family.{Family}
-use Rattle.dob_update.specs.Batches.{BatchView}
-use Rattle.dob_node.specs.declared.node.Node.{Node}
-use Rattle.dob_node.specs.Nodes.{IsUnchanged}
-use Rattle.dob_runner.specs.declared.slots.Inlet.{Inlet}
-use Rattle.dob_chan.specs.declared.ends.TakeEnd.{TakeEnd}
-use Rattle.dob_chan.specs.Ends.{taken_by}
-use Rattle.dob_runner.specs.declared.runner.Runner.{Runner}
-use Rattle.dob_runner.specs.Batches.{IsBatchFor}
-use Rattle.dob_runner.specs.Links.{worked, HoldsFor}
-use Rattle.dob_runner.specs.Endpoints.{HasChangedOne}
-use Rattle.dob_runner.specs.TurnRounds.{IsReceived, IsWorkedIn, IsUnwanted, RunnerTakesBatch}
-use Rattle.dob_runner.specs.Runners.{GoesOn}
+use Rattle.dob_runner.proofs.Common.{◌++◌, ◌∙◌, ◌∷◌, ◌≡◌, ◌≢◌, List, Some, [], ap, arith, false, length, refl, subst, sym, true, ℕ, same_Some, slice_get_within}
+use Rattle.dob_runner.proofs.Common.{slice_get, get_set_other, get_set_same, Family, BatchView, IsUnchanged, Node, taken_by, TakeEnd, IsBatchFor, HasChangedOne}
+use Rattle.dob_runner.proofs.Common.{HoldsFor, worked, GoesOn, IsReceived, IsUnwanted, IsWorkedIn, RunnerTakesBatch, Runner, Inlet}
 
 -- ---- one of several links
 

@@ -1,21 +1,11 @@
 -- What the parts of a turn do, by what their steps do.
-use Rattle.std.proofs.Common.{◌≡◌, ◌≢◌, ◌↔◌, ◌⊎◌, ℕ, ◌+◌, ◌-◌, ◌<◌, ◌≤◌, length, Bool, IsTrue, not, true, false, Option, MatchOption, Result, Ok, None}
-use Rattle.std.proofs.Common.{refl, sym, ap, ◌∙◌, subst, inl, inr, arith, Some, slice_get}
-use Rattle.std.proofs.lemmas.Bool.{cases_Bool, cases_eq, cases_lt, both_ways}
-use Rattle.std.proofs.lemmas.Option.{same_Some, slice_get_within}
-use Rattle.dob_share.specs.declared.news.Settlement.{Settlement}
-use Rattle.dob_node.specs.declared.node.Node.{Node}
-use Rattle.dob_node.specs.NodeViews.{NodeView}
-use Rattle.dob_node.specs.Stores.{HistoryView}
+use Rattle.dob_runner.proofs.Common.{◌+◌, ◌-◌, ◌<◌, ◌↔◌, ◌∙◌, ◌≡◌, ◌≢◌, ◌≤◌, ◌⊎◌, Bool, None, Ok, Option, Result, Some, ap, arith, false, inl, inr, length, not}
+use Rattle.dob_runner.proofs.Common.{refl, subst, sym, true, ℕ, both_ways, cases_Bool, cases_eq, cases_lt, same_Some, slice_get_within, Settlement, Cause}
+use Rattle.dob_runner.proofs.Common.{NodeView, IsExpanded, HistoryView, Node, NodeSeat, GoesOn, ExpandsOne, ExpandsSome, IsAbove, IsHeldUp, IsLevel, IsWithin}
+use Rattle.dob_runner.proofs.Common.{SendsSmall, EndsTurn, GateIsTold, HasSameWork, SeeksToken, Runner}
+use Rattle.std.proofs.Common.{IsTrue, MatchOption, slice_get}
 use Rattle.dob_node.specs.Levels.{level_of, HasLevel}
-use Rattle.dob_node.specs.Nodes.{IsExpanded}
-use Rattle.dob_board.specs.declared.seat.NodeSeat.{NodeSeat}
-use Rattle.dob_stops.specs.declared.cause.Cause.{Cause}
-use Rattle.dob_runner.specs.declared.runner.Runner.{Runner}
-use Rattle.dob_runner.specs.TurnRounds.{IsHeldUp, IsLevel, IsAbove, IsWithin, SendsSmall, ExpandsOne, ExpandsSome}
-use Rattle.dob_runner.specs.Runners.{GoesOn}
 use Rattle.dob_runner.specs.TurnToken.{HasLooked, HandsOn, MovesToken}
-use Rattle.dob_runner.specs.Turns.{HasSameWork, SeeksToken, EndsTurn, GateIsTold}
 
 -- ---- answers
 

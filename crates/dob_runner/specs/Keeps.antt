@@ -1,6 +1,8 @@
 -- What the endpoint of a runner keeps, whatever it does: its seat and its inboxes.
-use Rattle.std.specs.Prelude.{◌≡◌}
-use Rattle.dob_board.specs.Seats.{IsSameSeat}
+use Rattle.std.specs.Prelude.{◌≡◌, ◌≢◌, true, Option, Some}
+use Rattle.dob_board.specs.declared.halt.Halt.TheVariants.{Running, Ended}
+use Rattle.dob_board.specs.Seats.{IsSameSeat, MovesNothing}
+use Rattle.dob_stops.specs.declared.cause.Cause.{Cause}
 use Rattle.dob_runner.specs.declared.endpoint.Endpoint.{Endpoint}
 use Rattle.dob_runner.specs.Links.{KeepsOutlet, KeepsInlet}
 use Rattle.dob_runner.specs.Endpoints.{KeepsEach}
@@ -21,3 +23,12 @@ pub record HasSameLinks (old new : Endpoint) : Type 0 where
 pub record HasSameLinksAndColour (old new : Endpoint) : Type 0 where
   pub links : HasSameLinks old new
   pub colour : new.seat.black ≡ old.seat.black
+
+-- It is noted why its node failed, and its seat has said so: the seat moved no token, and found that the run goes on no more, or, if
+-- the node was white, maybe its end.
+pub record FailsFor (old new : Endpoint) (failed : Option Cause) (why : Cause) : Type 0 where
+  pub cause : failed ≡ Some why
+  pub still : MovesNothing old.seat new.seat
+  pub keeps : HasSameLinksAndColour old new
+  pub stopped : new.seat.halt ≢ Running
+  pub black : old.seat.black ≡ true → new.seat.halt ≢ Ended

@@ -6,8 +6,8 @@ use dob_node::have_entries;
 use dob_pieces::{Family, PieceSet, Profile};
 use dob_update::Batch;
 
-/// Whether the batch is one of the family among `nodes` nodes, from that node to the other, with items that have such values
-/// as a table can have.
+// Whether the batch is one of the family among `nodes` nodes, from that node to the other, with items that have such values
+// as a table can have.
 pub(crate) fn is_for(batch: &Batch, family: Family, nodes: usize, from: usize, to: usize) -> bool
     ensures { IsTrue result ↔ IsBatchFor family nodes from to batch.now }
 {

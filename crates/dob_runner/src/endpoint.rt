@@ -50,8 +50,8 @@ impl Endpoint {
         }
     }
 
-    /// Counts a batch of the node for another one on the board and puts it into the slot for that node, which is empty. The
-    /// node is black, and has counted fewer than 2^40 batches for the other one.
+    // Counts a batch of the node for another one on the board and puts it into the slot for that node, which is empty. The
+    // node is black, and has counted fewer than 2^40 batches for the other one.
     pub(crate) fn post(&mut self, to: usize, batch: Batch)
         requires node { to < self.old.seat.nodes }
         requires other { to ≢ self.old.seat.node }
@@ -70,9 +70,9 @@ impl Endpoint {
         self.outlets[to].hold(batch);
     }
 
-    /// The batch in the taking slot, which is one of the node `from`, another one, if the board says that it was posted: it is
-    /// counted on the board, which blackens the node, and now it is the node's to work in. Otherwise it stays in the slot,
-    /// uncounted.
+    // The batch in the taking slot, which is one of the node `from`, another one, if the board says that it was posted: it is
+    // counted on the board, which blackens the node, and now it is the node's to work in. Otherwise it stays in the slot,
+    // uncounted.
     pub(crate) fn accept(&mut self, from: usize) -> Option<Batch>
         requires other { from ≢ self.old.seat.node }
         requires held { (batch : BatchView) × (self.old.inlet.slot ≡ Some batch) × (batch.from ≡ from) }

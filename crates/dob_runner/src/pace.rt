@@ -38,8 +38,8 @@ impl Pace {
         Ok(Pace { levels, node })
     }
 
-    /// Says on which level the node is, none if it has nothing to expand, and gives the highest one that it may expand now:
-    /// one above the least of the other nodes.
+    // Says on which level the node is, none if it has nothing to expand, and gives the highest one that it may expand now:
+    // one above the least of the other nodes.
     pub(crate) fn limit(&self, level: Option<u16>) -> u16 {
         self.tell(level);
         let mut least = u16::MAX;

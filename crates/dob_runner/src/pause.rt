@@ -11,7 +11,7 @@ const SHORTEST: u64 = 50;
 // How many the longest takes, so that a batch or the token never waits longer for who sleeps.
 const LONGEST: u64 = 1_000;
 
-/// The pauses of one runner. They change nothing that contracts speak of.
+// The pauses of one runner. They change nothing that contracts speak of.
 #[derive(Drop)]
 pub(crate) struct Pause {
     backoff: Backoff,
@@ -27,18 +27,18 @@ impl Pause {
         }
     }
 
-    /// The next pause is as short as the first one.
+    // The next pause is as short as the first one.
     pub(crate) fn reset(&self) {
         self.backoff.reset();
         self.sleep.store(SHORTEST, Ordering::SeqCst);
     }
 
-    /// Pauses for a moment, without sleep.
+    // Pauses for a moment, without sleep.
     pub(crate) fn snooze(&self) {
         self.backoff.snooze();
     }
 
-    /// Pauses for a moment, and sleeps where the pauses before it were too short.
+    // Pauses for a moment, and sleeps where the pauses before it were too short.
     pub(crate) fn rest<R: Wait>(&self, rt: &R) {
         if !self.backoff.is_completed() {
             self.backoff.snooze();

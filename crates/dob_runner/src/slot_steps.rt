@@ -22,7 +22,7 @@ impl Outlet {
         Outlet { end, slot: None }
     }
 
-    /// Whether a batch is in the slot.
+    // Whether a batch is in the slot.
     pub(crate) fn is_full(&self) -> bool
         ensures full { result ≡ true → self.now.slot ≢ None }
         ensures empty { result ≡ false → self.now.slot ≡ None }
@@ -30,7 +30,7 @@ impl Outlet {
         self.slot.is_some()
     }
 
-    /// Puts a batch of its sender into the slot, which is empty.
+    // Puts a batch of its sender into the slot, which is empty.
     pub(crate) fn hold(&mut self, batch: Batch)
         requires empty { self.old.slot ≡ None }
         requires own { batch.from ≡ place_of self.old.end }
@@ -40,8 +40,8 @@ impl Outlet {
         self.slot = Some(batch);
     }
 
-    /// Offers the batch in the slot to the inbox; tries once. A batch that isn't taken stays in the slot, which is only where
-    /// the inbox was full. Its promises hold if it returns.
+    // Offers the batch in the slot to the inbox; tries once. A batch that isn't taken stays in the slot, which is only where
+    // the inbox was full. Its promises hold if it returns.
     pub(crate) fn offer<R: Wait>(&mut self, rt: &R)
         requires { length (offered self.old) ≤ most_batches }
         ensures { IsOffered self.old self.new }
@@ -66,7 +66,7 @@ impl Inlet {
         Inlet { end, slot: None }
     }
 
-    /// Whether a batch is in the slot.
+    // Whether a batch is in the slot.
     pub(crate) fn is_full(&self) -> bool
         ensures full { result ≡ true → self.now.slot ≢ None }
         ensures empty { result ≡ false → self.now.slot ≡ None }
@@ -74,7 +74,7 @@ impl Inlet {
         self.slot.is_some()
     }
 
-    /// How many items the batch in the slot has, 0 if the slot is empty.
+    // How many items the batch in the slot has, 0 if the slot is empty.
     pub(crate) fn held_items(&self) -> usize
         ensures { (batch : BatchView) → self.now.slot ≡ Some batch → result ≡ length batch.items }
     {
@@ -84,8 +84,8 @@ impl Inlet {
         batch.items().len()
     }
 
-    /// The sender of the batch in the slot, if that is one that another node cut for the node `to` of that family, one of `nodes`,
-    /// with items that such a node can work in. Any other batch is none of the node's.
+    // The sender of the batch in the slot, if that is one that another node cut for the node `to` of that family, one of `nodes`,
+    // with items that such a node can work in. Any other batch is none of the node's.
     pub(crate) fn sender_for(&self, family: Family, nodes: usize, to: usize) -> Option<usize>
         ensures { MatchOption result ((from : ℕ) → ¬ HoldsFor family nodes from to self.now) (λ from. HoldsFor family nodes from to self.now) }
     {
@@ -102,8 +102,8 @@ impl Inlet {
         Some(from)
     }
 
-    /// Takes the inbox's next batch into the slot, if that is empty; tries once. The slot is empty afterwards only if the
-    /// inbox was. Its promises hold if it returns.
+    // Takes the inbox's next batch into the slot, if that is empty; tries once. The slot is empty afterwards only if the
+    // inbox was. Its promises hold if it returns.
     pub(crate) fn receive<R: Wait>(&mut self, rt: &R)
         ensures worked { worked self.new ≡ worked self.old }
         ensures keeps { KeepsInlet self.old self.new }
@@ -116,7 +116,7 @@ impl Inlet {
         self.slot = self.end.next(rt);
     }
 
-    /// The batch in the slot, which is empty afterwards: now it is the node's to work in.
+    // The batch in the slot, which is empty afterwards: now it is the node's to work in.
     pub(crate) fn release(&mut self) -> Option<Batch>
         ensures batch { result ≡ self.old.slot }
         ensures worked { worked self.new ≡ worked self.old ++ in_slot self.old.slot }

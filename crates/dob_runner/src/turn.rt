@@ -13,6 +13,7 @@ use crate::gate::Gate;
 use crate::pace::Pace;
 use crate::pause::Pause;
 use crate::runner::Runner;
+use crate::turn_steps::fail_for;
 use dob_board::Halt;
 use dob_classes::Classes;
 use dob_node::{Cause, Node};
@@ -75,8 +76,7 @@ impl Runner {
         ensures still { MovesNothing self.old.endpoint.seat self.new.endpoint.seat }
         ensures same { IsHeldBack self.old self.new }
     {
-        self.failed = Some(why);
-        self.endpoint.fail();
+        fail_for(&mut self.failed, &mut self.endpoint, why);
     }
 
     /// One turn: a runner that the gate lets pass and whose run goes on does a turn's work for its node, and reports it to the gate,
@@ -114,7 +114,7 @@ impl Runner {
         Ok(self.endpoint.seat.halt)
     }
 
-    /// Asks the gate whether the runner may go on. One that may not gives up, and has done nothing else.
+    // Asks the gate whether the runner may go on. One that may not gives up, and has done nothing else.
     pub(crate) fn enters<G: Gate>(&mut self, gate: &G) -> bool
         requires { self.old.failed ≡ None }
         ensures asked { G.says gate.now self.old.endpoint.seat.node result }
@@ -160,7 +160,7 @@ impl Runner {
         }
     }
 
-    /// A turn's work; then the gate learns how many settlements it has expanded, also if it has failed.
+    // A turn's work; then the gate learns how many settlements it has expanded, also if it has failed.
     pub(crate) fn work_and_tell<R: Wait, G: Gate>(
         &mut self,
         rt: &R,
@@ -179,9 +179,9 @@ impl Runner {
         did
     }
 
-    /// A turn's work: at most one batch is applied; settlements are expanded until as many items are made as
-    /// a batch holds, none on a level that the pace doesn't allow, and the own items are applied; and at most one batch is sent to
-    /// each node. Whether anything was done.
+    // A turn's work: at most one batch is applied; settlements are expanded until as many items are made as
+    // a batch holds, none on a level that the pace doesn't allow, and the own items are applied; and at most one batch is sent to
+    // each node. Whether anything was done.
     pub(crate) fn work<R: Wait>(&mut self, rt: &R, classes: &Classes) -> Result<bool, Cause>
         requires unfailed { self.old.failed ≡ None }
         requires family { classes.now.family ≡ self.old.family }
@@ -229,7 +229,7 @@ impl Runner {
         has_risen(was, now)
     }
 
-    /// Whether the next settlement is above that level.
+    // Whether the next settlement is above that level.
     pub(crate) fn is_above(&self, limit: u16) -> bool
         requires { self.now.failed ≡ None }
         ensures { IsTrue result ↔ IsAbove limit self.now.node }

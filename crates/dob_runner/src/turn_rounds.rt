@@ -4,13 +4,14 @@ ghost use Rattle.dob_runner.specs.Runners.{StepsBy};
 ghost use Rattle.dob_runner.specs.TurnRounds.{HoldsUp, IsHeldUp, ExpandsSome, AppliesAllOwn, SendsAll};
 
 use crate::runner::Runner;
+use crate::turn_steps::fail_for;
 use dob_classes::Classes;
 use dob_node::Cause;
 use std::sync::Wait;
 
 impl Runner {
-    /// Expands settlements up to that level until as many items are made as a batch holds, or the next one is above it, or nothing is
-    /// left to expand; none if a batch can't be sent and another whole one is left for the same node. Whether any was expanded.
+    // Expands settlements up to that level until as many items are made as a batch holds, or the next one is above it, or nothing is
+    // left to expand; none if a batch can't be sent and another whole one is left for the same node. Whether any was expanded.
     pub(crate) fn expand_all(&mut self, classes: &Classes, limit: u16) -> Result<bool, Cause>
         requires unfailed { self.old.failed ≡ None }
         requires family { classes.now.family ≡ self.old.family }
@@ -42,7 +43,7 @@ impl Runner {
         Ok(true)
     }
 
-    /// Applies all own items. Whether there was any.
+    // Applies all own items. Whether there was any.
     pub(crate) fn apply_all(&mut self) -> Result<bool, Cause>
         requires { self.old.failed ≡ None }
         ensures { StepsBy AppliesAllOwn self.old self.new result }
@@ -51,14 +52,13 @@ impl Runner {
         match self.node.apply_every_own() {
             Ok(()) => Ok(count > 0),
             Err(why) => {
-                self.failed = Some(why);
-                self.endpoint.fail();
+                fail_for(&mut self.failed, &mut self.endpoint, why);
                 Err(why)
             }
         }
     }
 
-    /// Sends at most one batch to each node, also one that isn't whole where small ones are asked for. Whether any was sent.
+    // Sends at most one batch to each node, also one that isn't whole where small ones are asked for. Whether any was sent.
     pub(crate) fn send_all<R: Wait>(&mut self, rt: &R, small: bool) -> Result<bool, Cause>
         requires { self.old.failed ≡ None }
         ensures { StepsBy (SendsAll small) self.old self.new result }

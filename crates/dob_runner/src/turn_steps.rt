@@ -3,23 +3,33 @@
 // A link is asked and moved here. The endpoint is borrowed before a link of it changes, so that what its type says of the counts is asked of it alone.
 ghost use Rattle.std.specs.Prelude.{◌≡◌, ◌≢◌, ◌↔◌, ◌<◌, IsTrue, Err, None};
 ghost use Rattle.dob_stops.specs.declared.cause.Cause.TheVariants.{Memory};
+ghost use Rattle.dob_runner.specs.Keeps.{FailsFor};
 ghost use Rattle.dob_runner.specs.Runners.{StepsBy};
 ghost use Rattle.dob_runner.specs.TurnRounds.{RunnerTakesBatch, LeavesBatch, ExpandsOne, HasToSend, FillsFor, SendsTo};
 
+use crate::endpoint::Endpoint;
 use crate::runner::Runner;
 use dob_classes::Classes;
 use dob_node::Cause;
 use std::sync::Wait;
 
+// Notes why a runner has failed, and says so on the board.
+pub(crate) fn fail_for(failed: &mut Option<Cause>, endpoint: &mut Endpoint, why: Cause)
+    ensures { FailsFor endpoint.old endpoint.new failed.new why }
+{
+    *failed = Some(why);
+    endpoint.fail();
+}
+
 impl Runner {
-    /// Takes the batch in the taking slot, else the next of the inbox, if it is one for the node that the board knows of, and
-    /// applies its items. False if there is none. A batch that isn't for the node stays in the slot; for any other one the
-    /// node makes room before it is counted.
-    ///
-    /// # Errors
-    ///
-    /// `Memory` for that room, which leaves the batch in the slot, uncounted, and the node as it was; else the cause of
-    /// an item that can't be applied.
+    // Takes the batch in the taking slot, else the next of the inbox, if it is one for the node that the board knows of, and
+    // applies its items. False if there is none. A batch that isn't for the node stays in the slot; for any other one the
+    // node makes room before it is counted.
+    //
+    // # Errors
+    //
+    // `Memory` for that room, which leaves the batch in the slot, uncounted, and the node as it was; else the cause of
+    // an item that can't be applied.
     pub(crate) fn take_one<R: Wait>(&mut self, rt: &R) -> Result<bool, Cause>
         requires { self.old.failed ≡ None }
         ensures step { StepsBy RunnerTakesBatch self.old self.new result }
@@ -36,8 +46,7 @@ impl Runner {
         match self.node.reserve(inlet.held_items()) {
             Ok(()) => {}
             Err(refused) => {
-                self.failed = Some(refused);
-                self.endpoint.fail();
+                fail_for(&mut self.failed, &mut self.endpoint, refused);
                 return Err(refused);
             }
         }
@@ -47,14 +56,13 @@ impl Runner {
         match self.node.apply_batch(&batch) {
             Ok(()) => Ok(true),
             Err(why) => {
-                self.failed = Some(why);
-                self.endpoint.fail();
+                fail_for(&mut self.failed, &mut self.endpoint, why);
                 Err(why)
             }
         }
     }
 
-    /// Expands the next settlement of the node's history. False if there is none.
+    // Expands the next settlement of the node's history. False if there is none.
     pub(crate) fn expand_one(&mut self, classes: &Classes) -> Result<bool, Cause>
         requires unfailed { self.old.failed ≡ None }
         requires family { classes.now.family ≡ self.old.family }
@@ -63,8 +71,7 @@ impl Runner {
         match self.node.expand(classes) {
             Ok(expanded) => Ok(expanded),
             Err(why) => {
-                self.failed = Some(why);
-                self.endpoint.fail();
+                fail_for(&mut self.failed, &mut self.endpoint, why);
                 Err(why)
             }
         }
@@ -86,8 +93,8 @@ impl Runner {
         left >= self.batch_size.get()
     }
 
-    /// Cuts a batch for the node `to`, another one, if none lies in the slot for it and a whole one is left to send, or anything
-    /// where small ones are asked for; counts it on the board and puts it into the slot. Whether it did.
+    // Cuts a batch for the node `to`, another one, if none lies in the slot for it and a whole one is left to send, or anything
+    // where small ones are asked for; counts it on the board and puts it into the slot. Whether it did.
     fn cut_for(&mut self, to: usize, small: bool) -> Result<bool, Cause>
         requires unfailed { self.old.failed ≡ None }
         requires node { to < self.old.endpoint.seat.nodes }
@@ -103,8 +110,7 @@ impl Runner {
         let cut = match self.node.cut_for(to, self.batch_size) {
             Ok(cut) => cut,
             Err(why) => {
-                self.failed = Some(why);
-                self.endpoint.fail();
+                fail_for(&mut self.failed, &mut self.endpoint, why);
                 return Err(why);
             }
         };
@@ -115,8 +121,8 @@ impl Runner {
         Ok(true)
     }
 
-    /// Offers a batch for the node `to`, if that is another one, to its inbox: the one in the slot or a new one. Whether it
-    /// was sent.
+    // Offers a batch for the node `to`, if that is another one, to its inbox: the one in the slot or a new one. Whether it
+    // was sent.
     pub(crate) fn send_to<R: Wait>(&mut self, rt: &R, to: usize, small: bool) -> Result<bool, Cause>
         requires unfailed { self.old.failed ≡ None }
         requires node { to < self.old.endpoint.seat.nodes }

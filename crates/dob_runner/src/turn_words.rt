@@ -22,8 +22,8 @@ impl Endpoint {
         token.at == self.seat.node
     }
 
-    /// Passes the token, or announces the end where that may be done, if the board's token is at the node, which is idle. Whether
-    /// it is. The seat finds the node's own failure only if it knew that.
+    // Passes the token, or announces the end where that may be done, if the board's token is at the node, which is idle. Whether
+    // it is. The seat finds the node's own failure only if it knew that.
     pub(crate) fn move_token(&mut self) -> bool
         ensures moves { MovesToken self.old.seat self.new.seat result }
         ensures links { HasSameLinks self.old self.new }
@@ -40,8 +40,8 @@ impl Endpoint {
         true
     }
 
-    /// Says that the node failed the run, and moves no token. The halt that its seat finds isn't `Running`; it is the one that it knew,
-    /// if it knew one; and `Ended` only if the node is white.
+    // Says that the node failed the run, and moves no token. The halt that its seat finds isn't `Running`; it is the one that it knew,
+    // if it knew one; and `Ended` only if the node is white.
     pub(crate) fn fail(&mut self)
         ensures still { MovesNothing self.old.seat self.new.seat }
         ensures keeps { HasSameLinksAndColour self.old self.new }
@@ -52,8 +52,8 @@ impl Endpoint {
         let _ = self.seat.fail();
     }
 
-    /// Whether the run goes on, as the board says now: exactly if no node has failed and no end was announced so far. It says that
-    /// the node itself failed only if the seat knew that.
+    // Whether the run goes on, as the board says now: exactly if no node has failed and no end was announced so far. It says that
+    // the node itself failed only if the seat knew that.
     pub(crate) fn halted(&mut self) -> Halt
         ensures halt { result ≡ self.new.seat.halt }
         ensures keeps { HasSameLinksAndColour self.old self.new }
@@ -65,7 +65,7 @@ impl Endpoint {
         self.seat.halted()
     }
 
-    /// Whether no batch lies in a slot.
+    // Whether no batch lies in a slot.
     pub(crate) fn has_empty_slots(&self) -> bool
         ensures { IsTrue result ↔ (AreOut self.now.outlets.items × (self.now.inlet.slot ≡ None)) }
     {

@@ -1,16 +1,8 @@
 -- An item applied at one place: what the steps of the code give of it.
-use Rattle.std.proofs.Common.{◌≡◌, ℕ, ◌+◌, ◌<◌, ◌≤◌, List, length, refl, sym, ap, ◌∙◌, subst, inl, inr, arith, get_or, Option, None, Some, MatchOption, Ok, Err}
-use Rattle.std.proofs.Math.ListN.{set, length-set}
-use Rattle.std.proofs.lemmas.List.{get_or_default}
-use Rattle.dob_value.specs.declared.value.Value.{Value}
-use Rattle.dob_value.specs.declared.value.Value.TheVariants.{Win, Loss, Draw}
-use Rattle.dob_share.specs.declared.cells.Slot.{Slot}
-use Rattle.dob_share.specs.declared.fault.Fault.{Fault}
-use Rattle.dob_share.specs.declared.fault.Fault.TheVariants.{TooDeep, Contradiction}
-use Rattle.dob_share.specs.Cells.{Cell, CellValue, SameCell, CellCanTake, changed}
-use Rattle.dob_share.specs.Pools.{ChangesRun}
-use Rattle.dob_share.specs.Slots.{beyond, slot_at, start_at, room_at, least_of, cell_by, cell_in, IsShortCell, ArePooled}
-use Rattle.dob_share.specs.Steps.{IsChange, IsApplied, IsTooDeep}
+use Rattle.dob_share.proofs.Common.{◌+◌, ◌<◌, ◌∙◌, ◌≡◌, ◌≤◌, Err, List, MatchOption, None, Ok, Option, Some, ap, arith, get_or, inl, inr, length, refl, subst}
+use Rattle.dob_share.proofs.Common.{sym, ℕ, length-set, set, get_or_default, Value, Draw, Loss, Win, Cell, CellCanTake, CellValue, SameCell, changed}
+use Rattle.dob_share.proofs.Common.{ChangesRun, ArePooled, IsShortCell, beyond, cell_by, cell_in, least_of, room_at, slot_at, start_at, IsApplied, IsChange}
+use Rattle.dob_share.proofs.Common.{IsTooDeep, Slot, Fault, Contradiction, TooDeep}
 use Rattle.dob_share.proofs.Keeping.{same_short, cell_is, cell_here, cell_other, start_same, still_pooled}
 use Rattle.dob_share.proofs.Changing.{IsStep, not_too_deep}
 
@@ -74,25 +66,34 @@ pub read : (slots : List Slot) (pool : List ℕ) (place : ℕ) (slot : Slot) →
     slot ≡ slot_at slots (length pool) place
 read slots pool place slot within is = is ∙ get_or_default slots place slot (beyond (length pool)) within
 
-module _ (slots : List Slot) (pool : List ℕ) (place : ℕ) (slot : Slot)
-    (pooled : ArePooled slots pool) (within : place < length slots) (slot_read : slot ≡ get_or slots place slot) where
-  slot_is : slot ≡ slot_at slots (length pool) place
-  slot_is = read slots pool place slot within slot_read
+-- the slot is the one at that place of those with that pool
+pub record IsRead (slots : List Slot) (pool : List ℕ) (place : ℕ) (slot : Slot) : Type 0 where
+  pub pooled : ArePooled slots pool
+  pub within : place < length slots
+  pub is : slot ≡ get_or slots place slot
+
+pub is_read : {slots : List Slot} {pool : List ℕ} {slot : Slot} (place : ℕ) → ArePooled slots pool → place < length slots → slot ≡ get_or slots place slot →
+    IsRead slots pool place slot
+is_read place pooled within is = record { pooled = pooled; within = within; is = is }
+
+module _ {slots : List Slot} {pool : List ℕ} {place : ℕ} {slot : Slot} (here : IsRead slots pool place slot) where
+  pub slot_is : slot ≡ slot_at slots (length pool) place
+  slot_is = read slots pool place slot here.within here.is
 
   pub cell_same : cell_by slot pool ≡ cell_in slots pool place
   cell_same = ap (λ s. cell_by s pool) slot_is ∙ sym (cell_is slots pool place)
 
   pub short_here : IsShortCell (cell_by slot pool)
-  short_here = subst (λ c. IsShortCell c) (sym cell_same) (pooled.short place within)
+  short_here = subst (λ c. IsShortCell c) (sym cell_same) (here.pooled.short place here.within)
 
   pub room_left : slot.left + slot.used ≤ room_at slots (length pool) place
-  room_left = subst (λ s. s.left + s.used ≤ room_at slots (length pool) place) (sym slot_is) (pooled.room place)
+  room_left = subst (λ s. s.left + s.used ≤ room_at slots (length pool) place) (sym slot_is) (here.pooled.room place)
 
   run_end : slot.start + room_at slots (length pool) place ≤ length pool
   run_end =
       let start : slot.start ≡ start_at slots (length pool) place = ap (λ s. s.start) slot_is in
-      let end : start_at slots (length pool) (place + 1) ≤ length pool = pooled.within (place + 1) in
-      let up : start_at slots (length pool) place ≤ start_at slots (length pool) (place + 1) = pooled.ordered place (place + 1) (omega arith) in
+      let end : start_at slots (length pool) (place + 1) ≤ length pool = here.pooled.within (place + 1) in
+      let up : start_at slots (length pool) place ≤ start_at slots (length pool) (place + 1) = here.pooled.ordered place (place + 1) (omega arith) in
       omega arith
 
   pub run_within : slot.start + slot.used ≤ length pool
@@ -111,7 +112,7 @@ module _ (slots : List Slot) (pool : List ℕ) (place : ℕ) (slot : Slot)
   module _ (to : ℕ) (was now : Value) where
     pub refused_here : (fault : Fault) → IsStep to was now (cell_by slot pool) slot (Err fault) →
         IsApplied to was now place slots pool slots pool (Err fault)
-    refused_here fault step = refused to was now place slots pool slot fault pooled (subst (λ c. IsStep to was now c slot (Err fault)) cell_same step)
+    refused_here fault step = refused to was now place slots pool slot fault here.pooled (subst (λ c. IsStep to was now c slot (Err fault)) cell_same step)
 
     module _ (next : Slot) (new_pool : List ℕ)
         (step : IsStep to was now (cell_by slot pool) slot (Ok next))
@@ -135,7 +136,7 @@ module _ (slots : List Slot) (pool : List ℕ) (place : ℕ) (slot : Slot)
       changes_here = subst (λ (k : ℕ). ChangesRun k (room_at slots (length pool) place) pool new_pool) (ap (λ s. s.start) slot_is) changes
 
       cell_after : cell_by next new_pool ≡ cell_in (set slots place next) new_pool place
-      cell_after = sym (cell_here slots pool new_pool place next pooled within start_kept changes_here)
+      cell_after = sym (cell_here slots pool new_pool place next here.pooled here.within start_kept changes_here)
 
       same_cell : SameCell (cell_in (set slots place next) new_pool place) (changed was now (cell_in slots pool place))
       same_cell = subst (λ c. SameCell c (changed was now (cell_in slots pool place))) cell_after
@@ -147,7 +148,7 @@ module _ (slots : List Slot) (pool : List ℕ) (place : ℕ) (slot : Slot)
       pooled_after : ArePooled (set slots place next) new_pool
       pooled_after =
           let most : slot.left + slot.used ≤ room_at slots (length pool) place = room_left in
-          still_pooled slots pool new_pool place next pooled within start_kept changes_here (let kept = fits in omega arith) short_after
+          still_pooled slots pool new_pool place next here.pooled here.within start_kept changes_here (let kept = fits in omega arith) short_after
 
       pub applied_here : (change : Option (Value × Value)) → IsChange (cell_by slot pool) (cell_by next new_pool) change →
           IsApplied to was now place slots pool (set slots place next) new_pool (Ok change)
@@ -158,8 +159,8 @@ module _ (slots : List Slot) (pool : List ℕ) (place : ℕ) (slot : Slot)
         unchanged = λ fault e. absurd (cc);
         pooled = pooled_after;
         places = length-set slots place next;
-        starts = start_same slots pool new_pool place next pooled within start_kept changes_here;
-        others = cell_other slots pool new_pool place next pooled within start_kept changes_here;
+        starts = start_same slots pool new_pool place next here.pooled here.within start_kept changes_here;
+        others = cell_other slots pool new_pool place next here.pooled here.within start_kept changes_here;
         takes = λ given e. takes_here;
         cell = λ given e. same_cell;
         values = λ given e. (let same : change ≡ given = cc in subst (λ x. IsChange (cell_in slots pool place) (cell_in (set slots place next) new_pool place) x) same

@@ -1,10 +1,7 @@
 -- How many bits of a word are set before a place.
-use Rattle.std.proofs.Common.{◌≡◌, ℕ, zero, suc, ◌+◌, ◌*◌, ◌/◌, ◌%◌, ◌^◌, ◌<◌, refl, sym, ap, ◌∙◌, arith, bit_or, ◌-◌}
-use Rattle.std.specs.Int.Count.{ones}
-use Rattle.std.proofs.lemmas.Nat.{ones_cat, mod-pow-add, pow_pos, pow-add, one_shl, div-mul-add}
-use Rattle.std.proofs.Math.Nat.{mod-lt, add-mul-div_right}
+use Rattle.dob_share.proofs.Common.{◌%◌, ◌*◌, ◌+◌, ◌-◌, ◌/◌, ◌<◌, ◌^◌, ◌∙◌, ◌≡◌, ap, arith, bit_or, refl, suc, sym, zero, ℕ, add-mul-div_right, mod-lt}
+use Rattle.dob_share.proofs.Common.{div-mul-add, mod-pow-add, one_shl, ones_cat, pow-add, pow_pos, ones, bit, bits_below}
 use Rattle.std.specs.Int.Bits.{or_shifted_r}
-use Rattle.dob_share.specs.Statuses.{bit, bits_below}
 
 ones_small : (b : ℕ) → b < 2 → ones b ≡ b
 unfolding ones

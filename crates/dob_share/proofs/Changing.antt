@@ -1,16 +1,9 @@
 -- One item at one cell: when it is refused, and what its slot becomes.
-use Rattle.std.proofs.Common.{◌≡◌, ◌↔◌, ℕ, zero, suc, ◌+◌, ◌-◌, ◌<◌, ◌≤◌, ◌⊎◌, refl, sym, ap, subst, inl, inr, arith, max, Option, Some, None, Result, Ok, Err}
-use Rattle.std.proofs.lemmas.Bool.{cases_eq, cases_lt}
-use Rattle.dob_value.specs.declared.value.Value.{Value}
-use Rattle.dob_value.specs.declared.value.Value.TheVariants.{Win, Loss, Draw}
+use Rattle.dob_share.proofs.Common.{◌+◌, ◌-◌, ◌<◌, ◌↔◌, ◌≡◌, ◌≤◌, ◌⊎◌, Err, None, Ok, Option, Result, Some, ap, arith, inl, inr, max, refl, subst, suc, sym}
+use Rattle.dob_share.proofs.Common.{zero, ℕ, cases_eq, cases_lt, greater_of, lesser_of, Value, Draw, Loss, Win, Cell, CellCanTake, CellValue, IsGreatestIn}
+use Rattle.dob_share.proofs.Common.{KnowsLossWithin, changed, less_at, more_at, IsShortCell, cell_of, least_of, IsTooDeep, Slot, Fault, Contradiction, TooDeep}
 use Rattle.dob_value.specs.Codes.{IsShort}
-use Rattle.dob_value.specs.Distances.{lesser_of, greater_of}
-use Rattle.dob_share.specs.declared.cells.Slot.{Slot}
-use Rattle.dob_share.specs.declared.fault.Fault.{Fault}
-use Rattle.dob_share.specs.declared.fault.Fault.TheVariants.{TooDeep, Contradiction}
-use Rattle.dob_share.specs.Cells.{Cell, CellValue, CellCanTake, changed, more_at, less_at, IsGreatest, IsGreatestIn, KnowsLossWithin}
-use Rattle.dob_share.specs.Slots.{least_of, cell_of, IsShortCell}
-use Rattle.dob_share.specs.Steps.{IsTooDeep}
+use Rattle.dob_share.specs.Cells.{IsGreatest}
 use Rattle.dob_share.proofs.Tallies.{more_at-same, more_at-other, less_at-same, less_at-other}
 
 pub least_some : (win : ℕ) → 0 < win → (least : ℕ) × (least_of win ≡ Some least) × (win ≡ least + 1)

@@ -1,11 +1,6 @@
 -- Laws of cells: an item that fits never makes the cell's value worse.
-use Rattle.std.proofs.Common.{◌≡◌, ℕ, ◌+◌, ◌<◌, ◌≤◌, refl, ap, subst, inl, inr, arith, min, Option, Some, None}
-use Rattle.std.proofs.lemmas.Bool.{cases_eq}
-use Rattle.dob_value.specs.declared.value.Value.{Value}
-use Rattle.dob_value.specs.declared.value.Value.TheVariants.{Win, Loss, Draw}
-use Rattle.dob_value.specs.Distances.{lesser_of}
-use Rattle.dob_share.specs.Values.{NoWorse}
-use Rattle.dob_share.specs.Cells.{Cell, CellValue, CellCanTake, changed, more_at, less_at, KnowsLossWithin}
+use Rattle.dob_share.proofs.Common.{◌+◌, ◌<◌, ◌≡◌, ◌≤◌, None, Option, Some, ap, arith, inl, inr, min, refl, subst, ℕ, cases_eq, lesser_of, Value, Draw, Loss}
+use Rattle.dob_share.proofs.Common.{Win, Cell, CellCanTake, CellValue, KnowsLossWithin, changed, less_at, more_at, NoWorse}
 use Rattle.dob_share.proofs.Changing.{more_cases, less_some, more_here}
 
 some_none : {P : Type 0} (x : Option ℕ) (a : ℕ) → x ≡ Some a → x ≡ None → P

@@ -1,12 +1,7 @@
 -- One cell is written: the others stay, and the pool keeps its order.
-use Rattle.std.proofs.Common.{◌≡◌, ℕ, ◌+◌, ◌<◌, ◌≤◌, List, length, refl, sym, ap, ◌∙◌, subst, inl, inr, arith, get_or}
-use Rattle.std.proofs.Math.ListN.{set, length-set}
-use Rattle.std.proofs.lemmas.List.{get_or-set_same, get_or-set_other}
-use Rattle.std.proofs.lemmas.Bool.{cases_eq, cases_lt}
-use Rattle.dob_share.specs.declared.cells.Slot.{Slot}
-use Rattle.dob_share.specs.Cells.{Cell, SameCell}
-use Rattle.dob_share.specs.Pools.{moves_at, wins_in, vacant, ChangesRun}
-use Rattle.dob_share.specs.Slots.{beyond, slot_at, start_at, room_at, cell_by, cell_in, IsShortCell, ArePooled}
+use Rattle.dob_share.proofs.Common.{◌+◌, ◌<◌, ◌∙◌, ◌≡◌, ◌≤◌, List, ap, arith, get_or, inl, inr, length, refl, subst, sym, ℕ, length-set, set, cases_eq}
+use Rattle.dob_share.proofs.Common.{cases_lt, get_or-set_other, get_or-set_same, Cell, SameCell, ChangesRun, moves_at, vacant, wins_in, ArePooled, IsShortCell}
+use Rattle.dob_share.proofs.Common.{beyond, cell_by, cell_in, room_at, slot_at, start_at, Slot}
 use Rattle.dob_share.proofs.Tallies.{tally_same}
 
 wins_same : (old new : List ℕ) (start room plies : ℕ) →

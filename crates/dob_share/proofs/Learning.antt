@@ -1,16 +1,7 @@
 -- What a cell that sums up what is known takes next.
-use Rattle.std.proofs.Common.{◌≡◌, ℕ, ◌+◌, ◌<◌, inl, inr, Bool, true, cond, refl, sym, subst, ap, ◌∙◌, arith, List, [], ◌∷◌, ◌++◌, Contains, Option, Some, None}
-use Rattle.std.specs.List.{count_by}
-use Rattle.std.proofs.lemmas.Bool.{cases_Bool, eq-eqb}
-use Rattle.std.proofs.lemmas.List.Sums.{sum_by-cons}
-use Rattle.std.proofs.lemmas.List.Elements.{Contains-append_right}
-use Rattle.dob_pieces.proofs.Lists.{none_in_empty, head_in, cons_cases}
-use Rattle.dob_value.specs.declared.value.Value.{Value}
-use Rattle.dob_value.specs.declared.value.Value.TheVariants.{Win, Loss, Draw}
-use Rattle.dob_value.specs.Entries.{is_draw}
-use Rattle.dob_value.specs.Distances.{IsLeastLoss}
-use Rattle.dob_share.specs.Values.{Better, is_win_in}
-use Rattle.dob_share.specs.Cells.{Cell, CellCanTake, KnowsLossWithin, SumsUp, Changes}
+use Rattle.dob_share.proofs.Common.{◌++◌, ◌+◌, ◌<◌, ◌∙◌, ◌∷◌, ◌≡◌, Bool, Contains, List, None, Option, Some, [], ap, arith, cond, inl, inr, refl, subst, sym}
+use Rattle.dob_share.proofs.Common.{true, ℕ, cases_Bool, eq-eqb, Contains-append_right, sum_by-cons, count_by, cons_cases, head_in, none_in_empty, IsLeastLoss}
+use Rattle.dob_share.proofs.Common.{is_draw, Value, Draw, Loss, Win, Cell, CellCanTake, Changes, KnowsLossWithin, SumsUp, Better, is_win_in}
 
 -- ---- what is counted is there, and what is there is counted
 

@@ -1,4 +1,5 @@
 -- The lemmas, in the order in which they are read. First statuses by bits.
+mod Common  -- names of other crates and of this one's definitions, for the proofs
 pub mod Bits  -- how many bits of a word are set before a place
 pub mod Words  -- the number of a cell, and the status of a place
 -- Runs of the pool.

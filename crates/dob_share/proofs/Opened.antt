@@ -1,16 +1,8 @@
 -- What has been opened: it grows by a slot with its run, and is in order.
-use Rattle.std.proofs.Common.{◌≡◌, ℕ, zero, suc, ◌+◌, ◌-◌, ◌<◌, ◌≤◌, List, [], ◌∷◌, ◌++◌, length, replicate, refl, sym, ap}
-use Rattle.std.proofs.Common.{◌∙◌, subst, inl, inr, arith}
-use Rattle.std.proofs.lemmas.List.{get_or_append_left, get_or_push, get_or_past, get_or_default, length_push, length-replicate}
-use Rattle.std.proofs.lemmas.Bool.{cases_eq, cases_lt}
-use Rattle.dob_share.specs.declared.cells.Slot.{Slot}
-use Rattle.dob_share.specs.Cells.{SameCell, fresh}
-use Rattle.dob_share.specs.Pools.{vacant, tally, moves_at, wins_in}
-use Rattle.dob_share.specs.Slots.{beyond, slot_at, start_at, room_at, least_of, cell_in, IsShortCell, ArePooled}
-use Rattle.std.proofs.Common.{add-one}
-use Rattle.dob_moves.specs.declared.position_status.Status.{Status}
-use Rattle.dob_moves.specs.declared.position_status.Status.TheVariants.{Caught, Tried, Stuck, Open}
-use Rattle.dob_share.specs.Openings.{AreOpened, settles, settled_among}
+use Rattle.dob_share.proofs.Common.{◌++◌, ◌+◌, ◌-◌, ◌<◌, ◌∙◌, ◌∷◌, ◌≡◌, ◌≤◌, List, [], add-one, ap, arith, inl, inr, length, refl, replicate, subst, suc, sym}
+use Rattle.dob_share.proofs.Common.{zero, ℕ, cases_eq, cases_lt, get_or_append_left, get_or_default, get_or_past, get_or_push, length-replicate, length_push}
+use Rattle.dob_share.proofs.Common.{Status, Caught, Open, Stuck, Tried, SameCell, fresh, AreOpened, settled_among, settles, moves_at, tally, vacant, wins_in}
+use Rattle.dob_share.proofs.Common.{ArePooled, IsShortCell, beyond, cell_in, least_of, room_at, slot_at, start_at, Slot}
 use Rattle.dob_share.proofs.Keeping.{cell_is, same_short}
 
 -- a run of no entry counts nothing
@@ -99,6 +91,17 @@ module _ (slots : List Slot) (pool : List ℕ) (opened : AreOpened slots pool) w
           ap (λ s. s.start) (here place e) ∙ at_end ∙ sym (ap (λ s. s.start) (past_end place (omega arith)))
     ]
 
+    -- what those before have, the new one and what is beyond all, each has
+    each : (P : Slot → Type 0) → ((place : ℕ) → P (slot_at slots (length pool) place)) → P next → P (beyond (length new_pool)) →
+        (place : ℕ) → P (slot_at (slots ++ next ∷ []) (length new_pool) place)
+    each P old new none place = elim (cases_lt place (length slots)) [
+      | inl inside ↦ subst P (sym (before place inside)) (old place)
+      | inr after ↦ elim (cases_eq place (length slots)) [
+        | inl e ↦ subst P (sym (here place (sym e))) new
+        | inr n ↦ subst P (sym (behind place (omega arith))) none
+      ]
+    ]
+
     pub one_more : AreOpened (slots ++ next ∷ []) new_pool
     one_more = record {
       runs = λ place inside. elim (cases_lt place (length slots)) [
@@ -115,27 +118,9 @@ module _ (slots : List Slot) (pool : List ℕ) (opened : AreOpened slots pool) w
             let z : (slot_at (slots ++ next ∷ []) (length new_pool) place).left ≡ next.left = ap (λ s. s.left) (here place e) in
             omega arith
       ];
-      few = λ place. elim (cases_lt place (length slots)) [
-        | inl old ↦ subst (λ s. s.left < 64) (sym (before place old)) (opened.few place)
-        | inr after ↦ elim (cases_eq place (length slots)) [
-          | inl e ↦ subst (λ s. s.left < 64) (sym (here place (sym e))) few
-          | inr n ↦ subst (λ s. s.left < 64) (sym (behind place (omega arith))) (omega arith)
-        ]
-      ];
-      no_win = λ place. elim (cases_lt place (length slots)) [
-        | inl old ↦ ap (λ s. s.win) (before place old) ∙ opened.no_win place
-        | inr after ↦ elim (cases_eq place (length slots)) [
-          | inl e ↦ ap (λ s. s.win) (here place (sym e)) ∙ no_win
-          | inr n ↦ ap (λ s. s.win) (behind place (omega arith))
-        ]
-      ];
-      unused = λ place. elim (cases_lt place (length slots)) [
-        | inl old ↦ ap (λ s. s.used) (before place old) ∙ opened.unused place
-        | inr after ↦ elim (cases_eq place (length slots)) [
-          | inl e ↦ ap (λ s. s.used) (here place (sym e)) ∙ unused
-          | inr n ↦ ap (λ s. s.used) (behind place (omega arith))
-        ]
-      ];
+      few = each (λ s. s.left < 64) opened.few few (omega arith);
+      no_win = each (λ s. s.win ≡ 0) opened.no_win no_win refl;
+      unused = each (λ s. s.used ≡ 0) opened.unused unused refl;
     }
 
 pub longer : (size moves : ℕ) → length (replicate (size + moves) vacant) ≡ length (replicate size vacant) + moves

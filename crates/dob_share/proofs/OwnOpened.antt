@@ -1,22 +1,10 @@
 -- A share as it is opened: place by place, and what it then owns and knows of each class.
-use Rattle.std.proofs.Common.{◌≡◌, ◌↔◌, ℕ, suc, ◌+◌, ◌-◌, ◌*◌, ◌/◌, ◌%◌, ◌<◌, ◌≤◌, ◌∷◌, ◌++◌, List, [], length, replicate, get_or, add-one, refl, sym, ap, ◌∙◌, subst, inl, inr, arith}
-use Rattle.std.proofs.lemmas.Bool.{cases_lt}
-use Rattle.std.proofs.lemmas.List.{append-nil, get_or_append_left, get_or_default, get_or_push, length_push, length-replicate}
-use Rattle.std.proofs.lemmas.Nat.{div-add-mod', le-div}
-use Rattle.std.proofs.Math.Nat.{mul-le-mul_right}
-use Rattle.dob_moves.specs.declared.position_status.Status.{Status}
-use Rattle.dob_moves.specs.declared.position_status.Status.TheVariants.{Caught, Tried, Stuck, Open}
-use Rattle.dob_share.specs.declared.cells.Slot.{Slot}
-use Rattle.dob_share.specs.declared.opening.Opening.{Opening}
-use Rattle.dob_share.specs.declared.share.Share.{Share}
-use Rattle.dob_share.specs.declared.statuses.StatusWord.{StatusWord}
-use Rattle.dob_share.specs.Cells.{Cell, SameCell, fresh}
-use Rattle.dob_share.specs.Owners.{class_of_place}
-use Rattle.dob_share.specs.Pools.{vacant}
-use Rattle.dob_share.specs.Slots.{beyond, slot_at, cell_in}
-use Rattle.dob_share.specs.Openings.{opening_of, moves_where, cell_moves, slots_where, new_slot, AreOpened}
-use Rattle.dob_share.specs.Statuses.{opens, IsStatusOf, word_of, open_at, opens_below}
-use Rattle.dob_share.specs.Shares.{IsOwn, cell_where, open_number, status_at, cell_at}
+use Rattle.dob_share.proofs.Common.{◌%◌, ◌*◌, ◌++◌, ◌+◌, ◌-◌, ◌/◌, ◌<◌, ◌↔◌, ◌∙◌, ◌∷◌, ◌≡◌, ◌≤◌, List, [], add-one, ap, arith, get_or, inl, inr, length, refl}
+use Rattle.dob_share.proofs.Common.{replicate, subst, suc, sym, zero, ℕ, mul-le-mul_right, cases_lt, append-nil, get_or_append_left, get_or_default}
+use Rattle.dob_share.proofs.Common.{get_or_push, length-replicate, length_push, div-add-mod', le-div, Status, Caught, Open, Stuck, Tried, Cell, SameCell, fresh}
+use Rattle.dob_share.proofs.Common.{AreOpened, AreOwn, cell_moves, moves_where, new_slot, opening_of, settled_among, settles, slots_where, class_of_place}
+use Rattle.dob_share.proofs.Common.{vacant, IsNewShare, IsOwn, cell_at, cell_where, open_number, places_of, status_at, beyond, cell_in, slot_at, IsStatusOf}
+use Rattle.dob_share.proofs.Common.{StatusesView, open_at, opens, opens_below, status_in, word_of, Slot, Opening, Share, StatusWord}
 use Rattle.dob_share.proofs.Applied.{same_itself}
 use Rattle.dob_share.proofs.Opened.{cell_fresh, longer, none_opened, one_more}
 use Rattle.dob_share.proofs.Words.{rank_less, status_told}
@@ -158,3 +146,106 @@ module _ (share : Share) (openings : List Opening)
     cell_here_fresh class own = cell_by_status (open_at share.statuses.words (class / share.nodes))
         (cell_in share.slots share.pool (opens_below share.statuses.words (class / share.nodes))) (opening_of openings class).status (opening_of openings class).moves
         (told class own).opens_is (open_cell class own)
+
+-- ---- a share that was opened by its own classes alone
+
+none_over : (place : ℕ) → place % 1 ≡ 0
+none_over place = let less : place % 1 < 1 = omega arith in omega arith
+
+by_one : (place : ℕ) → place / 1 ≡ place
+by_one place = let whole : place / 1 * 1 + place % 1 ≡ place = div-add-mod' place 1 in let none = none_over place in omega arith
+
+-- as many are settled where the statuses are the same
+settled_same : (status other : ℕ → Status) (places : ℕ) → ((place : ℕ) → place < places → status place ≡ other place) →
+    settled_among status places ≡ settled_among other places
+settled_same status other zero same = refl
+settled_same status other (suc places) same =
+    let before : settled_among status places ≡ settled_among other places = settled_same status other places (λ place low. same place (omega arith)) in
+    let here : settles (status places) ≡ settles (other places) = ap settles (same places (omega arith)) in
+    omega arith
+
+-- the cell of the class at a place, by the statuses, the slots and the pool
+abbrev cell_by : StatusesView → List Slot → List ℕ → ℕ → Cell
+cell_by statuses slots pool place = cell_where (open_at statuses.words place) (cell_in slots pool (opens_below statuses.words place))
+
+-- of the one owner of the classes that its list has, and of the same share as that of an owner among several
+module _ (alone share : Share) (own openings : List Opening) (opened : IsNewShare own 1 0 alone) (are : AreOwn openings share.nodes share.id own)
+    (settled_is : share.settled ≡ alone.settled) (statuses_are : share.statuses ≡ alone.statuses) (slots_are : share.slots ≡ alone.slots)
+    (pool_is : share.pool ≡ alone.pool) where
+  at_place : (place : ℕ) → place / alone.nodes ≡ place
+  at_place place = ap (λ (n : ℕ). place / n) opened.who.1 ∙ by_one place
+
+  alone_own : (place : ℕ) → place < alone.statuses.places → IsOwn alone place
+  unfolding IsOwn
+  alone_own place low = (
+    ap (λ (n : ℕ). place % n) opened.who.1 ∙ none_over place ∙ sym opened.who.0,
+    subst (λ (k : ℕ). k < alone.statuses.places) (sym (at_place place)) low,
+  )
+
+  places_same : (place : ℕ) → (place < share.statuses.places) ↔ (place < length own)
+  unfolding IsOwn
+  places_same place = (
+    λ low. ((opened.owned place).0 (alone_own place (subst (λ (s : StatusesView). place < s.places) statuses_are low))).1,
+    λ low. subst (λ (s : StatusesView). place < s.places) (sym statuses_are)
+        (subst (λ (k : ℕ). k < alone.statuses.places) (at_place place) ((opened.owned place).1 (none_over place, low)).1),
+  )
+
+  -- the place of an own class, of the one owner's
+  place_there : (class : ℕ) → IsOwn share class → IsOwn alone (class / share.nodes)
+  unfolding IsOwn
+  place_there class mine = alone_own (class / share.nodes) (subst (λ (s : StatusesView). class / share.nodes < s.places) statuses_are mine.1)
+
+  listed_there : (class : ℕ) → IsOwn share class → opening_of own (class / share.nodes) ≡ opening_of openings class
+  unfolding IsOwn
+  listed_there class mine = are.each (class / share.nodes) ((places_same (class / share.nodes)).0 mine.1)
+      ∙ ap (opening_of openings) (class_back class share.nodes share.id mine.0)
+
+  own_owned : (class : ℕ) → IsOwn share class ↔ ((class % share.nodes ≡ share.id) × (class < length openings))
+  unfolding IsOwn
+  own_owned class = (
+    λ mine. (
+      mine.0,
+      subst (λ (k : ℕ). k < length openings) (class_back class share.nodes share.id mine.0)
+          ((are.places (class / share.nodes)).0 ((places_same (class / share.nodes)).0 mine.1)),
+    ),
+    λ both. (
+      both.0,
+      (places_same (class / share.nodes)).1 ((are.places (class / share.nodes)).1
+          (subst (λ (k : ℕ). k < length openings) (sym (class_back class share.nodes share.id both.0)) both.1)),
+    ),
+  )
+
+  own_status : (class : ℕ) → IsOwn share class → status_at share class ≡ (opening_of openings class).status
+  unfolding status_at
+  own_status class mine =
+      ap (λ (s : StatusesView). status_in s.words (class / share.nodes)) statuses_are
+      ∙ ap (status_in alone.statuses.words) (sym (at_place (class / share.nodes)))
+      ∙ opened.statuses (class / share.nodes) (place_there class mine)
+      ∙ ap (λ (o : Opening). o.status) (listed_there class mine)
+
+  cell_same : (place : ℕ) → cell_by share.statuses share.slots share.pool place ≡ cell_by alone.statuses alone.slots alone.pool (place / alone.nodes)
+  cell_same place = λ i. cell_by (statuses_are i) (slots_are i) (pool_is i) ((sym (at_place place)) i)
+
+  own_cell : (class : ℕ) → IsOwn share class → SameCell (cell_at share class) (fresh (cell_moves (opening_of openings class)))
+  unfolding cell_at open_number
+  own_cell class mine =
+      let there : SameCell (cell_by alone.statuses alone.slots alone.pool (class / share.nodes / alone.nodes)) (fresh (cell_moves (opening_of own (class / share.nodes))))
+      = opened.cells (class / share.nodes) (place_there class mine) in
+      subst (λ (cell : Cell). SameCell cell (fresh (cell_moves (opening_of openings class)))) (sym (cell_same (class / share.nodes)))
+      (subst (λ (o : Opening). SameCell (cell_by alone.statuses alone.slots alone.pool (class / share.nodes / alone.nodes)) (fresh (cell_moves o)))
+      (listed_there class mine) there)
+
+  own_settled : share.settled ≡ settled_among (λ place. (opening_of openings (class_of_place share.nodes share.id place)).status) (places_of share)
+  unfolding places_of
+  own_settled =
+      settled_is ∙ opened.settled
+      ∙ ap (λ (s : StatusesView). settled_among (λ place. (opening_of own (class_of_place 1 0 place)).status) s.places) (sym statuses_are)
+      ∙ settled_same (λ place. (opening_of own (class_of_place 1 0 place)).status)
+      (λ place. (opening_of openings (class_of_place share.nodes share.id place)).status) share.statuses.places
+      (λ place low.
+      let here : class_of_place 1 0 place ≡ place = omega arith in
+      ap (λ (k : ℕ). (opening_of own k).status) here
+      ∙ ap (λ (o : Opening). o.status) (are.each place ((places_same place).0 low)))
+
+  pub new_by_own : IsNewShare openings share.nodes share.id share
+  new_by_own = record { who = (refl, refl); owned = own_owned; statuses = own_status; cells = own_cell; settled = own_settled }

@@ -1,20 +1,12 @@
 -- The rows of the table of items: what each makes of its cell, and of the cell's value.
-use Rattle.std.proofs.Common.{◌≡◌, ℕ, zero, suc, ◌+◌, ◌-◌, ◌<◌, ◌≤◌, List, length, refl, sym, ap, ◌∙◌, subst, inl, inr, arith, get_or, Option, None, Some, MatchOption, Ok, Err}
-use Rattle.std.proofs.Math.ListN.{set}
-use Rattle.std.proofs.lemmas.List.{set-get_or}
-use Rattle.std.proofs.lemmas.Bool.{cases_eq}
-use Rattle.dob_value.specs.declared.value.Value.{Value}
-use Rattle.dob_value.specs.declared.value.Value.TheVariants.{Win, Loss, Draw}
-use Rattle.dob_value.specs.Distances.{lesser_of, greater_of}
-use Rattle.dob_share.specs.declared.cells.Slot.{Slot}
-use Rattle.dob_share.specs.declared.fault.Fault.TheVariants.{TooDeep, Contradiction}
-use Rattle.dob_share.specs.Cells.{CellValue, more_at, less_at, IsGreatestIn}
-use Rattle.dob_share.specs.Pools.{wins_in, ChangesRun}
-use Rattle.dob_share.specs.Slots.{least_of, cell_of, cell_by, room_at, IsShortCell, ArePooled}
-use Rattle.dob_share.specs.Steps.{IsChange, IsApplied}
-use Rattle.dob_share.proofs.Changing.{misfits, least_some, greatest_more, win_most, win_deep, win_step, loss_deep, loss_step, better_win_step, better_loss_step, better_loss_misfits}
+use Rattle.dob_share.proofs.Common.{◌+◌, ◌-◌, ◌<◌, ◌∙◌, ◌≡◌, ◌≤◌, Err, List, MatchOption, None, Ok, Option, Some, ap, arith, get_or, inl, inr, length, refl}
+use Rattle.dob_share.proofs.Common.{subst, suc, sym, zero, ℕ, set, cases_eq, set-get_or, greater_of, lesser_of, Value, Draw, Loss, Win, CellValue, IsGreatestIn}
+use Rattle.dob_share.proofs.Common.{less_at, more_at, ChangesRun, wins_in, ArePooled, IsShortCell, cell_by, cell_of, least_of, room_at, IsApplied, IsChange}
+use Rattle.dob_share.proofs.Common.{Slot, Contradiction, TooDeep}
+use Rattle.dob_share.proofs.Changing.{misfits, least_some, greatest_more, win_most, win_deep, win_step, loss_deep, loss_step, better_win_step, better_loss_step}
+use Rattle.dob_share.proofs.Changing.{better_loss_misfits}
 use Rattle.dob_share.proofs.Tallies.{changes_longer}
-use Rattle.dob_share.proofs.Applied.{CellValue-same, change_of, refused_here, short_here, room_left, short_after, applied_here}
+use Rattle.dob_share.proofs.Applied.{CellValue-same, change_of, refused_here, short_here, room_left, short_after, applied_here, IsRead}
 
 -- ---- values of a cell with a win, or with none while moves are left
 
@@ -66,24 +58,23 @@ lost slot next wins new_wins plies greatest left win none_left none is more = (
 
 -- ---- the rows
 
-module _ (slots : List Slot) (pool : List ℕ) (place : ℕ) (slot : Slot)
-    (pooled : ArePooled slots pool) (within : place < length slots) (slot_read : slot ≡ get_or slots place slot) where
+module _ {slots : List Slot} {pool : List ℕ} {place : ℕ} {slot : Slot} (here : IsRead slots pool place slot) where
   short : IsShortCell (cell_by slot pool)
-  short = short_here slots pool place slot pooled within slot_read
+  short = short_here here
 
   pub no_move_left : (to plies : ℕ) → slot.left ≡ 0 → IsApplied to Draw (Win plies) place slots pool slots pool (Err (Contradiction to))
-  no_move_left to plies none = refused_here slots pool place slot pooled within slot_read to Draw (Win plies) (Contradiction to)
+  no_move_left to plies none = refused_here here to Draw (Win plies) (Contradiction to)
       (misfits to Draw (Win plies) (cell_by slot pool) slot (λ takes. absurd (omega arith)))
 
   pub win_too_deep : (to plies : ℕ) (greatest : Option ℕ) → slot.left ≡ 1 → slot.win ≡ 0 →
       IsGreatestIn (wins_in pool slot.start slot.used) greatest →
       65534 ≤ greater_of greatest plies → IsApplied to Draw (Win plies) place slots pool slots pool (Err TooDeep)
-  win_too_deep to plies greatest last none is deep = refused_here slots pool place slot pooled within slot_read to Draw (Win plies) TooDeep
+  win_too_deep to plies greatest last none is deep = refused_here here to Draw (Win plies) TooDeep
       (win_deep to plies slot (wins_in pool slot.start slot.used) greatest last none is deep)
 
   pub win_not_counted : (to was now : ℕ) → wins_in pool slot.start slot.used was ≡ 0 →
       IsApplied to (Win was) (Win now) place slots pool slots pool (Err (Contradiction to))
-  win_not_counted to was now none = refused_here slots pool place slot pooled within slot_read to (Win was) (Win now) (Contradiction to)
+  win_not_counted to was now none = refused_here here to (Win was) (Win now) (Contradiction to)
       (misfits to (Win was) (Win now) (cell_by slot pool) slot (λ takes. let some = takes.1 in absurd (omega arith)))
 
   module _ (to plies : ℕ) (next : Slot) (new_pool : List ℕ) (some : 0 < slot.left)
@@ -99,8 +90,8 @@ module _ (slots : List Slot) (pool : List ℕ) (place : ℕ) (slot : Slot)
         IsChange (cell_by slot pool) (cell_by next new_pool) change →
         IsApplied to Draw (Win plies) place slots pool (set slots place next) new_pool (Ok change)
     one_counted change below values =
-        let most : slot.left + slot.used ≤ room_at slots (length pool) place = room_left slots pool place slot pooled within slot_read in
-        applied_here slots pool place slot pooled within slot_read to Draw (Win plies) next new_pool
+        let most : slot.left + slot.used ≤ room_at slots (length pool) place = room_left here in
+        applied_here here to Draw (Win plies) next new_pool
         (win_step to plies slot next (wins_in pool slot.start slot.used) short some below start_same left win)
         (changes_longer slot.start (slot.used + 1) (room_at slots (length pool) place) pool new_pool (omega arith) changes)
         wins_next (let more = used_more in let less = left in omega arith) change values
@@ -122,46 +113,39 @@ module _ (slots : List Slot) (pool : List ℕ) (place : ℕ) (slot : Slot)
       ≡ more_at now (less_at was (wins_in pool slot.start slot.used)) other) where
     changes_room : ChangesRun slot.start (room_at slots (length pool) place) pool new_pool
     changes_room =
-        let most : slot.left + slot.used ≤ room_at slots (length pool) place = room_left slots pool place slot pooled within slot_read in
+        let most : slot.left + slot.used ≤ room_at slots (length pool) place = room_left here in
         changes_longer slot.start slot.used (room_at slots (length pool) place) pool new_pool (omega arith) changes
 
     pub better_win_short : IsShortCell (cell_by slot new_pool)
-    better_win_short = short_after slots pool place slot pooled within slot_read to (Win was) (Win now) slot new_pool
+    better_win_short = short_after here to (Win was) (Win now) slot new_pool
         (better_win_step to was now slot (wins_in pool slot.start slot.used) short better counted) changes_room wins (omega arith)
 
     pub better_win_applied : (change : Option (Value × Value)) → IsChange (cell_by slot pool) (cell_by slot new_pool) change →
         IsApplied to (Win was) (Win now) place slots pool slots new_pool (Ok change)
     better_win_applied change values = subst (λ xs. IsApplied to (Win was) (Win now) place slots pool xs new_pool (Ok change))
-        (ap (λ s. set slots place s) slot_read ∙ set-get_or slots place slot)
-        (applied_here slots pool place slot pooled within slot_read to (Win was) (Win now) slot new_pool
+        (ap (λ s. set slots place s) here.is ∙ set-get_or slots place slot)
+        (applied_here here to (Win was) (Win now) slot new_pool
         (better_win_step to was now slot (wins_in pool slot.start slot.used) short better counted) changes_room wins (omega arith) change values)
 
--- losses of the enemy change no count
-module _ (slots : List Slot) (pool : List ℕ) (place to : ℕ) (slot : Slot)
-    (pooled : ArePooled slots pool) (within : place < length slots) (slot_read : slot ≡ get_or slots place slot) where
-  short_slot : IsShortCell (cell_by slot pool)
-  short_slot = short_here slots pool place slot pooled within slot_read
+  -- ---- losses of the enemy change no count
 
   pub few_plies : slot.win ≤ 65534
-  few_plies = win_most slot (wins_in pool slot.start slot.used) short_slot
+  few_plies = win_most slot (wins_in pool slot.start slot.used) short
 
-  pub no_move_left_to_win : (plies : ℕ) → slot.left ≡ 0 → IsApplied to Draw (Loss plies) place slots pool slots pool (Err (Contradiction to))
-  no_move_left_to_win plies none = refused_here slots pool place slot pooled within slot_read
-      to Draw (Loss plies) (Contradiction to)
+  pub no_move_left_to_win : (to plies : ℕ) → slot.left ≡ 0 → IsApplied to Draw (Loss plies) place slots pool slots pool (Err (Contradiction to))
+  no_move_left_to_win to plies none = refused_here here to Draw (Loss plies) (Contradiction to)
       (misfits to Draw (Loss plies) (cell_by slot pool) slot (λ takes. absurd (omega arith)))
 
-  pub loss_too_deep : (plies : ℕ) → 0 < slot.left → slot.win ≡ 0 → 65534 ≤ plies → IsApplied to Draw (Loss plies) place slots pool slots pool (Err TooDeep)
-  loss_too_deep plies some none deep = refused_here slots pool place slot pooled within slot_read
-      to Draw (Loss plies) TooDeep
+  pub loss_too_deep : (to plies : ℕ) → 0 < slot.left → slot.win ≡ 0 → 65534 ≤ plies → IsApplied to Draw (Loss plies) place slots pool slots pool (Err TooDeep)
+  loss_too_deep to plies some none deep = refused_here here to Draw (Loss plies) TooDeep
       (loss_deep to plies slot (wins_in pool slot.start slot.used) some none deep)
 
-  pub loss_not_known : (was now : ℕ) → (now < was → 0 < slot.win → slot.win - 1 ≤ was → ⊥) →
+  pub loss_not_known : (to was now : ℕ) → (now < was → 0 < slot.win → slot.win - 1 ≤ was → ⊥) →
       IsApplied to (Loss was) (Loss now) place slots pool slots pool (Err (Contradiction to))
-  loss_not_known was now not = refused_here slots pool place slot pooled within slot_read
-      to (Loss was) (Loss now) (Contradiction to)
+  loss_not_known to was now not = refused_here here to (Loss was) (Loss now) (Contradiction to)
       (better_loss_misfits to was now slot (wins_in pool slot.start slot.used) not)
 
-  module _ (next : Slot) (value : Value) (change : Option (Value × Value))
+  module _ (to : ℕ) (next : Slot) (value : Value) (change : Option (Value × Value))
       (start_same : next.start ≡ slot.start) (used_same : next.used ≡ slot.used)
       (some_win : 0 < slot.win → value ≡ Win slot.win) (no_win : slot.win ≡ 0 → value ≡ Draw)
       (told : MatchOption change (value ≡ Win next.win) (λ values. (values.0 ≡ value) × (values.1 ≡ Win next.win) × (value ≡ Win next.win → ⊥))) where
@@ -176,9 +160,8 @@ module _ (slots : List Slot) (pool : List ℕ) (place to : ℕ) (slot : Slot)
         least_of next.win ≡ Some (lesser_of (least_of slot.win) plies) →
         IsApplied to Draw (Loss plies) place slots pool (set slots place next) pool (Ok change)
     loss_applied plies some below left win =
-        applied_here slots pool place slot pooled within slot_read
-        to Draw (Loss plies) next pool
-        (loss_step to plies slot next (wins_in pool slot.start slot.used) short_slot some below start_same left win)
+        applied_here here to Draw (Loss plies) next pool
+        (loss_step to plies slot next (wins_in pool slot.start slot.used) short some below start_same left win)
         untouched wins_stay (let less = left in let same = used_same in omega arith) change
         (nearer_win slot next (wins_in pool slot.start slot.used) (wins_in pool next.start next.used) (lesser_of (least_of slot.win) plies)
         value change (λ none. some) some_win no_win win told)
@@ -187,10 +170,8 @@ module _ (slots : List Slot) (pool : List ℕ) (place to : ℕ) (slot : Slot)
         least_of next.win ≡ Some (lesser_of (least_of slot.win) now) →
         IsApplied to (Loss was) (Loss now) place slots pool (set slots place next) pool (Ok change)
     better_loss_applied was now better some most left win =
-        applied_here slots pool place slot pooled within slot_read
-        to (Loss was) (Loss now) next pool
-        (better_loss_step to was now slot next (wins_in pool slot.start slot.used) short_slot better some most
-        start_same left win)
+        applied_here here to (Loss was) (Loss now) next pool
+        (better_loss_step to was now slot next (wins_in pool slot.start slot.used) short better some most start_same left win)
         untouched wins_stay (let less = left in let same = used_same in omega arith) change
         (nearer_win slot next (wins_in pool slot.start slot.used) (wins_in pool next.start next.used) (lesser_of (least_of slot.win) now)
         value change (λ none. absurd (omega arith)) some_win no_win win told)

@@ -1,17 +1,8 @@
 -- A cell that sums up what is known sums up what is known after a change, once it is changed likewise.
-use Rattle.std.proofs.Common.{◌≡◌, ◌≢◌, ℕ, ◌+◌, ◌-◌, ◌<◌, ◌≤◌, ◌⊎◌, inl, inr, min, eqb, if◌then◌else◌, Bool, cond, refl, sym}
-use Rattle.std.proofs.Common.{subst, ap, ◌∙◌, arith, List, [], ◌∷◌, ◌++◌, Contains, Option, Some, None}
-use Rattle.std.specs.List.{count_by}
-use Rattle.std.proofs.lemmas.Bool.{cases_eq, cases_lt, eq-eqb, ne_eqb}
-use Rattle.std.proofs.lemmas.List.Sums.{sum_by-cons, sum_by-append}
-use Rattle.std.proofs.lemmas.List.Elements.{Contains-append_left, Contains-append_right, Contains-append_cases}
-use Rattle.dob_pieces.proofs.Lists.{head_in, cons_cases}
-use Rattle.dob_value.specs.declared.value.Value.{Value}
-use Rattle.dob_value.specs.declared.value.Value.TheVariants.{Win, Loss, Draw}
-use Rattle.dob_value.specs.Entries.{is_draw}
-use Rattle.dob_value.specs.Distances.{IsLeastLoss, lesser_of}
-use Rattle.dob_share.specs.Values.{Better, is_win_in}
-use Rattle.dob_share.specs.Cells.{Cell, changed, more_at, less_at, SumsUp, Changes}
+use Rattle.dob_share.proofs.Common.{if◌then◌else◌, ◌++◌, ◌+◌, ◌-◌, ◌<◌, ◌∙◌, ◌∷◌, ◌≡◌, ◌≢◌, ◌≤◌, ◌⊎◌, Bool, Contains, List, None, Option, Some, [], ap, arith}
+use Rattle.dob_share.proofs.Common.{cond, eqb, inl, inr, min, refl, subst, sym, ℕ, cases_eq, cases_lt, eq-eqb, ne_eqb, Contains-append_cases}
+use Rattle.dob_share.proofs.Common.{Contains-append_left, Contains-append_right, sum_by-append, sum_by-cons, count_by, cons_cases, head_in, IsLeastLoss}
+use Rattle.dob_share.proofs.Common.{lesser_of, is_draw, Value, Draw, Loss, Win, Cell, Changes, SumsUp, changed, less_at, more_at, Better, is_win_in}
 
 -- ---- counts and members before and after
 

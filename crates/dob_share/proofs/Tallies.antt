@@ -1,12 +1,7 @@
 -- Sums over a run of the pool: after a write, at one entry, and with one entry more in use.
-use Rattle.std.proofs.Common.{◌≡◌, ◌≢◌, ℕ, zero, suc, ◌+◌, ◌-◌, ◌<◌, ◌≤◌, Bool, cond, List, length, refl, sym}
-use Rattle.std.proofs.Common.{ap, ◌∙◌, inl, inr, arith, get_or, Option, Some, None}
-use Rattle.std.proofs.Math.ListN.{set}
-use Rattle.std.proofs.lemmas.List.{get_or-set_same, get_or-set_other, get_or_default}
-use Rattle.std.proofs.lemmas.Bool.{cases_eq, eq-eqb, ne_eqb}
-use Rattle.dob_share.specs.Cells.{more_at, less_at, IsGreatestIn}
-use Rattle.std.proofs.Common.{add-one}
-use Rattle.dob_share.specs.Pools.{vacant, tally, moves_at, wins_in, ChangesRun}
+use Rattle.dob_share.proofs.Common.{◌+◌, ◌-◌, ◌<◌, ◌∙◌, ◌≡◌, ◌≢◌, ◌≤◌, Bool, List, None, Option, Some, add-one, ap, arith, cond, get_or, inl, inr, length, refl}
+use Rattle.dob_share.proofs.Common.{suc, sym, zero, ℕ, set, cases_eq, eq-eqb, ne_eqb, get_or-set_other, get_or-set_same, get_or_default, IsGreatestIn, less_at}
+use Rattle.dob_share.proofs.Common.{more_at, ChangesRun, moves_at, tally, vacant, wins_in}
 
 -- a run is summed alike in two pools that agree on it
 pub tally_same : (f : ℕ → ℕ) (old new : List ℕ) (start room : ℕ) →

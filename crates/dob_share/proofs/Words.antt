@@ -1,18 +1,11 @@
 -- Words of statuses: the number of a cell, which is how many classes are open before its place, and the status of a place.
-use Rattle.std.proofs.Common.{◌≡◌, ℕ, zero, suc, ◌+◌, ◌*◌, ◌/◌, ◌%◌, ◌<◌, ◌≤◌, inl, inr, refl, sym, ap, ◌∙◌, subst, arith, ◌^◌, List, [], ◌∷◌, ◌++◌, length, get_or, slice_get, Some}
-use Rattle.std.proofs.lemmas.Bool.{cases_eq, cases_lt, cases_order, cond_below}
-use Rattle.std.proofs.lemmas.List.{get_or_append_left, length_push}
+use Rattle.dob_share.proofs.Common.{◌%◌, ◌*◌, ◌++◌, ◌+◌, ◌/◌, ◌<◌, ◌^◌, ◌∙◌, ◌∷◌, ◌≡◌, ◌≤◌, List, Some, [], ap, arith, get_or, inl, inr, length, refl}
+use Rattle.dob_share.proofs.Common.{slice_get, subst, suc, sym, zero, ℕ, mod-eq_of_lt, cases_eq, cases_lt, cases_order, cond_below, get_or_append_left}
+use Rattle.dob_share.proofs.Common.{length_push, ones, Status, Caught, Open, Stuck, Tried, opening_of, class_of_place, AreCounted, IsStatusOf, bit, bits_below}
+use Rattle.dob_share.proofs.Common.{catches, open_at, opens, opens_below, status_in, status_listed, tries, word_of, Opening, StatusWord}
 use Rattle.std.proofs.lemmas.Option.{slice_get_within, get_or_from_slice_get}
 use Rattle.std.proofs.Math.Seq.{get_or-append_seam}
-use Rattle.std.proofs.Math.Nat.{mod-eq_of_lt}
-use Rattle.std.specs.Int.Count.{ones}
-use Rattle.dob_moves.specs.declared.position_status.Status.{Status}
-use Rattle.dob_moves.specs.declared.position_status.Status.TheVariants.{Caught, Tried, Stuck, Open}
-use Rattle.dob_share.specs.declared.opening.Opening.{Opening}
-use Rattle.dob_share.specs.declared.statuses.StatusWord.{StatusWord}
-use Rattle.dob_share.specs.Openings.{opening_of}
-use Rattle.dob_share.specs.Owners.{class_of_place}
-use Rattle.dob_share.specs.Statuses.{bit, bits_below, opens, catches, tries, status_of_bits, IsStatusOf, status_listed, no_word, word_of, open_at, status_in, opens_below, AreCounted}
+use Rattle.dob_share.specs.Statuses.{status_of_bits, no_word}
 use Rattle.dob_share.proofs.Bits.{ones_below}
 
 -- ---- the status by three bits

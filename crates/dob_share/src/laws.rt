@@ -2,6 +2,7 @@
 ghost use Rattle.dob_share.specs.Laws.{NeverWorse, SumsUpWhatIsKnown};
 
 /// An item that fits its cell never makes the cell's value worse.
+#[tactic(auto, using(crate::proofs::Growing::no_worse))]
 pub fn never_worse()
     ensures { NeverWorse }
 {}

@@ -29,5 +29,5 @@ pub use fault::Fault;
 pub use news::{Item, Settlement};
 pub use opening::{Opening, opening_at};
 pub use owners::{owner, quotient};
-pub use share::{Seen, Share};
+pub use share::{Seen, Share, places_among};
 pub use statuses::Statuses;

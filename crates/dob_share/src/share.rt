@@ -1,7 +1,6 @@
 // The cells of one owner's classes, and the items applied to them.
-ghost use Rattle.std.specs.Prelude.{◌≡◌, ℕ, ◌≢◌, ◌+◌, ◌*◌, ◌/◌, ◌<◌, ◌≤◌, ◌↔◌, ◌^◌, Some, None, Ok, Err, true, false, length};
-ghost use Rattle.std.specs.Prelude.{slice_index_or, [], ◌∷◌, ◌++◌, ◌%◌, IfOk, OnErr, OnOk, IfSome, MatchOption};
-ghost use Rattle.dob_share.specs.declared.fault.Fault.TheVariants as fault;
+ghost use Rattle.std.specs.Prelude.{◌≡◌, ℕ, ◌+◌, ◌*◌, ◌/◌, ◌<◌, ◌≤◌, ◌↔◌, ◌^◌, Some, None, true, false, length};
+ghost use Rattle.std.specs.Prelude.{slice_index_or, [], ◌∷◌, ◌++◌, ◌%◌, IfOk, OnOk, IfSome, MatchOption};
 ghost use Rattle.dob_share.specs.Values.{Better};
 ghost use Rattle.dob_share.specs.Owners.{class_of_place};
 ghost use Rattle.dob_share.specs.Cells.{CellValue};
@@ -51,8 +50,7 @@ pub struct Share {
 impl Share {
     ghost use Rattle.std.specs.Prelude.{Option};
     ghost use Rattle.dob_share.specs.declared.share.Seen.{Seen};
-    ghost use Rattle.dob_share.specs.Cells.{SameCell, changed, fresh};
-    ghost use Rattle.dob_share.specs.Shares.{places_of, IsOwn, status_at, open_number, cell_at, HasValueNow, Fits, GoesTooDeep, SameClasses, IsOwnOpen, IsSeen, HasSettled};
+    ghost use Rattle.dob_share.specs.Shares.{places_of, IsOwn, IsNewShare, IsNewByOwn, HasValueNow, IsOwnOpen, IsSeen, IsApplication, open_number};
 
     /// The share of owner `id` among `nodes`, of the classes that are listed, with what each is at the start. Only open
     /// classes have cells. It makes all the room that `apply` will need, in segments as long as those of the list.
@@ -68,11 +66,7 @@ impl Share {
         nodes: NodeCount,
     ) -> Result<Share, Memory>
         requires { id < nodes }
-        ensures who { IfOk result (λ share. (share.id ≡ id) × (share.nodes ≡ nodes)) }
-        ensures owned { IfOk result (λ share. (class : ℕ) → IsOwn share class ↔ ((class % nodes ≡ id) × (class < length openings.now))) }
-        ensures statuses { IfOk result (λ share. (class : ℕ) → IsOwn share class → status_at share class ≡ (opening_of openings.now class).status) }
-        ensures cells { IfOk result (λ share. (class : ℕ) → IsOwn share class → SameCell (cell_at share class) (fresh (cell_moves (opening_of openings.now class)))) }
-        ensures settled { IfOk result (λ share. share.settled ≡ settled_among (λ place. (opening_of openings.now (class_of_place nodes id place)).status) (places_of share)) }
+        ensures { IfOk result (IsNewShare openings.now nodes id) }
     {
         let count = openings.len();
         if count > u64::from(u32::MAX) {
@@ -99,6 +93,39 @@ impl Share {
             slots,
             pool,
         })
+    }
+
+    /// The share of owner `id` among `nodes`, as above, where the openings are those of its own classes alone, in their order.
+    ///
+    /// # Errors
+    ///
+    /// `Memory`, as above.
+    pub fn open_own(
+        alloc: Global,
+        own: &Segments<Opening>,
+        id: usize,
+        nodes: NodeCount,
+    ) -> Result<Share, Memory>
+        requires { id < nodes }
+        ensures { IfOk result (IsNewByOwn own.now nodes id) }
+    {
+        let alone = Share::open(alloc, own, 0, NodeCount::one())?;
+        let Share {
+            settled,
+            statuses,
+            slots,
+            pool,
+            ..
+        } = alone;
+        let share = Share {
+            id,
+            nodes,
+            settled,
+            statuses,
+            slots,
+            pool,
+        };
+        Ok(share)
     }
 
     /// How many classes it owns.
@@ -160,14 +187,7 @@ impl Share {
     /// class's value would have a distance above `MAX_DISTANCE`.
     pub fn apply(&mut self, item: Item) -> Result<Option<Settlement>, Fault>
         requires numbers { self.old.settled < 2 ^ 63 }
-        ensures contradiction { (result ≡ Err (fault.Contradiction item.to)) ↔ (¬ Fits self.old item) }
-        ensures too_deep { (result ≡ Err fault.TooDeep) ↔ (Fits self.old item × GoesTooDeep self.old item) }
-        ensures named { (class : ℕ) → result ≡ Err (fault.Contradiction class) → class ≡ item.to }
-        ensures unchanged { OnErr result (self.new ≡ self.old) }
-        ensures classes { SameClasses self.old self.new }
-        ensures cell { OnOk result (SameCell (cell_at self.new item.to) (changed item.was item.now (cell_at self.old item.to))) }
-        ensures others { (class : ℕ) → IsOwn self.old class → class ≢ item.to → SameCell (cell_at self.new class) (cell_at self.old class) }
-        ensures settled { IfOk result (λ given. HasSettled self.old self.new item.to given) }
+        ensures { IsApplication self.old item result self.new }
     {
         let seen = self.see(item.to);
         self.apply_seen(item, seen)
@@ -185,14 +205,7 @@ impl Share {
     ) -> Result<Option<Settlement>, Fault>
         requires numbers { self.old.settled < 2 ^ 63 }
         requires seen { IsSeen self.old item.to seen }
-        ensures contradiction { (result ≡ Err (fault.Contradiction item.to)) ↔ (¬ Fits self.old item) }
-        ensures too_deep { (result ≡ Err fault.TooDeep) ↔ (Fits self.old item × GoesTooDeep self.old item) }
-        ensures named { (class : ℕ) → result ≡ Err (fault.Contradiction class) → class ≡ item.to }
-        ensures unchanged { OnErr result (self.new ≡ self.old) }
-        ensures classes { SameClasses self.old self.new }
-        ensures cell { OnOk result (SameCell (cell_at self.new item.to) (changed item.was item.now (cell_at self.old item.to))) }
-        ensures others { (class : ℕ) → IsOwn self.old class → class ≢ item.to → SameCell (cell_at self.new class) (cell_at self.old class) }
-        ensures settled { IfOk result (λ given. HasSettled self.old self.new item.to given) }
+        ensures applied { IsApplication self.old item result self.new }
         ensures seen { (class : ℕ) (look : Option Seen) → IsSeen self.old class look → IsSeen self.new class look }
     {
         let Some(seen) = seen else {
@@ -252,9 +265,9 @@ impl Share {
     }
 }
 
-// How many of that many classes an owner has: those with the numbers k * nodes + id.
+/// How many of that many classes an owner has: those with the numbers k * nodes + id.
 #[tactic(auto, using(crate::proofs::OwnOpened::places_count))]
-fn places_among(count: u64, id: u64, nodes: NodeCount) -> u64
+pub fn places_among(count: u64, id: u64, nodes: NodeCount) -> u64
     requires { id < nodes }
     ensures { (place : ℕ) → (place < result) ↔ (place * nodes + id < count) }
 {

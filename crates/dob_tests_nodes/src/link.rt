@@ -1,8 +1,8 @@
 // Links at their capacity.
 use crate::outboxes::filled;
-use dob_link::{Link, ListLink};
 use dob_pieces::Memory;
 use dob_update::{Batch, BatchSize, Capacity};
+use dob_world::{Link, ListLink};
 use std::alloc::Global;
 use std::process::Abort;
 

@@ -48,7 +48,7 @@ fn share_of(rt: &impl Abort, alloc: Global, id: usize, nodes: usize) -> Share
     Share::open(alloc, &list, id, nodes).expect(rt, "a share")
 }
 
-/// A change of what one move of a class leads to, with the share's answer: the settlement's values, or the refusal.
+// A change of what one move of a class leads to, with the share's answer: the settlement's values, or the refusal.
 type Change = (u64, Value, Value, Result<Option<(Value, Value)>, Fault>);
 
 // The class of whose moves most changes are.

@@ -1,15 +1,8 @@
 -- Items applied one after the other: the nodes stay lawful, and their histories only grow.
-use Rattle.std.proofs.Common.{◌≡◌, ◌≢◌, ℕ, ◌<◌, ◌⊎◌, inl, inr, refl, sym, ap, ◌∙◌, List, [], ◌∷◌, ◌++◌, length, append_assoc}
-use Rattle.std.proofs.lemmas.List.{append-nil}
-use Rattle.dob_unmove.specs.Edges.{predecessors}
-use Rattle.dob_share.specs.declared.news.Settlement.{Settlement}
-use Rattle.dob_share.specs.declared.news.Item.{Item}
-use Rattle.dob_update.specs.Items.{items_from}
-use Rattle.dob_node.specs.Lawful.{CanApply}
+use Rattle.dob_world.proofs.Common.{◌++◌, ◌<◌, ◌∙◌, ◌∷◌, ◌≡◌, ◌≢◌, ◌⊎◌, List, [], ap, append_assoc, inl, inr, length, refl, sym, ℕ, append-nil, predecessors}
+use Rattle.dob_world.proofs.Common.{Item, Settlement, items_from, CanApply, Applies, AppliesItems, NodesStay, AreLawful, Nodes, Setting, items_in, value_in}
 use Rattle.dob_node.proofs.Kept.{better_apart}
 use Rattle.dob_node.proofs.Steps.{can_apply, lawful_after}
-use Rattle.dob_world.specs.Worlds.{Setting, Nodes, value_in, items_in, AreLawful}
-use Rattle.dob_world.specs.Events.{NodesStay, Applies, AppliesItems}
 use Rattle.dob_world.proofs.Places.{at_node, lawful_stay}
 
 -- What node j has applied from node i is longer by the items, and what others have applied stays; each history goes on

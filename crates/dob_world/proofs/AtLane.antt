@@ -1,19 +1,9 @@
 -- The node that makes a step and the lane that it takes or fills, where they stand, and what is left where both are as they were.
-use Rattle.std.proofs.Common.{◌≡◌, ◌≢◌, ℕ, ◌+◌, ◌*◌, ◌<◌, sym, ap, ◌∙◌, subst, List, [], length, None, Some, slice_get, get_or, set}
-use Rattle.dob_stops.specs.declared.cause.Cause.{Cause}
+use Rattle.dob_world.proofs.Common.{◌*◌, ◌+◌, ◌<◌, ◌∙◌, ◌≡◌, ◌≢◌, List, None, Some, [], ap, get_or, length, set, slice_get, subst, sym, ℕ, Cause, Stopped}
+use Rattle.dob_world.proofs.Common.{IsSound, IsUnchanged, outbox_to, Node, AppliesOwn, Posts, TakesBatch, HasListed, HasReceivedFront, HasSentBatch}
+use Rattle.dob_world.proofs.Common.{HasTakenBatch, LaneStays, lane_at, world_shown, AreInPlace, IsLaneOf, IsNodeOf, Stand, IsCauseOf, IsLeftBy, Setting}
+use Rattle.dob_world.proofs.Common.{WorldView, Detector, Take, Lane}
 use Rattle.dob_stops.specs.declared.cause.Cause.TheVariants as cause
-use Rattle.dob_stops.specs.declared.fault.Fault.TheVariants.{Stopped}
-use Rattle.dob_node.specs.declared.node.Node.{Node}
-use Rattle.dob_node.specs.Nodes.{IsSound, IsUnchanged, outbox_to}
-use Rattle.dob_world.specs.declared.detector.Detector.{Detector}
-use Rattle.dob_world.specs.declared.event.Event.TheVariants.{Take}
-use Rattle.dob_world.specs.declared.lane.Lane.{Lane}
-use Rattle.dob_world.specs.Lanes.{LaneStays, HasListed, HasSentBatch, HasTakenBatch, HasReceivedFront}
-use Rattle.dob_world.specs.Worlds.{Setting, WorldView}
-use Rattle.dob_world.specs.Events.{AppliesOwn, Posts, TakesBatch}
-use Rattle.dob_world.specs.Stops.{IsCauseOf, IsLeftBy}
-use Rattle.dob_world.specs.Shown.{lane_at, world_shown}
-use Rattle.dob_world.specs.Standing.{AreInPlace, IsNodeOf, IsLaneOf, Stand}
 use Rattle.dob_world.proofs.Slots.{set_same}
 use Rattle.dob_world.proofs.InPlace.{node_there, lane_there, slot_there}
 use Rattle.dob_world.proofs.Outcomes.{Outcome, owned, posted, received}

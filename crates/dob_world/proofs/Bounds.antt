@@ -1,17 +1,9 @@
 -- Each event leaves every settlement a fall, and for few classes no item goes too deep: a node stops for lack of memory.
-use Rattle.std.proofs.Common.{◌≡◌, ◌≢◌, ℕ, ◌<◌, inl, inr, sym, ap, ◌∙◌, subst, append_assoc, List, [], ◌∷◌, ◌++◌, drop}
-use Rattle.dob_rank.specs.Families.{classes_of}
-use Rattle.dob_unmove.specs.Edges.{predecessors}
-use Rattle.dob_share.specs.declared.news.Item.{Item}
-use Rattle.dob_update.specs.Items.{items_from}
-use Rattle.dob_update.specs.Batches.{items_of_batches}
+use Rattle.dob_world.proofs.Common.{◌++◌, ◌<◌, ◌∙◌, ◌∷◌, ◌≡◌, ◌≢◌, List, [], ap, append_assoc, drop, inl, inr, subst, sym, ℕ, classes_of, predecessors, Item}
+use Rattle.dob_world.proofs.Common.{items_of_batches, items_from, Fault, Applies, AppliesItems, AppliesOwn, CanHappen, Happens, NodesStay, TakesBatch}
+use Rattle.dob_world.proofs.Common.{GoesTooDeep, IsForMemory, IsStopBy, OwnGoesTooDeep, TakenGoesTooDeep, AreLawful, HaveFallsIn, IsLinked, Nodes, Setting}
+use Rattle.dob_world.proofs.Common.{State, WorldView, items_in, value_in, Event, Announce, Expand, Own, Pass, Post, Take}
 use Rattle.dob_node.proofs.Rises.{falls_stay, not_too_deep}
-use Rattle.dob_world.specs.declared.event.Event.{Event}
-use Rattle.dob_world.specs.declared.event.Event.TheVariants.{Expand, Own, Post, Take, Pass, Announce}
-use Rattle.dob_stops.specs.declared.fault.Fault.{Fault}
-use Rattle.dob_world.specs.Worlds.{Setting, Nodes, WorldView, State, value_in, items_in, AreLawful, HaveFallsIn, IsLinked}
-use Rattle.dob_world.specs.Events.{NodesStay, Applies, AppliesItems, AppliesOwn, TakesBatch, CanHappen, Happens}
-use Rattle.dob_world.specs.Stops.{GoesTooDeep, OwnGoesTooDeep, TakenGoesTooDeep, IsStopBy, IsForMemory}
 use Rattle.dob_world.proofs.Places.{nodes_same}
 use Rattle.dob_world.proofs.Applied.{lawful_step, step_grows, next_after, all_applied}
 use Rattle.dob_world.proofs.Kept.{next_own, next_waiting}

@@ -1,19 +1,10 @@
 -- The detector's lists after an event, and what they show.
-use Rattle.std.proofs.Common.{◌≡◌, ◌≢◌, ℕ, ◌+◌, ◌*◌, ◌^◌, ◌<◌, ◌≤◌, inl, inr, Bool, true, false, refl, sym, ap, ◌∙◌, subst, arith, List}
-use Rattle.std.proofs.Common.{length, get_or, set, get_or-set_same, get_or-set_other, FitsSigned, w64, to_z, of_z}
-use Rattle.std.specs.Prelude.{slice_index, slice_index_or, replicate}
+use Rattle.dob_world.proofs.Common.{◌*◌, ◌+◌, ◌<◌, ◌^◌, ◌∙◌, ◌≡◌, ◌≢◌, ◌≤◌, Bool, FitsSigned, List, ap, arith, false, get_or, get_or-set_other, get_or-set_same}
+use Rattle.dob_world.proofs.Common.{inl, inr, length, of_z, refl, set, subst, sym, to_z, true, w64, ℕ, cases_eq, ints, to_z-of_z, get_or-replicate}
+use Rattle.dob_world.proofs.Common.{get_or_default, mul-add-lt, same_from_place, ◌≤ℤ◌, replicate, slice_index, slice_index_or, sum_same, sum_zeros, CountsStay}
+use Rattle.dob_world.proofs.Common.{IsLawfulRing, Ring, counter, sum_below, Token, ring_of, IsCounted, Detector}
 use Rattle.std.proofs.Math.IntN.{ℤ, pos, neg_ℤ, ◌+ℤ◌, ◌-ℤ◌}
-use Rattle.std.specs.Prelude.{◌≤ℤ◌}
-use Rattle.std.proofs.lemmas.Int.{ints, to_z-of_z}
-use Rattle.std.proofs.lemmas.Bool.{cases_eq}
-use Rattle.std.proofs.lemmas.List.{get_or-replicate, get_or_default}
-use Rattle.std.proofs.lemmas.Nat.{mul-add-lt, same_from_place}
-use Rattle.dob_safra.specs.declared.token.Token.{Token}
-use Rattle.dob_safra.specs.Rings.{Ring, sum_below, counter, Raises, CountsStay, Posts, Takes, IsLawfulRing}
-use Rattle.dob_world.specs.declared.detector.Detector.{Detector}
-use Rattle.dob_world.specs.Shown.{ring_of}
-use Rattle.dob_world.specs.Standing.{IsCounted}
-use Rattle.dob_safra.proofs.Sums.{sum_same, sum_zeros}
+use Rattle.dob_safra.specs.Rings.{Raises, Posts, Takes}
 use Rattle.dob_safra.proofs.Counts.{flipped, row_stays, flipped_stay, row_raised, other_row, flipped_raises, posted_bound, taken_bound}
 
 -- ---- counters

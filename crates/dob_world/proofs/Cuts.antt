@@ -1,16 +1,9 @@
 -- Each batch that a node has cut for another one is posted: at the start, and after each event.
-use Rattle.std.proofs.Common.{◌≡◌, ◌≢◌, ℕ, ◌+◌, ◌^◌, ◌<◌, ◌≤◌, inl, inr, refl, sym, ap, ◌∙◌, subst, arith, List, Option, None, Some, slice_get, set}
-use Rattle.std.proofs.lemmas.Bool.{cases_eq}
-use Rattle.dob_pieces.specs.declared.profile.Family.{Family}
-use Rattle.dob_update.specs.Batches.{OutboxView}
-use Rattle.dob_share.specs.declared.opening.Opening.{Opening}
-use Rattle.dob_node.specs.declared.node.Node.{Node}
+use Rattle.dob_world.proofs.Common.{◌+◌, ◌<◌, ◌^◌, ◌∙◌, ◌≡◌, ◌≢◌, ◌≤◌, List, None, Option, Some, ap, arith, inl, inr, refl, set, slice_get, subst, sym, ℕ}
+use Rattle.dob_world.proofs.Common.{cases_eq, Family, CountsStay, Ring, Opening, OutboxView, outbox_to, Node, part, AreCutsPosted, HasAtMost, AreOpenedNodes}
 use Rattle.dob_node.specs.Outboxes.{outbox_in}
-use Rattle.dob_node.specs.Nodes.{outbox_to}
-use Rattle.dob_safra.specs.Rings.{Ring, IsStart as IsStartRing, Raises, CountsStay}
-use Rattle.dob_world.specs.Shown.{part, cut_by}
-use Rattle.dob_world.specs.Standing.{AreCutsPosted, HasAtMost}
-use Rattle.dob_world.specs.Start.{AreOpenedNodes}
+use Rattle.dob_safra.specs.Rings.{IsStart as IsStartRing, Raises}
+use Rattle.dob_world.specs.Shown.{cut_by}
 use Rattle.dob_world.proofs.Slots.{here, was, elsewhere, stays}
 
 -- ---- outboxes that stay

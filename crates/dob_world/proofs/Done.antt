@@ -1,12 +1,6 @@
 -- An event that is done.
-use Rattle.std.proofs.Common.{◌≡◌, ℕ, ◌+◌, ◌^◌, ◌<◌, sym, ap, subst}
-use Rattle.dob_world.specs.declared.event.Event.{Event}
-use Rattle.dob_world.specs.declared.world.World.{World}
-use Rattle.dob_world.specs.Worlds.{Setting, State}
-use Rattle.dob_world.specs.Events.{CanHappen, Happens}
-use Rattle.dob_world.specs.Effects.{IsEventDone}
-use Rattle.dob_world.specs.Shown.{setting_of, state_of, ring_of}
-use Rattle.dob_world.specs.Standing.{AreInPlace, IsCounted, Stand, IsStanding, AreCutsPosted}
+use Rattle.dob_world.proofs.Common.{◌+◌, ◌<◌, ◌^◌, ◌≡◌, ap, subst, sym, ℕ, IsEventDone, CanHappen, Happens, ring_of, setting_of, state_of, AreCutsPosted}
+use Rattle.dob_world.proofs.Common.{AreInPlace, IsCounted, IsStanding, Stand, Setting, State, Event, World}
 use Rattle.dob_world.proofs.Stood.{state_at, stand_after}
 
 -- The event was possible, it happened, and nodes, lanes and detector keep what each has to keep.

@@ -1,22 +1,11 @@
 -- One event more of a round, and one round more.
-use Rattle.std.proofs.Common.{◌≡◌, ℕ, ◌+◌, ◌-◌, ◌*◌, ◌<◌, ◌≤◌, inl, inr, refl, sym, ap, ◌∙◌, subst, arith, add-one, nat_eq, Bool, true, false, None}
-use Rattle.std.proofs.Common.{Some, [], ◌∷◌, ◌++◌}
-use Rattle.std.proofs.Math.Nat.{mul-le-mul_right}
-use Rattle.std.proofs.lemmas.Bool.{cases_order, cases_lt, eqb-true}
+use Rattle.dob_world.proofs.Common.{◌*◌, ◌++◌, ◌+◌, ◌-◌, ◌<◌, ◌∙◌, ◌∷◌, ◌≡◌, ◌≤◌, Bool, None, Some, [], add-one, ap, arith, false, inl, inr, nat_eq, refl}
+use Rattle.dob_world.proofs.Common.{subst, sym, true, ℕ, mul-le-mul_right, cases_lt, cases_order, eqb-true, Fault, IsStopped, CanHappen, HasDriven}
+use Rattle.dob_world.proofs.Common.{HasMadeRound, IsBusyRound, SomeCan, StopsInRounds, IsStill, round_event, round_length, IsAfter, IsAfterSteps, IsStepOf}
+use Rattle.dob_world.proofs.Common.{ring_of, setting_of, state_of, IsStanding, IsLeftBy, IsStopBy, IsStopInRounds, Setting, State, Detector, World}
 use Rattle.std.proofs.lemmas.Bool.Decides.{nat_tests}
 use Rattle.std.proofs.lemmas.List.FromFn.{map-range_with_len_more}
-use Rattle.dob_world.specs.declared.detector.Detector.{Detector}
-use Rattle.dob_world.specs.declared.world.World.{World}
-use Rattle.dob_world.specs.Worlds.{Setting, State}
-use Rattle.dob_world.specs.Events.{CanHappen}
-use Rattle.dob_world.specs.Runs.{IsAfter, IsStepOf, IsAfterSteps}
-use Rattle.dob_world.specs.Rounds.{round_length, round_event, round_front, round_of, rounds_of, IsStill}
-use Rattle.dob_world.specs.Shown.{setting_of, state_of, ring_of}
-use Rattle.dob_world.specs.Standing.{IsStanding}
-use Rattle.dob_world.specs.Effects.{IsStopped}
-use Rattle.dob_world.specs.Results.{HasMadeRound, HasDriven, StopsInRounds, SomeCan, IsBusyRound}
-use Rattle.dob_stops.specs.declared.fault.Fault.{Fault}
-use Rattle.dob_world.specs.Stops.{IsStopBy, IsLeftBy, IsStopInRounds}
+use Rattle.dob_world.specs.Rounds.{round_front, round_of, rounds_of}
 use Rattle.dob_world.proofs.Still.{still_ended}
 use Rattle.dob_world.proofs.Ran.{Stepped, is_after, after_both_steps, after_more}
 

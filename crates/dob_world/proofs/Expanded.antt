@@ -1,28 +1,8 @@
 -- A settlement that a node of the world expands.
-use Rattle.std.proofs.Common.{◌≡◌, ℕ, ◌+◌, ◌<◌, ◌≤◌, inl, inr, arith, refl, sym, ap, ◌∙◌, subst, cond, nat_lt, List, [], ◌++◌, length, None, Some}
-use Rattle.std.proofs.Common.{slice_get, set}
-use Rattle.std.proofs.lemmas.Bool.{cases_lt, cases_eq}
-use Rattle.std.proofs.lemmas.Option.{slice_get_within}
-use Rattle.std.proofs.lemmas.List.{length-set}
-use Rattle.dob_moves.specs.Statuses.{HasStatus}
-use Rattle.dob_rank.specs.Families.{classes_of}
-use Rattle.dob_rank.specs.Families.{class_setup}
-use Rattle.dob_unmove.specs.Edges.{predecessors}
-use Rattle.dob_share.specs.declared.share.Share.{Share}
-use Rattle.dob_share.specs.Owners.{owner_of}
-use Rattle.dob_share.specs.Cells.{fresh}
-use Rattle.dob_share.specs.Shares.{IsOwn, status_at, cell_at}
-use Rattle.dob_update.specs.Items.{items_of}
-use Rattle.dob_update.specs.Batches.{OutboxView}
-use Rattle.dob_node.specs.Stores.{HistoryView}
-use Rattle.dob_node.specs.declared.node.Node.{Node}
-use Rattle.dob_node.specs.Nodes.{IsSound, IsExpanded, outbox_to}
-use Rattle.dob_safra.specs.Rings.{Ring}
-use Rattle.dob_world.specs.declared.lane.Lane.{Lane}
-use Rattle.dob_world.specs.Worlds.{Setting}
-use Rattle.dob_world.specs.Events.{ExpandsAt}
-use Rattle.dob_world.specs.Shown.{part, nodes_shown, world_shown}
-use Rattle.dob_world.specs.Standing.{IsNodeOf, AreInPlace, AreCutsPosted}
+use Rattle.dob_world.proofs.Common.{◌++◌, ◌+◌, ◌<◌, ◌∙◌, ◌≡◌, ◌≤◌, List, None, Some, [], ap, arith, cond, inl, inr, length, nat_lt, refl, set, slice_get, subst}
+use Rattle.dob_world.proofs.Common.{sym, ℕ, cases_eq, cases_lt, length-set, slice_get_within, HasStatus, class_setup, classes_of, predecessors, Ring, fresh}
+use Rattle.dob_world.proofs.Common.{owner_of, IsOwn, cell_at, status_at, Share, OutboxView, items_of, IsExpanded, IsSound, outbox_to, HistoryView, Node}
+use Rattle.dob_world.proofs.Common.{ExpandsAt, nodes_shown, part, world_shown, AreCutsPosted, AreInPlace, IsNodeOf, Setting, Lane}
 use Rattle.dob_world.proofs.Cuts.{cuts_stay}
 use Rattle.dob_world.proofs.Slots.{here, was, elsewhere, stays, set_cases}
 

@@ -5,6 +5,11 @@ pub none_first : {X : Type 0} (xs : List X) → slice_get xs 0 ≡ None → xs �
 none_first [] is = refl
 none_first (x ∷ xs) is = cc
 
+-- the one that is there, and those behind it
+pub with_first : {X : Type 0} (xs : List X) (x : X) → slice_get xs 0 ≡ Some x → (rest : List X) × (xs ≡ x ∷ rest)
+with_first [] x is = absurd (cc)
+with_first (y ∷ xs) x is = (xs, cc)
+
 pub first_same : {X : Type 0} (xs rest : List X) (x y : X) → slice_get xs 0 ≡ Some x → xs ≡ y ∷ rest → x ≡ y
 first_same xs rest x y there is = let e : Some x ≡ Some y = sym there ∙ ap (λ zs. slice_get zs 0) is in cc
 

@@ -1,21 +1,9 @@
 -- The values that the nodes of a world show.
-use Rattle.std.proofs.Common.{◌≡◌, ℕ, ◌<◌, cond, refl, sym, ap, ◌∙◌, subst, List, Some, slice_get, eqb}
-use Rattle.std.proofs.lemmas.Bool.{lt-ltb}
-use Rattle.dob_rank.specs.Families.{classes_of}
+use Rattle.dob_world.proofs.Common.{◌<◌, ◌∙◌, ◌≡◌, List, Some, ap, cond, eqb, refl, slice_get, subst, sym, ℕ, lt-ltb, classes_of, IsEntry, Draw, fresh}
+use Rattle.dob_world.proofs.Common.{owner_of, HasValueNow, IsOwn, cell_at, status_at, below_owner, value_shown, Node, nodes_shown, part, world_shown}
+use Rattle.dob_world.proofs.Common.{AreInPlace, IsNodeOf, AreLawful, Nodes, Setting, value_in, Lane}
 use Rattle.dob_value.specs.declared.value.Value.{Value}
-use Rattle.dob_value.specs.declared.value.Value.TheVariants.{Draw}
-use Rattle.dob_value.specs.Follows.{IsEntry}
-use Rattle.dob_share.specs.Owners.{owner_of}
-use Rattle.dob_share.specs.Cells.{fresh}
-use Rattle.dob_share.specs.Shares.{IsOwn, status_at, cell_at, HasValueNow}
-use Rattle.dob_node.specs.declared.node.Node.{Node}
 use Rattle.dob_node.proofs.Kept.{last_now-entry}
-use Rattle.dob_node.proofs.Rest.{below_owner}
-use Rattle.dob_node.proofs.ShownValues.{value_shown}
-use Rattle.dob_world.specs.declared.lane.Lane.{Lane}
-use Rattle.dob_world.specs.Worlds.{Setting, Nodes, value_in, AreLawful}
-use Rattle.dob_world.specs.Shown.{part, nodes_shown, world_shown}
-use Rattle.dob_world.specs.Standing.{IsNodeOf, AreInPlace}
 use Rattle.dob_world.proofs.Made.{kept_of}
 
 module _ (k : Setting) (nodes : List Node) (lanes : List Lane) (some : 0 < k.n) (places : AreInPlace k nodes lanes)

@@ -1,13 +1,6 @@
 -- Nodes and lanes where they stand.
-use Rattle.std.proofs.Common.{◌≡◌, ℕ, ◌+◌, ◌*◌, ◌<◌, arith, sym, ◌∙◌, subst, List, length, Some, slice_get, get_or}
-use Rattle.std.proofs.lemmas.Nat.{mul-add-lt}
-use Rattle.dob_pieces.proofs.Elements.{read_there}
-use Rattle.dob_node.specs.declared.node.Node.{Node}
-use Rattle.dob_world.specs.declared.lane.Lane.{Lane}
-use Rattle.dob_world.specs.declared.world.World.{World}
-use Rattle.dob_world.specs.Worlds.{Setting}
-use Rattle.dob_world.specs.Shown.{lane_at}
-use Rattle.dob_world.specs.Standing.{AreInPlace}
+use Rattle.dob_world.proofs.Common.{◌*◌, ◌+◌, ◌<◌, ◌∙◌, ◌≡◌, List, Some, arith, get_or, length, slice_get, subst, sym, ℕ, mul-add-lt, read_there, Node, lane_at}
+use Rattle.dob_world.proofs.Common.{AreInPlace, Setting, Lane, World}
 use Rattle.dob_world.proofs.Slots.{lane_is}
 
 -- ---- where the lists are as long as they should be

@@ -1,14 +1,8 @@
 -- Each event, and any events one after another, leave a lawful and linked world so; the next item always fits.
-use Rattle.std.proofs.Common.{◌≡◌, ◌≢◌, ℕ, ◌<◌, inl, inr, sym, ap, ◌∙◌, subst, append_assoc, List, [], ◌∷◌, ◌++◌, drop}
-use Rattle.dob_unmove.specs.Edges.{predecessors}
-use Rattle.dob_share.specs.declared.news.Item.{Item}
-use Rattle.dob_update.specs.Items.{items_from}
-use Rattle.dob_update.specs.Batches.{BatchView, items_of_batches}
-use Rattle.dob_node.proofs.Settles.{emitted_all}
-use Rattle.dob_world.specs.declared.event.Event.TheVariants.{Expand, Own, Post, Take, Pass, Announce}
-use Rattle.dob_world.specs.Worlds.{Setting, Nodes, WorldView, State, items_in, AreLawful, IsLinked}
-use Rattle.dob_world.specs.Events.{ExpandsAt, AppliesItems, AppliesOwn, Posts, TakesBatch}
-use Rattle.dob_world.specs.Laws.{HappeningKeepsAll, EventsKeepAll, ListsAreBeginnings, OwnItemFits, TakenItemFits}
+use Rattle.dob_world.proofs.Common.{◌++◌, ◌<◌, ◌∙◌, ◌∷◌, ◌≡◌, ◌≢◌, List, [], ap, append_assoc, drop, inl, inr, subst, sym, ℕ, predecessors, Item, BatchView}
+use Rattle.dob_world.proofs.Common.{items_of_batches, items_from, emitted_all, AppliesItems, AppliesOwn, ExpandsAt, Posts, TakesBatch, EventsKeepAll}
+use Rattle.dob_world.proofs.Common.{HappeningKeepsAll, ListsAreBeginnings, OwnItemFits, TakenItemFits, AreLawful, IsLinked, Nodes, Setting, State, WorldView}
+use Rattle.dob_world.proofs.Common.{items_in, Announce, Expand, Own, Pass, Post, Take}
 use Rattle.dob_world.proofs.Places.{lawful_stay}
 use Rattle.dob_world.proofs.Applied.{Grows, next_fits, lawful_step, step_grows, next_after, all_applied}
 use Rattle.dob_world.proofs.Linked.{linked_expanded, linked_own, linked_posted, linked_taken}

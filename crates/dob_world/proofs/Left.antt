@@ -1,27 +1,10 @@
 -- What is left of a world after a stop: of the promise the first part, and after lack of memory all of it.
-use Rattle.std.proofs.Common.{◌≡◌, ◌≢◌, ℕ, ◌<◌, inl, inr, false, sym, ap, ◌∙◌, subst, append_assoc, ◌∷◌, ◌++◌, None, Some}
-use Rattle.std.specs.Prelude.{MatchOption}
-use Rattle.std.proofs.lemmas.Bool.{cases_Bool}
+use Rattle.dob_world.proofs.Common.{◌++◌, ◌<◌, ◌∙◌, ◌∷◌, ◌≡◌, ◌≢◌, None, Some, ap, append_assoc, false, inl, inr, subst, sym, ℕ, cases_Bool, MatchOption}
+use Rattle.dob_world.proofs.Common.{predecessors, Ring, items_of_batches, items_from, Fault, Stopped, items_from-append, IsStopped, CanHappen, AreBeginnings}
+use Rattle.dob_world.proofs.Common.{Headline, ring_of, setting_of, state_of, IsLeft, IsStanding, StandsOrStopped, IsForMemory, IsLeftBy, TakesFront, AreLawful}
+use Rattle.dob_world.proofs.Common.{IsLinked, Nodes, Setting, State, WorldView, items_in, Detector, Event, Announce, Expand, Own, Pass, Post, Take, World}
 use Rattle.dob_pieces.specs.Lists.{IsBeginning}
-use Rattle.dob_unmove.specs.Edges.{predecessors}
-use Rattle.dob_update.specs.Items.{items_from}
-use Rattle.dob_update.specs.Batches.{items_of_batches}
 use Rattle.dob_stops.specs.declared.cause.Cause.TheVariants as cause
-use Rattle.dob_node.proofs.Settles.{items_from-append}
-use Rattle.dob_safra.specs.Rings.{Ring}
-use Rattle.dob_world.specs.declared.detector.Detector.{Detector}
-use Rattle.dob_world.specs.declared.event.Event.{Event}
-use Rattle.dob_world.specs.declared.event.Event.TheVariants.{Expand, Own, Post, Take, Pass, Announce}
-use Rattle.dob_stops.specs.declared.fault.Fault.{Fault}
-use Rattle.dob_stops.specs.declared.fault.Fault.TheVariants.{Stopped}
-use Rattle.dob_world.specs.declared.world.World.{World}
-use Rattle.dob_world.specs.Worlds.{Setting, Nodes, WorldView, State, items_in, AreLawful, IsLinked}
-use Rattle.dob_world.specs.Events.{CanHappen}
-use Rattle.dob_world.specs.Stops.{TakesFront, IsLeftBy, IsForMemory}
-use Rattle.dob_world.specs.Headline.{AreBeginnings, Headline}
-use Rattle.dob_world.specs.Shown.{setting_of, state_of, ring_of}
-use Rattle.dob_world.specs.Standing.{IsStanding, IsLeft, StandsOrStopped}
-use Rattle.dob_world.specs.Effects.{IsStopped}
 use Rattle.dob_world.proofs.Places.{at_link}
 use Rattle.dob_world.proofs.Kept.{FrontApplied, front_applied, lists_are_beginnings}
 use Rattle.dob_world.proofs.Promise.{begins, known_values, standing_headline}

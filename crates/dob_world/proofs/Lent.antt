@@ -1,9 +1,5 @@
 -- What a world shows of its nodes and lanes is what it lends.
-use Rattle.std.proofs.Common.{◌≡◌, ℕ, ap, List, [], Some, slice_get}
-use Rattle.dob_node.specs.declared.node.Node.{Node}
-use Rattle.dob_world.specs.declared.lane.Lane.{Lane}
-use Rattle.dob_world.specs.Worlds.{Setting}
-use Rattle.dob_world.specs.Shown.{part, lane_at, nodes_shown, world_shown}
+use Rattle.dob_world.proofs.Common.{◌≡◌, List, Some, [], ap, slice_get, ℕ, Node, lane_at, nodes_shown, part, world_shown, Setting, Lane}
 
 module _ (k : Setting) (nodes : List Node) (lanes : List Lane) where
   pub sent_shown : (i j : ℕ) (lane : Lane) → lane_at k.n lanes i j ≡ Some lane → (world_shown k.family k.n nodes lanes).sent i j ≡ lane.sent.items

@@ -1,4 +1,5 @@
 -- The lemmas, in the order in which they are read. First lists, nodes and lanes.
+mod Common  -- names of other crates and of this one's definitions, for the proofs
 pub mod Places  -- what holds at one node or link and at all others
 pub mod Firsts  -- first elements, lists that have some, and calls that can't have failed
 pub mod Slots  -- elements of lists after a write, and nodes and lanes among them

@@ -1,15 +1,8 @@
 -- Each event leaves a linked world linked.
-use Rattle.std.proofs.Common.{◌≡◌, ◌≢◌, ℕ, ◌+◌, ◌<◌, ◌≤◌, ◌⊎◌, inl, inr, sym, ap, ◌∙◌, arith, append_assoc, List, [], ◌∷◌, ◌++◌, length, take, drop}
-use Rattle.std.proofs.lemmas.List.{length-append, take-append-drop}
-use Rattle.std.proofs.lemmas.Option.{slice_get_within}
-use Rattle.dob_unmove.specs.Edges.{predecessors}
-use Rattle.dob_share.specs.declared.news.Item.{Item}
-use Rattle.dob_update.specs.Items.{items_of, items_from}
-use Rattle.dob_update.specs.Batches.{items_of_batches}
+use Rattle.dob_world.proofs.Common.{◌++◌, ◌+◌, ◌<◌, ◌∙◌, ◌∷◌, ◌≡◌, ◌≢◌, ◌≤◌, ◌⊎◌, List, [], ap, append_assoc, arith, drop, inl, inr, length, sym, take, ℕ}
+use Rattle.dob_world.proofs.Common.{length-append, take-append-drop, slice_get_within, predecessors, Item, items_of_batches, items_from, items_of}
+use Rattle.dob_world.proofs.Common.{emitted_grown, emitted_more, AppliesOwn, ExpandsAt, Posts, TakesBatch, IsLinked, Setting, WorldView, emitted_in}
 use Rattle.dob_update.proofs.BatchItems.{items_in_more}
-use Rattle.dob_node.proofs.Settles.{emitted_more, emitted_grown}
-use Rattle.dob_world.specs.Worlds.{Setting, WorldView, emitted_in, IsLinked}
-use Rattle.dob_world.specs.Events.{ExpandsAt, AppliesOwn, Posts, TakesBatch}
 use Rattle.dob_world.proofs.Places.{at_node, at_link}
 use Rattle.dob_world.proofs.Applied.{Grows}
 

@@ -1,35 +1,11 @@
 -- Own items applied, batches taken and batches posted in a world that stands.
-use Rattle.std.proofs.Common.{◌≡◌, ◌≢◌, ℕ, ◌+◌, ◌*◌, ◌<◌, ◌⊎◌, inl, inr, cond, nat_lt, refl, sym, ap, ◌∙◌, subst, append_assoc}
-use Rattle.std.proofs.Common.{List, [], ◌∷◌, ◌++◌, length, take, drop, None, Some, slice_get, set}
-use Rattle.std.specs.List.{All}
-use Rattle.std.proofs.lemmas.List.{append-nil}
-use Rattle.std.proofs.lemmas.List.Elements.{All-head, All-tail, All-append, All-cons, All-nil}
-use Rattle.dob_moves.specs.declared.position_status.Status.{Status}
-use Rattle.dob_moves.specs.Statuses.{HasStatus}
-use Rattle.dob_rank.specs.Families.{classes_of}
-use Rattle.dob_rank.specs.Families.{class_setup}
-use Rattle.dob_unmove.specs.Edges.{predecessors}
-use Rattle.dob_share.specs.declared.news.Item.{Item}
-use Rattle.dob_share.specs.declared.share.Share.{Share}
-use Rattle.dob_share.specs.Owners.{owner_of}
-use Rattle.dob_share.specs.Cells.{fresh}
-use Rattle.dob_share.specs.Shares.{IsOwn, status_at, cell_at}
-use Rattle.dob_update.specs.Items.{items_from}
-use Rattle.dob_update.specs.Batches.{BatchView, OutboxView, items_of_batches}
-use Rattle.dob_link.specs.Links.{LinkView, link_of}
-use Rattle.dob_node.specs.Stores.{HistoryView}
-use Rattle.dob_stops.specs.declared.cause.Cause.{Cause}
-use Rattle.dob_node.specs.TakenItems.{HasItemEntries, AreKept, AreTaken}
-use Rattle.dob_node.specs.declared.node.Node.{Node}
-use Rattle.dob_node.specs.Nodes.{IsSound, HasTaken, outbox_to}
-use Rattle.dob_node.proofs.Nodes.{outbox_same, kept_sound}
-use Rattle.dob_world.specs.declared.lane.Lane.{Lane}
-use Rattle.dob_world.specs.Worlds.{Setting, WorldView, AreLawful, IsLinked}
-use Rattle.dob_world.specs.Events.{Stays, LinksStay, OtherLinksStay, AppliesItems, AppliesOwn, TakesBatch, Posts}
-use Rattle.dob_world.specs.Stops.{GoesTooDeep, TakesFront}
-use Rattle.dob_world.specs.Lanes.{IsBatchTo, HasListed, HasTakenBatch, HasReceivedFront, HasSentBatch}
-use Rattle.dob_world.specs.Shown.{part, lane_at, nodes_shown, world_shown}
-use Rattle.dob_world.specs.Standing.{IsNodeOf, IsLaneOf}
+use Rattle.dob_world.proofs.Common.{◌*◌, ◌++◌, ◌+◌, ◌<◌, ◌∙◌, ◌∷◌, ◌≡◌, ◌≢◌, ◌⊎◌, List, None, Some, [], ap, append_assoc, cond, drop, inl, inr, length, nat_lt}
+use Rattle.dob_world.proofs.Common.{refl, set, slice_get, subst, sym, take, ℕ, append-nil, All-append, All-cons, All-head, All-nil, All-tail, All, HasStatus}
+use Rattle.dob_world.proofs.Common.{Status, class_setup, classes_of, predecessors, fresh, owner_of, IsOwn, cell_at, status_at, Item, Share, BatchView}
+use Rattle.dob_world.proofs.Common.{OutboxView, items_of_batches, items_from, Cause, kept_sound, outbox_same, HasTaken, IsSound, outbox_to, HistoryView}
+use Rattle.dob_world.proofs.Common.{AreKept, AreTaken, HasItemEntries, Node, AppliesItems, AppliesOwn, LinksStay, OtherLinksStay, Posts, Stays, TakesBatch}
+use Rattle.dob_world.proofs.Common.{HasListed, HasReceivedFront, HasSentBatch, HasTakenBatch, IsBatchTo, LinkView, link_of, lane_at, nodes_shown, part}
+use Rattle.dob_world.proofs.Common.{world_shown, IsLaneOf, IsNodeOf, GoesTooDeep, TakesFront, AreLawful, IsLinked, Setting, WorldView, Lane}
 use Rattle.dob_world.proofs.Slots.{here, was, elsewhere, stays, lane_here, lane_was, lane_else, lane_stays}
 use Rattle.dob_world.proofs.Kept.{next_own, next_waiting}
 use Rattle.dob_world.proofs.Moves.{applies_one, applies_many}
@@ -69,7 +45,7 @@ pub chain_statuses : (items : List Item) (share after : Share) (history grown : 
     status_at after class ≡ status_at share class
 chain_statuses [] share after history grown taken class = ap (λ (s : Share). status_at s class) taken.0
 chain_statuses (item ∷ items) share after history grown taken class =
-    chain_statuses items taken.0 after taken.1 grown taken.3 class ∙ taken.2.statuses class
+    chain_statuses items taken.0 after taken.1 grown taken.3 class ∙ taken.2.classes.statuses class
 
 -- ---- an own item
 
@@ -77,7 +53,7 @@ module _ (k : Setting) (nodes : List Node) (lanes : List Lane) (i : ℕ) (low : 
     (there_n : slice_get nodes i ≡ Some node) (there_l : lane_at k.n lanes i i ≡ Some lane) (whole : length lanes ≡ k.n * k.n)
     (is : IsNodeOf k i node) (step : HasListed node lane after next) where
   pub node_owned : IsSound after → after.failed ≡ None → IsNodeOf k i after
-  node_owned sound going = node_after k i node after is sound going step.applied.same.0 step.applied.same.1 step.applied.same.2 step.applied.taken.statuses
+  node_owned sound going = node_after k i node after is sound going step.applied.same.0 step.applied.same.1 step.applied.same.2 step.applied.taken.classes.statuses
 
   pub lane_owned : IsLaneOf k i i lane → IsLaneOf k i i next
   lane_owned of = record {

@@ -1,18 +1,9 @@
 -- Each event leaves a ring that matches its world matching it.
-use Rattle.std.proofs.Common.{◌≡◌, ◌≢◌, ℕ, suc, ◌+◌, ◌^◌, ◌<◌, ◌≤◌, inl, inr, true, false, sym, ap, ◌∙◌, subst, arith, List, [], ◌∷◌, length}
-use Rattle.std.proofs.lemmas.Bool.{cases_Bool, cases_eq}
-use Rattle.std.proofs.lemmas.List.{length-append}
+use Rattle.dob_world.proofs.Common.{◌+◌, ◌<◌, ◌^◌, ◌∙◌, ◌∷◌, ◌≡◌, ◌≢◌, ◌≤◌, List, [], ap, arith, false, inl, inr, length, subst, suc, sym, true, ℕ, cases_Bool}
+use Rattle.dob_world.proofs.Common.{cases_eq, length-append, moved_kept, IsSize, CountsStay, IsLawfulRing, Moved, Ring, Item, AppliesItems, AppliesOwn}
+use Rattle.dob_world.proofs.Common.{ExpandsAt, Happens, Posts, TakesBatch, HappeningKeepsMatch, HasAtMost, IsNodeIdle, Matches, Nodes, Setting, State}
+use Rattle.dob_world.proofs.Common.{WorldView, Event, Announce, Expand, Own, Pass, Post, Take}
 use Rattle.dob_safra.specs.declared.event.RingEvent.TheVariants as ring
-use Rattle.dob_safra.specs.Laws.{IsSize}
-use Rattle.dob_safra.specs.Rings.{Ring, CountsStay, Moved, IsLawfulRing}
-use Rattle.dob_safra.proofs.Kept.{moved_kept}
-use Rattle.dob_share.specs.declared.news.Item.{Item}
-use Rattle.dob_world.specs.declared.event.Event.{Event}
-use Rattle.dob_world.specs.declared.event.Event.TheVariants.{Expand, Own, Post, Take, Pass, Announce}
-use Rattle.dob_world.specs.Worlds.{Setting, Nodes, WorldView, State, IsNodeIdle, Matches}
-use Rattle.dob_world.specs.Events.{Happens, ExpandsAt, AppliesOwn, Posts, TakesBatch, AppliesItems}
-use Rattle.dob_world.specs.Standing.{HasAtMost}
-use Rattle.dob_world.specs.Laws.{HappeningKeepsMatch}
 use Rattle.dob_world.proofs.Places.{at_link}
 use Rattle.dob_world.proofs.Firsts.{none_some}
 

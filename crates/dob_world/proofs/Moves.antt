@@ -1,21 +1,8 @@
 -- Items that a node of the world applies, its own or those of a batch, and batches that it posts.
-use Rattle.std.proofs.Common.{◌≡◌, ◌≢◌, ℕ, ◌+◌, ◌*◌, ◌<◌, ◌⊎◌, inl, inr, eqb, nat_lt, Bool, true, false, cond, refl, sym}
-use Rattle.std.proofs.Common.{ap, ◌∙◌, subst, List, [], ◌∷◌, ◌++◌, length, Some, slice_get, set}
-use Rattle.std.specs.List.{All}
-use Rattle.std.proofs.lemmas.Bool.{eqb-true, eq-eqb, and_parts, and_cases}
-use Rattle.std.proofs.lemmas.List.{length-set}
-use Rattle.dob_rank.specs.Families.{classes_of}
-use Rattle.dob_share.specs.declared.news.Item.{Item}
-use Rattle.dob_share.specs.Owners.{owner_of}
-use Rattle.dob_share.specs.Cells.{Cell, fresh}
-use Rattle.dob_share.specs.Shares.{cell_at}
-use Rattle.dob_node.specs.TakenItems.{HasItemEntries, AreKept, IsTaken, AreTaken}
-use Rattle.dob_node.specs.declared.node.Node.{Node}
-use Rattle.dob_world.specs.declared.lane.Lane.{Lane}
-use Rattle.dob_world.specs.Worlds.{Setting, Nodes, items_in, AreLawful}
-use Rattle.dob_world.specs.Events.{Applies, AppliesItems}
-use Rattle.dob_world.specs.Shown.{part, lane_at, nodes_shown}
-use Rattle.dob_world.specs.Standing.{IsNodeOf, IsLaneOf, AreInPlace}
+use Rattle.dob_world.proofs.Common.{◌*◌, ◌++◌, ◌+◌, ◌<◌, ◌∙◌, ◌∷◌, ◌≡◌, ◌≢◌, ◌⊎◌, Bool, List, Some, [], ap, cond, eqb, false, inl, inr, length, nat_lt, refl}
+use Rattle.dob_world.proofs.Common.{set, slice_get, subst, sym, true, ℕ, and_cases, and_parts, eq-eqb, eqb-true, length-set, All, classes_of, Cell, fresh}
+use Rattle.dob_world.proofs.Common.{owner_of, cell_at, Item, AreKept, AreTaken, HasItemEntries, IsTaken, Node, Applies, AppliesItems, lane_at, nodes_shown}
+use Rattle.dob_world.proofs.Common.{part, AreInPlace, IsLaneOf, IsNodeOf, AreLawful, Nodes, Setting, items_in, Lane}
 use Rattle.dob_world.proofs.Places.{at_node, at_link, nodes_same}
 use Rattle.dob_world.proofs.Slots.{here, was, elsewhere, set_cases, lane_here, lane_was, lane_else, lane_cases}
 use Rattle.dob_world.proofs.Taken.{with_share, own_test, history_here, history_else, applied_here, applied_else, item_applies, items_apply}

@@ -1,16 +1,7 @@
 -- What comes of an event in a world that stands: it was possible, it happened, and the world stands.
-use Rattle.std.proofs.Common.{None, ◌≡◌, ◌≢◌, ℕ, ◌+◌, ◌*◌, ◌<◌, ◌≤◌, ◌⊎◌, inl, inr, arith, refl, sym, ap, ◌∙◌, subst, List, [], ◌∷◌, length, Some}
-use Rattle.std.proofs.Common.{slice_get, set}
-use Rattle.dob_update.specs.Batches.{BatchView}
-use Rattle.dob_share.specs.declared.news.Item.{Item}
-use Rattle.dob_node.specs.declared.node.Node.{Node}
-use Rattle.dob_node.specs.Nodes.{IsSound, outbox_to}
-use Rattle.dob_world.specs.declared.lane.Lane.{Lane}
-use Rattle.dob_world.specs.Worlds.{Setting, AreLawful, IsLinked}
-use Rattle.dob_world.specs.Events.{AppliesOwn, Posts, TakesBatch}
-use Rattle.dob_world.specs.Lanes.{HasListed, HasTakenBatch, HasSentBatch}
-use Rattle.dob_world.specs.Shown.{part, lane_at, world_shown}
-use Rattle.dob_world.specs.Standing.{AreInPlace}
+use Rattle.dob_world.proofs.Common.{◌*◌, ◌+◌, ◌<◌, ◌∙◌, ◌∷◌, ◌≡◌, ◌≢◌, ◌≤◌, ◌⊎◌, List, None, Some, [], ap, arith, inl, inr, length, refl, set, slice_get, subst}
+use Rattle.dob_world.proofs.Common.{sym, ℕ, Item, BatchView, IsSound, outbox_to, Node, AppliesOwn, Posts, TakesBatch, HasListed, HasSentBatch, HasTakenBatch}
+use Rattle.dob_world.proofs.Common.{lane_at, part, world_shown, AreInPlace, AreLawful, IsLinked, Setting, Lane}
 use Rattle.dob_world.proofs.Slots.{was, lane_was}
 use Rattle.dob_world.proofs.Moves.{in_place_both}
 use Rattle.dob_world.proofs.Made.{owns, node_owned, lane_owned, whole_received, receives, node_received, lane_received, waits_first, posts, node_posted}

@@ -1,15 +1,8 @@
 -- Where nothing is left to do, and what the promise of the whole says of every world.
-use Rattle.std.proofs.Common.{◌≡◌, ◌+◌, ◌-◌, true, refl, sym, ◌∙◌, arith, List, [], ◌∷◌, length}
-use Rattle.std.proofs.lemmas.Bool.{true≢false}
-use Rattle.dob_safra.specs.Rings.{sum_below, in_flight, AllWhite, AllTaken}
-use Rattle.dob_safra.specs.Laws.{IsRingQuiet}
+use Rattle.dob_world.proofs.Common.{◌+◌, ◌-◌, ◌∙◌, ◌∷◌, ◌≡◌, List, [], arith, length, refl, sym, true, true≢false, sum_same, IsRingQuiet, AllTaken, AllWhite}
+use Rattle.dob_world.proofs.Common.{in_flight, sum_below, CanHappen, EndIsRest, EndIsSilent, RestStays, IsAtRest, Matches, Setting, State, waiting_batches}
+use Rattle.dob_world.proofs.Common.{Event, Announce, Expand, Own, Pass, Post, Take}
 use Rattle.dob_safra.proofs.Quiet.{quiet}
-use Rattle.dob_safra.proofs.Sums.{sum_same}
-use Rattle.dob_world.specs.declared.event.Event.{Event}
-use Rattle.dob_world.specs.declared.event.Event.TheVariants.{Expand, Own, Post, Take, Pass, Announce}
-use Rattle.dob_world.specs.Worlds.{Setting, State, Matches, IsAtRest, waiting_batches}
-use Rattle.dob_world.specs.Events.{CanHappen}
-use Rattle.dob_world.specs.Laws.{EndIsRest, RestStays, EndIsSilent}
 use Rattle.dob_world.proofs.Firsts.{none_some}
 
 none_long : {X : Type 0} (xs : List X) → length xs ≡ 0 → xs ≡ []

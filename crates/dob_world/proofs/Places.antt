@@ -1,8 +1,5 @@
 -- What holds at one node or link and at all others, and worlds whose parts stay.
-use Rattle.std.proofs.Common.{◌≡◌, ◌≢◌, ℕ, ◌⊎◌, inl, inr, sym, subst}
-use Rattle.std.proofs.lemmas.Bool.{cases_eq}
-use Rattle.dob_world.specs.Worlds.{Setting, Nodes, AreLawful}
-use Rattle.dob_world.specs.Events.{NodesStay}
+use Rattle.dob_world.proofs.Common.{◌≡◌, ◌≢◌, ◌⊎◌, inl, inr, subst, sym, ℕ, cases_eq, NodesStay, AreLawful, Nodes, Setting}
 
 -- what holds at a node and at each other one holds at each
 pub at_node : (P : ℕ → Type 0) (i m : ℕ) → P i → (m ≢ i → P m) → P m

@@ -1,28 +1,12 @@
 -- The promise of the whole, in worlds that stand and after any events.
-use Rattle.std.proofs.Common.{◌≡◌, ℕ, ◌+◌, ◌^◌, ◌<◌, ◌≤◌, inl, inr, true, false, sym, ap, ◌∙◌, subst, arith, List, [], ◌∷◌, length}
+use Rattle.dob_world.proofs.Common.{◌+◌, ◌<◌, ◌^◌, ◌∙◌, ◌∷◌, ◌≡◌, ◌≤◌, List, [], ap, arith, false, inl, inr, length, subst, sym, true, ℕ, ints, Caught, Open}
+use Rattle.dob_world.proofs.Common.{Stuck, Tried, IsLawfulRing, Ring, Token, owner_of, some_known, value_follows, known_of, Node, IsWorldUnchanged, CanHappen}
+use Rattle.dob_world.proofs.Common.{Happens, AreBeginnings, HasRightValues, HaveKnownValues, Headline, HeadlineHolds, IsAfter, ring_of, setting_of, state_of}
+use Rattle.dob_world.proofs.Common.{world_shown, HasAtMost, HasOpenings, IsSetting, IsStanding, Stand, IsWorldStart, AreLawful, IsAtRest, IsLinked, Matches}
+use Rattle.dob_world.proofs.Common.{Nodes, Setting, State, value_in, Detector, Event, Lane, World}
 use Rattle.std.proofs.Math.IntN.{pos}
-use Rattle.std.proofs.lemmas.Int.{ints}
-use Rattle.dob_safra.specs.declared.token.Token.{Token}
-use Rattle.dob_safra.specs.Rings.{Ring, IsLawfulRing, black_token, IsStart as IsStartRing}
-use Rattle.dob_moves.specs.declared.position_status.Status.TheVariants.{Caught, Tried, Stuck, Open}
-use Rattle.dob_share.specs.Owners.{owner_of}
-use Rattle.dob_node.specs.declared.node.Node.{Node}
-use Rattle.dob_node.specs.Lawful.{known_of}
-use Rattle.dob_node.proofs.ValuesFollow.{value_follows}
-use Rattle.dob_node.proofs.Totals.{some_known}
-use Rattle.dob_world.specs.declared.lane.Lane.{Lane}
-use Rattle.dob_world.specs.declared.detector.Detector.{Detector}
-use Rattle.dob_world.specs.declared.event.Event.{Event}
-use Rattle.dob_world.specs.declared.world.World.{World}
-use Rattle.dob_world.specs.Worlds.{Setting, Nodes, WorldView as Shown, State, value_in, AreLawful, IsLinked, Matches, IsAtRest}
-use Rattle.dob_world.specs.Events.{CanHappen, Happens}
-use Rattle.dob_world.specs.Runs.{IsAfter}
-use Rattle.dob_world.specs.Headline.{HaveKnownValues, AreBeginnings, HasRightValues, Headline}
-use Rattle.dob_world.specs.Shown.{setting_of, state_of, world_shown, ring_of}
-use Rattle.dob_world.specs.Standing.{IsSetting, HasOpenings, HasAtMost, Stand, IsStanding}
-use Rattle.dob_world.specs.Effects.{IsWorldUnchanged}
-use Rattle.dob_world.specs.Start.{IsWorldStart}
-use Rattle.dob_world.specs.Laws.{HeadlineHolds}
+use Rattle.dob_safra.specs.Rings.{black_token, IsStart as IsStartRing}
+use Rattle.dob_world.specs.Worlds.{WorldView as Shown}
 use Rattle.dob_world.proofs.Kept.{lists_are_beginnings, happening_keeps_all}
 use Rattle.dob_world.proofs.Matching.{happening_keeps_match, posted_most}
 use Rattle.dob_world.proofs.Over.{end_is_rest, end_is_silent, flight_waits}

@@ -1,13 +1,6 @@
 -- Nodes and lanes, one more.
-use Rattle.std.proofs.Common.{◌≡◌, ℕ, ◌+◌, inl, inr, refl, sym, ap, ◌∙◌, subst, List, [], ◌∷◌, ◌++◌}
-use Rattle.std.proofs.lemmas.List.{length-append}
-use Rattle.dob_pieces.specs.declared.profile.Family.{Family}
-use Rattle.dob_pieces.proofs.Elements.{at_end}
-use Rattle.dob_share.specs.declared.opening.Opening.{Opening}
-use Rattle.dob_node.specs.declared.node.Node.{Node}
-use Rattle.dob_node.specs.Nodes.{IsSound, IsOpened}
-use Rattle.dob_world.specs.declared.lane.Lane.{Lane}
-use Rattle.dob_world.specs.Start.{IsEmptyLane, AreEmptyLanes, AreOpenedNodes}
+use Rattle.dob_world.proofs.Common.{◌++◌, ◌+◌, ◌∙◌, ◌∷◌, ◌≡◌, List, [], ap, inl, inr, refl, subst, sym, ℕ, length-append, at_end, Family, Opening, IsOpened}
+use Rattle.dob_world.proofs.Common.{IsSound, Node, AreEmptyLanes, AreOpenedNodes, IsEmptyLane, Lane}
 
 pub opened_more : (openings : List Opening) (family : Family) (n m : ℕ) (nodes new : List Node) (node : Node) → AreOpenedNodes openings family n m nodes →
     IsOpened openings family m n node → IsSound node → new ≡ nodes ++ node ∷ [] → AreOpenedNodes openings family n (m + 1) new

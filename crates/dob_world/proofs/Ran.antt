@@ -1,23 +1,12 @@
 -- One event more of a run.
-use Rattle.std.proofs.Common.{◌≡◌, ℕ, ◌+◌, ◌-◌, ◌<◌, ◌≤◌, inl, inr, refl, sym, ap, ◌∙◌, subst, arith, add-one, List, [], ◌∷◌, ◌++◌, length, take, get_or, None}
+use Rattle.dob_world.proofs.Common.{◌++◌, ◌+◌, ◌-◌, ◌<◌, ◌∙◌, ◌∷◌, ◌≡◌, ◌≤◌, List, None, [], add-one, ap, arith, get_or, inl, inr, length, refl, subst, sym}
+use Rattle.dob_world.proofs.Common.{take, ℕ, slice_get-get_or, Fault, IsMade, IsSkipped, IsWorldUnchanged, CanHappen, Headline, HasRunEvents, HasStoppedAt}
+use Rattle.dob_world.proofs.Common.{IsAfter, IsAfterSteps, IsDoneOrSkipped, IsStepOf, ring_of, setting_of, state_of, world_shown, IsSetting, IsStanding}
+use Rattle.dob_world.proofs.Common.{IsWorldStart, IsStopBy, HaveFallsIn, Setting, State, Detector, Event, World}
 use Rattle.std.proofs.Math.Seq.{take-suc}
-use Rattle.std.proofs.lemmas.Option.{slice_get-get_or}
-use Rattle.dob_world.specs.declared.event.Event.{Event}
 use Rattle.dob_world.specs.declared.step.Step.{Step}
 use Rattle.dob_world.specs.declared.step.Step.TheVariants.{Done, Skipped}
-use Rattle.dob_world.specs.declared.world.World.{World}
-use Rattle.dob_world.specs.Worlds.{Setting, WorldView as Shown, State, HaveFallsIn}
-use Rattle.dob_world.specs.Events.{CanHappen}
-use Rattle.dob_world.specs.Runs.{IsDoneOrSkipped, IsAfter, IsStepOf, IsAfterSteps}
-use Rattle.dob_world.specs.Shown.{setting_of, state_of, world_shown, ring_of}
-use Rattle.dob_world.specs.Standing.{IsSetting, IsStanding}
-use Rattle.dob_world.specs.Effects.{IsWorldUnchanged, IsMade, IsSkipped}
-use Rattle.dob_world.specs.Start.{IsWorldStart}
-use Rattle.dob_world.specs.Results.{HasRunEvents, HasStoppedAt}
-use Rattle.dob_stops.specs.declared.fault.Fault.{Fault}
-use Rattle.dob_world.specs.Stops.{IsStopBy}
-use Rattle.dob_world.specs.declared.detector.Detector.{Detector}
-use Rattle.dob_world.specs.Headline.{Headline}
+use Rattle.dob_world.specs.Worlds.{WorldView as Shown}
 use Rattle.dob_world.proofs.Promise.{standing_headline}
 use Rattle.dob_world.proofs.Left.{with_ring}
 

@@ -1,13 +1,7 @@
 -- A lawful and linked world at rest has the value table.
-use Rattle.std.proofs.Common.{◌≡◌, ℕ, ◌<◌, inl, inr, sym, ap, ◌∙◌, subst, arith, ◌++◌, length}
-use Rattle.std.proofs.lemmas.Bool.{cases_eq}
-use Rattle.std.proofs.lemmas.List.{append-nil, take_all}
-use Rattle.dob_unmove.specs.Edges.{predecessors}
-use Rattle.dob_update.specs.Items.{items_from}
-use Rattle.dob_update.specs.Batches.{items_of_batches}
+use Rattle.dob_world.proofs.Common.{◌++◌, ◌<◌, ◌∙◌, ◌≡◌, ap, arith, inl, inr, length, subst, sym, ℕ, cases_eq, append-nil, take_all, predecessors}
+use Rattle.dob_world.proofs.Common.{items_of_batches, items_from, RestIsRight, IsAtRest, IsLinked, Setting, WorldView, emitted_in, items_in, value_in}
 use Rattle.dob_node.proofs.Ends.{lawful_is_right}
-use Rattle.dob_world.specs.Worlds.{Setting, WorldView, value_in, items_in, emitted_in, IsLinked, IsAtRest}
-use Rattle.dob_world.specs.Laws.{RestIsRight}
 
 module _ (k : Setting) (world : WorldView) (linked : IsLinked k world) (rest : IsAtRest k world) where
   -- all items of a history are those of the settlements expanded

@@ -1,13 +1,7 @@
 -- Elements of lists after a write, and nodes and lanes among them.
-use Rattle.std.proofs.Common.{◌≡◌, ◌≢◌, ℕ, zero, suc, ◌+◌, ◌*◌, ◌<◌, ◌⊎◌, inl, inr, nat_lt, Bool, true, false, cond, refl, sym, ap}
-use Rattle.std.proofs.Common.{◌∙◌, subst, arith, List, [], ◌∷◌, length, None, Some, slice_get, set}
-use Rattle.std.proofs.lemmas.Bool.{cases_eq, lt-ltb, ltb-true}
-use Rattle.std.proofs.lemmas.Nat.{mul-add-lt, same_from_place}
-use Rattle.std.proofs.lemmas.Option.{slice_get_within, same_Some}
-use Rattle.dob_pieces.proofs.Elements.{get_set_same, get_set_other}
-use Rattle.dob_node.specs.declared.node.Node.{Node}
-use Rattle.dob_world.specs.declared.lane.Lane.{Lane}
-use Rattle.dob_world.specs.Shown.{part, lane_at}
+use Rattle.dob_world.proofs.Common.{◌*◌, ◌+◌, ◌<◌, ◌∙◌, ◌∷◌, ◌≡◌, ◌≢◌, ◌⊎◌, Bool, List, None, Some, [], ap, arith, cond, false, inl, inr, length, nat_lt, refl}
+use Rattle.dob_world.proofs.Common.{set, slice_get, subst, suc, sym, true, zero, ℕ, cases_eq, lt-ltb, ltb-true, mul-add-lt, same_from_place, same_Some}
+use Rattle.dob_world.proofs.Common.{slice_get_within, get_set_other, get_set_same, Node, lane_at, part, Lane}
 use Rattle.dob_world.proofs.Places.{at_node, at_link}
 
 pub set_same : {X : Type 0} (xs : List X) (i : ℕ) (y : X) → slice_get xs i ≡ Some y → set xs i y ≡ xs

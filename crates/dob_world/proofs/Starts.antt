@@ -1,50 +1,18 @@
 -- A world of opened nodes with empty lanes is lawful and linked.
-use Rattle.std.proofs.Common.{◌≡◌, ℕ, ◌+◌, ◌*◌, ◌/◌, ◌%◌, ◌<◌, inr, nat_lt, Bool, true, false, cond, refl, sym, ap, ◌∙◌}
-use Rattle.std.proofs.Common.{subst, arith, List, [], ◌++◌, length, take, Option, None, Some, slice_get}
-use Rattle.std.specs.List.{All}
-use Rattle.std.proofs.Math.Nat.{mod-add-div'}
-use Rattle.std.proofs.lemmas.Bool.{lt-ltb}
-use Rattle.std.proofs.lemmas.Option.{slice_get_within}
-use Rattle.dob_moves.specs.declared.position_status.Status.{Status}
-use Rattle.dob_moves.specs.declared.position_status.Status.TheVariants.{Open}
+use Rattle.dob_world.proofs.Common.{◌%◌, ◌*◌, ◌++◌, ◌+◌, ◌/◌, ◌<◌, ◌∙◌, ◌≡◌, Bool, List, None, Option, Some, [], ap, arith, cond, false, inr, length, nat_lt}
+use Rattle.dob_world.proofs.Common.{refl, slice_get, subst, sym, take, true, ℕ, mod-add-div', lt-ltb, All-nil, slice_get_within, All, some_at, one_status}
+use Rattle.dob_world.proofs.Common.{HasStatus, Status, Open, class_setup, classes_of, IsEntry, Draw, predecessors, CellValue, SameCell, fresh, owner_of}
+use Rattle.dob_world.proofs.Common.{cell_at, places_of, Settlement, Opening, OutboxView, items_of_batches, items_from, below_owner, start_sums, SumsUp-same}
+use Rattle.dob_world.proofs.Common.{IsChained, value_of, known_of, outbox_to, Node, IsBatchTo, LinkView, lane_at, nodes_shown, part, world_shown, AreInPlace}
+use Rattle.dob_world.proofs.Common.{IsNodeOf, AreEmptyLanes, AreOpenedNodes, IsEmptyLane, AreLawful, HaveFallsIn, IsLinked, Nodes, Setting, value_in, Lane}
 use Rattle.dob_moves.specs.MoveLists.{moves_of}
-use Rattle.dob_moves.specs.Statuses.{HasStatus}
-use Rattle.dob_moves.proofs.Cases.{one_status}
-use Rattle.dob_rank.specs.Families.{classes_of}
-use Rattle.dob_rank.specs.Families.{class_setup}
-use Rattle.dob_value.specs.declared.value.Value.TheVariants.{Draw}
-use Rattle.dob_value.specs.Follows.{IsEntry}
-use Rattle.dob_unmove.specs.Edges.{predecessors}
-use Rattle.dob_share.specs.declared.news.Settlement.{Settlement}
-use Rattle.dob_share.specs.declared.opening.Opening.{Opening}
-use Rattle.dob_share.specs.Owners.{owner_of}
-use Rattle.dob_share.specs.Cells.{SameCell, CellValue, fresh}
-use Rattle.dob_share.specs.Shares.{places_of, cell_at}
 use Rattle.dob_share.proofs.Applied.{CellValue-same}
-use Rattle.dob_update.specs.Items.{items_from}
-use Rattle.dob_update.specs.Batches.{OutboxView, items_of_batches}
-use Rattle.dob_node.specs.Histories.{value_of, IsChained}
 use Rattle.dob_node.specs.Quiet.{FollowsAtStatus}
 use Rattle.dob_node.specs.Openings.{AreOpenings}
 use Rattle.dob_node.specs.OpeningLists.{opening_value, opening_settlements, opening_status}
-use Rattle.dob_node.specs.Lawful.{known_of}
 use Rattle.dob_node.specs.Falls.{IsFirst}
-use Rattle.dob_node.specs.declared.node.Node.{Node}
-use Rattle.dob_node.specs.Nodes.{outbox_to}
-use Rattle.dob_node.proofs.ValuesFollow.{SumsUp-same}
-use Rattle.dob_node.proofs.Totals.{start_sums}
-use Rattle.dob_node.proofs.Rest.{below_owner}
 use Rattle.dob_node.proofs.Rises.{opened_first, fresh_within, falls_start}
 use Rattle.dob_node.proofs.AloneOpens.{listed_opening}
-use Rattle.dob_world.specs.declared.lane.Lane.{Lane}
-use Rattle.dob_world.specs.Worlds.{Setting, Nodes, value_in, AreLawful, HaveFallsIn, IsLinked}
-use Rattle.dob_world.specs.Shown.{part, lane_at, nodes_shown, world_shown}
-use Rattle.dob_world.specs.Standing.{IsNodeOf, AreInPlace}
-use Rattle.dob_world.specs.Start.{AreOpenedNodes, AreEmptyLanes, IsEmptyLane}
-use Rattle.dob_world.specs.Lanes.{IsBatchTo}
-use Rattle.dob_link.specs.Links.{LinkView}
-use Rattle.std.proofs.lemmas.List.Elements.{All-nil}
-use Rattle.dob_pieces.proofs.Elements.{some_at}
 use Rattle.dob_world.proofs.Made.{kept_of, node_opened, low_own}
 use Rattle.dob_node.proofs.Beginnings.{or_else, closed_follows, opened_value, opened_chained, opened_entries}
 

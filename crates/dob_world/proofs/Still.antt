@@ -1,16 +1,8 @@
 -- Where no event of a round can happen: nothing is left to do, and the end is announced.
-use Rattle.std.proofs.Common.{◌≡◌, ◌≢◌, ℕ, ◌+◌, ◌-◌, ◌*◌, ◌/◌, ◌%◌, ◌<◌, ◌≤◌, inl, inr, nat_lt, nat_eq, cond, Bool}
-use Rattle.std.proofs.Common.{true, false, refl, sym, ap, ◌∙◌, subst, arith, List, [], ◌∷◌, length}
-use Rattle.std.proofs.Math.Nat.{mod-eq-sub-div-mul}
-use Rattle.std.proofs.lemmas.Nat.{div-mul-add, mul-add-lt}
-use Rattle.std.proofs.lemmas.Bool.{cases_Bool, cases_lt, lt-ltb, le-ltb, eq-eqb, ne_eqb}
-use Rattle.dob_world.specs.declared.event.Event.{Event}
-use Rattle.dob_world.specs.declared.event.Event.TheVariants.{Expand, Own, Post, Take, Pass, Announce}
-use Rattle.dob_world.specs.Worlds.{Setting, State, IsLinked, IsNodeIdle, Matches, IsAtRest}
-use Rattle.dob_world.specs.Events.{CanHappen}
-use Rattle.dob_world.specs.Rounds.{round_length, round_event, IsStill}
-use Rattle.dob_world.specs.Standing.{IsSetting}
-use Rattle.dob_world.specs.Laws.{StillIsEnded}
+use Rattle.dob_world.proofs.Common.{◌%◌, ◌*◌, ◌+◌, ◌-◌, ◌/◌, ◌<◌, ◌∙◌, ◌∷◌, ◌≡◌, ◌≢◌, ◌≤◌, Bool, List, [], ap, arith, cond, false, inl, inr, length, nat_eq}
+use Rattle.dob_world.proofs.Common.{nat_lt, refl, subst, sym, true, ℕ, mod-eq-sub-div-mul, cases_Bool, cases_lt, eq-eqb, le-ltb, lt-ltb, ne_eqb, div-mul-add}
+use Rattle.dob_world.proofs.Common.{mul-add-lt, CanHappen, StillIsEnded, IsStill, round_event, round_length, IsSetting, IsAtRest, IsLinked, IsNodeIdle, Matches}
+use Rattle.dob_world.proofs.Common.{Setting, State, Event, Announce, Expand, Own, Pass, Post, Take}
 
 -- ---- the events of a round by their places
 

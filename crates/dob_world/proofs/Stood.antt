@@ -1,20 +1,11 @@
 -- A world that stands after an event, and what standing gives of the ring and of idle nodes.
-use Rattle.std.proofs.Common.{◌≡◌, ◌≢◌, ℕ, zero, suc, ◌+◌, ◌^◌, ◌<◌, ◌≤◌, inl, inr, true, refl, sym, ap, ◌∙◌}
-use Rattle.std.proofs.Common.{subst, arith, List, [], ◌∷◌, length, Some, slice_get}
-use Rattle.std.specs.Prelude.{slice_index_or}
-use Rattle.std.proofs.lemmas.Bool.{cases_lt, cases_eq}
+use Rattle.dob_world.proofs.Common.{◌+◌, ◌<◌, ◌^◌, ◌∙◌, ◌∷◌, ◌≡◌, ◌≢◌, ◌≤◌, List, Some, [], ap, arith, inl, inr, length, refl, slice_get, subst, suc, sym, true}
+use Rattle.dob_world.proofs.Common.{zero, ℕ, cases_eq, cases_lt, slice_index_or, IsLawfulRing, Moved, Ring, OutboxView, empty_outbox, outbox_to, Node}
+use Rattle.dob_world.proofs.Common.{CanHappen, Happens, nodes_shown, ring_of, world_shown, AreCutsPosted, AreInPlace, CanCount, HasAtMost, IsCounted, Stand}
+use Rattle.dob_world.proofs.Common.{IsNodeIdle, Setting, State, Detector, Event, Lane}
 use Rattle.dob_safra.specs.declared.event.RingEvent.{RingEvent}
-use Rattle.dob_safra.specs.Rings.{Ring, IsLawfulRing, Moved, IsAnnounceable}
-use Rattle.dob_update.specs.Batches.{OutboxView, empty_outbox}
-use Rattle.dob_node.specs.declared.node.Node.{Node}
-use Rattle.dob_node.specs.Nodes.{IsIdle as IsIdleNode, outbox_to}
-use Rattle.dob_world.specs.declared.detector.Detector.{Detector}
-use Rattle.dob_world.specs.declared.event.Event.{Event}
-use Rattle.dob_world.specs.declared.lane.Lane.{Lane}
-use Rattle.dob_world.specs.Worlds.{Setting, State, IsNodeIdle}
-use Rattle.dob_world.specs.Events.{CanHappen, Happens}
-use Rattle.dob_world.specs.Shown.{nodes_shown, world_shown, ring_of}
-use Rattle.dob_world.specs.Standing.{AreInPlace, IsCounted, CanCount, Stand, HasAtMost, AreCutsPosted}
+use Rattle.dob_safra.specs.Rings.{IsAnnounceable}
+use Rattle.dob_node.specs.Nodes.{IsIdle as IsIdleNode}
 use Rattle.dob_world.proofs.Firsts.{none_some}
 use Rattle.dob_world.proofs.Slots.{was}
 use Rattle.dob_world.proofs.Kept.{happening_keeps_all}

@@ -1,29 +1,11 @@
 -- Why a node of a world that stands stops, never because an item contradicts its cell, and what that leaves.
-use Rattle.std.proofs.Common.{◌≡◌, ◌≢◌, ℕ, ◌+◌, ◌*◌, ◌<◌, ◌⊎◌, inl, inr, refl, sym, ap, ◌∙◌, subst, List, [], ◌∷◌, Some, slice_get, set}
-use Rattle.dob_moves.specs.declared.position_status.Status.TheVariants.{Open}
-use Rattle.dob_moves.proofs.Cases.{one_status}
-use Rattle.dob_rank.specs.Families.{class_setup}
-use Rattle.dob_share.specs.declared.news.Item.{Item}
-use Rattle.dob_share.specs.declared.share.Share.{Share}
-use Rattle.dob_share.specs.Cells.{Cell, CellCanTake, changed}
+use Rattle.dob_world.proofs.Common.{◌*◌, ◌+◌, ◌<◌, ◌∙◌, ◌∷◌, ◌≡◌, ◌≢◌, ◌⊎◌, List, Some, [], ap, inl, inr, refl, set, slice_get, subst, sym, ℕ, one_status, Open}
+use Rattle.dob_world.proofs.Common.{class_setup, Cell, CellCanTake, changed, cell_at, status_at, Item, Share, Cause, Stopped, kept_sound, CanApply}
+use Rattle.dob_world.proofs.Common.{HasItemFault, IsSound, IsUnchanged, HistoryView, AreKept, IsReason, Node, HasReceivedFront, LaneStays, lane_at, nodes_shown}
+use Rattle.dob_world.proofs.Common.{world_shown, AreInPlace, IsNodeOf, IsCauseOf, IsLeftBy, TakesFront, AreLawful, IsLinked, Setting, Own, Take, Lane}
 use Rattle.dob_share.specs.Steps.{IsTooDeep}
-use Rattle.dob_share.specs.Shares.{status_at, cell_at, Fits, GoesTooDeep}
-use Rattle.dob_node.specs.Stores.{HistoryView}
-use Rattle.dob_node.specs.Lawful.{CanApply}
-use Rattle.dob_stops.specs.declared.cause.Cause.{Cause}
+use Rattle.dob_share.specs.Shares.{Fits, GoesTooDeep}
 use Rattle.dob_stops.specs.declared.cause.Cause.TheVariants as cause
-use Rattle.dob_node.specs.TakenItems.{AreKept, IsReason}
-use Rattle.dob_node.specs.declared.node.Node.{Node}
-use Rattle.dob_node.specs.Nodes.{IsSound, IsUnchanged, HasItemFault}
-use Rattle.dob_node.proofs.Nodes.{kept_sound}
-use Rattle.dob_world.specs.declared.lane.Lane.{Lane}
-use Rattle.dob_world.specs.declared.event.Event.TheVariants.{Own, Take}
-use Rattle.dob_stops.specs.declared.fault.Fault.TheVariants.{Stopped}
-use Rattle.dob_world.specs.Worlds.{Setting, AreLawful, IsLinked}
-use Rattle.dob_world.specs.Lanes.{LaneStays, HasReceivedFront}
-use Rattle.dob_world.specs.Stops.{IsCauseOf, IsLeftBy, TakesFront}
-use Rattle.dob_world.specs.Shown.{lane_at, nodes_shown, world_shown}
-use Rattle.dob_world.specs.Standing.{IsNodeOf, AreInPlace}
 use Rattle.dob_world.proofs.Kept.{own_item_fits, taken_item_fits}
 use Rattle.dob_world.proofs.Slots.{was}
 use Rattle.dob_world.proofs.Taken.{own_is}

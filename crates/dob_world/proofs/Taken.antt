@@ -1,30 +1,16 @@
 -- Items that a node's share takes, as items that the node of a world applies.
-use Rattle.std.proofs.Common.{◌≡◌, ◌≢◌, ℕ, ◌<◌, ◌&&◌, ◌⊎◌, inl, inr, eqb, nat_lt, Bool, true, false, cond, refl}
-use Rattle.std.proofs.Common.{sym, ap, ◌∙◌, subst, List, [], ◌∷◌, ◌++◌, length, append_assoc}
-use Rattle.std.specs.List.{All}
-use Rattle.std.proofs.lemmas.Bool.{cases_eq, eqb-true, eq-eqb, ne_eqb, lt-ltb, ltb-true, and_parts, and_right}
-use Rattle.std.proofs.lemmas.List.{append-nil}
-use Rattle.std.proofs.lemmas.List.Elements.{All-head, All-tail}
-use Rattle.dob_rank.specs.Families.{classes_of}
-use Rattle.dob_share.specs.declared.news.Settlement.{Settlement}
-use Rattle.dob_share.specs.declared.news.Item.{Item}
-use Rattle.dob_share.specs.declared.share.Share.{Share}
-use Rattle.dob_share.specs.Owners.{owner_of}
-use Rattle.dob_share.specs.Cells.{SameCell, CellValue, changed}
-use Rattle.dob_share.specs.Shares.{IsOwn, cell_at}
+use Rattle.dob_world.proofs.Common.{◌++◌, ◌<◌, ◌∙◌, ◌∷◌, ◌≡◌, ◌≢◌, ◌⊎◌, Bool, List, [], ap, append_assoc, cond, eqb, false, inl, inr, length, nat_lt, refl}
+use Rattle.dob_world.proofs.Common.{subst, sym, true, ℕ, and_parts, and_right, cases_eq, eq-eqb, eqb-true, lt-ltb, ltb-true, ne_eqb, append-nil, All-head}
+use Rattle.dob_world.proofs.Common.{All-tail, All, classes_of, CellValue, SameCell, changed, owner_of, IsOwn, cell_at, Item, Settlement, Share, kept_with_room}
+use Rattle.dob_world.proofs.Common.{value_of, CanApply, HistoryView, AreKept, AreTaken, HasItemEntries, IsTaken, Applies, AppliesItems, NodesStay, AreLawful}
+use Rattle.dob_world.proofs.Common.{Nodes, Setting, items_in, value_in}
+use Rattle.std.proofs.Common.{◌&&◌}
 use Rattle.dob_share.specs.Values.{NoWorse}
 use Rattle.dob_share.proofs.Changing.{short_value}
-use Rattle.dob_node.specs.Stores.{HistoryView}
-use Rattle.dob_node.specs.Histories.{value_of}
-use Rattle.dob_node.specs.Lawful.{CanApply}
-use Rattle.dob_node.specs.TakenItems.{HasItemEntries, AreKept, IsTaken, AreTaken}
 use Rattle.dob_node.proofs.Stored.{same_settlement}
-use Rattle.dob_node.proofs.Parity.{short_own}
+use Rattle.dob_share.proofs.Owning.{cell_short}
 use Rattle.dob_node.proofs.Kepts.{fits_own, kept_still}
 use Rattle.dob_node.proofs.ItemChanges.{same_by, Change, item_changes}
-use Rattle.dob_node.proofs.TakenLists.{kept_with_room}
-use Rattle.dob_world.specs.Worlds.{Setting, Nodes, value_in, items_in, AreLawful}
-use Rattle.dob_world.specs.Events.{NodesStay, Applies, AppliesItems}
 use Rattle.dob_world.proofs.Applied.{next_fits, lawful_step, step_grows, next_after}
 
 -- ---- nodes of which one has that share and history, and has applied those items of another
@@ -134,7 +120,7 @@ module _ (k : Setting) (i j : ℕ) (nodes : Nodes) (share after : Share) (histor
           (subst (λ c. SameCell (cell_at after item.to) (changed item.was item.now c)) (sym old_cell) taken.cell);
       gives = subst (λ c. CellValue c (value_in k.n new item.to)) (sym new_cell)
           (subst (λ v. CellValue (cell_at after item.to) v) (sym now_is) changes.gives);
-      short = short_value (cell_at after item.to) (value_in k.n new item.to) (short_own after item.to there_after)
+      short = short_value (cell_at after item.to) (value_in k.n new item.to) (cell_short after item.to there_after)
           (subst (λ v. CellValue (cell_at after item.to) v) (sym now_is) changes.gives);
       better = subst (λ v. NoWorse v (value_in k.n new item.to)) (sym had_is) (subst (λ v. NoWorse (value_of h item.to) v) (sym now_is) changes.better);
       others = λ p other. (cells_after p other, values_after changes.others p other);
@@ -179,11 +165,6 @@ stay_by before after is = record {
   cell = λ class. ap (λ (x : Nodes). x.cell class) is;
 }
 
-pub kept_after : (k : Setting) (j : ℕ) (share after : Share) (history grown : HistoryView) (item : Item) → AreKept k.family k.n j share history →
-    HasItemEntries item → IsTaken item share after history grown → AreKept k.family k.n j after grown
-kept_after k j share after history grown item kept entries taken = kept_still k.family k.n j share after history item kept entries taken.classes taken.fits
-    taken.cell taken.others taken.settled.0 taken.settled.1 grown taken.settled.2
-
 module _ (k : Setting) (some : 0 < k.n) (i j : ℕ) (low_i : i < k.n) (low_j : j < k.n) (nodes : Nodes) where
   pub item_applies : (share after : Share) (history grown : HistoryView) (items rest : List Item) (item : Item) →
       AreKept k.family k.n j share history → IsTaken item share after history grown → AreLawful k (with_share k i j nodes share history.settlements items) →
@@ -217,7 +198,7 @@ module _ (k : Setting) (some : 0 < k.n) (i j : ℕ) (low_i : i < k.n) (low_j : j
       let is_next : items_in k old i j ≡ old.applied i j ++ item ∷ (more ++ rest) = is ∙ ap (λ xs. xs ++ item ∷ (more ++ rest)) (sym here) in
       let step : Applies k i j item old new = item_applies share between history longer items (more ++ rest) item kept taken.2 lawful is in
       let then = items_apply more between after longer grown (items ++ item ∷ []) rest differs
-      (kept_after k j share between history longer item kept (All-head HasItemEntries item more entries) taken.2)
+      (kept_still k.family k.n j share between history longer item kept (All-head HasItemEntries item more entries) taken.2)
       (All-tail HasItemEntries item more entries) taken.3
       (lawful_step k some i j low_i low_j item old lawful (more ++ rest) is_next new step)
       (next_after k i j (item ∷ []) (more ++ rest) old new differs (step_grows k i j item old new step) is_next

@@ -1,20 +1,7 @@
 -- What a node and a lane show that are as they were.
-use Rattle.std.proofs.Common.{◌≡◌, ℕ, ◌+◌, ◌*◌, ◌<◌, ap, cond, nat_lt, List, [], length, Some, slice_get, set}
-use Rattle.dob_link.specs.Links.{LinkView}
-use Rattle.dob_rank.specs.Families.{classes_of}
-use Rattle.dob_share.specs.declared.share.Share.{Share}
-use Rattle.dob_share.specs.Cells.{fresh}
-use Rattle.dob_share.specs.Owners.{owner_of}
-use Rattle.dob_share.specs.Shares.{cell_at}
-use Rattle.dob_update.specs.Batches.{OutboxView}
-use Rattle.dob_node.specs.Stores.{HistoryView}
-use Rattle.dob_node.specs.declared.node.Node.{Node}
-use Rattle.dob_node.specs.Nodes.{IsUnchanged, outbox_to}
-use Rattle.dob_node.proofs.Nodes.{outbox_same}
-use Rattle.dob_world.specs.declared.lane.Lane.{Lane}
-use Rattle.dob_world.specs.Lanes.{LaneStays}
-use Rattle.dob_world.specs.Worlds.{Setting}
-use Rattle.dob_world.specs.Shown.{part, lane_at, world_shown, nodes_shown}
+use Rattle.dob_world.proofs.Common.{◌*◌, ◌+◌, ◌<◌, ◌≡◌, List, Some, [], ap, cond, length, nat_lt, set, slice_get, ℕ, classes_of, fresh, owner_of, cell_at}
+use Rattle.dob_world.proofs.Common.{Share, OutboxView, outbox_same, IsUnchanged, outbox_to, HistoryView, Node, LaneStays, LinkView, lane_at, nodes_shown, part}
+use Rattle.dob_world.proofs.Common.{world_shown, Setting, Lane}
 use Rattle.dob_world.proofs.Slots.{stays, lane_stays}
 
 -- a node that is as it was shows what it did

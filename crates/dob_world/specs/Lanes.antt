@@ -4,7 +4,7 @@ use Rattle.std.specs.Prelude.{◌≡◌, ◌≢◌, ◌<◌, ℕ, [], ◌∷◌,
 use Rattle.std.specs.List.{All}
 use Rattle.dob_pieces.specs.declared.profile.Family.{Family}
 use Rattle.dob_update.specs.Batches.{BatchView}
-use Rattle.dob_link.specs.Links.{link_of}
+use Rattle.dob_world.specs.Links.{link_of}
 use Rattle.dob_stops.specs.declared.cause.Cause.{Cause}
 use Rattle.dob_node.specs.declared.node.Node.{Node}
 use Rattle.dob_node.specs.TakenItems.{HasItemEntries}

@@ -1,3 +1,4 @@
+pub mod Links
 pub mod Worlds
 pub mod Events
 pub mod Runs

@@ -9,8 +9,8 @@ use dob_pieces::Memory;
 use dob_safra::{NodeCount, Token, may_announce, passed};
 use std::alloc::Global;
 
-/// How many batches were posted and how many of them taken, by sender and then by receiver; each node's counter and
-/// whether it is black; the token; and whether the end is announced.
+// How many batches were posted and how many of them taken, by sender and then by receiver; each node's counter and
+// whether it is black; the token; and whether the end is announced.
 #[derive(Drop)]
 pub(crate) struct Detector {
     pub(crate) nodes: NodeCount,
@@ -23,7 +23,7 @@ pub(crate) struct Detector {
 }
 
 impl Detector {
-    /// The ring of `nodes` nodes at its start.
+    // The ring of `nodes` nodes at its start.
     pub(crate) fn open(alloc: Global, nodes: NodeCount) -> Result<Detector, Memory>
         ensures start { IfOk result (λ detector. IsStart nodes (ring_of detector)) }
         ensures counted { IfOk result (λ detector. IsCounted detector × (detector.nodes ≡ nodes)) }
@@ -44,7 +44,7 @@ impl Detector {
         })
     }
 
-    /// The black node `from` has posted a batch to the node `to`.
+    // The black node `from` has posted a batch to the node `to`.
     pub(crate) fn count_post(&mut self, from: usize, to: usize)
         requires ready { CanCount self.old from to }
         requires black { (ring_of self.old).black from ≡ true }
@@ -57,7 +57,7 @@ impl Detector {
         self.counters[from] += 1;
     }
 
-    /// The node `to` has taken a batch of the node `from`, and is black now.
+    // The node `to` has taken a batch of the node `from`, and is black now.
     pub(crate) fn count_take(&mut self, from: usize, to: usize)
         requires ready { CanCount self.old from to }
         requires waiting { (ring_of self.old).taken from to < (ring_of self.old).posted from to }
@@ -70,7 +70,7 @@ impl Detector {
         self.black[to] = true;
     }
 
-    /// The node that has the token passes it, and is white now.
+    // The node that has the token passes it, and is white now.
     pub(crate) fn pass_token(&mut self)
         requires counted { IsCounted self.old }
         requires lawful { IsLawfulRing self.old.nodes (ring_of self.old) }
@@ -87,7 +87,7 @@ impl Detector {
         self.black[node] = false;
     }
 
-    /// Whether the end may be announced, where node 0 is idle.
+    // Whether the end may be announced, where node 0 is idle.
     pub(crate) fn may_end(&self) -> bool
         requires { IsCounted self.now }
         ensures { IsTrue result ↔ IsAnnounceable self.now.nodes (ring_of self.now) true }
@@ -95,7 +95,7 @@ impl Detector {
         may_announce(self.token, self.counters[0], self.black[0], true)
     }
 
-    /// The end, which may be announced, is.
+    // The end, which may be announced, is.
     pub(crate) fn announce_end(&mut self)
         requires counted { IsCounted self.old }
         requires may { IsAnnounceable self.old.nodes (ring_of self.old) true }

@@ -1,6 +1,12 @@
 // Laws of worlds, each the contract of a function that does nothing.
 ghost use Rattle.dob_world.specs.Laws.{HappeningKeepsAll, EventsKeepAll, HappeningKeepsMatch, ListsAreBeginnings, OwnItemFits, TakenItemFits};
 ghost use Rattle.dob_world.specs.Laws.{RestIsRight, EndIsRest, RestStays, EndIsSilent, StillIsEnded, HeadlineHolds};
+ghost use Rattle.dob_world.specs.Links.{LinksKeepOrder};
+
+/// Over any calls of an empty link, the batches taken in are those handed out followed by those waiting, in order.
+pub fn links_keep_order()
+    ensures { LinksKeepOrder }
+{}
 
 /// Each event leaves a lawful and linked world lawful and linked.
 pub fn happening_keeps_all()

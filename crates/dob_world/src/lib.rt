@@ -1,6 +1,7 @@
 // A world of nodes, of links between them and of a ring that detects the end, in which one event happens at a time.
 //
 // Choices:
+// - `Link` says both that Full comes only at capacity and that Ok comes only below it. `ListLink` is a ring of slots of the kit's `circular_buffer`.
 // - A world lends a history as a small view (`History`), since a node stores settlements in 8 bytes each and has no list to lend; `sent` and `applied` are
 //   lent slices.
 // - Why there is no world is one relation by cases of the fault (`HasSettingFault`).
@@ -19,6 +20,8 @@ mod drives;
 mod event;
 mod lane;
 pub mod laws;
+mod link;
+mod list_link;
 mod lists;
 mod parts;
 mod runs;
@@ -29,6 +32,8 @@ mod world;
 
 pub use dob_stops::Fault;
 pub use event::Event;
+pub use link::{Full, Link};
+pub use list_link::ListLink;
 pub use lists::History;
 pub use runs::run;
 pub use step::Step;

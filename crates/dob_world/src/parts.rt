@@ -11,7 +11,7 @@ use dob_safra::NodeCount;
 use dob_update::Capacity;
 use std::alloc::Global;
 
-/// The nodes of all owners, as they are opened.
+// The nodes of all owners, as they are opened.
 pub(crate) fn open_nodes(
     alloc: Global,
     openings: &Segments<Opening>,
@@ -29,7 +29,7 @@ pub(crate) fn open_nodes(
     Ok(nodes)
 }
 
-/// `count` empty lanes.
+// `count` empty lanes.
 pub(crate) fn open_lanes(
     alloc: Global,
     count: usize,

@@ -7,16 +7,16 @@ ghost use Rattle.dob_node.specs.Nodes.{outbox_to, IsSound, IsUnchanged, HasItemF
 ghost use Rattle.dob_world.specs.Lanes.{LaneStays, IsBatchTo, HasListed, HasSentBatch, HasTakenBatch, HasReceivedFront};
 
 use crate::lane::Lane;
-use dob_link::Link;
+use crate::link::Link;
 use dob_node::{Cause, Node};
 use dob_share::Item;
 use dob_update::BatchSize;
 
-/// Applies the first own item of a node, and lists it as applied. False if there is none.
-///
-/// # Errors
-///
-/// Which leave node and lane as they were: those of the node; `Memory`.
+// Applies the first own item of a node, and lists it as applied. False if there is none.
+//
+// # Errors
+//
+// Which leave node and lane as they were: those of the node; `Memory`.
 pub(crate) fn apply_own(node: &mut Node, lane: &mut Lane) -> Result<bool, Cause>
     requires sound { IsSound node.old }
     requires going { node.old.failed ≡ None }
@@ -40,12 +40,12 @@ pub(crate) fn apply_own(node: &mut Node, lane: &mut Lane) -> Result<bool, Cause>
     Ok(true)
 }
 
-/// Cuts a batch of at most `batch_size` items that the node has to send to the node `to`, which goes over the lane. False where
-/// there is nothing to send, or the lane's link has no room.
-///
-/// # Errors
-///
-/// Which leave node and lane as they were: those of the node; `Memory`.
+// Cuts a batch of at most `batch_size` items that the node has to send to the node `to`, which goes over the lane. False where
+// there is nothing to send, or the lane's link has no room.
+//
+// # Errors
+//
+// Which leave node and lane as they were: those of the node; `Memory`.
 pub(crate) fn post(
     node: &mut Node,
     lane: &mut Lane,
@@ -82,12 +82,12 @@ pub(crate) fn post(
     Ok(true)
 }
 
-/// Takes the first batch that waits on the lane, and applies its items. False if none waits.
-///
-/// # Errors
-///
-/// `Memory`, which leaves node and lane as they were; those of the node at an item, after which only the items before it
-/// are applied and listed, and the batch no longer waits.
+// Takes the first batch that waits on the lane, and applies its items. False if none waits.
+//
+// # Errors
+//
+// `Memory`, which leaves node and lane as they were; those of the node at an item, after which only the items before it
+// are applied and listed, and the batch no longer waits.
 pub(crate) fn receive(node: &mut Node, lane: &mut Lane) -> Result<bool, Cause>
     requires sound { IsSound node.old }
     requires going { node.old.failed ≡ None }

@@ -166,7 +166,7 @@ impl World {
         node < self.node_count.get()
     }
 
-    /// The place of the lane from a node to a node.
+    // The place of the lane from a node to a node.
     pub(crate) fn lane_place(&self, from: usize, to: usize) -> usize
         requires from { from < self.now.node_count }
         requires to { to < self.now.node_count }

@@ -1,9 +1,16 @@
 -- One seat less is left: the last one's stand comes before those of the rest, on the same board.
-use Rattle.std.proofs.Common.{map, ap, ◌∙◌}
-use Rattle.dob_board.specs.Seats.{stand_of}
+use Rattle.std.proofs.Common.{◌≡◌, ◌++◌, [], List, map, append-nil, rules, refl, sym, ap, ◌∙◌}
+use Rattle.dob_board.proofs.Names.{NodeSeat, slice_get, stand_of}
 use Rattle.dob_board.proofs.Allowed.{Seated}
-use Rattle.dob_board.proofs.Ends.{last_seat, one_less, first_less}
+use Rattle.dob_board.proofs.Ends.{all_left, last_seat, one_less, first_less}
 use Rattle.dob_board.proofs.closing.join_all.Goals as goal
+
+pub loop-seat-init : goal.loop-seat-init
+loop-seat-init c = record {
+  of_board = refl;
+  left = all_left c.args.rest.now.table_id c.args.nodes c.args.seats.items c.args.rest.now.me c.requires.seats c.requires.rest;
+  first = ([], sym (append-nil c.args.seats.items), λ seat e. absurd (cc));
+}
 
 pub loop-seat-preserved : goal.loop-seat-preserved
 loop-seat-preserved c =
@@ -27,3 +34,9 @@ pub join_last-requires-clause-before : goal.join_last-requires-clause-before
 join_last-requires-clause-before c =
     (last_seat c.args.rest.now.table_id c.args.nodes (map stand_of c.args.seats.items) c.loop-seat.seats.items c.pop.new.self.items c.in-Some.seat
     c.loop-seat.rest.me c.loop-seat.invariant.left c.in-Some.ensures.items).1
+
+pub returns-clause-witnessed : goal.returns-clause-witnessed
+returns-clause-witnessed c seat e =
+    let first = c.loop-seat.invariant.first in
+    let none : c.loop-seat.seats.items ≡ [] = search rules in
+    first.2 seat (ap (λ (xs : List NodeSeat). slice_get (xs ++ first.0) 0) (sym none) ∙ ap (λ (xs : List NodeSeat). slice_get xs 0) (sym first.1) ∙ e)

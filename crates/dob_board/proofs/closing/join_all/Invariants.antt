@@ -1,6 +1,6 @@
 -- The seats that are left and the rest stand for all nodes together; there are fewer seats each time, and node 0's is the last.
 use Rattle.std.proofs.Common.{◌≡◌, map}
-use Rattle.dob_board.specs.Seats.{stand_of}
+use Rattle.dob_board.proofs.Names.{stand_of}
 use Rattle.dob_board.proofs.Ends.{AreLeft, IsFirstWitnessed}
 use Rattle.dob_board.proofs.closing.join_all.Given as goal
 

@@ -1,6 +1,6 @@
 -- The seat of the node just before the rest may be joined into it.
 use Rattle.std.proofs.Common.{rules, arith}
-use Rattle.dob_board.specs.Seats.{stand_of}
+use Rattle.dob_board.proofs.Names.{stand_of}
 use Rattle.dob_board.proofs.Ends.{joins_call}
 use Rattle.dob_board.proofs.closing.join_last.Goals as goal
 

@@ -1,25 +1,10 @@
 -- A read keeps the rule and closes the view, and one word more is as the stands of all nodes say.
-use Rattle.std.proofs.Common.{rules, arith, ℕ, List, length, [], refl, ap, subst, ◌∙◌}
-use Rattle.dob_board.specs.declared.view.Stand.{Stand}
-use Rattle.dob_board.specs.Boards.{IsWord}
+use Rattle.std.proofs.Common.{rules, arith, ℕ, List, length, ap, subst, ◌∙◌}
+use Rattle.dob_board.proofs.Names.{Stand, IsWord}
 use Rattle.dob_board.proofs.Allowed.{Seated}
 use Rattle.dob_board.proofs.Done.{goes_on}
 use Rattle.dob_board.proofs.Ends.{reads_call, read_more}
 use Rattle.dob_board.proofs.closing.read_all.Goals as goal
-
-pub loop-word-init : goal.loop-word-init
-loop-word-init c = record {
-  of_board = refl;
-  size = c.requires.size;
-  from = c.requires.from;
-  stands = refl;
-  no_slot = c.requires.no_slot;
-  closed = λ some. absurd (omega (arith, some));
-  own = λ some. absurd (omega (arith, some));
-  witnessed = ([], refl);
-  long = refl;
-  read = λ w lt. absurd (omega (arith, lt));
-}
 
 pub load-requires : goal.load-requires
 load-requires c =

@@ -1,7 +1,6 @@
 -- The words below the index are read as the stands of all nodes say, and the rest's view is of these, closed by the first.
 use Rattle.std.proofs.Common.{◌≡◌, ◌<◌, ℕ, [], true, false, get_or, vec_len}
-use Rattle.dob_board.specs.Boards.{IsWord}
-use Rattle.dob_board.specs.Histories.{IsLaterLog}
+use Rattle.dob_board.proofs.Names.{IsWord, IsLaterLog}
 use Rattle.dob_board.proofs.closing.read_all.Given as goal
 
 abbrev pub invariant-loop-word : goal.invariant-loop-word

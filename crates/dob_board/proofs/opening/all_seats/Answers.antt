@@ -1,8 +1,6 @@
 -- One node more has its seat, fresh and at its place, and the rest stands for the nodes behind it.
 use Rattle.std.proofs.Common.{◌≡◌, ℕ, suc, ◌+◌, [], arith, ap, subst, ◌∙◌}
-use Rattle.atomic_table.specs.Seated.{TableId}
-use Rattle.dob_board.specs.Boards.{behind}
-use Rattle.dob_board.specs.Seats.{IsSeatOf}
+use Rattle.dob_board.proofs.Names.{TableId, behind, IsSeatOf}
 use Rattle.dob_board.proofs.Starts.{AreFirst, push_first}
 use Rattle.dob_board.proofs.opening.all_seats.Goals as goal
 

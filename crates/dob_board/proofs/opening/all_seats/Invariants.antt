@@ -1,6 +1,6 @@
 -- The nodes so far have their seats, fresh and in order, and the rest stands for the nodes behind them.
 use Rattle.std.proofs.Common.{◌≡◌, []}
-use Rattle.dob_board.specs.Boards.{behind}
+use Rattle.dob_board.proofs.Names.{behind}
 use Rattle.dob_board.proofs.Starts.{AreFirst}
 use Rattle.dob_board.proofs.opening.all_seats.Given as goal
 

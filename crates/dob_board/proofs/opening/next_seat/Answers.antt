@@ -1,7 +1,6 @@
 -- The first node of the rest may be split off, and the rest stands for the nodes behind it.
 use Rattle.std.proofs.Common.{rules, arith, ap, ◌∙◌, []}
-use Rattle.dob_board.specs.declared.view.View.{View}
-use Rattle.dob_board.specs.Plays.{others_of}
+use Rattle.dob_board.proofs.Names.{View, others_of}
 use Rattle.dob_board.proofs.Allowed.{Seated}
 use Rattle.dob_board.proofs.Starts.{splits_call, others-behind}
 use Rattle.dob_board.proofs.opening.next_seat.Goals as goal

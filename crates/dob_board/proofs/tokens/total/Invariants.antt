@@ -1,6 +1,6 @@
 -- The total is the sum of the counts so far, each of which is at most 2^40.
 use Rattle.std.proofs.Common.{◌≡◌, ◌*◌, ◌^◌, ◌≤◌, take}
-use Rattle.std.specs.Prelude.{sum}
+use Rattle.dob_board.proofs.Names.{sum}
 use Rattle.dob_board.proofs.tokens.total.Given as goal
 
 abbrev pub invariant-loop-count : goal.invariant-loop-count

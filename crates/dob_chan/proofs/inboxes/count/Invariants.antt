@@ -1,7 +1,5 @@
 -- the inbox is for as many senders as there were turns
-use Rattle.std.proofs.Common.{◌≡◌, ◌≤◌, []}
-use Rattle.crossbeam_queue.specs.Passes.{view, IsPassOf}
-use Rattle.dob_chan.specs.Inboxes.{taking, untold}
+use Rattle.dob_chan.proofs.Common.{◌≡◌, ◌≤◌, [], IsPassOf, view, taking, untold}
 use Rattle.dob_chan.proofs.inboxes.count.Given as goal
 
 abbrev pub invariant-loop : goal.invariant-loop

@@ -1,7 +1,5 @@
 -- one end more is opened
-use Rattle.std.proofs.Common.{rules, subst, sym, length}
-use Rattle.crossbeam_queue.specs.Passes.{ruled_capacity}
-use Rattle.dob_chan.specs.Ends.{IsEndOpened, AreOpened}
+use Rattle.dob_chan.proofs.Common.{length, rules, subst, sym, ruled_capacity, AreOpened, IsEndOpened}
 use Rattle.dob_chan.proofs.EndsOpened.{one_opened}
 use Rattle.dob_chan.proofs.inboxes.open_all.Goals as goal
 

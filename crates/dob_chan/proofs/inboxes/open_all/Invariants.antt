@@ -1,8 +1,5 @@
 -- as many ends as turns were opened
-use Rattle.std.proofs.Common.{◌≡◌, ◌≤◌, [], length}
-use Rattle.crossbeam_queue.specs.Passes.{view, ruled_capacity, IsSamePass}
-use Rattle.dob_chan.specs.Inboxes.{taking, untold}
-use Rattle.dob_chan.specs.Ends.{AreOpened}
+use Rattle.dob_chan.proofs.Common.{◌≡◌, ◌≤◌, [], length, IsSamePass, ruled_capacity, view, AreOpened, taking, untold}
 use Rattle.dob_chan.proofs.inboxes.open_all.Given as goal
 
 abbrev pub invariant-loop-from : goal.invariant-loop-from

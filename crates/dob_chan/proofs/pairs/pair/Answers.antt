@@ -1,6 +1,5 @@
 -- the one end of an inbox of one sender is at place 0
-use Rattle.std.proofs.Common.{◌≡◌, ap, ◌∙◌}
-use Rattle.std.specs.Prelude.{slice_get, Some}
+use Rattle.dob_chan.proofs.Common.{◌∙◌, ◌≡◌, ap, Some, slice_get}
 use Rattle.dob_chan.proofs.pairs.pair.Goals as goal
 
 pub returns-clause-paired : goal.returns-clause-paired

@@ -1,8 +1,5 @@
 -- the next sender's room goes last
-use Rattle.std.proofs.Common.{rules, subst, sym, length, slice_index, [], ◌∷◌, ◌++◌, ◌≡◌}
-use Rattle.std.specs.Prelude.{slice_get, Some}
-use Rattle.dob_pieces.proofs.Elements.{read_there}
-use Rattle.dob_chan.specs.Rooms.{HasRoom, AreRooms}
+use Rattle.dob_chan.proofs.Common.{◌++◌, ◌∷◌, ◌≡◌, [], length, rules, slice_index, subst, sym, Some, slice_get, read_there, AreRooms, HasRoom}
 use Rattle.dob_chan.proofs.Rejoinings.{one_room}
 use Rattle.dob_chan.proofs.rejoins.make_rooms.Goals as goal
 

@@ -1,6 +1,5 @@
 -- there is a room for each sender gone over
-use Rattle.std.proofs.Common.{◌≡◌, ◌≤◌, length}
-use Rattle.dob_chan.specs.Rooms.{AreRooms}
+use Rattle.dob_chan.proofs.Common.{◌≡◌, ◌≤◌, length, AreRooms}
 use Rattle.dob_chan.proofs.rejoins.make_rooms.Given as goal
 
 abbrev pub invariant-loop-from : goal.invariant-loop-from

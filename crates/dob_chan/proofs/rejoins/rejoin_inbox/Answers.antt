@@ -1,7 +1,5 @@
 -- there is a room for what is left of each sender, and it is filled with that
-use Rattle.std.proofs.Common.{rules, ap, sym, subst, ◌∙◌, ◌≡◌, length, vec_len}
-use Rattle.dob_chan.specs.declared.rule.Note.{Note}
-use Rattle.dob_chan.specs.Rooms.{AreRooms, AreRoomy, AreFilled}
+use Rattle.dob_chan.proofs.Common.{◌∙◌, ◌≡◌, ap, length, rules, subst, sym, vec_len, AreFilled, AreRooms, AreRoomy, Note}
 use Rattle.dob_chan.proofs.Rejoinings.{rooms_are_wide, all_rejoined}
 use Rattle.dob_chan.proofs.rejoins.rejoin_inbox.Goals as goal
 

@@ -1,6 +1,5 @@
 -- what is taken goes into its sender's room, until nothing is left
-use Rattle.std.proofs.Common.{rules, ap}
-use Rattle.crossbeam_queue.specs.Passes.{view}
+use Rattle.dob_chan.proofs.Common.{ap, rules, view}
 use Rattle.dob_chan.proofs.Deliveries.{takes_left, left}
 use Rattle.dob_chan.proofs.Rejoinings.{has_room, filling_goes_on, all_filled}
 use Rattle.dob_chan.proofs.rejoins.take_left.Goals as goal

@@ -1,7 +1,5 @@
 -- What is written is that settlement.
-use Rattle.std.proofs.Common.{ℕ, ◌+◌, ◌/◌, ◌<◌, take, set, sym, ap, subst, ◌∙◌}
-use Rattle.dob_node.specs.declared.history.Stored.{Stored}
-use Rattle.dob_node.specs.Stores.{settlements_from}
+use Rattle.dob_node.proofs.Common.{◌+◌, ◌/◌, ◌<◌, ◌∙◌, ap, set, subst, sym, take, ℕ, settlements_from, Stored}
 use Rattle.dob_node.proofs.Stored.{stored_again, stored_more}
 use Rattle.dob_node.proofs.history.store.Goals as goal
 

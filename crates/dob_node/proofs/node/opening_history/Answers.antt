@@ -1,7 +1,5 @@
 -- The settlements that follow from the statuses.
-use Rattle.std.proofs.Common.{ap, ◌∙◌}
-use Rattle.dob_share.specs.Statuses.{StatusesView}
-use Rattle.dob_node.specs.Stores.{HistoryView, starts_of}
+use Rattle.dob_node.proofs.Common.{◌∙◌, ap, StatusesView, HistoryView, starts_of}
 use Rattle.dob_node.proofs.node.opening_history.Goals as goal
 
 pub returns : goal.returns

@@ -1,10 +1,7 @@
 -- The items for the classes so far are appended, and there is room for the others.
-use Rattle.std.proofs.Common.{◌≡◌, ◌+◌, ◌-◌, ◌≤◌, ◌++◌, ◌==◌, length, take}
+use Rattle.dob_node.proofs.Common.{◌++◌, ◌+◌, ◌-◌, ◌==◌, ◌≡◌, ◌≤◌, length, take, filter, owner_of, item_for}
 use Rattle.std.specs.Prelude.{map}
-use Rattle.std.specs.List.{filter}
 use Rattle.std.specs.VecDeque.{deque_len, deque_capacity}
-use Rattle.dob_share.specs.Owners.{owner_of}
-use Rattle.dob_update.specs.Items.{item_for}
 use Rattle.dob_node.proofs.node_core.push_own.Given as goal
 
 abbrev pub invariant-loop-class : goal.invariant-loop-class

@@ -1,9 +1,6 @@
 -- What is so of the node is so of its family.
-use Rattle.std.proofs.Common.{◌≡◌, ℕ, ◌≤◌, Option, Ok, IfSome, ap, subst, ◌∙◌}
-use Rattle.std.proofs.lemmas.Result.{err_from_is_err_and}
-use Rattle.dob_pieces.specs.declared.profile.Family.{Family}
-use Rattle.dob_node.specs.NodeViews.{NodeView}
-use Rattle.dob_node.specs.Alone.{HasMade, IsDone, IsTooDeepWithin, IsUnderWay}
+use Rattle.dob_node.proofs.Common.{◌∙◌, ◌≡◌, ◌≤◌, Ok, Option, ap, subst, ℕ, err_from_is_err_and, Family, HasMade, IsDone, IsTooDeepWithin, IsUnderWay, NodeView}
+use Rattle.std.proofs.Common.{IfSome}
 use Rattle.dob_node.proofs.AloneStops.{never_too_deep}
 use Rattle.dob_node.proofs.one_owner.alone.Goals as goal
 

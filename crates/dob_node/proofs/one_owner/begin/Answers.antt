@@ -1,8 +1,5 @@
 -- No step is made yet.
-use Rattle.std.proofs.Common.{ℕ, IfOk, subst}
-use Rattle.dob_node.specs.NodeViews.{NodeView}
-use Rattle.dob_node.specs.Nodes.{IsOpened}
-use Rattle.dob_node.specs.Openings.{AreOpenings}
+use Rattle.dob_node.proofs.Common.{IfOk, subst, ℕ, NodeView, IsOpened, AreOpenings}
 use Rattle.dob_node.proofs.AloneOpens.{made_none_ok}
 use Rattle.dob_node.proofs.one_owner.begin.Goals as goal
 

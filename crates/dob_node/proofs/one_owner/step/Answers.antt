@@ -1,7 +1,5 @@
 -- One step more is made.
-use Rattle.std.proofs.Common.{◌≡◌, ℕ, ◌<◌, [], Ok, ap, sym, subst}
-use Rattle.dob_node.specs.NodeViews.{NodeView}
-use Rattle.dob_node.specs.Alone.{HasMade, HasStoppedAlone}
+use Rattle.dob_node.proofs.Common.{◌<◌, ◌≡◌, Ok, [], ap, subst, sym, ℕ, HasMade, HasStoppedAlone, NodeView}
 use Rattle.dob_node.proofs.AloneSteps.{made_applied, made_expanded}
 use Rattle.dob_node.proofs.TakenLists.{carried}
 use Rattle.dob_node.proofs.AloneStops.{stopped_alone}

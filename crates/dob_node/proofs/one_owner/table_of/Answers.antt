@@ -1,7 +1,5 @@
 -- Idle, the node shows the value table.
-use Rattle.std.proofs.Common.{ℕ, ◌<◌, ap, subst}
-use Rattle.dob_pieces.specs.declared.profile.Family.{Family}
-use Rattle.dob_rank.specs.Families.{classes_of}
+use Rattle.dob_node.proofs.Common.{◌<◌, ap, subst, ℕ, Family, classes_of}
 use Rattle.dob_value.proofs.Parity.{IfOk-both}
 use Rattle.dob_node.proofs.AloneEnds.{shows_entry, alone_given}
 use Rattle.dob_node.proofs.one_owner.table_of.Goals as goal

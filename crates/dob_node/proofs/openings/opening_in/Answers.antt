@@ -1,9 +1,5 @@
 -- The position of a class is the one that stands for it.
-use Rattle.std.proofs.Common.{subst}
-use Rattle.dob_rank.specs.Families.{classes_of}
-use Rattle.dob_rank.proofs.OfFamilies.Present.{HasClasses-classes_of}
-use Rattle.dob_classes.proofs.OfFamilies.FamilyRepresentatives.{class_setup_only}
-use Rattle.dob_node.specs.Openings.{IsOpening}
+use Rattle.dob_node.proofs.Common.{subst, HasClasses-classes_of, classes_of, class_setup_only, IsOpening}
 use Rattle.dob_node.proofs.openings.opening_in.Goals as goal
 
 pub returns : goal.returns

@@ -1,10 +1,6 @@
 -- One outbox more has the settlement, or is left out.
-use Rattle.std.proofs.Common.{◌≡◌, ◌<◌, ℕ, length, vec_len, set, get_or, sym, ap, ◌∙◌, subst, arith}
-use Rattle.dob_pieces.specs.declared.profile.Family.{Family}
-use Rattle.dob_unmove.specs.Edges.{predecessors}
-use Rattle.dob_update.specs.Items.{items_of}
-use Rattle.dob_update.specs.Batches.{OutboxView, empty_outbox, added}
-use Rattle.dob_node.specs.Outboxes.{outbox_in, IsOutboxTo}
+use Rattle.dob_node.proofs.Common.{◌<◌, ◌∙◌, ◌≡◌, ap, arith, get_or, length, set, subst, sym, vec_len, ℕ, Family, predecessors, OutboxView, added, empty_outbox}
+use Rattle.dob_node.proofs.Common.{items_of, IsOutboxTo, outbox_in}
 use Rattle.dob_node.proofs.Sends.{added_none, added_own, added_one, addressed_still}
 use Rattle.dob_node.proofs.TakenBack.{one_more_each}
 use Rattle.dob_node.proofs.outboxes.add_for_others.Goals as goal

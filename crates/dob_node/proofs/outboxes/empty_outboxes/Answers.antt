@@ -1,8 +1,5 @@
 -- One empty outbox more.
-use Rattle.std.proofs.Common.{◌≡◌, ℕ, ◌+◌, ◌++◌, ◌∷◌, [], length, ap, ◌∙◌, subst}
-use Rattle.std.proofs.lemmas.List.{length-append}
-use Rattle.dob_update.specs.Batches.{OutboxView, empty_outbox}
-use Rattle.dob_node.specs.Outboxes.{outbox_in}
+use Rattle.dob_node.proofs.Common.{◌++◌, ◌+◌, ◌∙◌, ◌∷◌, ◌≡◌, [], ap, length, subst, ℕ, length-append, OutboxView, empty_outbox, outbox_in}
 use Rattle.dob_node.proofs.Sends.{empties_more}
 use Rattle.dob_node.proofs.outboxes.empty_outboxes.Goals as goal
 

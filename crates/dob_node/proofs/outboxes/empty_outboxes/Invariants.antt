@@ -1,7 +1,5 @@
 -- The outboxes so far are empty.
-use Rattle.std.proofs.Common.{◌≡◌, ℕ, length}
-use Rattle.dob_update.specs.Batches.{empty_outbox}
-use Rattle.dob_node.specs.Outboxes.{outbox_in}
+use Rattle.dob_node.proofs.Common.{◌≡◌, length, ℕ, empty_outbox, outbox_in}
 use Rattle.dob_node.proofs.outboxes.empty_outboxes.Given as goal
 
 abbrev pub invariant-loop-to : goal.invariant-loop-to

@@ -1,6 +1,5 @@
 -- One outbox more is as before.
-use Rattle.std.proofs.Common.{◌≡◌, ◌<◌, ℕ, length, get_or, ap, ◌∙◌, subst, arith}
-use Rattle.dob_update.specs.Items.{items_of}
+use Rattle.dob_node.proofs.Common.{◌<◌, ◌∙◌, ◌≡◌, ap, arith, get_or, length, subst, ℕ, items_of}
 use Rattle.dob_node.proofs.TakenBack.{AreBack, back_none, one_more, back_one, back_own, back_all}
 use Rattle.dob_node.proofs.outboxes.take_back.Goals as goal
 use Rattle.dob_node.proofs.outboxes.take_back.Goals.{then-to-from, else-to-from}

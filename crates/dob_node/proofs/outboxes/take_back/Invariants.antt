@@ -1,7 +1,5 @@
 -- The outboxes for the nodes so far are those before.
-use Rattle.std.proofs.Common.{List}
-use Rattle.dob_update.specs.Batches.{OutboxView}
-use Rattle.dob_node.specs.Outboxes.{HaveOneMore}
+use Rattle.dob_node.proofs.Common.{List, OutboxView, HaveOneMore}
 use Rattle.dob_node.proofs.TakenBack.{AreBack}
 use Rattle.dob_node.proofs.outboxes.take_back.Given as goal
 

@@ -1,7 +1,5 @@
 -- The outbox there has one settlement more.
-use Rattle.std.proofs.Common.{◌≡◌, ◌<◌, length, get_or, slice_set, sym, ap, ◌∙◌, subst, arith}
-use Rattle.std.proofs.lemmas.List.{get_or_default}
-use Rattle.dob_update.specs.Batches.{OutboxView, HasOneMore}
+use Rattle.dob_node.proofs.Common.{◌<◌, ◌∙◌, ◌≡◌, ap, arith, get_or, length, slice_set, subst, sym, get_or_default, HasOneMore, OutboxView}
 use Rattle.dob_node.proofs.outboxes.take_back_at.Goals as goal
 
 pub take_back-requires : goal.take_back-requires

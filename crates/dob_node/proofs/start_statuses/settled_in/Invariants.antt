@@ -1,7 +1,5 @@
 -- Those at the places so far are counted.
-use Rattle.std.proofs.Common.{◌≡◌, ◌≤◌}
-use Rattle.dob_share.specs.Openings.{settled_among}
-use Rattle.dob_node.specs.Stores.{start_status}
+use Rattle.dob_node.proofs.Common.{◌≡◌, ◌≤◌, settled_among, start_status}
 use Rattle.dob_node.proofs.start_statuses.settled_in.Given as goal
 
 abbrev pub invariant-loop-place : goal.invariant-loop-place

@@ -1,7 +1,5 @@
 -- Those that are taken are the first of the queue, and gone.
-use Rattle.std.proofs.Common.{◌∙◌, drop, sym, subst, List}
-use Rattle.dob_share.specs.declared.news.Item.{Item}
-use Rattle.dob_node.specs.TakenItems.{TakesFirst, StopsFirst}
+use Rattle.dob_node.proofs.Common.{◌∙◌, List, drop, subst, sym, Item, StopsFirst, TakesFirst}
 use Rattle.dob_node.proofs.TakenQueues.{front_entries, front_taken, front_stops, fewer}
 use Rattle.dob_node.proofs.taking.take_front.Goals as goal
 

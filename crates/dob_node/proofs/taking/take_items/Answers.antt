@@ -1,8 +1,6 @@
 -- One item more is taken.
-use Rattle.std.proofs.Common.{◌≡◌, ◌+◌, ◌≤◌, refl, arith, sym, subst}
-use Rattle.dob_node.specs.TakenItems.{StopsAt, AreTakenBefore}
+use Rattle.dob_node.proofs.Common.{◌+◌, ◌≡◌, ◌≤◌, arith, refl, subst, sym, AreSeen, AreTakenBefore, StopsAt}
 use Rattle.dob_node.proofs.Sounds.{kept_own, kept_back}
-use Rattle.dob_node.specs.SeenItems.{AreSeen}
 use Rattle.dob_node.proofs.Looks.{seen_next, seen_behind}
 use Rattle.dob_node.proofs.TakenLists.{taken_next, stops_there, taken_before, carried}
 use Rattle.dob_node.proofs.taking.take_items.Goals as goal

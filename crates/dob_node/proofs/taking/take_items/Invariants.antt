@@ -1,8 +1,5 @@
 -- The items so far are taken, and counted; as much room is left as for those that aren't; and those of a group that has begun were looked at.
-use Rattle.std.proofs.Common.{◌≡◌, ◌+◌, ◌%◌, ◌<◌, ◌≤◌, take}
-use Rattle.dob_pieces.specs.declared.profile.Family.{Family}
-use Rattle.dob_node.specs.TakenItems.{AreKept, AreTaken}
-use Rattle.dob_node.specs.SeenItems.{AreSeen}
+use Rattle.dob_node.proofs.Common.{◌%◌, ◌+◌, ◌<◌, ◌≡◌, ◌≤◌, take, Family, AreSeen, AreKept, AreTaken}
 use Rattle.dob_node.proofs.taking.take_items.Given as goal
 
 abbrev pub invariant-loop-item : goal.invariant-loop-item

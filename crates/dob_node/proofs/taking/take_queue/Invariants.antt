@@ -1,8 +1,5 @@
 -- The items so far are taken and gone.
-use Rattle.std.proofs.Common.{length}
-use Rattle.std.specs.List.{All}
-use Rattle.dob_pieces.specs.declared.profile.Family.{Family}
-use Rattle.dob_node.specs.TakenItems.{HasItemEntries, AreKept, TakesFirst}
+use Rattle.dob_node.proofs.Common.{length, All, Family, AreKept, HasItemEntries, TakesFirst}
 use Rattle.dob_node.proofs.taking.take_queue.Given as goal
 
 abbrev pub invariant-loop-share : goal.invariant-loop-share

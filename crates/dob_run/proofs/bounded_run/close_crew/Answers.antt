@@ -1,7 +1,5 @@
 -- The endpoints are a crew's, each node has its rows of slots, and the closed parts are what the runners leave.
-use Rattle.std.proofs.Common.{refl, sym, subst, List}
-use Rattle.dob_runner.specs.declared.endpoint.Endpoint.{Endpoint}
-use Rattle.dob_run.specs.CrewClose.{IsCrew, slots_out, slots_in}
+use Rattle.dob_run.proofs.Common.{List, refl, subst, sym, Endpoint, IsCrew, slots_in, slots_out}
 use Rattle.dob_run.proofs.CrewLeaves.{left_by, rows_long}
 use Rattle.dob_run.proofs.bounded_run.close_crew.Goals as goal
 

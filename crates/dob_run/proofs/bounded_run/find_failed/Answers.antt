@@ -1,6 +1,5 @@
 -- The first failure that is found is that of the runner at its place, and none before it has failed.
-use Rattle.std.proofs.Common.{rules, sym}
-use Rattle.dob_pieces.proofs.Elements.{some_at}
+use Rattle.dob_run.proofs.Common.{rules, sym, some_at}
 use Rattle.dob_run.proofs.bounded_run.find_failed.Goals as goal
 
 pub returns-in-Some-clause-first : goal.returns-in-Some-clause-first

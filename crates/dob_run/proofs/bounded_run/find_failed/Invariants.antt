@@ -1,7 +1,5 @@
 -- None so far has failed.
-use Rattle.std.proofs.Common.{◌≡◌, ℕ, ◌<◌, Some, None}
-use Rattle.std.specs.Prelude.{slice_get}
-use Rattle.dob_runner.specs.declared.runner.Runner.{Runner}
+use Rattle.dob_run.proofs.Common.{◌<◌, ◌≡◌, None, Some, ℕ, slice_get, Runner}
 use Rattle.dob_run.proofs.bounded_run.find_failed.Given as goal
 
 abbrev pub invariant-loop-node : goal.invariant-loop-node

@@ -1,6 +1,5 @@
 -- The node and the endpoint of each runner are put behind the others, until the lists are those of all runners.
-use Rattle.std.proofs.Common.{rules, refl}
-use Rattle.dob_run.specs.CrewRunners.{endpoint_of, node_of}
+use Rattle.dob_run.proofs.Common.{refl, rules, endpoint_of, node_of}
 use Rattle.dob_run.proofs.Places.{moves_on, ends_up}
 use Rattle.dob_run.proofs.bounded_run.part_runners.Goals as goal
 

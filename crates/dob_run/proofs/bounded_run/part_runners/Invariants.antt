@@ -1,7 +1,5 @@
 -- The nodes and endpoints so far, with those of the runners left, are those of all runners.
-use Rattle.std.proofs.Common.{◌≡◌, ◌++◌, map}
-use Rattle.std.specs.Vec.Iter.{into_iter_items}
-use Rattle.dob_run.specs.CrewRunners.{endpoint_of, node_of}
+use Rattle.dob_run.proofs.Common.{◌++◌, ◌≡◌, map, into_iter_items, endpoint_of, node_of}
 use Rattle.dob_run.proofs.bounded_run.part_runners.Given as goal
 
 abbrev pub invariant-loop-runner : goal.invariant-loop-runner

@@ -1,11 +1,5 @@
 -- A crew that isn't opened or has a failed runner is refused with that cause; else its runners are closed as a crew.
-use Rattle.std.proofs.Common.{List, subst}
-use Rattle.dob_node.proofs.TakenLists.{carried}
-use Rattle.dob_runner.specs.declared.runner.Runner.{Runner}
-use Rattle.dob_runner.specs.declared.turn_loop.Until.TheVariants.{Turns}
-use Rattle.dob_run.specs.Faults.{HasBuildFault}
-use Rattle.dob_runner.specs.Runners.{says_no}
-use Rattle.dob_run.specs.BoundedRun.{AreUnfailed, IsFirstFailed, StopsSo}
+use Rattle.dob_run.proofs.Common.{List, subst, carried, says_no, Runner, Turns, AreUnfailed, IsFirstFailed, StopsSo, HasBuildFault}
 use Rattle.dob_run.proofs.ByThreads.{still_crew, first_fault, first_stops, has_turned, carries_few}
 use Rattle.dob_run.proofs.RunFaults.{outside_none, unbegun_fault, unbegun_stops}
 use Rattle.dob_run.proofs.bounded_run.run_turns.Goals as goal
@@ -27,7 +21,7 @@ returns-in_err-find_failed-clause-fault g c =
     let fault = c.in_err-find_failed.field-0.0 in
     carried (HasBuildFault c.args.nodes c.args.batch_size c.args.capacity) c.from_residual-in_err-find_failed.result fault
     c.from_residual-in_err-find_failed.ensures.1
-    (first_fault (says_no (g.G.Gate.says c.args.gate.now)) (Turns c.args.turns) c.args.family c.args.nodes c.args.batch_size c.args.capacity c.in_ok-board.board c.in_ok-board.ended.items (c.in_ok-board.ensures.ran _ _ _ c.in_ok-sizes.ensures.sizes)
+    (first_fault (says_no (g.G.Gate.says c.args.gate.now)) (Turns c.args.turns) c.args.family c.args.nodes c.args.batch_size c.args.capacity c.in_ok-board.field-0.board c.in_ok-board.field-0.runners.items (c.in_ok-board.ensures.ran _ _ _ c.in_ok-sizes.ensures.sizes)
     fault (subst (λ (l : List Runner). IsFirstFailed l fault) c.deref.ensures.value c.in_err-find_failed.ensures.first))
 
 pub returns-in_err-find_failed-clause-stopped : goal.returns-in_err-find_failed-clause-stopped
@@ -35,16 +29,16 @@ returns-in_err-find_failed-clause-stopped g c =
     let fault = c.in_err-find_failed.field-0.0 in
     carried (StopsSo IsFirstFailed (says_no (g.G.Gate.says c.args.gate.now)) (Turns c.args.turns) c.args.family c.args.nodes c.args.batch_size c.args.capacity) c.from_residual-in_err-find_failed.result fault
     c.from_residual-in_err-find_failed.ensures.1
-    (first_stops (says_no (g.G.Gate.says c.args.gate.now)) (Turns c.args.turns) c.args.family c.args.nodes c.args.batch_size c.args.capacity c.in_ok-board.board c.in_ok-board.ended.items (c.in_ok-board.ensures.ran _ _ _ c.in_ok-sizes.ensures.sizes)
+    (first_stops (says_no (g.G.Gate.says c.args.gate.now)) (Turns c.args.turns) c.args.family c.args.nodes c.args.batch_size c.args.capacity c.in_ok-board.field-0.board c.in_ok-board.field-0.runners.items (c.in_ok-board.ensures.ran _ _ _ c.in_ok-sizes.ensures.sizes)
     fault (subst (λ (l : List Runner). IsFirstFailed l fault) c.deref.ensures.value c.in_err-find_failed.ensures.first))
 
 pub close_crew-requires : goal.close_crew-requires
-close_crew-requires g c = still_crew (says_no (g.G.Gate.says c.args.gate.now)) (Turns c.args.turns) c.args.family c.args.nodes c.args.batch_size c.args.capacity c.in_ok-board.board c.in_ok-board.ended.items
+close_crew-requires g c = still_crew (says_no (g.G.Gate.says c.args.gate.now)) (Turns c.args.turns) c.args.family c.args.nodes c.args.batch_size c.args.capacity c.in_ok-board.field-0.board c.in_ok-board.field-0.runners.items
     (c.in_ok-board.ensures.ran _ _ _ c.in_ok-sizes.ensures.sizes)
 
 pub returns-clause-turned : goal.returns-clause-turned
 returns-clause-turned g c =
-    has_turned (says_no (g.G.Gate.says c.args.gate.now)) (Turns c.args.turns) c.args.family c.args.nodes c.args.batch_size c.args.capacity c.in_ok-board.board c.in_ok-board.ended.items (c.in_ok-board.ensures.ran _ _ _ c.in_ok-sizes.ensures.sizes)
+    has_turned (says_no (g.G.Gate.says c.args.gate.now)) (Turns c.args.turns) c.args.family c.args.nodes c.args.batch_size c.args.capacity c.in_ok-board.field-0.board c.in_ok-board.field-0.runners.items (c.in_ok-board.ensures.ran _ _ _ c.in_ok-sizes.ensures.sizes)
     c.in_ok-turned.turned (subst (λ (l : List Runner). AreUnfailed l) c.deref.ensures.value c.in_ok-find_failed.ensures.going) c.in_ok-turned.ensures
 
 pub returns-clause-within : goal.returns-clause-within
@@ -52,5 +46,5 @@ returns-clause-within g c = c.in_ok-sizes.ensures.within
 
 pub returns-clause-few : goal.returns-clause-few
 returns-clause-few g c =
-    carries_few (says_no (g.G.Gate.says c.args.gate.now)) c.args.turns c.args.family c.args.nodes c.args.batch_size c.args.capacity c.in_ok-board.board c.in_ok-board.ended.items (c.in_ok-board.ensures.ran _ _ _ c.in_ok-sizes.ensures.sizes)
+    carries_few (says_no (g.G.Gate.says c.args.gate.now)) c.args.turns c.args.family c.args.nodes c.args.batch_size c.args.capacity c.in_ok-board.field-0.board c.in_ok-board.field-0.runners.items (c.in_ok-board.ensures.ran _ _ _ c.in_ok-sizes.ensures.sizes)
     (subst (λ (l : List Runner). AreUnfailed l) c.deref.ensures.value c.in_ok-find_failed.ensures.going) c.in_ok-turned.turned c.in_ok-turned.ensures

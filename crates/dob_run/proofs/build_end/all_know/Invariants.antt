@@ -1,7 +1,5 @@
 -- Each so far knows of it.
-use Rattle.std.proofs.Common.{◌≡◌, ℕ, ◌<◌, Some}
-use Rattle.std.specs.Prelude.{slice_get}
-use Rattle.dob_runner.specs.declared.runner.Runner.{Runner}
+use Rattle.dob_run.proofs.Common.{◌<◌, ◌≡◌, Some, ℕ, slice_get, Runner}
 use Rattle.dob_run.proofs.build_end.all_know.Given as goal
 
 abbrev pub invariant-loop-runner : goal.invariant-loop-runner

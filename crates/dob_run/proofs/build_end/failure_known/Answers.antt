@@ -1,7 +1,5 @@
 -- What the first runner knows is what all know, or none is known.
-use Rattle.std.proofs.Common.{sym, refl, ◌∙◌, subst}
-use Rattle.dob_board.specs.declared.halt.Halt.{Halt}
-use Rattle.dob_run.specs.BuildEnd.{AllKnow}
+use Rattle.dob_run.proofs.Common.{◌∙◌, refl, subst, sym, Halt, AllKnow}
 use Rattle.dob_run.proofs.KnownFailures.{none_apart, or_failed, late_failure}
 use Rattle.dob_run.proofs.build_end.failure_known.Goals as goal
 

@@ -1,6 +1,5 @@
 -- Each runner knows that this node failed the run.
-use Rattle.std.proofs.Common.{rules, inl, sym}
-use Rattle.dob_pieces.proofs.Elements.{some_at}
+use Rattle.dob_run.proofs.Common.{inl, rules, sym, some_at}
 use Rattle.dob_run.proofs.build_end.failure_of.Goals as goal
 
 pub returns : goal.returns

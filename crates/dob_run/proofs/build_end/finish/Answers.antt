@@ -1,11 +1,5 @@
 -- What each runner knows decides between a failure and the table.
-use Rattle.std.proofs.Common.{◌≡◌, List, map, refl, ap, ◌∙◌, subst}
-use Rattle.std.specs.Prelude.{slice_index}
-use Rattle.dob_node.specs.declared.node.Node.{Node}
-use Rattle.dob_node.proofs.TakenLists.{carried}
-use Rattle.dob_stops.specs.declared.fault.Fault.TheVariants.{Memory}
-use Rattle.dob_runner.specs.declared.runner.Runner.{Runner}
-use Rattle.dob_run.specs.BuildEnd.{IsFailureOf, share_in}
+use Rattle.dob_run.proofs.Common.{◌∙◌, ◌≡◌, List, ap, map, refl, subst, slice_index, Memory, carried, Node, Runner, IsFailureOf, share_in}
 use Rattle.dob_run.proofs.CrewStopped.{all_know, built_is, ended_by, owners_are}
 use Rattle.dob_run.proofs.KnownFailures.{IsNone}
 use Rattle.dob_run.proofs.build_end.finish.Goals as goal
@@ -38,9 +32,9 @@ returns-in_err-table-clause-failed g c =
     let here = (goal.at.returns-in_err-table-clause-failed g c).In_default in
     carried (IsFailureOf c.args.runners.items) c.from_residual-in_err-table.result Memory c.from_residual-in_err-table.ensures.1 (none g here).0
 
-pub table_of-requires-clause-owners : goal.table_of-requires-clause-owners
-table_of-requires-clause-owners g c = λ κs lives.
-    let here = (goal.at.table_of-requires-clause-owners g c).In_ok-nodes in
+pub gather-requires-clause-owners : goal.gather-requires-clause-owners
+gather-requires-clause-owners g c = λ κs lives.
+    let here = (goal.at.gather-requires-clause-owners g c).In_ok-nodes in
     let stopped = c.requires.stopped in
     let shares = c.deref-2.result.now in
     (owners_are c.args.board c.args.classes.family stopped.0 c.args.runners.items c.in_ok-nodes.ended.closed.words.items c.requires.crew stopped.1

@@ -1,6 +1,5 @@
 -- The share of each node is put behind the others, until the list is that of all nodes.
-use Rattle.std.proofs.Common.{rules}
-use Rattle.dob_run.specs.BuildEnd.{share_in}
+use Rattle.dob_run.proofs.Common.{rules, share_in}
 use Rattle.dob_run.proofs.Places.{moves_on, ends_up}
 use Rattle.dob_run.proofs.build_end.shares_of.Goals as goal
 

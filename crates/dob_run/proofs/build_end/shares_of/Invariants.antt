@@ -1,7 +1,5 @@
 -- The shares so far, with those of the nodes left, are those of all nodes.
-use Rattle.std.proofs.Common.{◌≡◌, ◌++◌, map}
-use Rattle.std.specs.Vec.Iter.{into_iter_items}
-use Rattle.dob_run.specs.BuildEnd.{share_in}
+use Rattle.dob_run.proofs.Common.{◌++◌, ◌≡◌, map, into_iter_items, share_in}
 use Rattle.dob_run.proofs.build_end.shares_of.Given as goal
 
 abbrev pub invariant-loop-node : goal.invariant-loop-node

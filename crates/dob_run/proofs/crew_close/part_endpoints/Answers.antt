@@ -1,6 +1,5 @@
 -- Each endpoint goes behind the parts of those before it, and when none is left they are the parts of all the endpoints.
-use Rattle.std.proofs.Common.{◌≡◌, ℕ, rules, arith, subst, [], length, vec_len}
-use Rattle.dob_run.specs.CrewClose.{ArePartsOf}
+use Rattle.dob_run.proofs.Common.{◌≡◌, [], arith, length, rules, subst, vec_len, ℕ, ArePartsOf}
 use Rattle.dob_run.proofs.EndpointParts.{parting_begins, parting_goes_on, one_of, all_parted}
 use Rattle.dob_run.proofs.crew_close.part_endpoints.Goals as goal
 

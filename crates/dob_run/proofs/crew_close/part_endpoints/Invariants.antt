@@ -1,6 +1,5 @@
 -- The parts are those of the endpoints gone over, and the other endpoints are left.
-use Rattle.std.proofs.Common.{vec_len}
-use Rattle.std.specs.Vec.Iter.{into_iter_items}
+use Rattle.dob_run.proofs.Common.{vec_len, into_iter_items}
 use Rattle.dob_run.proofs.EndpointParts.{AreParting}
 use Rattle.dob_run.proofs.crew_close.part_endpoints.Given as goal
 

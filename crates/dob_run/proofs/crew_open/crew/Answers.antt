@@ -1,6 +1,5 @@
 -- Sizes outside their limits are why no crew is opened, or the crew is opened for those sizes.
-use Rattle.dob_node.proofs.TakenLists.{carried}
-use Rattle.dob_run.specs.Faults.{HasCrewFault}
+use Rattle.dob_run.proofs.Common.{carried, HasCrewFault}
 use Rattle.dob_run.proofs.CrewRunners.{crew_sized}
 use Rattle.dob_run.proofs.RunFaults.{outside_none}
 use Rattle.dob_run.proofs.crew_open.crew.Goals as goal

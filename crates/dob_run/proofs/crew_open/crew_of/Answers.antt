@@ -1,16 +1,16 @@
 -- The crew's endpoints are its runners' own, and each runner is for the family and the size, unfailed and before any step.
-use Rattle.std.proofs.Common.{sym, subst, List}
-use Rattle.dob_runner.specs.declared.endpoint.Endpoint.{Endpoint}
-use Rattle.dob_run.specs.CrewClose.{IsCrew}
+use Rattle.dob_run.proofs.Common.{List, rules, subst, sym, ℕ, Endpoint, IsCrew, AreNewEndpoints}
 use Rattle.dob_run.proofs.CrewRunners.{endpoints_are, runners_are, runners_new}
 use Rattle.dob_run.proofs.crew_open.crew_of.Goals as goal
 
-pub runners_of-requires-clause-new : goal.runners_of-requires-clause-new
-runners_of-requires-clause-new g c = λ κs lives. (c.args.sizes.now.capacity, c.in_ok-board.ensures.new)
+pub runners_of-requires : goal.runners_of-requires
+runners_of-requires g c =
+    let new : (capacity : ℕ) × AreNewEndpoints capacity c.in_ok-board.endpoints.items = (c.args.sizes.now.capacity, c.in_ok-board.ensures.new) in
+    search rules
 
 pub returns : goal.returns
 returns g c =
-    let family = c.args.family in
+    let family = c.args.classes.now.family in
     let endpoints = c.in_ok-board.endpoints.items in
     let runners = c.in_ok-runners.runners.items in
     let are = c.in_ok-runners.ensures in

@@ -1,10 +1,5 @@
 -- The seats and the inboxes that were laid make a crew of n new endpoints, whose outlets send to the inlets.
-use Rattle.std.proofs.Common.{◌≡◌, ℕ, arith, sym, subst, ◌∙◌, vec_len, map}
-use Rattle.std.specs.Prelude.{replicate}
-use Rattle.dob_board.specs.Rule.{fresh}
-use Rattle.dob_board.specs.Seats.{AreSeats, stand_of}
-use Rattle.dob_run.specs.Seating.{AreSeated}
-use Rattle.dob_run.specs.CrewClose.{seat_in}
+use Rattle.dob_run.proofs.Common.{◌∙◌, ◌≡◌, arith, map, subst, sym, vec_len, ℕ, replicate, fresh, AreSeats, stand_of, seat_in, AreSeated}
 use Rattle.dob_run.proofs.Seated.{can_seat, new_endpoints, new_paired, new_seats}
 use Rattle.dob_run.proofs.crew_open.open_endpoints.Goals as goal
 use Rattle.dob_run.proofs.crew_open.open_endpoints.Goals.{In_ok-rows, In_ok-endpoints}

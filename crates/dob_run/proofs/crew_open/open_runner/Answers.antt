@@ -1,19 +1,15 @@
 -- The runner has the endpoint and a node just opened, which has made no step, and nothing has gone over its links.
-use Rattle.std.proofs.Common.{ℕ, sym, subst, ◌∙◌, arith}
-use Rattle.dob_node.specs.declared.node.Node.{Node}
-use Rattle.dob_node.specs.Nodes.{IsOpened}
-use Rattle.dob_runner.specs.declared.endpoint.Endpoint.{Endpoint}
-use Rattle.dob_runner.specs.Runners.{IsNew}
+use Rattle.dob_run.proofs.Common.{◌∙◌, arith, subst, sym, ℕ, IsOpened, Node, IsNew, Endpoint}
 use Rattle.dob_run.proofs.crew_open.open_runner.Goals as goal
 use Rattle.dob_run.proofs.crew_open.open_runner.Goals.{In_ok-node}
 
-is_new : (c : In_ok-node) → IsNew c.args.family c.in_ok-node.node c.args.endpoint
+is_new : (c : In_ok-node) → IsNew c.args.classes.now.family c.in_ok-node.node c.args.endpoint
 is_new c =
-    let new = c.requires.new.1 in record {
-      openings = c.args.openings.now;
-      are_openings = c.requires.openings;
-      opened = subst (λ (k : ℕ). IsOpened c.args.openings.now c.args.family c.args.endpoint.seat.node k c.in_ok-node.node) c.in-Some.ensures.0
-          c.in_ok-node.ensures.opened;
+    let new = c.requires.1 in
+    let opened = c.in_ok-node.ensures.opened in record {
+      openings = opened.0;
+      are_openings = opened.1;
+      opened = subst (λ (k : ℕ). IsOpened opened.0 c.args.classes.now.family c.args.endpoint.seat.node k c.in_ok-node.node) c.in-Some.ensures.0 opened.2;
       sound = c.in_ok-node.ensures.sound;
       black = new.black;
       running = new.running;
@@ -37,5 +33,5 @@ returns c =
     let node = kept.node ∙ made.node in (
       endpoint,
       record { family_is = kept.family ∙ made.family; size_is = kept.batch_size ∙ made.batch_size; unfailed = kept.failed ∙ made.unfailed },
-      subst (λ (p : Node × Endpoint). IsNew c.args.family p.0 p.1) (λ i. ((sym node) i, (sym endpoint) i)) (is_new (goal.at.returns c).In_ok-node),
+      subst (λ (p : Node × Endpoint). IsNew c.args.classes.now.family p.0 p.1) (λ i. ((sym node) i, (sym endpoint) i)) (is_new (goal.at.returns c).In_ok-node),
     )

@@ -1,8 +1,6 @@
 -- While a seat is left so are a row and an inlet, of its size and with its counts, and they become its endpoint.
-use Rattle.std.proofs.Common.{◌≡◌, ℕ, rules, arith, ap, subst, length, Vec, Global, vec_len}
-use Rattle.dob_runner.specs.declared.slots.Outlet.{Outlet}
-use Rattle.dob_runner.specs.declared.endpoint.Endpoint.{Endpoint}
-use Rattle.dob_run.specs.Seating.{CanSeat, IsSeated, AreSeated}
+use Rattle.dob_run.proofs.Common.{◌≡◌, Global, ap, arith, length, rules, subst, vec_len, ℕ, Endpoint, Outlet, AreSeated, CanSeat, IsSeated}
+use Rattle.std.proofs.Common.{Vec}
 use Rattle.dob_run.proofs.Seated.{seating_begins, next_can, seating_goes_on, all_seated}
 use Rattle.dob_run.proofs.Places.{thing_left}
 use Rattle.dob_run.proofs.crew_open.seat_all.Goals as goal

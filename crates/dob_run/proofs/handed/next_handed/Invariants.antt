@@ -1,6 +1,5 @@
 -- Nothing came yet.
-use Rattle.std.proofs.Common.{◌≡◌}
-use Rattle.rtrb.specs.Ring.{received, SameConsumer}
+use Rattle.dob_run.proofs.Common.{◌≡◌, SameConsumer, received}
 use Rattle.dob_run.proofs.handed.next_handed.Given as goal
 
 abbrev pub invariant-loop : goal.invariant-loop

@@ -1,6 +1,5 @@
 -- The next outlet's end and slot go last in their lists, which in the end are those of all the outlets.
-use Rattle.std.proofs.Common.{rules, refl}
-use Rattle.dob_run.specs.InboxClose.{outlet_end, outlet_slot}
+use Rattle.dob_run.proofs.Common.{refl, rules, outlet_end, outlet_slot}
 use Rattle.dob_run.proofs.Places.{moves_on, ends_up}
 use Rattle.dob_run.proofs.inbox_close.part_outlets.Goals as goal
 

@@ -1,7 +1,5 @@
 -- The ends and the slots so far, followed by those of the outlets that are left, are those of all the outlets.
-use Rattle.std.proofs.Common.{◌≡◌, ◌++◌, map}
-use Rattle.std.specs.Vec.Iter.{into_iter_items}
-use Rattle.dob_run.specs.InboxClose.{outlet_end, outlet_slot}
+use Rattle.dob_run.proofs.Common.{◌++◌, ◌≡◌, map, into_iter_items, outlet_end, outlet_slot}
 use Rattle.dob_run.proofs.inbox_close.part_outlets.Given as goal
 
 abbrev pub invariant-loop-outlet : goal.invariant-loop-outlet

@@ -1,9 +1,6 @@
 -- While a row of sending ends is left so is the taking end of its inbox, and its links go to their senders' rows.
-use Rattle.std.proofs.Common.{◌≡◌, ℕ, Result, Ok, Err, rules, sym, subst, Vec, Global, length, vec_len, ◌∙◌}
-use Rattle.std.specs.Prelude.{IfOk}
-use Rattle.dob_chan.specs.declared.ends.Rejoined.{Rejoined}
-use Rattle.dob_run.specs.InboxClose.{AreJoined}
-use Rattle.dob_run.specs.Rows.{AreRows, AreDealt, AreInOrder}
+use Rattle.dob_run.proofs.Common.{◌∙◌, ◌≡◌, Global, Result, length, rules, subst, sym, vec_len, ℕ, IfOk, Rejoined, AreJoined, AreDealt, AreInOrder, AreRows}
+use Rattle.std.proofs.Common.{Ok, Err, Vec}
 use Rattle.dob_run.proofs.Places.{thing_left}
 use Rattle.dob_run.proofs.InboxesClosed.{all_begin, all_go_on, next_ends, all_done, are_joined}
 use Rattle.dob_run.proofs.inbox_close.rejoin_all.Goals as goal

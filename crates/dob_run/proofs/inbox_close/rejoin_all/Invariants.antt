@@ -1,6 +1,5 @@
 -- The inboxes of the rows gone over are ended, their links stand in the rows of their senders, and the other ends are left.
-use Rattle.std.proofs.Common.{vec_len}
-use Rattle.std.specs.Vec.Iter.{into_iter_items}
+use Rattle.dob_run.proofs.Common.{vec_len, into_iter_items}
 use Rattle.dob_run.proofs.InboxesClosed.{AreOn}
 use Rattle.dob_run.proofs.inbox_close.rejoin_all.Given as goal
 

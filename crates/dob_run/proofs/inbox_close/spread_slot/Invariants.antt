@@ -1,6 +1,5 @@
 -- The places below the sender have what the slot has of them, and the later ones are still to come.
-use Rattle.std.proofs.Common.{◌≡◌, ◌≤◌, ℕ}
-use Rattle.dob_runner.specs.Slots.{held_from, slot_row}
+use Rattle.dob_run.proofs.Common.{◌≡◌, ◌≤◌, ℕ, held_from, slot_row}
 use Rattle.dob_run.proofs.inbox_close.spread_slot.Given as goal
 
 abbrev pub invariant-loop-from : goal.invariant-loop-from

@@ -1,8 +1,5 @@
 -- What isn't of that sender stays in the slot, and what is leaves nothing there for any.
-use Rattle.std.proofs.Common.{◌≡◌, ◌≢◌, ℕ, Bool, cond, Some, None, ap}
-use Rattle.std.proofs.lemmas.Bool.{eq-eqb, ne_eqb}
-use Rattle.dob_update.specs.Batches.{BatchView}
-use Rattle.dob_runner.specs.Slots.{held_from}
+use Rattle.dob_run.proofs.Common.{◌≡◌, ◌≢◌, Bool, None, Some, ap, cond, ℕ, eq-eqb, ne_eqb, BatchView, held_from}
 
 held_here : (batch : BatchView) (from : ℕ) → batch.from ≡ from → held_from (Some batch) from ≡ Some batch
 held_here batch from is = ap (λ (t : Bool). cond t (Some batch) None) (eq-eqb batch.from from is)

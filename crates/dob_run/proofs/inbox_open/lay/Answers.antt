@@ -1,6 +1,5 @@
 -- One inbox more is laid: its outlets are dealt to the nodes, and its inlet goes last.
-use Rattle.std.proofs.Common.{◌≡◌, ℕ, length, vec_len, rules, subst}
-use Rattle.dob_run.specs.Rows.{AreRows, AreDealt}
+use Rattle.dob_run.proofs.Common.{◌≡◌, length, rules, subst, vec_len, ℕ, AreDealt, AreRows}
 use Rattle.dob_run.proofs.InboxesOpened.{none_laid, laid_more}
 use Rattle.dob_run.proofs.inbox_open.lay.Goals as goal
 

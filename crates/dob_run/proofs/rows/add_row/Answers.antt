@@ -1,7 +1,6 @@
 -- The next thing of the row goes last, until none is left.
-use Rattle.std.proofs.Common.{ap, sym, ◌++◌}
+use Rattle.std.proofs.Common.{ap, sym, ◌++◌, rules}
 use Rattle.dob_run.proofs.InboxesClosed.{one_moves, all_moved}
-use Rattle.std.proofs.Common.{rules}
 use Rattle.dob_run.proofs.rows.add_row.Goals as goal
 
 pub loop-thing-init : goal.loop-thing-init

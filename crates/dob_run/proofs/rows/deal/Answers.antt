@@ -1,8 +1,5 @@
 -- The next thing goes last in the row at its own place, and after the last row all are dealt.
-use Rattle.std.proofs.Common.{◌≡◌, ℕ, Some, rules, sym, subst, ◌∙◌}
-use Rattle.std.specs.Prelude.{slice_get}
-use Rattle.dob_pieces.proofs.Elements.{read_there}
-use Rattle.dob_run.specs.Rows.{AreDealt}
+use Rattle.dob_run.proofs.Common.{◌∙◌, ◌≡◌, Some, rules, subst, sym, ℕ, slice_get, read_there, AreDealt}
 use Rattle.dob_run.proofs.Places.{next_is, then_left}
 use Rattle.dob_run.proofs.InboxesClosed.{dealt_one}
 use Rattle.dob_run.proofs.rows.deal.Goals as goal

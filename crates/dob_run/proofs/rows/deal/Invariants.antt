@@ -1,7 +1,5 @@
 -- The things left are those from the place on, and those before it stand at the ends of their rows.
-use Rattle.std.proofs.Common.{◌≡◌, drop}
-use Rattle.std.specs.Vec.Iter.{into_iter_items}
-use Rattle.dob_run.specs.Rows.{AreDealt}
+use Rattle.dob_run.proofs.Common.{◌≡◌, drop, into_iter_items, AreDealt}
 use Rattle.dob_run.proofs.rows.deal.Given as goal
 
 abbrev pub invariant-loop-place : goal.invariant-loop-place

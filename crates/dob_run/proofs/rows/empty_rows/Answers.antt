@@ -1,6 +1,5 @@
 -- Each push is one empty row more, and at the end there are as many as were asked for.
-use Rattle.std.proofs.Common.{ℕ, rules, subst}
-use Rattle.dob_run.specs.Rows.{AreRows}
+use Rattle.dob_run.proofs.Common.{rules, subst, ℕ, AreRows}
 use Rattle.dob_run.proofs.Places.{no_rows, row_added}
 use Rattle.dob_run.proofs.rows.empty_rows.Goals as goal
 

@@ -1,6 +1,5 @@
 -- The next row goes behind the others, and after the last all things stand row by row.
-use Rattle.std.proofs.Common.{◌≡◌, ℕ, rules, subst, length, vec_len}
-use Rattle.dob_run.specs.Rows.{AreInOrder}
+use Rattle.dob_run.proofs.Common.{◌≡◌, length, rules, subst, vec_len, ℕ, AreInOrder}
 use Rattle.dob_run.proofs.InboxesClosed.{order_begins, order_goes_on, order_done, next_row}
 use Rattle.dob_run.proofs.rows.join.Goals as goal
 

@@ -1,7 +1,5 @@
 -- What came back went first over the ring.
-use Rattle.std.proofs.Common.{sym, subst}
-use Rattle.rtrb.specs.Ring.{known_items}
-use Rattle.dob_run.specs.Started.{IsEndOf}
+use Rattle.dob_run.proofs.Common.{subst, sym, known_items, IsEndOf}
 use Rattle.dob_run.proofs.Threaded.{went_first}
 use Rattle.dob_run.proofs.threads.end.Goals as goal
 

@@ -1,6 +1,5 @@
 -- Each runner that ended is the end of the started one at its place, one by one, until none is left.
-use Rattle.std.proofs.Common.{rules}
-use Rattle.dob_run.specs.Started.{IsEndOf}
+use Rattle.dob_run.proofs.Common.{rules, IsEndOf}
 use Rattle.dob_run.proofs.Threaded.{going_begins, goes_on, all_went, next_one}
 use Rattle.dob_run.proofs.threads.end_all.Goals as goal
 

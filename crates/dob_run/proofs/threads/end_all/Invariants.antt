@@ -1,6 +1,5 @@
 -- Of those that were started so many have ended, each at its place, and the others are left.
-use Rattle.std.specs.Vec.Iter.{into_iter_items}
-use Rattle.dob_run.specs.Started.{IsEndOf}
+use Rattle.dob_run.proofs.Common.{into_iter_items, IsEndOf}
 use Rattle.dob_run.proofs.Threaded.{AreGoing}
 use Rattle.dob_run.proofs.threads.end_all.Given as goal
 

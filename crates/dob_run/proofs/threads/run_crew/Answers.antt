@@ -1,7 +1,5 @@
 -- The runners of a new crew suit the classes of its family, so they have run, of sizes within the limits.
-use Rattle.std.proofs.Common.{rules}
-use Rattle.dob_run.specs.CrewTurns.{AllSuit}
-use Rattle.dob_runner.specs.Runners.{says_no}
+use Rattle.dob_run.proofs.Common.{rules, subst, Family, says_no, IsNewCrew, AllSuit}
 use Rattle.dob_run.proofs.ByThreads.{are_let_on}
 use Rattle.dob_run.proofs.CrewRunners.{all_suit, crew_kept, run_sized}
 use Rattle.dob_run.proofs.Threaded.{all_by, all_kept}
@@ -9,7 +7,8 @@ use Rattle.dob_run.proofs.threads.run_crew.Goals as goal
 
 pub run_each-requires : goal.run_each-requires
 run_each-requires g c =
-    let suit : AllSuit c.args.family c.in_ok-board.runners.items = all_suit c.args.family c.args.sizes.now.batch_size c.in_ok-board.runners.items c.in_ok-board.ensures.each in
+    let family = c.in_ok-classes.classes.family in
+    let suit : AllSuit family c.in_ok-board.runners.items = all_suit family c.args.sizes.now.batch_size c.in_ok-board.runners.items c.in_ok-board.ensures.each in
     search rules
 
 pub returns-clause-ran : goal.returns-clause-ran
@@ -19,7 +18,8 @@ returns-clause-ran g c = λ nodes batch_size capacity these.
     run_sized (says_no Says) c.args.until.now c.args.family nodes batch_size capacity c.args.sizes.now c.in_ok-board.board c.in_ok-ended.ended.items these (record {
       within = c.args.sizes.now.within;
       old = old;
-      opened = c.in_ok-board.ensures;
+      opened = subst (λ (family : Family). IsNewCrew family c.args.sizes.now.nodes c.args.sizes.now.batch_size c.args.sizes.now.capacity c.in_ok-board.board old)
+          c.in_ok-classes.ensures.family c.in_ok-board.ensures;
       ends = all_by Says c.args.until.now old c.in_ok-ended.ended.items c.in_ok-ended.ensures;
     })
 
@@ -28,6 +28,6 @@ returns-clause-let_on g c =
     let Says = g.G.Gate.says c.args.gate.now in
     let old = c.in_ok-board.runners.items in
     let ended = c.in_ok-ended.ended.items in
-    are_let_on Says c.args.until.now c.args.family c.args.sizes.now.nodes c.args.sizes.now.batch_size c.args.sizes.now.capacity c.in_ok-board.board old ended c.in_ok-board.ensures c.in_ok-ended.ensures
+    are_let_on Says c.args.until.now c.in_ok-classes.classes.family c.args.sizes.now.nodes c.args.sizes.now.batch_size c.args.sizes.now.capacity c.in_ok-board.board old ended c.in_ok-board.ensures c.in_ok-ended.ensures
     (crew_kept c.in_ok-board.board old ended c.in_ok-board.ensures.crew
     (all_kept (says_no Says) c.args.until.now old ended (all_by Says c.args.until.now old ended c.in_ok-ended.ensures)))

@@ -1,6 +1,5 @@
 -- The runner was handed to the thread that promised to let it make its turns.
-use Rattle.std.proofs.Common.{◌≡◌, rules, refl, sym, ap, ◌∙◌}
-use Rattle.dob_run.specs.declared.threads.Kept.{Kept}
+use Rattle.dob_run.proofs.Common.{◌∙◌, ◌≡◌, ap, refl, rules, sym, Kept}
 use Rattle.dob_run.proofs.Threaded.{handed_on}
 use Rattle.dob_run.proofs.threads.start.Goals as goal
 

@@ -1,7 +1,5 @@
 -- Each runner that is left suits the classes, and what is started is its start, one by one, until none is left.
-use Rattle.std.proofs.Common.{rules}
-use Rattle.dob_runner.specs.TurnLoop.{Suits}
-use Rattle.dob_run.specs.Started.{IsStartOf}
+use Rattle.dob_run.proofs.Common.{rules, Suits, IsStartOf}
 use Rattle.dob_run.proofs.Threaded.{going_begins, goes_on, all_went, next_one}
 use Rattle.dob_run.proofs.threads.start_all.Goals as goal
 

@@ -1,6 +1,5 @@
 -- Of the runners so many were started, each at its place, and the others are left.
-use Rattle.std.specs.Vec.Iter.{into_iter_items}
-use Rattle.dob_run.specs.Started.{IsStartOf}
+use Rattle.dob_run.proofs.Common.{into_iter_items, IsStartOf}
 use Rattle.dob_run.proofs.Threaded.{AreGoing}
 use Rattle.dob_run.proofs.threads.start_all.Given as goal
 

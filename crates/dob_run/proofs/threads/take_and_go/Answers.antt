@@ -1,6 +1,5 @@
 -- The first that came has made its turns.
-use Rattle.std.proofs.Common.{List, [], ◌∷◌, ◌++◌, ap, ◌∙◌}
-use Rattle.dob_run.specs.declared.handed.Handed.{Handed}
+use Rattle.dob_run.proofs.Common.{◌++◌, ◌∙◌, ◌∷◌, List, [], ap, Handed}
 use Rattle.dob_run.proofs.threads.take_and_go.Goals as goal
 
 pub returns : goal.returns

@@ -1,6 +1,5 @@
 -- The entries of the run so far count no win in that distance.
-use Rattle.std.proofs.Common.{◌≡◌}
-use Rattle.dob_share.specs.Pools.{tally, moves_at}
+use Rattle.dob_share.proofs.Common.{◌≡◌, moves_at, tally}
 use Rattle.dob_share.proofs.cells.counted_place.Given as goal
 
 abbrev pub invariant-loop-offset : goal.invariant-loop-offset

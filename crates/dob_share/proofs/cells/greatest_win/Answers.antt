@@ -1,7 +1,5 @@
 -- At the run's end, the greatest distance so far is the greatest that the whole run counts.
-use Rattle.std.proofs.Common.{◌≡◌, ℕ, subst, arith}
-use Rattle.dob_share.specs.Cells.{IsGreatestIn}
-use Rattle.dob_share.specs.Pools.{tally, moves_at}
+use Rattle.dob_share.proofs.Common.{◌≡◌, arith, subst, ℕ, IsGreatestIn, moves_at, tally}
 use Rattle.dob_share.proofs.Tallies.{greatest_in}
 use Rattle.dob_share.proofs.cells.greatest_win.Goals as goal
 

@@ -1,6 +1,5 @@
 -- The greatest distance so far is the greatest that the entries so far count, or they count none.
-use Rattle.dob_share.specs.Cells.{IsGreatestIn}
-use Rattle.dob_share.specs.Pools.{tally, moves_at}
+use Rattle.dob_share.proofs.Common.{IsGreatestIn, moves_at, tally}
 use Rattle.dob_share.proofs.cells.greatest_win.Given as goal
 
 abbrev pub invariant-loop-offset : goal.invariant-loop-offset

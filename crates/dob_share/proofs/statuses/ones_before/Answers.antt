@@ -1,7 +1,5 @@
 -- The bits before a place are those of a remainder.
-use Rattle.std.proofs.Common.{◌-◌, ℕ, ap, ◌∙◌, bit_and}
-use Rattle.std.specs.Int.Count.{ones}
-use Rattle.std.proofs.lemmas.Nat.{one_shl, and_mask}
+use Rattle.dob_share.proofs.Common.{◌-◌, ◌∙◌, ap, bit_and, ℕ, and_mask, one_shl, ones}
 use Rattle.dob_share.proofs.Bits.{ones_below}
 use Rattle.dob_share.proofs.statuses.ones_before.Goals as goal
 

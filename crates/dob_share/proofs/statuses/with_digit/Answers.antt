@@ -1,6 +1,5 @@
 -- The digit is written above the others.
-use Rattle.std.proofs.Common.{◌+◌, ◌<◌, ◌^◌, ℕ, ap, sym, subst, ◌∙◌}
-use Rattle.dob_share.specs.Statuses.{bit}
+use Rattle.dob_share.proofs.Common.{◌+◌, ◌<◌, ◌^◌, ◌∙◌, ap, subst, sym, ℕ, bit}
 use Rattle.dob_share.proofs.Bits.{digit_is, digit_there, digit_before, digit_low}
 use Rattle.dob_share.proofs.statuses.with_digit.Goals as goal
 

@@ -1,6 +1,5 @@
 -- One digit more in each word.
-use Rattle.std.proofs.Common.{◌≡◌, ◌+◌, ◌∙◌, ◌<◌, ap, ℕ, arith}
-use Rattle.dob_share.specs.Statuses.{opens, catches, tries, status_listed}
+use Rattle.dob_share.proofs.Common.{◌+◌, ◌<◌, ◌∙◌, ◌≡◌, ap, arith, ℕ, catches, opens, status_listed, tries}
 use Rattle.dob_share.proofs.Words.{digits_none, digits_more}
 use Rattle.dob_share.proofs.statuses.word_at.Goals as goal
 

@@ -1,6 +1,5 @@
 -- The digits so far are those of the statuses listed.
-use Rattle.std.proofs.Common.{◌+◌}
-use Rattle.dob_share.specs.Statuses.{opens, catches, tries, status_listed}
+use Rattle.dob_share.proofs.Common.{◌+◌, catches, opens, status_listed, tries}
 use Rattle.dob_share.proofs.Words.{AreDigits}
 use Rattle.dob_share.proofs.statuses.word_at.Given as goal
 

@@ -1,7 +1,5 @@
 -- The words so far, and one more.
-use Rattle.std.proofs.Common.{◌+◌, ◌%◌, ℕ, length, ap, ◌∙◌, subst, arith}
-use Rattle.std.proofs.lemmas.List.{length_push}
-use Rattle.dob_share.specs.Statuses.{IsStatusOf, status_listed, word_of}
+use Rattle.dob_share.proofs.Common.{◌%◌, ◌+◌, ◌∙◌, ap, arith, length, subst, ℕ, length_push, IsStatusOf, status_listed, word_of}
 use Rattle.dob_share.proofs.Words.{words_more, listed_status}
 use Rattle.dob_share.proofs.statuses.words_of.Goals as goal
 

@@ -1,6 +1,5 @@
 -- The words so far are those of the places before.
-use Rattle.std.proofs.Common.{◌≡◌, ℕ, ◌*◌, ◌%◌, ◌<◌, ◌≤◌, length}
-use Rattle.dob_share.specs.Statuses.{IsStatusOf, status_listed, word_of, opens_below, AreCounted}
+use Rattle.dob_share.proofs.Common.{◌%◌, ◌*◌, ◌<◌, ◌≡◌, ◌≤◌, length, ℕ, AreCounted, IsStatusOf, opens_below, status_listed, word_of}
 use Rattle.dob_share.proofs.statuses.words_of.Given as goal
 
 abbrev pub invariant-loop-number : goal.invariant-loop-number

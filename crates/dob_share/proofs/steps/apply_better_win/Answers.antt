@@ -1,30 +1,25 @@
 -- Better news of a win of the enemy: it is counted anew, and the slot stays.
-use Rattle.dob_share.proofs.Applied.{change_of, short_here, run_within}
+use Rattle.dob_share.proofs.Applied.{is_read, change_of, short_here, run_within}
 use Rattle.dob_share.proofs.Rows.{win_not_counted, better_win_short, better_win_applied}
 use Rattle.dob_share.proofs.steps.apply_better_win.Goals as goal
 
 pub counted_place-requires : goal.counted_place-requires
-counted_place-requires c = run_within c.args.slots.now c.args.pool.now c.args.place
-    c.index-slot.result.now c.requires.pooled c.requires.place c.index-slot.ensures
+counted_place-requires c = run_within (is_read c.args.place c.requires.pooled c.requires.place c.index-slot.ensures)
 
 pub returns-in_default : goal.returns-in_default
-returns-in_default c = win_not_counted c.args.slots.now c.args.pool.now c.args.place
-    c.index-slot.result.now c.requires.pooled c.requires.place c.index-slot.ensures
+returns-in_default c = win_not_counted (is_read c.args.place c.requires.pooled c.requires.place c.index-slot.ensures)
     c.args.to c.args.was c.args.now c.in_default.ensures.wins
 
 pub value_in-before-requires-clause-short : goal.value_in-before-requires-clause-short
-value_in-before-requires-clause-short c = short_here c.args.slots.now c.args.pool.now c.args.place
-    c.index-slot.result.now c.requires.pooled c.requires.place c.index-slot.ensures
+value_in-before-requires-clause-short c = short_here (is_read c.args.place c.requires.pooled c.requires.place c.index-slot.ensures)
 
 pub value_in-after-requires-clause-short : goal.value_in-after-requires-clause-short
-value_in-after-requires-clause-short c = better_win_short c.args.slots.now c.args.pool.now c.args.place
-    c.index-slot.result.now c.requires.pooled c.requires.place c.index-slot.ensures
+value_in-after-requires-clause-short c = better_win_short (is_read c.args.place c.requires.pooled c.requires.place c.index-slot.ensures)
     c.args.to c.args.was c.args.now c.count_better.new.pool c.if-now-was.false c.in-Some.ensures.wins
     c.count_better.ensures.changes (c.count_better.ensures.wins c.args.was c.in-Some.ensures.place.2 c.if-now-was.false)
 
 pub returns : goal.returns
-returns c = better_win_applied c.args.slots.now c.args.pool.now c.args.place
-    c.index-slot.result.now c.requires.pooled c.requires.place c.index-slot.ensures
+returns c = better_win_applied (is_read c.args.place c.requires.pooled c.requires.place c.index-slot.ensures)
     c.args.to c.args.was c.args.now c.count_better.new.pool c.if-now-was.false c.in-Some.ensures.wins
     c.count_better.ensures.changes (c.count_better.ensures.wins c.args.was c.in-Some.ensures.place.2 c.if-now-was.false)
     c.change.result (change_of _ _ c.value_in-before.result c.value_in-after.result c.change.result c.value_in-before.ensures c.value_in-after.ensures c.change.ensures)

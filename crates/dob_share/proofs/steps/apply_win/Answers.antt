@@ -1,34 +1,25 @@
 -- The first news of a win of the enemy: one more is counted, and the value stays but where it was the last move's.
-use Rattle.std.proofs.Common.{◌≡◌, ℕ, ◌+◌, ◌<◌, length, refl, sym, subst, inl, inr, arith}
-use Rattle.dob_share.specs.Cells.{more_at}
-use Rattle.dob_share.specs.Pools.{wins_in, ChangesRun}
-use Rattle.dob_share.proofs.Applied.{entry_free, start_told}
+use Rattle.dob_share.proofs.Common.{◌+◌, ◌<◌, ◌≡◌, arith, inl, inr, length, refl, subst, sym, ℕ, more_at, ChangesRun, wins_in}
+use Rattle.dob_share.proofs.Applied.{is_read, entry_free, start_told}
 use Rattle.dob_share.proofs.Rows.{no_move_left, win_applied}
 use Rattle.dob_share.proofs.steps.apply_win.Goals as goal
 
 pub returns-then-slot-eq0 : goal.returns-then-slot-eq0
-returns-then-slot-eq0 c = no_move_left c.args.slots.now c.args.pool.now c.args.seen.place
-    c.index-slot.result.now c.requires.pooled c.requires.place c.index-slot.ensures
-    c.args.to c.args.plies (omega arith)
+returns-then-slot-eq0 c = no_move_left (is_read c.args.seen.place c.requires.pooled c.requires.place c.index-slot.ensures) c.args.to c.args.plies (omega arith)
 
 pub returns-then-slot-eq0-2 : goal.returns-then-slot-eq0-2
 returns-then-slot-eq0-2 c = c.apply_last_win.ensures c.args.to
 
 pub count_win-requires : goal.count_win-requires
 count_win-requires c =
-    let free = entry_free c.args.slots.now c.args.pool.now c.args.seen.place
-    c.index-slot.result.now c.requires.pooled c.requires.place c.index-slot.ensures (omega arith) in
-    let told = start_told c.args.slots.now c.args.pool.now c.args.seen.place
-    c.index-slot.result.now c.requires.pooled c.requires.place c.index-slot.ensures c.args.seen.start c.requires.start in
-    subst (λ (k : ℕ). k + c.index-slot.result.now.used < length c.args.pool.now) told free
+    let here = is_read c.args.seen.place c.requires.pooled c.requires.place c.index-slot.ensures in
+    subst (λ (k : ℕ). k + c.index-slot.result.now.used < length c.args.pool.now) (start_told here c.args.seen.start c.requires.start) (entry_free here (omega arith))
 
 pub returns : goal.returns
 returns c =
-    let told = sym (start_told c.args.slots.now c.args.pool.now c.args.seen.place
-    c.index-slot.result.now c.requires.pooled c.requires.place c.index-slot.ensures c.args.seen.start c.requires.start) in
-    win_applied c.args.slots.now c.args.pool.now c.args.seen.place
-    c.index-slot.result.now c.requires.pooled c.requires.place c.index-slot.ensures
-    c.args.to c.args.plies _ c.count_win.new.pool (omega arith) refl refl refl refl
+    let here = is_read c.args.seen.place c.requires.pooled c.requires.place c.index-slot.ensures in
+    let told = sym (start_told here c.args.seen.start c.requires.start) in
+    win_applied here c.args.to c.args.plies _ c.count_win.new.pool (omega arith) refl refl refl refl
     (subst (λ (k : ℕ). ChangesRun k (c.index-slot.result.now.used + 1) c.args.pool.now c.count_win.new.pool) told c.count_win.ensures.changes)
     (subst (λ (k : ℕ). (other : ℕ) → wins_in c.count_win.new.pool k (c.index-slot.result.now.used + 1) other
     ≡ more_at c.args.plies (wins_in c.args.pool.now k c.index-slot.result.now.used) other) told c.count_win.ensures.wins)

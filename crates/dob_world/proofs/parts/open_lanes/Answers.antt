@@ -1,6 +1,5 @@
 -- One lane more is empty.
-use Rattle.std.proofs.Common.{subst, sym}
-use Rattle.dob_world.specs.Start.{AreEmptyLanes}
+use Rattle.dob_world.proofs.Common.{subst, sym, AreEmptyLanes}
 use Rattle.dob_world.proofs.Pushed.{empty_more, none_empty}
 use Rattle.dob_world.proofs.parts.open_lanes.Goals as goal
 

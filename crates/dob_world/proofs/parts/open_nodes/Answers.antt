@@ -1,6 +1,5 @@
 -- One node more is opened.
-use Rattle.std.proofs.Common.{◌≡◌, ℕ, ◌∙◌, arith, subst, sym}
-use Rattle.dob_world.specs.Start.{AreOpenedNodes}
+use Rattle.dob_world.proofs.Common.{◌∙◌, ◌≡◌, arith, subst, sym, ℕ, AreOpenedNodes}
 use Rattle.dob_world.proofs.Pushed.{opened_more, none_opened}
 use Rattle.dob_world.proofs.parts.open_nodes.Goals as goal
 

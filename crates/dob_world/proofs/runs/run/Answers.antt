@@ -1,9 +1,5 @@
 -- The opening world is the one after no events, and each event makes a run longer.
-use Rattle.std.proofs.Common.{◌<◌, inr, refl, sym, ap, subst, arith, [], Ok}
-use Rattle.dob_rank.specs.Families.{classes_of}
-use Rattle.dob_world.specs.Worlds.{Setting, setting_by}
-use Rattle.dob_world.specs.Shown.{state_of}
-use Rattle.dob_world.specs.Start.{IsWorldStart}
+use Rattle.dob_world.proofs.Common.{◌<◌, Ok, [], ap, arith, inr, refl, subst, sym, classes_of, state_of, IsWorldStart, Setting, setting_by}
 use Rattle.dob_world.proofs.Ran.{ran, stepped, ran_more, run_stops}
 use Rattle.dob_world.proofs.runs.run.Goals as goal
 

@@ -1,7 +1,5 @@
 -- The events so far have happened, or were skipped.
-use Rattle.std.proofs.Common.{◌≤◌, take}
-use Rattle.dob_world.specs.Worlds.{setting_by}
-use Rattle.dob_world.specs.Results.{HasRunEvents}
+use Rattle.dob_world.proofs.Common.{◌≤◌, take, HasRunEvents, setting_by}
 use Rattle.dob_world.proofs.runs.run.Given as goal
 
 abbrev pub invariant-loop-event : goal.invariant-loop-event

@@ -1,7 +1,5 @@
 -- No own item is left where the answer is false; else the first one is applied, and the lane lists it.
-use Rattle.std.proofs.Common.{refl, sym, ap, ◌∙◌, Ok, inl, inr, ◌++◌, ◌∷◌, []}
-use Rattle.std.proofs.lemmas.Bool.{cases_Bool}
-use Rattle.dob_node.specs.Nodes.{HasApplied}
+use Rattle.dob_world.proofs.Common.{◌++◌, ◌∙◌, ◌∷◌, Ok, [], ap, inl, inr, refl, sym, cases_Bool, HasApplied}
 use Rattle.dob_world.proofs.Firsts.{none_first, first_same, some_first}
 use Rattle.dob_world.proofs.steps.apply_own.Goals as goal
 

@@ -1,8 +1,5 @@
 -- The batch cut is the last that waits on the lane, whose link has room, and its items are listed as sent.
-use Rattle.std.proofs.Common.{◌≡◌, ◌≤◌, refl, ap, ◌∙◌, subst, IfSome, ◌++◌, ◌∷◌, [], length}
-use Rattle.dob_update.specs.Batches.{BatchView}
-use Rattle.dob_link.specs.Links.{link_of}
-use Rattle.dob_node.specs.Nodes.{HasCut}
+use Rattle.dob_world.proofs.Common.{◌++◌, ◌∙◌, ◌∷◌, ◌≡◌, ◌≤◌, IfSome, [], ap, length, refl, subst, BatchView, HasCut, link_of}
 use Rattle.dob_world.proofs.Firsts.{went_well}
 use Rattle.dob_world.proofs.steps.post.Goals as goal
 

@@ -1,11 +1,5 @@
 -- The lane's first batch is one for the node, which takes and lists its items, or stops at one of them.
-use Rattle.std.proofs.Common.{refl, sym, ap, ◌∙◌, subst, ◌++◌, ◌∷◌, take}
-use Rattle.std.specs.List.{All}
-use Rattle.std.proofs.lemmas.List.Elements.{All-head}
-use Rattle.dob_link.specs.Links.{link_of}
-use Rattle.dob_update.specs.Batches.{BatchView}
-use Rattle.dob_node.proofs.TakenLists.{taken_since, before_since}
-use Rattle.dob_world.specs.Lanes.{IsBatchTo}
+use Rattle.dob_world.proofs.Common.{◌++◌, ◌∙◌, ◌∷◌, ap, refl, subst, sym, take, All-head, All, BatchView, before_since, taken_since, IsBatchTo, link_of}
 use Rattle.dob_world.proofs.Firsts.{front_is}
 use Rattle.dob_world.proofs.steps.receive.Goals as goal
 

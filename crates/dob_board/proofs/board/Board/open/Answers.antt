@@ -1,7 +1,6 @@
 -- The words at the start, with the first token's, keep the rule under one view of all nodes.
 use Rattle.std.proofs.Common.{ℕ, List, [], ◌∷◌, sym, ap, subst, ◌∙◌}
-use Rattle.dob_board.specs.Boards.{first_words}
-use Rattle.dob_board.specs.Rule.{IsHeld, whole}
+use Rattle.dob_board.proofs.Names.{first_words, IsHeld, whole}
 use Rattle.dob_board.proofs.Starts.{begins}
 use Rattle.dob_board.proofs.board.Board.open.Goals as goal
 

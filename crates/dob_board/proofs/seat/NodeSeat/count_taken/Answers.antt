@@ -1,11 +1,11 @@
 -- To count a batch that was seen keeps the rule: the count stays in bounds, and the seat makes the event of a take.
-use Rattle.std.proofs.Common.{rules, arith, ap}
-use Rattle.dob_board.specs.Words.{halt_word}
-use Rattle.dob_board.specs.Seats.{stand_of, witnessed_by}
-use Rattle.dob_board.proofs.Allowed.{takes_call, same_default}
-use Rattle.dob_board.proofs.Done.{takes_done, takes_before}
+use Rattle.std.proofs.Common.{◌+◌, true, set, rules, arith}
+use Rattle.dob_board.proofs.Names.{get_or_default_zero, Take, stand_of, witnessed_by}
+use Rattle.dob_board.proofs.Allowed.{takes_call}
+use Rattle.dob_board.proofs.Done.{HasMade, takes_done, takes_before}
 use Rattle.dob_board.proofs.Places.{taken_within}
 use Rattle.dob_board.proofs.seat.NodeSeat.count_taken.Goals as goal
+use Rattle.dob_board.proofs.seat.NodeSeat.count_taken.Goals.{After-index_mut}
 
 pub fetch_add-requires : goal.fetch_add-requires
 fetch_add-requires c =
@@ -23,38 +23,22 @@ overflow_add-index_mut c =
       arith,
       seat.few_taken c.args.from c.requires.node,
       c.index_mut.ensures.value,
-      same_default seat.taken.items c.args.from c.index_mut.result.now 0 (search rules),
+      get_or_default_zero seat.taken.items c.args.from c.index_mut.result.now (search rules),
     )
+
+done : (c : After-index_mut) → HasMade c.args.self.now (Take c.args.from c.args.self.now.node)
+    (record (stand_of c.args.self.now) { taken = set c.args.self.now.taken.items c.args.from (c.index_mut.result.now + 1); black = true }) c.fetch_add.new.seat.me
+done c = takes_done c.args.self.now c.args.from c.taken_index-word.result c.fetch_add.result c.index_mut.result.now c.fetch_add.new.seat.me
+    c.taken_index-word.ensures c.requires.node (search rules) c.index_mut.ensures.value c.fetch_add.ensures.2
 
 pub invariant_of-self : goal.invariant_of-self
 invariant_of-self c =
     let seat = c.args.self.now in
-    let done =
-    takes_done seat.nodes seat.node c.args.from c.taken_index-word.result c.fetch_add.result c.index_mut.result.now seat.seat.me c.fetch_add.new.seat.me
-    seat.posted.items seat.taken.items seat.seen.items seat.black seat.token seat.halt (witnessed_by seat)
-    seat.view_is c.taken_index-word.ensures seat.within c.requires.node (search rules) c.index_mut.ensures.value c.fetch_add.ensures.2 in
-    record {
-      size = seat.size;
-      within = seat.within;
-      of_board = search rules;
-      words = seat.words;
-      key = seat.key;
-      posted_len = seat.posted_len;
-      taken_len = search rules;
-      seen_len = seat.seen_len;
-      few_posted = seat.few_posted;
-      few_taken = done.few.taken;
-      in_bounds = seat.in_bounds;
-      halt_within = seat.halt_within;
-      white = λ ended. absurd (takes_before seat.nodes seat.node c.args.from _ _ (witnessed_by seat) _ done.made (ap halt_word ended));
-      view_is = done.view_is;
-    }
+    let is = done (goal.at.invariant_of-self c).After-index_mut in
+    let view = is.view_is in
+    let few = is.fit.taken in
+    let before = takes_before seat.nodes seat.node c.args.from _ _ (witnessed_by seat) _ is.made in
+    search rules
 
 pub returns-clause-event : goal.returns-clause-event
-returns-clause-event c =
-    let seat = c.args.self.now in
-    let done =
-    takes_done seat.nodes seat.node c.args.from c.taken_index-word.result c.fetch_add.result c.index_mut.result.now seat.seat.me c.fetch_add.new.seat.me
-    seat.posted.items seat.taken.items seat.seen.items seat.black seat.token seat.halt (witnessed_by seat)
-    seat.view_is c.taken_index-word.ensures seat.within c.requires.node (search rules) c.index_mut.ensures.value c.fetch_add.ensures.2 in
-    done.made
+returns-clause-event c = (done (goal.at.returns-clause-event c).After-index_mut).made

@@ -1,7 +1,6 @@
 -- Each total is small enough to be read as a signed number, so that their difference is the node's counter.
 use Rattle.std.proofs.Common.{◌≡◌, ℕ, ◌^◌, ◌<◌, ◌≤◌, rules, pos, ◌-ℤ◌, to_z, w64, ap, ◌∙◌, arith}
-use Rattle.std.proofs.lemmas.Int.{to_z_pos, to_z-of_z}
-use Rattle.std.specs.Prelude.{sum}
+use Rattle.dob_board.proofs.Names.{to_z_pos, to_z-of_z, sum}
 use Rattle.dob_board.proofs.seat.NodeSeat.counter.Goals as goal
 
 -- a number up to 2^44, read as a signed one

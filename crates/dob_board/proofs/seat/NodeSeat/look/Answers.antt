@@ -1,9 +1,11 @@
 -- A look at what a node posted keeps the rule: the number is no less than what was seen and what is taken.
-use Rattle.std.proofs.Common.{rules}
-use Rattle.dob_board.specs.Seats.{stand_of, witnessed_by}
-use Rattle.dob_board.proofs.Allowed.{looks_call, looks_tell}
+use Rattle.std.proofs.Common.{◌≤◌, rules}
+use Rattle.dob_board.proofs.Names.{slice_index, sees, HasPosted, stand_of, witnessed_by}
+use Rattle.dob_board.proofs.Allowed.{looks_call}
+use Rattle.dob_board.proofs.Done.{HasNoted, looks_done}
 use Rattle.dob_board.proofs.Places.{posted_within}
 use Rattle.dob_board.proofs.seat.NodeSeat.look.Goals as goal
+use Rattle.dob_board.proofs.seat.NodeSeat.look.Goals.{After-load-number}
 
 pub load-number-requires : goal.load-number-requires
 load-number-requires c =
@@ -14,48 +16,26 @@ load-number-requires c =
           (search rules) seat.view_is c.posted_index-word.ensures seat.within c.requires,
     )
 
+done : (c : After-load-number) →
+    HasNoted c.args.self.now (HasPosted c.args.from c.args.self.now.node c.load-number.result) (sees (stand_of c.args.self.now) c.args.from c.load-number.result)
+    c.load-number.new.seat.me
+    × (slice_index c.args.self.now.seen.items c.args.from ≤ c.load-number.result) × (slice_index c.args.self.now.taken.items c.args.from ≤ c.load-number.result)
+done c = looks_done c.args.self.now c.args.from c.posted_index-word.result c.load-number.result c.load-number.new.seat.me c.posted_index-word.ensures c.requires
+    c.load-number.ensures.2
+
 pub invariant_of-self : goal.invariant_of-self
 invariant_of-self c =
-    let seat = c.args.self.now in
-    let witnessed = looks_tell seat.nodes seat.node c.args.from c.posted_index-word.result c.load-number.result seat.seat.me c.load-number.new.seat.me
-    (stand_of seat) (witnessed_by seat) seat.view_is c.posted_index-word.ensures c.requires c.load-number.ensures.2 in
-    record {
-      size = seat.size;
-      within = seat.within;
-      of_board = search rules;
-      words = seat.words;
-      key = seat.key;
-      posted_len = seat.posted_len;
-      taken_len = seat.taken_len;
-      seen_len = search rules;
-      few_posted = seat.few_posted;
-      few_taken = seat.few_taken;
-      in_bounds = seat.in_bounds;
-      halt_within = seat.halt_within;
-      white = seat.white;
-      view_is = witnessed.0;
-    }
+    let view = (done (goal.at.invariant_of-self c).After-load-number).0.view_is in
+    search rules
 
 pub returns-clause-not_less : goal.returns-clause-not_less
-returns-clause-not_less c =
-    let seat = c.args.self.now in
-    let witnessed = looks_tell seat.nodes seat.node c.args.from c.posted_index-word.result c.load-number.result seat.seat.me c.load-number.new.seat.me
-    (stand_of seat) (witnessed_by seat) seat.view_is c.posted_index-word.ensures c.requires c.load-number.ensures.2 in
-    witnessed.1
+returns-clause-not_less c = (done (goal.at.returns-clause-not_less c).After-load-number).1
 
 pub returns-clause-taken_first : goal.returns-clause-taken_first
-returns-clause-taken_first c =
-    let seat = c.args.self.now in
-    let witnessed = looks_tell seat.nodes seat.node c.args.from c.posted_index-word.result c.load-number.result seat.seat.me c.load-number.new.seat.me
-    (stand_of seat) (witnessed_by seat) seat.view_is c.posted_index-word.ensures c.requires c.load-number.ensures.2 in
-    witnessed.2
+returns-clause-taken_first c = (done (goal.at.returns-clause-taken_first c).After-load-number).2
 
 pub returns-clause-observed : goal.returns-clause-observed
-returns-clause-observed c =
-    let seat = c.args.self.now in
-    let witnessed = looks_tell seat.nodes seat.node c.args.from c.posted_index-word.result c.load-number.result seat.seat.me c.load-number.new.seat.me
-    (stand_of seat) (witnessed_by seat) seat.view_is c.posted_index-word.ensures c.requires c.load-number.ensures.2 in
-    witnessed.3
+returns-clause-observed c = (done (goal.at.returns-clause-observed c).After-load-number).0.observed
 
 pub returns-clause-noted : goal.returns-clause-noted
 returns-clause-noted c = search rules fits 100

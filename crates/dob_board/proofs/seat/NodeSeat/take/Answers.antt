@@ -1,10 +1,7 @@
 -- A look that shows more than is taken, and then the count, take one batch.
 use Rattle.std.proofs.Common.{rules, arith, ap, ◌∙◌}
-use Rattle.std.proofs.lemmas.Grind.{common_steps}
-use Rattle.dob_board.specs.declared.view.Stand.{Stand}
-use Rattle.dob_board.specs.Words.{halt_word}
-use Rattle.dob_board.proofs.Done.{read_there, takes_before}
-use Rattle.dob_board.proofs.Takings.{take_one}
+use Rattle.dob_board.proofs.Names.{common_steps, Stand, halt_word}
+use Rattle.dob_board.proofs.Done.{read_there, takes_before, take_one}
 use Rattle.dob_board.proofs.seat.NodeSeat.take.Goals as goal
 
 pub returns-clause-ok : goal.returns-clause-ok

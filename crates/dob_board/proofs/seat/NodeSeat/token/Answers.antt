@@ -1,7 +1,6 @@
 -- A look at the token's word keeps the rule of the board.
 use Rattle.std.proofs.Common.{rules, arith}
-use Rattle.std.proofs.lemmas.Grind.{common_steps}
-use Rattle.dob_board.specs.Seats.{stand_of, witnessed_by}
+use Rattle.dob_board.proofs.Names.{common_steps, stand_of, witnessed_by}
 use Rattle.dob_board.proofs.Passing.{meets_call}
 use Rattle.dob_board.proofs.seat.NodeSeat.token.Goals as goal
 

@@ -1,8 +1,5 @@
 -- What the core has applied the node has.
-use Rattle.std.proofs.Common.{Result, sym, subst}
-use Rattle.dob_stops.specs.declared.cause.Cause.{Cause}
-use Rattle.dob_node.specs.NodeViews.{NodeView, node_of, going}
-use Rattle.dob_node.specs.NodeSteps.{AppliesEveryOwn}
+use Rattle.dob_node.proofs.Common.{Result, subst, sym, Cause, AppliesEveryOwn, NodeView, going, node_of}
 use Rattle.dob_node.proofs.Noted.{applied_every}
 use Rattle.dob_node.proofs.node.Node.apply_every_own.Goals as goal
 

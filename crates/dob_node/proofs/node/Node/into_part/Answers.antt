@@ -1,7 +1,5 @@
 -- The values are those that were read of the node's core.
-use Rattle.std.proofs.Common.{subst}
-use Rattle.dob_node.specs.NodeViews.{NodeView}
-use Rattle.dob_node.specs.Nodes.{AreValuesNow}
+use Rattle.dob_node.proofs.Common.{subst, NodeView, AreValuesNow}
 use Rattle.dob_node.proofs.Noted.{sound_core}
 use Rattle.dob_node.proofs.node.Node.into_part.Goals as goal
 

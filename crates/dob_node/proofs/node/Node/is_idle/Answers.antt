@@ -1,10 +1,6 @@
 -- Nothing is left where each list is empty.
-use Rattle.std.proofs.Common.{◌≡◌, ◌↔◌, IsTrue, [], List, rules, arith, subst, sym}
-use Rattle.std.specs.List.{All}
+use Rattle.dob_node.proofs.Common.{◌↔◌, ◌≡◌, IsTrue, List, [], arith, rules, subst, sym, All, OutboxView, NodeView, IsIdle}
 use Rattle.std.proofs.lemmas.Grind.{common_steps}
-use Rattle.dob_update.specs.Batches.{OutboxView}
-use Rattle.dob_node.specs.NodeViews.{NodeView}
-use Rattle.dob_node.specs.Nodes.{IsIdle}
 use Rattle.dob_node.proofs.Sends.{all_empty, empty_all}
 use Rattle.dob_node.proofs.node.Node.is_idle.Goals as goal
 

@@ -1,7 +1,7 @@
 -- What is taken is kept.
-use Rattle.std.proofs.Common.{refl}
-use Rattle.dob_node.proofs.Sounds.{kept_own, kept_back}
-use Rattle.dob_node.proofs.TakenLists.{emitted_all}
+use Rattle.dob_node.proofs.Common.{refl, going}
+use Rattle.dob_node.proofs.Sounds.{kept_own}
+use Rattle.dob_node.proofs.TakenLists.{still_sound}
 use Rattle.dob_node.proofs.TakenQueues.{left_entries, fault_of}
 use Rattle.dob_node.proofs.node_core.Core.apply_every_own.Goals as goal
 
@@ -23,13 +23,7 @@ returns-clause-step c =
 pub returns-clause-sound : goal.returns-clause-sound
 returns-clause-sound c =
     let node = c.args.self.now in
-    let sound = c.requires in
     let out = c.take_queue.ensures in
-    record {
-      kept = kept_back node.family node.nodes node.id node.share c.take_queue.new.share node.history c.take_queue.new.history sound.kept out.kept;
-      emitted = emitted_all out.taken.front node.share c.take_queue.new.share node.history c.take_queue.new.history node.expanded out.taken.taken sound.emitted;
-      entries = left_entries node.own.items c.take_queue.new.queue.items node.share c.take_queue.new.share node.history c.take_queue.new.history out.taken sound.entries;
-      receivers = sound.receivers;
-      addressed = sound.addressed;
-      nothing_to_self = sound.nothing_to_self;
-    }
+    still_sound (going node) c.take_queue.new.share node.history c.take_queue.new.history refl out.taken.front c.take_queue.new.queue.items node.taken
+    c.requires out.taken.taken out.kept
+    (left_entries node.own.items c.take_queue.new.queue.items node.share c.take_queue.new.share node.history c.take_queue.new.history out.taken c.requires.entries)

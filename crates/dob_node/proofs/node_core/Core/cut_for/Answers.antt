@@ -1,8 +1,7 @@
 -- The outboxes that are left are sound.
-use Rattle.std.proofs.Common.{◌≡◌, ◌≢◌, ◌<◌, [], length, Option, None, IsNone, refl, sym, ap, ◌∙◌, subst, rules}
+use Rattle.dob_node.proofs.Common.{◌<◌, ◌∙◌, ◌≡◌, ◌≢◌, None, Option, [], ap, length, refl, rules, subst, sym, BatchView, OutboxView, empty_outbox, outbox_in}
+use Rattle.std.proofs.Common.{IsNone}
 use Rattle.std.proofs.lemmas.Option.{IfSome_then}
-use Rattle.dob_update.specs.Batches.{BatchView, OutboxView, empty_outbox}
-use Rattle.dob_node.specs.Outboxes.{outbox_in}
 use Rattle.dob_node.proofs.Sends.{outbox_read, cut_read, ready_cut, cut_of, cut_entries}
 use Rattle.dob_node.proofs.node_core.Core.cut_for.Goals as goal
 

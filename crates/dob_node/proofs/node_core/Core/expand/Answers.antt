@@ -1,12 +1,6 @@
 -- One more settlement is expanded, and its items have its values.
-use Rattle.std.proofs.Common.{◌==◌, ◌+◌, ◌≤◌, ℕ, length, refl, ap, ◌∙◌, ◌++◌, sym, subst}
-use Rattle.std.specs.List.{All, filter}
-use Rattle.dob_unmove.specs.Edges.{predecessors}
-use Rattle.dob_share.specs.Owners.{owner_of}
-use Rattle.dob_update.specs.Items.{items_of}
-use Rattle.dob_node.specs.Stores.{HistoryView}
-use Rattle.dob_node.specs.TakenItems.{HasItemEntries, AreKept}
-use Rattle.dob_node.specs.Outboxes.{IsOutboxTo, outbox_in}
+use Rattle.dob_node.proofs.Common.{◌++◌, ◌+◌, ◌==◌, ◌∙◌, ◌≤◌, ap, length, refl, subst, sym, ℕ, All, filter, predecessors, owner_of, items_of, IsOutboxTo}
+use Rattle.dob_node.proofs.Common.{outbox_in, HistoryView, AreKept, HasItemEntries}
 use Rattle.dob_node.proofs.Sounds.{next_emitted, entries_more}
 use Rattle.dob_node.proofs.Sends.{ready_added, ready_same}
 use Rattle.dob_node.proofs.node_core.Core.expand.Goals as goal

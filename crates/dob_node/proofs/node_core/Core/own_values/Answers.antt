@@ -1,29 +1,24 @@
 -- The class at a place is an own one, and its value the next.
-use Rattle.std.proofs.Common.{ℕ, ◌+◌, ◌*◌, ◌<◌, ◌^◌, subst, sym, arith}
-use Rattle.dob_share.specs.Shares.{places_of, IsOwn, HasValueNow}
+use Rattle.dob_node.proofs.Common.{◌*◌, ◌+◌, ◌<◌, ◌^◌, arith, subst, sym, ℕ, HasValueNow, IsOwn}
 use Rattle.dob_node.proofs.Parts.{own_at, class_at_low, AreValuesBelow, values_none, values_more}
 use Rattle.dob_node.proofs.node_core.Core.own_values.Goals as goal
+use Rattle.dob_node.proofs.node_core.Core.own_values.Goals.{After-get}
 
 pub loop-place-init : goal.loop-place-init
 loop-place-init c = subst (λ xs. AreValuesBelow c.args.self.now.share 0 xs) (sym c.in_ok-values.ensures.items) (values_none c.args.self.now.share)
 
-pub overflow_mul-class : goal.overflow_mul-class
-overflow_mul-class c =
+low : (c : After-get) → c.loop-place.place * c.get.result + c.args.self.now.id < 2 ^ 32
+low c =
     let node = c.args.self.now in
-    let within : c.loop-place.place < places_of node.share = subst (λ (k : ℕ). c.loop-place.place < k) c.places-places.ensures c.loop-place-test.true in
-    let low : c.loop-place.place * c.get.result + node.id < 2 ^ 32
-    = subst (λ (k : ℕ). c.loop-place.place * k + node.id < 2 ^ 32) (sym c.get.ensures.value)
-    (class_at_low node.family node.nodes node.id node.share node.history c.requires.kept c.loop-place.place within) in
-    omega arith
+    subst (λ (k : ℕ). c.loop-place.place * k + node.id < 2 ^ 32) (sym c.get.ensures.value)
+    (class_at_low node.family node.nodes node.id node.share node.history c.requires.kept c.loop-place.place
+    (subst (λ (k : ℕ). c.loop-place.place < k) c.places-places.ensures c.loop-place-test.true))
+
+pub overflow_mul-class : goal.overflow_mul-class
+overflow_mul-class c = let few = low (goal.at.overflow_mul-class c).After-get in omega arith
 
 pub overflow_add-class : goal.overflow_add-class
-overflow_add-class c =
-    let node = c.args.self.now in
-    let within : c.loop-place.place < places_of node.share = subst (λ (k : ℕ). c.loop-place.place < k) c.places-places.ensures c.loop-place-test.true in
-    let low : c.loop-place.place * c.get.result + node.id < 2 ^ 32
-    = subst (λ (k : ℕ). c.loop-place.place * k + node.id < 2 ^ 32) (sym c.get.ensures.value)
-    (class_at_low node.family node.nodes node.id node.share node.history c.requires.kept c.loop-place.place within) in
-    omega arith
+overflow_add-class c = let few = low (goal.at.overflow_add-class c).After-get in omega arith
 
 pub value-requires : goal.value-requires
 value-requires c =

@@ -1,7 +1,5 @@
 -- No more are settled than there are.
-use Rattle.std.proofs.Common.{◌≤◌, arith}
-use Rattle.dob_share.specs.Openings.{settled_among}
-use Rattle.dob_node.specs.Stores.{start_status}
+use Rattle.dob_node.proofs.Common.{◌≤◌, arith, settled_among, start_status}
 use Rattle.dob_node.proofs.StartLists.{settled_few}
 use Rattle.dob_node.proofs.start_statuses.StartStatuses.settled.Goals as goal
 

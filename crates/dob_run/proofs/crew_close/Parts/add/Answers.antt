@@ -1,9 +1,5 @@
 -- One endpoint more is taken apart: its seat, taking end and slots go last, and each sending end to its receiver's row.
-use Rattle.std.proofs.Common.{◌≡◌, ℕ, rules, sym, subst, ap, List, length, vec_len, ◌∙◌, map}
-use Rattle.std.proofs.lemmas.List.{length-map}
-use Rattle.dob_chan.specs.declared.ends.SendEnd.{SendEnd}
-use Rattle.dob_run.specs.InboxClose.{outlet_end}
-use Rattle.dob_run.specs.Rows.{AreDealt}
+use Rattle.dob_run.proofs.Common.{◌∙◌, ◌≡◌, List, ap, length, map, rules, subst, sym, vec_len, ℕ, length-map, SendEnd, outlet_end, AreDealt}
 use Rattle.dob_run.proofs.crew_close.Parts.add.Goals as goal
 
 pub deal-requires : goal.deal-requires

@@ -1,17 +1,10 @@
 -- The accepted batch is one more of its sender's worked ones and of the seat's count, and the outlets are kept.
-use Rattle.std.proofs.Common.{◌≡◌, ℕ, ◌<◌, List, ◌∷◌, [], ◌++◌, Option, Some, rules, arith, refl, sym, ap, ◌∙◌, subst}
-use Rattle.std.specs.Prelude.{IfSome}
-use Rattle.dob_update.specs.Batches.{BatchView}
-use Rattle.dob_board.specs.declared.view.Stand.{Stand}
-use Rattle.dob_board.specs.Seats.{TakesOne}
-use Rattle.dob_runner.specs.declared.slots.Inlet.{Inlet}
-use Rattle.dob_chan.specs.Ends.{senders_of}
-use Rattle.dob_runner.specs.Slots.{in_slot}
-use Rattle.dob_runner.specs.Links.{offered, worked, KeepsOutlet}
-use Rattle.dob_runner.specs.Endpoints.{AreCounts, AreBatchesTaken, AreOwn}
+use Rattle.dob_runner.proofs.Common.{◌++◌, ◌<◌, ◌∙◌, ◌∷◌, ◌≡◌, List, Option, Some, [], ap, arith, refl, rules, subst, sym, ℕ, IfSome, BatchView, TakesOne}
+use Rattle.dob_runner.proofs.Common.{Stand, senders_of, AreBatchesTaken, AreCounts, AreOwn, KeepsOutlet, offered, worked, in_slot, Inlet}
 use Rattle.dob_runner.proofs.Senders.{taken_rises}
 use Rattle.dob_runner.proofs.Keeping.{outlet_same, inlet_kept, each_same}
 use Rattle.dob_runner.proofs.endpoint.Endpoint.accept.Goals as goal
+use Rattle.dob_runner.proofs.endpoint.Endpoint.accept.Goals.{After-release}
 
 -- what is so of the batch that lay in the slot is so of the one that is handed out
 of_held : (P : BatchView → Type 0) (result slot : Option BatchView) (batch : BatchView) → result ≡ slot → slot ≡ Some batch → P batch → IfSome result P
@@ -38,33 +31,33 @@ invariant_of-self-2 c =
       taken = subst (λ (p : ℕ × List ℕ). AreBatchesTaken p.0 p.1 c.release.new.self) (λ q. ((sym c.take.ensures.same.nodes) q, (sym taken_is) q)) counted;
     }
 
+-- what is so of the batch in the slot is so of the one that is handed out
+handed_out : (c : After-release) (P : BatchView → Type 0) → P c.requires.held.0 → IfSome c.release.result P
+handed_out c P so = of_held P c.release.result c.args.self.now.inlet.slot c.requires.held.0 c.release.ensures.batch c.requires.held.1 so
+
 pub returns-clause-held : goal.returns-clause-held
 returns-clause-held c =
-    let endpoint = c.args.self.now in
-    let held = c.requires.held in
-    of_held (λ b. endpoint.inlet.slot ≡ Some b) c.release.result endpoint.inlet.slot held.0 c.release.ensures.batch held.1 held.1
+    handed_out (goal.at.returns-clause-held c).After-release (λ b. c.args.self.now.inlet.slot ≡ Some b) c.requires.held.1
 
 pub returns-clause-within : goal.returns-clause-within
 returns-clause-within c =
     let endpoint = c.args.self.now in
     let held = c.requires.held in
-    let within : held.0.from < endpoint.seat.nodes = subst (λ (k : ℕ). held.0.from < k) endpoint.senders (endpoint.inlet.within held.0 held.1) in
-    of_held (λ b. b.from < endpoint.seat.nodes) c.release.result endpoint.inlet.slot held.0 c.release.ensures.batch held.1 within
+    handed_out (goal.at.returns-clause-within c).After-release (λ b. b.from < endpoint.seat.nodes)
+    (subst (λ (k : ℕ). held.0.from < k) endpoint.senders (endpoint.inlet.within held.0 held.1))
 
 pub returns-clause-taken : goal.returns-clause-taken
 returns-clause-taken c =
-    let endpoint = c.args.self.now in
-    let held = c.requires.held in
-    let one : TakesOne endpoint.seat c.take.new.self c.args.from = search rules in
-    of_held (λ b. TakesOne endpoint.seat c.take.new.self b.from) c.release.result endpoint.inlet.slot held.0 c.release.ensures.batch held.1
-    (subst (λ (k : ℕ). TakesOne endpoint.seat c.take.new.self k) (sym held.2) one)
+    let one : TakesOne c.args.self.now.seat c.take.new.self c.args.from = search rules in
+    handed_out (goal.at.returns-clause-taken c).After-release (λ b. TakesOne c.args.self.now.seat c.take.new.self b.from)
+    (subst (λ (k : ℕ). TakesOne c.args.self.now.seat c.take.new.self k) (sym c.requires.held.2) one)
 
 pub returns-clause-worked : goal.returns-clause-worked
 returns-clause-worked c =
-    let endpoint = c.args.self.now in
+    let inlet = c.args.self.now.inlet in
     let held = c.requires.held in
-    of_held (λ b. (c.release.new.self.end ≡ endpoint.inlet.end) × (worked c.release.new.self ≡ worked endpoint.inlet ++ b ∷ [])) c.release.result endpoint.inlet.slot held.0
-    c.release.ensures.batch held.1 (c.release.ensures.end, one_more endpoint.inlet c.release.new.self held.0 held.1 c.release.ensures.worked)
+    handed_out (goal.at.returns-clause-worked c).After-release (λ b. (c.release.new.self.end ≡ inlet.end) × (worked c.release.new.self ≡ worked inlet ++ b ∷ []))
+    (c.release.ensures.end, one_more inlet c.release.new.self held.0 held.1 c.release.ensures.worked)
 
 pub returns-clause-keeps : goal.returns-clause-keeps
 returns-clause-keeps c =

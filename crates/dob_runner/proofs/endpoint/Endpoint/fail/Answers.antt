@@ -1,9 +1,5 @@
 -- The halt that the seat finds is the one that it knows afterwards. No call is cited by name: a body that only looks at the board is refused for its halt.
-use Rattle.std.proofs.Common.{◌≡◌, ◌≢◌, ◌∙◌, Bool, true, sym}
-use Rattle.dob_board.specs.declared.halt.Halt.{Halt}
-use Rattle.dob_board.specs.declared.halt.Halt.TheVariants.{Running, Ended}
-use Rattle.dob_board.specs.declared.seat.NodeSeat.{NodeSeat}
-use Rattle.dob_board.specs.Seats.{FailsAfter, MovesNothing}
+use Rattle.dob_runner.proofs.Common.{◌∙◌, ◌≡◌, ◌≢◌, Bool, sym, true, FailsAfter, MovesNothing, Halt, Ended, Running, NodeSeat}
 use Rattle.dob_runner.proofs.endpoint.Endpoint.fail.Goals as goal
 
 known : (found new : Halt) → new ≡ found → found ≢ Running → new ≢ Running

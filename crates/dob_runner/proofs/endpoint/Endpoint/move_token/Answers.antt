@@ -1,10 +1,5 @@
 -- The seat looks for the token, and hands it on just where it finds it: it announces the end just where it may, and else passes it.
-use Rattle.std.proofs.Common.{ℕ, List, refl, sym, subst, ◌∙◌}
-use Rattle.std.proofs.lemmas.Bool.{both_ways}
-use Rattle.dob_board.specs.declared.halt.Halt.{Halt}
-use Rattle.dob_board.specs.Seats.{HasAnnounced, KnewOwnFailure}
-use Rattle.dob_runner.specs.Links.{offered}
-use Rattle.dob_runner.specs.Endpoints.{AreCounts, AreBatchesTaken, AreOwn}
+use Rattle.dob_runner.proofs.Common.{◌∙◌, List, refl, subst, sym, ℕ, both_ways, HasAnnounced, KnewOwnFailure, Halt, AreBatchesTaken, AreCounts, AreOwn, offered}
 use Rattle.dob_runner.proofs.Keeping.{links_trans, own_looked, passed_counts}
 use Rattle.dob_runner.proofs.TurnParts.{token_away, token_moved}
 use Rattle.dob_runner.proofs.endpoint.Endpoint.move_token.Goals as goal

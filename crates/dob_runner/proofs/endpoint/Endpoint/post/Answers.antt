@@ -1,28 +1,27 @@
 -- The posted batch is one more of the outlet's offered ones and of the seat's count, and the other links are kept.
-use Rattle.std.proofs.Common.{◌≡◌, suc, List, ℕ, [], ◌∷◌, length, Some, rules, arith, refl, sym, ap, ◌∙◌, subst, length-append}
-use Rattle.std.specs.Prelude.{slice_get, slice_set}
-use Rattle.dob_pieces.proofs.Elements.{read_there}
-use Rattle.dob_board.specs.declared.view.Stand.{Stand}
-use Rattle.dob_chan.specs.declared.ends.SendEnd.{SendEnd}
-use Rattle.dob_chan.specs.Ends.{place_of}
-use Rattle.dob_runner.specs.Links.{offered, KeepsOutlet}
-use Rattle.dob_runner.specs.Endpoints.{AreCounts, AreBatchesTaken, AreOwn}
+use Rattle.dob_runner.proofs.Common.{◌∙◌, ◌∷◌, ◌≡◌, List, Some, [], ap, arith, length, length-append, refl, rules, subst, suc, sym, ℕ, slice_get, slice_set}
+use Rattle.dob_runner.proofs.Common.{read_there, Stand, place_of, SendEnd, AreBatchesTaken, AreCounts, AreOwn, KeepsOutlet, offered}
 use Rattle.dob_runner.proofs.Counted.{counts_rise, own_set}
 use Rattle.dob_runner.proofs.Keeping.{outlet_same, outlet_kept, inlet_same, one_kept}
 use Rattle.dob_runner.proofs.endpoint.Endpoint.post.Goals as goal
+use Rattle.dob_runner.proofs.endpoint.Endpoint.post.Goals.{After-index_mut}
+
+-- the outlet for the node
+there : (c : After-index_mut) → slice_get c.args.self.now.outlets.items c.args.to ≡ Some c.index_mut.result.now
+there c = read_there c.args.self.now.outlets.items c.args.to c.index_mut.result.now (search rules) c.index_mut.ensures.value
 
 pub hold-requires-clause-own : goal.hold-requires-clause-own
 hold-requires-clause-own c =
     let endpoint = c.args.self.now in
     let old = c.index_mut.result.now in
-    let at : slice_get endpoint.outlets.items c.args.to ≡ Some old = read_there endpoint.outlets.items c.args.to old (search rules) c.index_mut.ensures.value in
+    let at = there (goal.at.hold-requires-clause-own c).After-index_mut in
     c.requires.own ∙ sym (endpoint.own c.args.to old at)
 
 pub invariant_of-self : goal.invariant_of-self
 invariant_of-self c =
     let endpoint = c.args.self.now in
     let old = c.index_mut.result.now in
-    let at : slice_get endpoint.outlets.items c.args.to ≡ Some old = read_there endpoint.outlets.items c.args.to old (search rules) c.index_mut.ensures.value in
+    let at = there (goal.at.invariant_of-self c).After-index_mut in
     let more : length (offered c.hold.new.self) ≡ suc (length (offered old)) =
     omega (arith, ap length c.hold.ensures.offered, length-append (offered old) (c.args.batch ∷ [])) in
     let posted_is = ap (λ (s : Stand). s.posted) c.post.ensures.counted in
@@ -41,14 +40,14 @@ pub returns-clause-offered : goal.returns-clause-offered
 returns-clause-offered c =
     let endpoint = c.args.self.now in
     let old = c.index_mut.result.now in
-    let at : slice_get endpoint.outlets.items c.args.to ≡ Some old = read_there endpoint.outlets.items c.args.to old (search rules) c.index_mut.ensures.value in
+    let at = there (goal.at.returns-clause-offered c).After-index_mut in
     (old, c.hold.new.self, at, (c.hold.ensures.end, c.hold.ensures.offered), refl)
 
 pub returns-clause-keeps : goal.returns-clause-keeps
 returns-clause-keeps c =
     let endpoint = c.args.self.now in
     let old = c.index_mut.result.now in
-    let at : slice_get endpoint.outlets.items c.args.to ≡ Some old = read_there endpoint.outlets.items c.args.to old (search rules) c.index_mut.ensures.value in
+    let at = there (goal.at.returns-clause-keeps c).After-index_mut in
     record {
       seat = c.post.ensures.same;
       outlets = one_kept KeepsOutlet outlet_same endpoint.outlets.items c.args.to old c.hold.new.self at (outlet_kept old c.hold.new.self c.hold.ensures.end);

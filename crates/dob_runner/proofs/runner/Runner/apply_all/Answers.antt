@@ -1,8 +1,6 @@
 -- The runner stays lawful where its first own items are applied, and none is left where all can be.
-use Rattle.std.proofs.Common.{◌≡◌, ◌↔◌, ℕ, List, [], ◌∷◌, length, ltb, false, refl, sym, subst, inl, arith}
-use Rattle.std.proofs.lemmas.Bool.{ltb-false}
-use Rattle.dob_share.specs.declared.news.Item.{Item}
-use Rattle.dob_runner.proofs.Keeping.{endpoint_same, links_kept, own_reason, some_cause, node_goes, agrees_going, agrees_failed}
+use Rattle.dob_runner.proofs.Common.{◌↔◌, ◌∷◌, ◌≡◌, List, [], arith, false, inl, length, ltb, refl, subst, sym, ℕ, ltb-false, Item}
+use Rattle.dob_runner.proofs.Keeping.{endpoint_same, broken_for, own_reason, some_cause, node_goes, agrees_going, agrees_failed}
 use Rattle.dob_runner.proofs.Lawfuls.{applied_items, still_coloured}
 use Rattle.dob_runner.proofs.runner.Runner.apply_all.Goals as goal
 
@@ -18,13 +16,14 @@ pub invariant_of-self-in-Err : goal.invariant_of-self-in-Err
 invariant_of-self-in-Err c =
     let r = c.args.self.now in
     let step = c.in-Err.ensures.step in
+    let fails = c.fail_for.ensures in
     record {
-      going = λ running. absurd (c.fail.ensures.stopped running);
-      own = λ _ none. some_cause c.in-Err.why none;
-      agrees = agrees_failed c.apply_every_own.new.self.failed c.in-Err.why c.in-Err.ensures.keeps.failed;
-      lawful = λ _. still_coloured r.family r.batch_size c.apply_every_own.new.self r.endpoint c.fail.new.self
+      going = λ running. absurd (fails.stopped running);
+      own = λ _. some_cause _ c.in-Err.why fails.cause;
+      agrees = agrees_failed c.apply_every_own.new.self.failed _ c.in-Err.why c.in-Err.ensures.keeps.failed fails.cause;
+      lawful = λ _. still_coloured r.family r.batch_size c.apply_every_own.new.self r.endpoint c.fail_for.new.endpoint
           (applied_items r.family r.batch_size step.items r.node c.apply_every_own.new.self r.endpoint (r.lawful (inl c.requires)) step.applied
-          c.in-Err.ensures.keeps.sound) c.fail.ensures.keeps;
+          c.in-Err.ensures.keeps.sound) fails.keeps;
     }
 
 pub invariant_of-self : goal.invariant_of-self
@@ -40,15 +39,7 @@ invariant_of-self c =
     }
 
 pub returns-in-Err : goal.returns-in-Err
-returns-in-Err c = record {
-  failed = record {
-    keeps = record { endpoint = links_kept c.args.self.now.endpoint c.fail.new.self c.fail.ensures.keeps.links; family = refl; batch_size = refl };
-    cause = refl;
-    stopped = c.fail.ensures.stopped;
-  };
-  still = c.fail.ensures.still;
-  reason = own_reason _ c.in-Err.why c.in-Err.ensures.step.stopped;
-}
+returns-in-Err c = broken_for c.args.self.now _ c.in-Err.why c.fail_for.ensures refl refl (own_reason _ c.in-Err.why c.in-Err.ensures.step.stopped)
 
 pub returns-in-Ok : goal.returns-in-Ok
 returns-in-Ok c = record {

@@ -1,17 +1,13 @@
 -- A slot is filled just where it is empty and there is something to send. A node that cuts a batch was black and had cut fewer than 2^40; with the batch in the slot the runner is lawful.
-use Rattle.std.proofs.Common.{◌≡◌, ◌<◌, ◌≤◌, ◌^◌, true, false, refl, sym, ap, ◌∙◌, subst, inl, inr, arith, Ok, Err, Some, None, IfSome, Option, Result}
-use Rattle.std.proofs.lemmas.Bool.{cases_Bool, both_ways}
-use Rattle.dob_pieces.proofs.Elements.{some_at}
-use Rattle.dob_update.specs.Batches.{BatchView, OutboxView}
-use Rattle.dob_board.specs.declared.view.Stand.{Stand}
-use Rattle.dob_board.specs.Histories.{token_moves_of}
+use Rattle.dob_runner.proofs.Common.{◌<◌, ◌^◌, ◌∙◌, ◌≡◌, ◌≤◌, Err, None, Ok, Option, Result, Some, ap, arith, false, inl, inr, refl, subst, sym, true}
+use Rattle.dob_runner.proofs.Common.{both_ways, cases_Bool, some_at, BatchView, OutboxView, Cause, HasCut, outbox_to, token_moves_of, Stand, IsToFill}
+use Rattle.std.proofs.Common.{IfSome}
 use Rattle.dob_board.proofs.Halting.{same_halt}
-use Rattle.dob_stops.specs.declared.cause.Cause.{Cause}
-use Rattle.dob_node.specs.Nodes.{outbox_to, HasCut}
-use Rattle.dob_runner.proofs.Keeping.{own_still, links_kept, cut_reason, outbox_still, some_cause, node_goes, agrees_going, agrees_failed}
+use Rattle.dob_runner.proofs.Keeping.{own_still, broken_for, cut_reason, outbox_still, some_cause, node_goes, agrees_going, agrees_failed}
 use Rattle.dob_runner.proofs.Lawfuls.{cut_one, few_cut, unchanged_failed}
 use Rattle.dob_runner.proofs.Sending.{outlet_at, slot_empty, uncut, fills_of, cut_nothing, cut_more}
 use Rattle.dob_runner.proofs.runner.Runner.cut_for.Goals as goal
+use Rattle.dob_runner.proofs.runner.Runner.cut_for.Goals.{After-has_to_send, In-Some}
 
 cut_none : (cut : Option BatchView) (batch : BatchView) → cut ≡ Some batch → (let given : Result (Option BatchView) Cause = Ok cut in given ≡ Ok None) → ⊥
 cut_none cut batch some none = absurd (cc)
@@ -28,33 +24,35 @@ cut_for-requires-clause-going c = (let r = c.args.self.now in node_goes r.node.f
 pub invariant_of-self : goal.invariant_of-self
 invariant_of-self c =
     let r = c.args.self.now in
+    let fails = c.fail_for.ensures in
     record {
-      going = λ running. absurd (c.fail.ensures.stopped running);
-      own = λ _ none. some_cause c.in-Err.why none;
-      agrees = agrees_failed c.cut_for.new.self.failed c.in-Err.why c.in-Err.ensures.keeps.failed;
-      lawful = λ _. unchanged_failed r.family r.batch_size r.node c.cut_for.new.self r.endpoint c.fail.new.self (r.lawful (inl c.requires.unfailed))
-          c.in-Err.ensures.step.unchanged c.in-Err.ensures.keeps.sound c.fail.ensures.keeps;
+      going = λ running. absurd (fails.stopped running);
+      own = λ _. some_cause _ c.in-Err.why fails.cause;
+      agrees = agrees_failed c.cut_for.new.self.failed _ c.in-Err.why c.in-Err.ensures.keeps.failed fails.cause;
+      lawful = λ _. unchanged_failed r.family r.batch_size r.node c.cut_for.new.self r.endpoint c.fail_for.new.endpoint (r.lawful (inl c.requires.unfailed))
+          c.in-Err.ensures.step.unchanged c.in-Err.ensures.keeps.sound fails.keeps;
     }
 
+-- there was something to send, and the slot was empty
+fills : (c : After-has_to_send) → c.has_to_send.result ≡ true → IsToFill c.args.self.now c.args.to c.args.small
+fills c has = (c.has_to_send.ensures.0 has, slot_empty c.args.self.now.endpoint c.args.to c.index.result.now c.requires.node c.index.ensures (c.is_full.ensures.empty c.if-is_full.false))
+
 pub returns-in-Err : goal.returns-in-Err
-returns-in-Err c = fills_of c.args.to c.args.small c.args.self.now _ (Err c.in-Err.why) (c.has_to_send.ensures.0 c.if-not-has_to_send.false, slot_empty c.args.self.now.endpoint c.args.to c.index.result.now c.requires.node c.index.ensures (c.is_full.ensures.empty c.if-is_full.false)) (record {
-  failed = record {
-    keeps = record { endpoint = links_kept c.args.self.now.endpoint c.fail.new.self c.fail.ensures.keeps.links; family = refl; batch_size = refl };
-    cause = refl;
-    stopped = c.fail.ensures.stopped;
-  };
-  still = c.fail.ensures.still;
-  reason = cut_reason _ c.in-Err.why
-      (λ counts. (let still = outbox_still c.args.self.now.node c.cut_for.new.self c.args.to c.in-Err.ensures.step.unchanged in
-      let full = c.in-Err.ensures.step.counts.0 (ap (λ (w : Cause). err_of w) counts) in
-      record {
-        to = c.args.to;
-        other = λ same. c.requires.other (same ∙ c.fail.ensures.keeps.links.seat.node);
-        left = λ none. full.0 (ap (λ (o : OutboxView). o.items) (sym still) ∙ none);
-        many = subst (λ (o : OutboxView). 2 ^ 40 ≤ o.next) (sym still) full.1;
-      }))
-      c.in-Err.ensures.step.why;
-})
+returns-in-Err c = broken_for c.args.self.now _ c.in-Err.why c.fail_for.ensures refl refl (cut_reason _ c.in-Err.why
+    (λ counts. (let still = outbox_still c.args.self.now.node c.cut_for.new.self c.args.to c.in-Err.ensures.step.unchanged in
+    let full = c.in-Err.ensures.step.counts.0 (ap (λ (w : Cause). err_of w) counts) in
+    record {
+      to = c.args.to;
+      other = λ same. c.requires.other (same ∙ c.fail_for.ensures.keeps.links.seat.node);
+      left = λ none. full.0 (ap (λ (o : OutboxView). o.items) (sym still) ∙ none);
+      many = subst (λ (o : OutboxView). 2 ^ 40 ≤ o.next) (sym still) full.1;
+    }))
+    c.in-Err.ensures.step.why)
+
+-- the batch is cut from the outbox for that node
+batch_cut : (c : In-Some) → HasCut c.args.to c.args.self.now.batch_size c.in-Some.batch c.args.self.now.node c.cut_for.new.self
+batch_cut c = subst (λ given. IfSome given (λ (b : BatchView). HasCut c.args.to c.args.self.now.batch_size b c.args.self.now.node c.cut_for.new.self))
+    c.in-Some.is c.in-Ok.ensures.step.cut
 
 pub post-requires-clause-few : goal.post-requires-clause-few
 post-requires-clause-few c =
@@ -68,16 +66,14 @@ post-requires-clause-few c =
 pub post-requires-clause-own : goal.post-requires-clause-own
 post-requires-clause-own c =
     let r = c.args.self.now in
-    let cut : HasCut c.args.to r.batch_size c.in-Some.batch r.node c.cut_for.new.self =
-    subst (λ given. IfSome given (λ (b : BatchView). HasCut c.args.to r.batch_size b r.node c.cut_for.new.self)) c.in-Some.is c.in-Ok.ensures.step.cut in
+    let cut = batch_cut (goal.at.post-requires-clause-own c).In-Some in
     cut.of.2 ∙ (r.lawful (inl c.requires.unfailed)).of.1
 
 pub invariant_of-self-2 : goal.invariant_of-self-2
 invariant_of-self-2 c =
     let r = c.args.self.now in
     let law = r.lawful (inl c.requires.unfailed) in
-    let cut : HasCut c.args.to r.batch_size c.in-Some.batch r.node c.cut_for.new.self =
-    subst (λ given. IfSome given (λ (b : BatchView). HasCut c.args.to r.batch_size b r.node c.cut_for.new.self)) c.in-Some.is c.in-Ok.ensures.step.cut in
+    let cut = batch_cut (goal.at.invariant_of-self-2 c).In-Some in
     let was_black : r.endpoint.seat.black ≡ true = elim (cases_Bool r.endpoint.seat.black) [
       | inl black ↦ black
       | inr white ↦ absurd (cut_none c.in-Ok.cut c.in-Some.batch c.in-Some.is (c.in-Ok.ensures.step.none.1 ((law.white white).0.sent c.args.to)))
@@ -93,16 +89,15 @@ invariant_of-self-2 c =
     }
 
 pub returns-in_default : goal.returns-in_default
-returns-in_default c = fills_of c.args.to c.args.small c.args.self.now _ (Ok false) (c.has_to_send.ensures.0 c.if-not-has_to_send.false, slot_empty c.args.self.now.endpoint c.args.to c.index.result.now c.requires.node c.index.ensures (c.is_full.ensures.empty c.if-is_full.false))
+returns-in_default c = fills_of c.args.to c.args.small c.args.self.now _ (Ok false) (fills (goal.at.returns-in_default c).After-has_to_send c.if-not-has_to_send.false)
     (cut_nothing c.args.to c.args.self.now _ c.requires.unfailed c.requires.unfailed
     (c.in-Ok.ensures.step.nothing (ap Ok c.in_default.is)) refl refl refl (c.in-Ok.ensures.step.none.0 (ap Ok c.in_default.is)))
 
 pub returns : goal.returns
 returns c =
     let r = c.args.self.now in
-    let cut : HasCut c.args.to r.batch_size c.in-Some.batch r.node c.cut_for.new.self =
-    subst (λ given. IfSome given (λ (b : BatchView). HasCut c.args.to r.batch_size b r.node c.cut_for.new.self)) c.in-Some.is c.in-Ok.ensures.step.cut in
-    fills_of c.args.to c.args.small r _ (Ok true) (c.has_to_send.ensures.0 c.if-not-has_to_send.false, slot_empty c.args.self.now.endpoint c.args.to c.index.result.now c.requires.node c.index.ensures (c.is_full.ensures.empty c.if-is_full.false))
+    let cut = batch_cut (goal.at.returns c).In-Some in
+    fills_of c.args.to c.args.small r _ (Ok true) (fills (goal.at.returns c).After-has_to_send c.if-not-has_to_send.false)
     (cut_more c.args.to r.batch_size c.in-Some.batch r _
     (record {
       keeps = record { endpoint = c.post.ensures.keeps; family = refl; batch_size = refl };

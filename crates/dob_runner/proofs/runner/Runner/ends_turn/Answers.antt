@@ -1,6 +1,5 @@
 -- A turn that did something ends at once, and any other one with the look for the token.
-use Rattle.std.proofs.lemmas.Bool.{both_ways}
-use Rattle.std.proofs.Common.{refl}
+use Rattle.dob_runner.proofs.Common.{refl, both_ways}
 use Rattle.dob_runner.proofs.Keeping.{work_same}
 use Rattle.dob_runner.proofs.TurnParts.{ends_idle}
 use Rattle.dob_runner.proofs.runner.Runner.ends_turn.Goals as goal

@@ -1,7 +1,5 @@
 -- The runner has gone on so far, and has expanded a settlement, and none above the level.
-use Rattle.std.proofs.Common.{◌≡◌, ◌<◌}
-use Rattle.dob_runner.specs.Runners.{GoesOn}
-use Rattle.dob_runner.specs.TurnRounds.{IsWithin}
+use Rattle.dob_runner.proofs.Common.{◌<◌, ◌≡◌, GoesOn, IsWithin}
 use Rattle.dob_runner.proofs.runner.Runner.expand_all.Given as goal
 
 abbrev pub invariant-loop : goal.invariant-loop

@@ -1,10 +1,6 @@
 -- An expanded settlement leaves the runner lawful, and so does lack of memory.
-use Rattle.std.proofs.Common.{Ok, refl, ap, sym, subst, inl, inr}
-use Rattle.std.proofs.lemmas.Bool.{cases_Bool}
-use Rattle.dob_node.specs.declared.node.Node.{Node}
-use Rattle.dob_runner.specs.LawfulRunners.{IsLawfulRunner}
-use Rattle.dob_runner.proofs.Keeping.{endpoint_same, links_kept, memory_reason, some_cause, node_goes, agrees_going, agrees_failed}
-use Rattle.dob_runner.specs.Runners.{no_gate}
+use Rattle.dob_runner.proofs.Common.{Ok, ap, inl, inr, refl, subst, sym, cases_Bool, Node, IsLawfulRunner, no_gate}
+use Rattle.dob_runner.proofs.Keeping.{endpoint_same, broken_for, memory_reason, some_cause, node_goes, agrees_going, agrees_failed}
 use Rattle.dob_runner.proofs.Lawfuls.{expanded_one, unchanged_failed}
 use Rattle.dob_runner.proofs.TurnParts.{same_answer}
 use Rattle.dob_runner.proofs.runner.Runner.expand_one.Goals as goal
@@ -15,12 +11,13 @@ expand-requires-clause-going c = (let r = c.args.self.now in node_goes r.node.fa
 pub invariant_of-self-in-Err : goal.invariant_of-self-in-Err
 invariant_of-self-in-Err c =
     let r = c.args.self.now in
+    let fails = c.fail_for.ensures in
     record {
-      going = λ running. absurd (c.fail.ensures.stopped running);
-      own = λ _ none. some_cause c.in-Err.why none;
-      agrees = agrees_failed c.expand.new.self.failed c.in-Err.why c.in-Err.ensures.keeps.failed;
-      lawful = λ _. unchanged_failed r.family r.batch_size r.node c.expand.new.self r.endpoint c.fail.new.self (r.lawful (inl c.requires.unfailed))
-          c.in-Err.ensures.step.unchanged c.in-Err.ensures.keeps.sound c.fail.ensures.keeps;
+      going = λ running. absurd (fails.stopped running);
+      own = λ _. some_cause _ c.in-Err.why fails.cause;
+      agrees = agrees_failed c.expand.new.self.failed _ c.in-Err.why c.in-Err.ensures.keeps.failed fails.cause;
+      lawful = λ _. unchanged_failed r.family r.batch_size r.node c.expand.new.self r.endpoint c.fail_for.new.endpoint (r.lawful (inl c.requires.unfailed))
+          c.in-Err.ensures.step.unchanged c.in-Err.ensures.keeps.sound fails.keeps;
     }
 
 pub invariant_of-self : goal.invariant_of-self
@@ -37,15 +34,7 @@ invariant_of-self c =
     }
 
 pub returns-in-Err : goal.returns-in-Err
-returns-in-Err c = record {
-  failed = record {
-    keeps = record { endpoint = links_kept c.args.self.now.endpoint c.fail.new.self c.fail.ensures.keeps.links; family = refl; batch_size = refl };
-    cause = refl;
-    stopped = c.fail.ensures.stopped;
-  };
-  still = c.fail.ensures.still;
-  reason = memory_reason no_gate _ c.in-Err.why c.in-Err.ensures.step.memory;
-}
+returns-in-Err c = broken_for c.args.self.now _ c.in-Err.why c.fail_for.ensures refl refl (memory_reason no_gate _ c.in-Err.why c.in-Err.ensures.step.memory)
 
 pub returns-in-Ok : goal.returns-in-Ok
 returns-in-Ok c = record {

@@ -1,6 +1,5 @@
 -- The runner has gone on so far.
-use Rattle.dob_runner.specs.TurnRounds.{AddsFew}
-use Rattle.dob_runner.specs.Runners.{GoesOn}
+use Rattle.dob_runner.proofs.Common.{GoesOn, AddsFew}
 use Rattle.dob_runner.proofs.runner.Runner.go.Given as goal
 
 abbrev pub invariant-loop : goal.invariant-loop

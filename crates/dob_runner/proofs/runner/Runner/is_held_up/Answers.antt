@@ -1,8 +1,5 @@
 -- None holds the runner up where none of all nodes was found to.
-use Rattle.std.proofs.Common.{subst, inl, inr, arith}
-use Rattle.std.proofs.lemmas.Bool.{cases_eq, both_ways}
-use Rattle.std.proofs.lemmas.Option.{slice_get_within}
-use Rattle.dob_runner.specs.TurnRounds.{HoldsUp}
+use Rattle.dob_runner.proofs.Common.{arith, inl, inr, subst, both_ways, cases_eq, slice_get_within, HoldsUp}
 use Rattle.dob_runner.proofs.runner.Runner.is_held_up.Goals as goal
 
 pub loop-to-preserved : goal.loop-to-preserved

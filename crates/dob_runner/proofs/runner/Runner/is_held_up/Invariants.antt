@@ -1,6 +1,5 @@
 -- None so far holds it up.
-use Rattle.std.proofs.Common.{ℕ, ◌<◌}
-use Rattle.dob_runner.specs.TurnRounds.{HoldsUp}
+use Rattle.dob_runner.proofs.Common.{◌<◌, ℕ, HoldsUp}
 use Rattle.dob_runner.proofs.runner.Runner.is_held_up.Given as goal
 
 abbrev pub invariant-loop-to : goal.invariant-loop-to

@@ -1,6 +1,5 @@
 -- A batch lies in the slot, and the items left make a whole one, just where the node holds the runner up.
-use Rattle.std.proofs.Common.{arith}
-use Rattle.std.proofs.lemmas.Bool.{leb-true, le-leb}
+use Rattle.dob_runner.proofs.Common.{arith, le-leb, leb-true}
 use Rattle.dob_runner.proofs.Sending.{outlet_at, slot_empty}
 use Rattle.dob_runner.proofs.runner.Runner.is_held_up_by.Goals as goal
 

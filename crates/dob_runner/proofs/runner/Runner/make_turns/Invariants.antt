@@ -1,6 +1,5 @@
 -- The runner keeps its place so far, has a reason where it failed, and was let on where it made a turn.
-use Rattle.std.proofs.Common.{◌≡◌, ◌⊎◌, true, None}
-use Rattle.dob_runner.specs.Runners.{KeepsRunner, IsReasoned, says_no}
+use Rattle.dob_runner.proofs.Common.{◌≡◌, ◌⊎◌, None, true, IsReasoned, KeepsRunner, says_no}
 use Rattle.dob_runner.proofs.runner.Runner.make_turns.Given as goal
 
 abbrev pub invariant-loop : goal.invariant-loop

@@ -1,7 +1,5 @@
 -- A runner that isn't at rest does nothing. One that is moves the token, if its node has it, and stays lawful, of whatever colour.
-use Rattle.std.proofs.Common.{refl, ap, inl}
-use Rattle.std.proofs.lemmas.Bool.{both_ways}
-use Rattle.dob_runner.specs.Runners.{IsAtRest}
+use Rattle.dob_runner.proofs.Common.{ap, inl, refl, both_ways, IsAtRest}
 use Rattle.dob_runner.proofs.Keeping.{own_before, work_same}
 use Rattle.dob_runner.proofs.Lawfuls.{recoloured, same_inlet}
 use Rattle.dob_runner.proofs.runner.Runner.seeks_token.Goals as goal

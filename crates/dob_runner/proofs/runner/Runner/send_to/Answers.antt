@@ -1,36 +1,39 @@
 -- The slot's filling and the offer of its batch make one step. The offer leaves the counts and the offered batches, at most 2^40, as they were, and so the
 -- runner lawful, sent or not.
-use Rattle.std.proofs.Common.{length, refl, ap, inl}
-use Rattle.dob_runner.specs.Links.{offered, KeepsOutlet}
-use Rattle.dob_runner.specs.TurnRounds.{SendsTo}
-use Rattle.dob_runner.specs.Runners.{GoesOn}
+use Rattle.dob_runner.proofs.Common.{◌<◌, ◌≡◌, Some, ap, inl, length, refl, KeepsOutlet, offered, GoesOn, SendsTo}
+use Rattle.std.proofs.Common.{slice_get}
 use Rattle.dob_runner.proofs.Counted.{counts_stay, own_set}
 use Rattle.dob_runner.proofs.Keeping.{runner_same, broken_on, endpoint_trans, outlet_same, inlet_same, one_kept, seat_same}
 use Rattle.dob_runner.proofs.Lawfuls.{offered_again}
 use Rattle.dob_runner.proofs.Sending.{low_still, in_outlets, outlet_at, slot_empty, slot_full, few_there, own_unsent, sends_none, sends_offered}
 use Rattle.dob_runner.proofs.runner.Runner.send_to.Goals as goal
+use Rattle.dob_runner.proofs.runner.Runner.send_to.Goals.{In_ok-cut_for, After-index_mut-outlet}
+
+-- the node is one of those of the endpoint still
+low : (g : _) (c : In_ok-cut_for g) → c.args.to < c.cut_for.new.self.endpoint.seat.nodes
+low g c = low_still c.args.self.now c.cut_for.new.self c.args.to c.requires.node c.in_ok-cut_for.ensures.0.goes.keeps
+
+-- and its outlet stands there
+there : (g : _) (c : After-index_mut-outlet g) → c.args.to < c.cut_for.new.self.endpoint.seat.nodes →
+    slice_get c.cut_for.new.self.endpoint.outlets.items c.args.to ≡ Some c.index_mut-outlet.result.now
+there g c low = outlet_at c.cut_for.new.self.endpoint c.args.to c.index_mut-outlet.result.now low c.index_mut-outlet.ensures.value
 
 pub index-requires : goal.index-requires
-index-requires g c =
-    let f = c.cut_for.new.self in
-    in_outlets f.endpoint c.args.to (low_still c.args.self.now f c.args.to c.requires.node c.in_ok-cut_for.ensures.0.goes.keeps)
+index-requires g c = in_outlets c.cut_for.new.self.endpoint c.args.to (low g (goal.at.index-requires g c).In_ok-cut_for)
 
 pub index_mut-outlet-requires : goal.index_mut-outlet-requires
-index_mut-outlet-requires g c =
-    let f = c.cut_for.new.self in
-    in_outlets f.endpoint c.args.to (low_still c.args.self.now f c.args.to c.requires.node c.in_ok-cut_for.ensures.0.goes.keeps)
+index_mut-outlet-requires g c = in_outlets c.cut_for.new.self.endpoint c.args.to (low g (goal.at.index_mut-outlet-requires g c).In_ok-cut_for)
 
 pub offer-requires : goal.offer-requires
 offer-requires g c =
-    let f = c.cut_for.new.self in
-    few_there f.endpoint c.args.to c.index_mut-outlet.result.now (low_still c.args.self.now f c.args.to c.requires.node c.in_ok-cut_for.ensures.0.goes.keeps)
-    c.index_mut-outlet.ensures.value
+    few_there c.cut_for.new.self.endpoint c.args.to c.index_mut-outlet.result.now (low g (goal.at.offer-requires g c).In_ok-cut_for) c.index_mut-outlet.ensures.value
 
 pub invariant_of-endpoint : goal.invariant_of-endpoint
 invariant_of-endpoint g c =
     let f = c.cut_for.new.self in
     let old = c.index_mut-outlet.result.now in
-    let at = outlet_at f.endpoint c.args.to old (low_still c.args.self.now f c.args.to c.requires.node c.in_ok-cut_for.ensures.0.goes.keeps) c.index_mut-outlet.ensures.value in
+    let back = goal.at.invariant_of-endpoint g c in
+    let at = there g back.After-index_mut-outlet (low g back.In_ok-cut_for) in
     record {
       outlets_len = f.endpoint.outlets_len;
       senders = f.endpoint.senders;
@@ -43,13 +46,14 @@ pub invariant_of-self : goal.invariant_of-self
 invariant_of-self g c =
     let f = c.cut_for.new.self in
     let went : GoesOn c.args.self.now f = c.in_ok-cut_for.ensures.0.goes in
-    let old = c.index_mut-outlet.result.now in
-    let at = outlet_at f.endpoint c.args.to old (low_still c.args.self.now f c.args.to c.requires.node went.keeps) c.index_mut-outlet.ensures.value in
+    let back = goal.at.invariant_of-self g c in
+    let at = there g back.After-index_mut-outlet (low g back.In_ok-cut_for) in
     record {
       going = λ _. went.unfailed;
       own = f.own;
       agrees = f.agrees;
-      lawful = λ _. offered_again f.family f.batch_size c.args.to f.node f.endpoint _ (f.lawful (inl went.unfailed)) refl (old, c.offer.new.self, at, c.offer.ensures, refl) refl;
+      lawful = λ _. offered_again f.family f.batch_size c.args.to f.node f.endpoint _ (f.lawful (inl went.unfailed)) refl
+          (c.index_mut-outlet.result.now, c.offer.new.self, at, c.offer.ensures, refl) refl;
     }
 
 pub returns-in_err-cut_for : goal.returns-in_err-cut_for
@@ -63,7 +67,7 @@ pub returns-then-not-is_full : goal.returns-then-not-is_full
 returns-then-not-is_full g c =
     let f = c.cut_for.new.self in
     sends_none c.args.to c.args.small c.args.self.now f c.in_ok-cut_for.field-0 c.if-to-self.false c.in_ok-cut_for.ensures
-    (slot_empty f.endpoint c.args.to c.index.result.now (low_still c.args.self.now f c.args.to c.requires.node c.in_ok-cut_for.ensures.0.goes.keeps) c.index.ensures
+    (slot_empty f.endpoint c.args.to c.index.result.now (low g (goal.at.returns-then-not-is_full g c).In_ok-cut_for) c.index.ensures
     (c.is_full.ensures.empty c.if-not-is_full.true))
 
 pub returns : goal.returns
@@ -71,10 +75,11 @@ returns g c =
     let r = c.args.self.now in
     let f = c.cut_for.new.self in
     let fills = c.in_ok-cut_for.ensures in
-    let low = low_still r f c.args.to c.requires.node fills.0.goes.keeps in
     let old = c.index_mut-outlet.result.now in
-    let at = outlet_at f.endpoint c.args.to old low c.index_mut-outlet.ensures.value in
-    let full = slot_full f.endpoint c.args.to c.index.result.now low c.index.ensures (c.is_full.ensures.full c.if-not-is_full.false) old at in
+    let back = goal.at.returns g c in
+    let within = low g back.In_ok-cut_for in
+    let at = there g back.After-index_mut-outlet within in
+    let full = slot_full f.endpoint c.args.to c.index.result.now within c.index.ensures (c.is_full.ensures.full c.if-not-is_full.false) old at in
     sends_offered c.args.to c.args.small r f c.in_ok-cut_for.field-0 c.if-to-self.false fills _
     (record {
       keeps = record {

@@ -1,27 +1,17 @@
 -- The runner is lawful whether no batch came or one was applied; a refused one blackened its seat before any end, and one for which
 -- there is no memory lies in the slot.
-use Rattle.std.proofs.Common.{◌≡◌, None, Err, refl, sym, ap, subst, arith, ◌∙◌, ◌++◌, inl, inr}
-use Rattle.dob_board.specs.declared.view.Stand.{Stand}
-use Rattle.dob_board.specs.Seats.{TakesOne, IsSameSeat}
-use Rattle.dob_board.specs.declared.seat.NodeSeat.{NodeSeat}
-use Rattle.dob_stops.specs.declared.cause.Cause.TheVariants.{Memory}
-use Rattle.dob_node.specs.declared.node.Node.{Node}
-use Rattle.dob_node.specs.Nodes.{IsSound, IsUnchanged}
-use Rattle.dob_runner.specs.declared.slots.Inlet.{Inlet}
-use Rattle.dob_runner.specs.declared.endpoint.Endpoint.{Endpoint}
-use Rattle.dob_runner.specs.declared.runner.Runner.{Runner}
-use Rattle.dob_runner.specs.LawfulRunners.{IsLawfulRunner}
-use Rattle.dob_runner.specs.Batches.{IsBatchFor}
-use Rattle.dob_runner.specs.Keeps.{KeepsEndpoint}
-use Rattle.dob_runner.specs.Links.{worked, HoldsFor, KeepsOutlet, KeepsInlet}
-use Rattle.dob_runner.specs.Runners.{no_gate}
+use Rattle.dob_runner.proofs.Common.{◌++◌, ◌∙◌, ◌≡◌, ◌≢◌, Err, None, ap, arith, inl, inr, refl, subst, sym, Memory, IsSound, IsUnchanged, Node, IsSameSeat}
+use Rattle.dob_runner.proofs.Common.{TakesOne, NodeSeat, Stand, IsBatchFor, KeepsEndpoint, IsLawfulRunner, HoldsFor, KeepsInlet, KeepsOutlet, worked, no_gate}
+use Rattle.dob_runner.proofs.Common.{Endpoint, Runner, Inlet}
 use Rattle.dob_runner.proofs.Senders.{taken_still}
-use Rattle.dob_runner.proofs.Keeping.{endpoint_trans, links_kept, own_still, some_cause, failed_first, refused_reason, node_goes, agrees_going, agrees_failed, unspared_reason, memory_reason, still_trans, seat_same, each_same, outlet_same}
+use Rattle.dob_runner.proofs.Keeping.{endpoint_trans, links_kept, own_still, some_cause, failed_first, refused_reason, node_goes, agrees_going, agrees_failed}
+use Rattle.dob_runner.proofs.Keeping.{unspared_reason, memory_reason, still_trans, seat_same, each_same, outlet_same}
 use Rattle.dob_node.proofs.TakenLists.{before_since}
 use Rattle.dob_runner.proofs.Applied.{worked_again, worked_else, worked_more}
 use Rattle.dob_runner.proofs.Lawfuls.{recoloured, same_inlet, applied_batch, unchanged_node}
 use Rattle.dob_runner.proofs.Taking.{takes_none, takes_one, of_other, fits_node, unchanged_same}
 use Rattle.dob_runner.proofs.runner.Runner.take_one.Goals as goal
+use Rattle.dob_runner.proofs.runner.Runner.take_one.Goals.{In-Err-apply_batch}
 
 -- what came into the slot isn't worked yet: the runner stays lawful, and nothing is taken back
 still_lawful : (r : Runner) (node : Node) (new : Endpoint) → r.failed ≡ None → IsUnchanged r.node node → IsSound node → new.seat.node ≡ r.endpoint.seat.node →
@@ -70,13 +60,14 @@ invariant_of-self g c = (let r = c.args.self.now in record {
 pub invariant_of-self-in-Err : goal.invariant_of-self-in-Err
 invariant_of-self-in-Err g c =
     let r = c.args.self.now in
-    let kept = c.fail.ensures.keeps in
+    let fails = c.fail_for.ensures in
+    let links = fails.keeps.links in
     record {
-      going = λ running. absurd (c.fail.ensures.stopped running);
-      own = λ _ none. some_cause c.in-Err.refused none;
-      agrees = agrees_failed c.reserve.new.self.failed c.in-Err.refused c.in-Err.ensures.keeps.failed;
-      lawful = λ _. still_lawful r c.reserve.new.self c.fail.new.self c.requires c.reserve.ensures.step.unchanged c.reserve.ensures.keeps.sound kept.links.seat.node
-          kept.links.seat.nodes kept.links.outlets (ap (λ (i : Inlet). worked i) kept.links.inlet ∙ c.receive.ensures.worked) kept.colour;
+      going = λ running. absurd (fails.stopped running);
+      own = λ _. some_cause _ c.in-Err.refused fails.cause;
+      agrees = agrees_failed c.reserve.new.self.failed _ c.in-Err.refused c.in-Err.ensures.keeps.failed fails.cause;
+      lawful = λ _. still_lawful r c.reserve.new.self c.fail_for.new.endpoint c.requires c.reserve.ensures.step.unchanged c.reserve.ensures.keeps.sound links.seat.node
+          links.seat.nodes links.outlets (ap (λ (i : Inlet). worked i) links.inlet ∙ c.receive.ensures.worked) fails.keeps.colour;
     }
 
 pub invariant_of-self-in_default-accept : goal.invariant_of-self-in_default-accept
@@ -92,17 +83,27 @@ invariant_of-self-in_default-accept g c =
           c.in_default-accept.ensures.uncounted.1;
     }
 
+-- the node had made room for the items of the batch, so it wasn't memory that lacked
+not_memory : (g : _) (c : In-Err-apply_batch g) → c.in-Err-apply_batch.why ≢ Memory
+not_memory g c memory =
+    let room = c.in-Ok.ensures.step.room in
+    let less = (c.in-Err-apply_batch.ensures.step.memory (ap Err memory)).1 in
+    let many = c.held_items.ensures c.in-Some-accept.batch c.in-Some-accept.ensures.held in
+    omega (arith, room, less, many)
+
 pub invariant_of-self-in-Err-apply_batch : goal.invariant_of-self-in-Err-apply_batch
 invariant_of-self-in-Err-apply_batch g c =
     let taken : TakesOne c.args.self.now.endpoint.seat c.accept.new.self.seat c.in-Some-accept.batch.from = c.in-Some-accept.ensures.taken in
+    let why = c.in-Err-apply_batch.why in
+    let before = c.in-Err-apply_batch.ensures.step.before in
+    let fails = c.fail_for-in-Err-apply_batch.ensures in
     record {
-      going = λ running. absurd (c.fail-in-Err-apply_batch.ensures.stopped running);
-      own = λ _ none. some_cause c.in-Err-apply_batch.why none;
-      agrees = agrees_failed c.apply_batch.new.self.failed c.in-Err-apply_batch.why c.in-Err-apply_batch.ensures.keeps.failed;
-      lawful = failed_first c.in-Err-apply_batch.why c.fail-in-Err-apply_batch.new.self.seat.halt (c.fail-in-Err-apply_batch.ensures.black (ap (λ (s : Stand). s.black) taken.counted))
-          (unspared_reason c.in-Err-apply_batch.ensures.step.before.item c.apply_batch.new.self.share c.in-Err-apply_batch.why c.in-Err-apply_batch.ensures.step.before.reason
-          (λ memory. (let room = c.in-Ok.ensures.step.room in let less = (c.in-Err-apply_batch.ensures.step.memory (ap Err memory)).1 in
-          let many = c.held_items.ensures c.in-Some-accept.batch c.in-Some-accept.ensures.held in omega (arith, room, less, many))));
+      going = λ running. absurd (fails.stopped running);
+      own = λ _. some_cause _ why fails.cause;
+      agrees = agrees_failed c.apply_batch.new.self.failed _ why c.in-Err-apply_batch.ensures.keeps.failed fails.cause;
+      lawful = failed_first _ why c.fail_for-in-Err-apply_batch.new.endpoint.seat.halt fails.cause (fails.black (ap (λ (s : Stand). s.black) taken.counted))
+          (unspared_reason before.item c.apply_batch.new.self.share why before.reason
+          (not_memory g (goal.at.invariant_of-self-in-Err-apply_batch g c).In-Err-apply_batch));
     }
 
 pub invariant_of-self-in-Ok-apply_batch : goal.invariant_of-self-in-Ok-apply_batch
@@ -142,21 +143,22 @@ returns-in_default-clause-step g c =
 
 pub returns-in-Err-clause-step : goal.returns-in-Err-clause-step
 returns-in-Err-clause-step g c =
-    let kept = links_kept _ c.fail.new.self c.fail.ensures.keeps.links in
+    let fails = c.fail_for.ensures in
+    let kept = links_kept _ c.fail_for.new.endpoint fails.keeps.links in
     record {
       failed = record {
-        keeps = record { endpoint = kept_after c.args.self.now.endpoint _ c.fail.new.self kept refl refl c.receive.ensures.keeps; family = refl; batch_size = refl };
-        cause = refl;
-        stopped = c.fail.ensures.stopped;
+        keeps = record { endpoint = kept_after c.args.self.now.endpoint _ c.fail_for.new.endpoint kept refl refl c.receive.ensures.keeps; family = refl; batch_size = refl };
+        cause = fails.cause;
+        stopped = fails.stopped;
       };
-      still = c.fail.ensures.still;
+      still = fails.still;
       reason = memory_reason no_gate _ c.in-Err.refused c.in-Err.ensures.step.memory;
     }
 
 pub returns-in-Err-clause-refused : goal.returns-in-Err-clause-refused
 returns-in-Err-clause-refused g c =
     let r = c.args.self.now in
-    let links = c.fail.ensures.keeps.links in
+    let links = c.fail_for.ensures.keeps.links in
     λ _. record {
       from = c.in-Some.from;
       holds = subst (λ (i : Inlet). HoldsFor r.family r.endpoint.seat.nodes c.in-Some.from r.endpoint.seat.node i) (sym links.inlet) c.in-Some.ensures;
@@ -202,18 +204,15 @@ returns-clause-step g c =
     let r = c.args.self.now in
     let inlet = c.receive.new.self in
     let batch = c.in-Some-accept.batch in
-    let kept = endpoint_trans r.endpoint c.accept.new.self c.fail-in-Err-apply_batch.new.self
-    (kept_after r.endpoint _ c.accept.new.self c.accept.ensures.keeps refl refl c.receive.ensures.keeps)
-    (links_kept c.accept.new.self c.fail-in-Err-apply_batch.new.self c.fail-in-Err-apply_batch.ensures.keeps.links) in
+    let why = c.in-Err-apply_batch.why in
+    let failed = c.fail_for-in-Err-apply_batch.new.endpoint in
+    let fails = c.fail_for-in-Err-apply_batch.ensures in
+    let kept = endpoint_trans r.endpoint c.accept.new.self failed
+    (kept_after r.endpoint _ c.accept.new.self c.accept.ensures.keeps refl refl c.receive.ensures.keeps) (links_kept c.accept.new.self failed fails.keeps.links) in
     record {
-      failed = record {
-        keeps = record { endpoint = kept; family = refl; batch_size = refl };
-        cause = refl;
-        stopped = c.fail-in-Err-apply_batch.ensures.stopped;
-      };
-      still = still_trans r.endpoint.seat c.accept.new.self.seat c.fail-in-Err-apply_batch.new.self.seat c.accept.ensures.keeps.seat.node
-          c.accept.ensures.still c.fail-in-Err-apply_batch.ensures.still;
-      reason = refused_reason _ c.in-Err-apply_batch.why (record {
+      failed = record { keeps = record { endpoint = kept; family = refl; batch_size = refl }; cause = fails.cause; stopped = fails.stopped };
+      still = still_trans r.endpoint.seat c.accept.new.self.seat failed.seat c.accept.ensures.keeps.seat.node c.accept.ensures.still fails.still;
+      reason = refused_reason _ why (record {
         was = r;
         going = c.requires;
         kept = record { endpoint = kept; family = refl; batch_size = refl };
@@ -221,17 +220,14 @@ returns-clause-step g c =
         other = of_other r.family r.endpoint.seat.nodes c.in-Some.from r.endpoint.seat.node inlet batch c.in-Some.ensures c.in-Some-accept.ensures.held;
         batch = batch;
         fits = fits_node r.family r.endpoint.seat.nodes c.in-Some.from r.endpoint.seat.node inlet batch c.in-Some.ensures c.in-Some-accept.ensures.held;
-        came = same_inlet c.accept.new.self c.fail-in-Err-apply_batch.new.self c.fail-in-Err-apply_batch.ensures.keeps.links.inlet batch.from
+        came = same_inlet c.accept.new.self failed fails.keeps.links.inlet batch.from
             ∙ worked_more inlet c.accept.new.self.inlet batch c.in-Some-accept.ensures.worked.1
             ∙ ap (λ xs. xs ++ batch.items) (worked_again r.endpoint.inlet inlet c.receive.ensures.worked batch.from);
-        before = before_since batch.items r.node c.reserve.new.self c.apply_batch.new.self c.in-Err-apply_batch.why c.reserve.ensures.step.unchanged c.in-Err-apply_batch.ensures.step.before;
+        before = before_since batch.items r.node c.reserve.new.self c.apply_batch.new.self why c.reserve.ensures.step.unchanged c.in-Err-apply_batch.ensures.step.before;
       });
     }
 
 pub returns-clause-refused : goal.returns-clause-refused
 returns-clause-refused g c memory =
     let same : c.in-Err-apply_batch.why ≡ Memory = cc in
-    let room = c.in-Ok.ensures.step.room in
-    let less = (c.in-Err-apply_batch.ensures.step.memory (ap Err same)).1 in
-    let many = c.held_items.ensures c.in-Some-accept.batch c.in-Some-accept.ensures.held in
-    absurd (omega (arith, room, less, many))
+    absurd (not_memory g (goal.at.returns-clause-refused g c).In-Err-apply_batch same)

@@ -1,6 +1,5 @@
 -- The gate is told how many more settlements are expanded after the work than before.
-use Rattle.std.proofs.Common.{◌≡◌, ◌-◌, ◌∙◌, ℕ, subst}
-use Rattle.dob_runner.specs.Runners.{KeepsRunner}
+use Rattle.dob_runner.proofs.Common.{◌-◌, ◌∙◌, ◌≡◌, subst, ℕ, KeepsRunner}
 use Rattle.dob_runner.proofs.Pacing.{works_go}
 use Rattle.dob_runner.proofs.Ending.{steps_keep}
 use Rattle.dob_runner.proofs.runner.Runner.work_and_tell.Goals as goal

@@ -1,11 +1,6 @@
 -- One class more is opened, with its slot and run where it is open; the share owns those listed, with their statuses and fresh cells.
-use Rattle.std.proofs.Common.{◌≡◌, ℕ, List, ◌+◌, ◌*◌, ◌%◌, ◌<◌, ◌≤◌, ◌^◌, refl, sym, ap, subst, ◌∙◌, arith}
-use Rattle.std.specs.Arc.{arc_value}
-use Rattle.dob_share.specs.declared.statuses.StatusWord.{StatusWord}
-use Rattle.dob_share.specs.Owners.{class_of_place}
-use Rattle.dob_share.specs.Openings.{opening_of, settles, settled_among, AreOpened}
-use Rattle.dob_share.specs.Statuses.{StatusesView, IsStatusOf, word_of, opens_below}
-use Rattle.dob_share.specs.Shares.{places_of}
+use Rattle.dob_share.proofs.Common.{◌%◌, ◌*◌, ◌+◌, ◌<◌, ◌^◌, ◌∙◌, ◌≡◌, ◌≤◌, List, ap, arith, refl, subst, sym, ℕ, arc_value, AreOpened, opening_of}
+use Rattle.dob_share.proofs.Common.{settled_among, settles, class_of_place, places_of, IsStatusOf, StatusesView, opens_below, word_of, StatusWord}
 use Rattle.dob_share.proofs.Opened.{pooled_open, settles_most, settled_more}
 use Rattle.dob_share.proofs.OwnOpened.{AreSlotsBelow, places_few, slots_none, slots_more, owned_here, status_here, cell_here_fresh}
 use Rattle.dob_share.proofs.share.Share.open.Goals as goal
@@ -58,36 +53,27 @@ invariant_of-result c =
           (subst (λ xs. AreOpened c.loop-place.slots xs) (sym c.in_ok-pool.ensures) c.loop-place.invariant.slots.opened);
     }
 
-pub returns-clause-owned : goal.returns-clause-owned
-returns-clause-owned c =
-    let all = c.in_ok-statuses.ensures.places in
-    owned_here _ c.args.openings.now (λ place low. c.in_ok-statuses.ensures.statuses place (subst (λ (k : ℕ). place < k) all low))
-    (λ place. (
-      λ inside. subst (λ (k : ℕ). place * c.args.nodes + c.args.id < k) c.len-count.ensures.count
-          ((c.places_among-places.ensures place).0 (subst (λ (k : ℕ). place < k) all inside)),
-      λ below. subst (λ (k : ℕ). place < k) (sym all)
-          ((c.places_among-places.ensures place).1 (subst (λ (k : ℕ). place * c.args.nodes + c.args.id < k) (sym c.len-count.ensures.count) below)),
-    ))
-
-pub returns-clause-statuses : goal.returns-clause-statuses
-returns-clause-statuses c = status_here _ c.args.openings.now
-    (λ place low. c.in_ok-statuses.ensures.statuses place (subst (λ (k : ℕ). place < k) c.in_ok-statuses.ensures.places low))
-
-pub returns-clause-cells : goal.returns-clause-cells
-returns-clause-cells c =
-    let end : c.loop-place.place ≡ c.places_among-places.result = omega arith in
-    cell_here_fresh _ c.args.openings.now
-    (λ place low. c.in_ok-statuses.ensures.statuses place (subst (λ (k : ℕ). place < k) c.in_ok-statuses.ensures.places low))
-    c.loop-place.moves c.in_ok-pool.ensures
-    (subst (λ (k : ℕ). AreSlotsBelow c.in_ok-statuses.statuses.words c.args.openings.now c.args.nodes c.args.id k c.loop-place.slots c.loop-place.moves)
-    (end ∙ sym c.in_ok-statuses.ensures.places)
-    (subst (λ (ws : List StatusWord). AreSlotsBelow ws c.args.openings.now c.args.nodes c.args.id c.loop-place.place c.loop-place.slots c.loop-place.moves)
-    (ap (λ (v : StatusesView). v.words) c.statuses.view_is) c.loop-place.invariant.slots))
-
-pub returns-clause-settled : goal.returns-clause-settled
+pub returns : goal.returns
 unfolding places_of
-returns-clause-settled c =
+returns c =
+    let all = c.in_ok-statuses.ensures.places in
     let end : c.loop-place.place ≡ c.places_among-places.result = omega arith in
-    c.loop-place.invariant.settled
-    ∙ ap (λ (k : ℕ). settled_among (λ place. (opening_of c.args.openings.now (class_of_place c.args.nodes c.args.id place)).status) k)
-    (end ∙ sym c.in_ok-statuses.ensures.places)
+    record {
+      who = (refl, refl);
+      owned = owned_here _ c.args.openings.now (λ place low. c.in_ok-statuses.ensures.statuses place (subst (λ (k : ℕ). place < k) all low))
+          (λ place. (
+            λ inside. subst (λ (k : ℕ). place * c.args.nodes + c.args.id < k) c.len-count.ensures.count
+                ((c.places_among-places.ensures place).0 (subst (λ (k : ℕ). place < k) all inside)),
+            λ below. subst (λ (k : ℕ). place < k) (sym all)
+                ((c.places_among-places.ensures place).1 (subst (λ (k : ℕ). place * c.args.nodes + c.args.id < k) (sym c.len-count.ensures.count) below)),
+          ));
+      statuses = status_here _ c.args.openings.now (λ place low. c.in_ok-statuses.ensures.statuses place (subst (λ (k : ℕ). place < k) all low));
+      cells = cell_here_fresh _ c.args.openings.now (λ place low. c.in_ok-statuses.ensures.statuses place (subst (λ (k : ℕ). place < k) all low))
+          c.loop-place.moves c.in_ok-pool.ensures
+          (subst (λ (k : ℕ). AreSlotsBelow c.in_ok-statuses.statuses.words c.args.openings.now c.args.nodes c.args.id k c.loop-place.slots c.loop-place.moves)
+          (end ∙ sym all)
+          (subst (λ (ws : List StatusWord). AreSlotsBelow ws c.args.openings.now c.args.nodes c.args.id c.loop-place.place c.loop-place.slots c.loop-place.moves)
+          (ap (λ (v : StatusesView). v.words) c.statuses.view_is) c.loop-place.invariant.slots));
+      settled = c.loop-place.invariant.settled
+          ∙ ap (λ (k : ℕ). settled_among (λ place. (opening_of c.args.openings.now (class_of_place c.args.nodes c.args.id place)).status) k) (end ∙ sym all);
+    }

@@ -1,8 +1,5 @@
 -- The open classes so far have slots, for a pool of as many free entries as they have moves; the settlements of the others are counted.
-use Rattle.std.proofs.Common.{◌≡◌, ◌≤◌, ◌<◌, ◌^◌}
-use Rattle.std.specs.Arc.{arc_value}
-use Rattle.dob_share.specs.Owners.{class_of_place}
-use Rattle.dob_share.specs.Openings.{opening_of, settled_among}
+use Rattle.dob_share.proofs.Common.{◌<◌, ◌^◌, ◌≡◌, ◌≤◌, arc_value, opening_of, settled_among, class_of_place}
 use Rattle.dob_share.proofs.OwnOpened.{AreSlotsBelow}
 use Rattle.dob_share.proofs.share.Share.open.Given as goal
 

@@ -1,9 +1,7 @@
 -- What the word says and the bits before the place.
-use Rattle.std.proofs.Common.{◌≡◌, ◌+◌, ◌/◌, ◌<◌, ◌≤◌, ◌^◌, arith, List, Some, slice_get, ap, ◌∙◌, subst}
+use Rattle.dob_share.proofs.Common.{◌+◌, ◌/◌, ◌<◌, ◌^◌, ◌∙◌, ◌≡◌, ◌≤◌, List, Some, ap, arith, slice_get, subst, arc_value, StatusesView, opens_below}
+use Rattle.dob_share.proofs.Common.{StatusWord}
 use Rattle.std.proofs.Math.Facts.{Fits-of_lt}
-use Rattle.std.specs.Arc.{arc_value}
-use Rattle.dob_share.specs.declared.statuses.StatusWord.{StatusWord}
-use Rattle.dob_share.specs.Statuses.{StatusesView, opens_below}
 use Rattle.dob_share.proofs.Words.{rank_read, opens_few}
 use Rattle.dob_share.proofs.statuses.Statuses.opens_before.Goals as goal
 

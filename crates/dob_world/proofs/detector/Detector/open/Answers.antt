@@ -1,7 +1,6 @@
 -- Each counter is 0 at the start.
-use Rattle.std.proofs.Common.{ℕ, ◌*◌, pos, true, false, refl, ap, subst, ◌∙◌, length, replicate}
-use Rattle.std.proofs.lemmas.List.{length-replicate}
-use Rattle.dob_safra.specs.Laws.{IsSize}
+use Rattle.dob_world.proofs.Common.{◌*◌, ◌∙◌, ap, false, length, pos, refl, subst, true, ℕ, length-replicate, IsSize}
+use Rattle.std.proofs.Common.{replicate}
 use Rattle.dob_world.proofs.Counters.{opened_counter}
 use Rattle.dob_world.proofs.detector.Detector.open.Goals as goal
 

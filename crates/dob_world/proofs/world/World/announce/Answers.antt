@@ -1,9 +1,6 @@
 -- Node 0 announces.
-use Rattle.std.proofs.Common.{refl, sym, ◌∙◌}
+use Rattle.dob_world.proofs.Common.{◌∙◌, refl, sym, CanHappen, ring_of, setting_of, state_of, Announce}
 use Rattle.dob_safra.specs.declared.event.RingEvent.TheVariants as ring
-use Rattle.dob_world.specs.declared.event.Event.TheVariants.{Announce}
-use Rattle.dob_world.specs.Events.{CanHappen}
-use Rattle.dob_world.specs.Shown.{setting_of, state_of, ring_of}
 use Rattle.dob_world.proofs.InPlace.{node_there}
 use Rattle.dob_world.proofs.Cuts.{cuts_same}
 use Rattle.dob_world.proofs.Done.{event_done}

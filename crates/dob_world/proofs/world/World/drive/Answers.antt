@@ -1,8 +1,5 @@
 -- One round more, after which the world is still or not.
-use Rattle.std.proofs.Common.{◌+◌, ◌<◌, ◌≤◌, Bool, true, false, arith, sym, subst}
-use Rattle.dob_rank.specs.Families.{classes_of}
-use Rattle.dob_world.specs.Worlds.{Setting}
-use Rattle.dob_world.specs.Results.{HasMadeRound}
+use Rattle.dob_world.proofs.Common.{◌+◌, ◌<◌, ◌≤◌, Bool, arith, false, subst, sym, true, classes_of, HasMadeRound, Setting}
 use Rattle.dob_world.proofs.Left.{kept_standing, kept_left}
 use Rattle.dob_world.proofs.Driven.{no_rounds, round_more, still_longer, drive_stops}
 use Rattle.dob_world.proofs.world.World.drive.Goals as goal

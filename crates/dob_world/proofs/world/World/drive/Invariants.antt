@@ -1,6 +1,5 @@
 -- The rounds so far are made, and none of them was still.
-use Rattle.std.proofs.Common.{false}
-use Rattle.dob_world.specs.Results.{HasDriven}
+use Rattle.dob_world.proofs.Common.{false, HasDriven}
 use Rattle.dob_world.proofs.world.World.drive.Given as goal
 
 abbrev pub invariant-loop-round : goal.invariant-loop-round

@@ -1,9 +1,6 @@
 -- The node that expands.
-use Rattle.std.proofs.Common.{◌≡◌, ◌≤◌, refl, sym, ap, ◌∙◌, true, false, Ok, Some, slice_get, slice_set, length}
-use Rattle.dob_stops.specs.declared.cause.Cause.{Cause}
-use Rattle.dob_world.specs.declared.event.Event.TheVariants.{Expand}
-use Rattle.dob_stops.specs.declared.fault.Fault.TheVariants.{Stopped}
-use Rattle.dob_world.specs.Shown.{setting_of, ring_of}
+use Rattle.dob_world.proofs.Common.{◌∙◌, ◌≡◌, ◌≤◌, Ok, Some, ap, false, length, refl, slice_get, sym, true, Cause, Stopped, ring_of, setting_of, Expand}
+use Rattle.std.proofs.Common.{slice_set}
 use Rattle.dob_world.proofs.Slots.{set_same}
 use Rattle.dob_world.proofs.Done.{event_done}
 use Rattle.dob_world.proofs.Expanded.{in_place_node, still_node, expands, can_expand, cant_expand, left_to_expand, cuts_expanded}

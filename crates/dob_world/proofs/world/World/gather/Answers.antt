@@ -1,12 +1,6 @@
 -- At rest it is the value table.
-use Rattle.std.proofs.Common.{ℕ, IfOk, ap, subst}
-use Rattle.dob_pieces.specs.declared.profile.Family.{Family}
-use Rattle.dob_rank.specs.Families.{classes_of}
+use Rattle.dob_world.proofs.Common.{IfOk, ap, subst, ℕ, Family, classes_of, values_given, AreValuesBelow, setting_of, state_of, value_in}
 use Rattle.dob_value.proofs.Parity.{IfOk-both}
-use Rattle.dob_node.specs.Histories.{AreValuesBelow}
-use Rattle.dob_node.proofs.ShownValues.{values_given}
-use Rattle.dob_world.specs.Worlds.{value_in}
-use Rattle.dob_world.specs.Shown.{setting_of, state_of}
 use Rattle.dob_world.proofs.Over.{end_is_silent}
 use Rattle.dob_world.proofs.Rest.{rest_is_right}
 use Rattle.dob_world.proofs.world.World.gather.Goals as goal

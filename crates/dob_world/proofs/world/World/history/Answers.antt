@@ -1,6 +1,5 @@
 -- The history of the node.
-use Rattle.std.proofs.Common.{◌≡◌, length, sym, arith}
-use Rattle.dob_world.specs.Shown.{setting_of}
+use Rattle.dob_world.proofs.Common.{◌≡◌, arith, length, sym, setting_of}
 use Rattle.dob_world.proofs.InPlace.{node_found}
 use Rattle.dob_world.proofs.Lent.{history_shown}
 use Rattle.dob_world.proofs.world.World.history.Goals as goal

@@ -1,7 +1,5 @@
 -- What a node does by itself is what the event does.
-use Rattle.std.proofs.Common.{sym, subst, IfErr}
-use Rattle.dob_world.specs.declared.event.Event.{Event}
-use Rattle.dob_world.specs.Effects.{IsEventDone, IsSkipped, IsStopped}
+use Rattle.dob_world.proofs.Common.{IfErr, subst, sym, IsEventDone, IsSkipped, IsStopped, Event}
 use Rattle.dob_world.proofs.world.World.make.Goals as goal
 
 pub returns-in-Own-clause-done : goal.returns-in-Own-clause-done

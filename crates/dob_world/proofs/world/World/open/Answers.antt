@@ -1,11 +1,6 @@
 -- The world as it is opened.
-use Rattle.std.proofs.Common.{ℕ, ◌*◌, ◌<◌, refl, sym, subst}
-use Rattle.dob_safra.specs.Laws.{IsSize}
+use Rattle.dob_world.proofs.Common.{◌*◌, ◌<◌, refl, subst, sym, ℕ, IsSize, ring_of, world_shown, IsSetting, AreEmptyLanes, AreOpenedNodes, Setting}
 use Rattle.dob_update.specs.Batches.{IsBatchSize, IsCapacity}
-use Rattle.dob_world.specs.Worlds.{Setting}
-use Rattle.dob_world.specs.Shown.{world_shown, ring_of}
-use Rattle.dob_world.specs.Standing.{IsSetting}
-use Rattle.dob_world.specs.Start.{AreOpenedNodes, AreEmptyLanes}
 use Rattle.dob_world.proofs.Starts.{places_start, falls_shown, lawful_shown, linked_start, waits_start}
 use Rattle.dob_world.proofs.Cuts.{cuts_start}
 use Rattle.dob_world.proofs.Promise.{matches_start, few_start}

@@ -1,9 +1,5 @@
 -- The node that applies an own item.
-use Rattle.std.proofs.Common.{ℕ, ◌+◌, ◌*◌, ◌<◌, refl, sym, ap, subst, true, false, Ok}
-use Rattle.std.specs.Prelude.{vec_len}
-use Rattle.std.proofs.lemmas.Nat.{mul-add-lt}
-use Rattle.dob_world.specs.declared.event.Event.TheVariants.{Own}
-use Rattle.dob_world.specs.Shown.{setting_of, ring_of}
+use Rattle.dob_world.proofs.Common.{◌*◌, ◌+◌, ◌<◌, Ok, ap, false, refl, subst, sym, true, ℕ, mul-add-lt, vec_len, ring_of, setting_of, Own}
 use Rattle.dob_world.proofs.AtLane.{AtLane, at_lane, same_at, unseen_at, owned_at}
 use Rattle.dob_world.proofs.Cuts.{cuts_stay, next_same}
 use Rattle.dob_world.proofs.Done.{event_done}

@@ -1,10 +1,6 @@
 -- The node that passes the token.
-use Rattle.std.proofs.Common.{◌≡◌, ℕ, refl, sym, ◌∙◌, subst}
+use Rattle.dob_world.proofs.Common.{◌∙◌, ◌≡◌, refl, subst, sym, ℕ, Moved, CanHappen, WorldMayEnd, ring_of, setting_of, state_of, Pass}
 use Rattle.dob_safra.specs.declared.event.RingEvent.TheVariants as ring
-use Rattle.dob_safra.specs.Rings.{Moved}
-use Rattle.dob_world.specs.declared.event.Event.TheVariants.{Pass}
-use Rattle.dob_world.specs.Events.{CanHappen, WorldMayEnd}
-use Rattle.dob_world.specs.Shown.{setting_of, state_of, ring_of}
 use Rattle.dob_world.proofs.InPlace.{node_there}
 use Rattle.dob_world.proofs.Cuts.{cuts_same}
 use Rattle.dob_world.proofs.Done.{event_done}

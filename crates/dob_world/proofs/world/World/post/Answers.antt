@@ -1,10 +1,6 @@
 -- The node that posts.
-use Rattle.std.proofs.Common.{ℕ, ◌<◌, inl, inr, refl, sym, ap, subst, Ok}
-use Rattle.dob_stops.specs.declared.cause.Cause.{Cause}
-use Rattle.dob_stops.specs.declared.fault.Fault.TheVariants.{Stopped}
-use Rattle.dob_world.specs.declared.event.Event.TheVariants.{Post}
+use Rattle.dob_world.proofs.Common.{◌<◌, Ok, ap, inl, inr, refl, subst, sym, ℕ, Cause, Stopped, ring_of, setting_of, Post}
 use Rattle.dob_safra.specs.declared.event.RingEvent.TheVariants as ring
-use Rattle.dob_world.specs.Shown.{setting_of, ring_of}
 use Rattle.dob_world.proofs.AtLane.{AtLane, at_lane, same_at, unseen_at, posted_at}
 use Rattle.dob_world.proofs.Cuts.{cuts_posted, few_cut}
 use Rattle.dob_world.proofs.Done.{event_done}

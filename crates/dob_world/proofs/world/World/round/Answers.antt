@@ -1,10 +1,5 @@
 -- One event more is made, or skipped.
-use Rattle.std.proofs.Common.{◌≡◌, ◌∙◌, ℕ, ◌<◌, arith, refl, sym, subst, ap, Ok}
-use Rattle.dob_world.specs.declared.event.Event.{Event}
-use Rattle.dob_rank.specs.Families.{classes_of}
-use Rattle.dob_world.specs.Worlds.{Setting}
-use Rattle.dob_world.specs.Rounds.{round_length, round_event}
-use Rattle.dob_world.specs.Effects.{IsStopped}
+use Rattle.dob_world.proofs.Common.{◌<◌, ◌∙◌, ◌≡◌, Ok, ap, arith, refl, subst, sym, ℕ, classes_of, IsStopped, round_event, round_length, Setting, Event}
 use Rattle.dob_world.proofs.Ran.{Stepped, stepped}
 use Rattle.dob_world.proofs.Left.{kept_standing}
 use Rattle.dob_world.proofs.Driven.{one_more, round_done, round_stops}

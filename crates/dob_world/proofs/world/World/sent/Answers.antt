@@ -1,6 +1,5 @@
 -- The list of the lane.
-use Rattle.std.proofs.Common.{sym, ◌∙◌}
-use Rattle.dob_world.specs.Shown.{setting_of}
+use Rattle.dob_world.proofs.Common.{◌∙◌, sym, setting_of}
 use Rattle.dob_world.proofs.InPlace.{lane_lent}
 use Rattle.dob_world.proofs.Lent.{sent_shown}
 use Rattle.dob_world.proofs.world.World.sent.Goals as goal

@@ -1,74 +1,77 @@
 -- The world stands on after the event, and so the promise of the whole holds of it; or it has stopped, and is left as that stop leaves it.
-use Rattle.std.proofs.Common.{◌≡◌, ◌+◌, rules, refl, ap, ◌∙◌, Ok, None}
-use Rattle.dob_world.specs.Shown.{setting_of, state_of}
-use Rattle.dob_world.specs.Standing.{IsStanding}
+use Rattle.dob_world.proofs.Common.{◌+◌, ◌∙◌, ◌≡◌, None, Ok, ap, refl, rules, IsEventDone, IsSkipped, setting_of, state_of, IsLeft, IsStanding}
 use Rattle.dob_world.proofs.Bounds.{few_stop}
 use Rattle.dob_world.proofs.Promise.{standing_headline, stood_headline, stand_unchanged}
 use Rattle.dob_world.proofs.Left.{left_shown, stop_leaves}
 use Rattle.dob_world.proofs.world.World.step.Goals as goal
+use Rattle.dob_world.proofs.world.World.step.Goals.{In-Ok-true, In-Ok-false, In-Err}
+
+-- the event is done
+done : (c : In-Ok-true) → IsEventDone c.args.event c.args.self.now c.make.new.self
+done c = c.in-Ok-true.ensures.done (ap Ok c.in-Ok-true.field-0-test)
+
+-- or it is skipped, and the world stands as it stood
+skipped : (c : In-Ok-false) → IsSkipped c.args.event c.args.self.now c.make.new.self
+skipped c = c.in-Ok-false.ensures.skipped (ap Ok c.in-Ok-false.field-0-test)
+
+still : (c : In-Ok-false) → IsStanding c.make.new.self
+still c = stand_unchanged c.args.self.now c.make.new.self (skipped c).unchanged (search rules)
+
+-- or it stops the world
+left : (c : In-Err) → IsLeft c.in-Err.fault c.make.new.self
+left c = stop_leaves c.args.self.now c.make.new.self c.args.event c.in-Err.fault (search rules) c.in-Err.ensures.stopped
 
 pub returns-in-Ok-true-clause-done : goal.returns-in-Ok-true-clause-done
 returns-in-Ok-true-clause-done c = λ e.
-    let done = c.in-Ok-true.ensures.done (ap Ok c.in-Ok-true.field-0-test) in
-    (record { setting = done.made.setting; can = done.made.can; happens = done.made.happens }, ap (λ n. n + 1) done.same.1)
+    let is = done (goal.at.returns-in-Ok-true-clause-done c).In-Ok-true in
+    (record { setting = is.made.setting; can = is.made.can; happens = is.made.happens }, ap (λ n. n + 1) is.same.1)
 
 pub returns-in-Ok-true-clause-setting : goal.returns-in-Ok-true-clause-setting
-returns-in-Ok-true-clause-setting c = (c.in-Ok-true.ensures.done (ap Ok c.in-Ok-true.field-0-test)).made.setting
+returns-in-Ok-true-clause-setting c = (done (goal.at.returns-in-Ok-true-clause-setting c).In-Ok-true).made.setting
 
 pub returns-in-Ok-true-clause-headline : goal.returns-in-Ok-true-clause-headline
 returns-in-Ok-true-clause-headline c =
-    let done = c.in-Ok-true.ensures.done (ap Ok c.in-Ok-true.field-0-test) in
     let world = c.make.new.self in
-    stood_headline (setting_of world) world.nodes.items world.lanes.items world.detector (world.steps + 1) done.stands
+    stood_headline (setting_of world) world.nodes.items world.lanes.items world.detector (world.steps + 1)
+    (done (goal.at.returns-in-Ok-true-clause-headline c).In-Ok-true).stands
 
 pub returns-in-Ok-true-clause-beginnings : goal.returns-in-Ok-true-clause-beginnings
 returns-in-Ok-true-clause-beginnings c =
-    let done = c.in-Ok-true.ensures.done (ap Ok c.in-Ok-true.field-0-test) in
     let world = c.make.new.self in
-    (stood_headline (setting_of world) world.nodes.items world.lanes.items world.detector (world.steps + 1) done.stands).beginnings
+    (stood_headline (setting_of world) world.nodes.items world.lanes.items world.detector (world.steps + 1)
+    (done (goal.at.returns-in-Ok-true-clause-beginnings c).In-Ok-true).stands).beginnings
 
 pub returns-in-Ok-true-clause-going : goal.returns-in-Ok-true-clause-going
 returns-in-Ok-true-clause-going c =
-    let done = c.in-Ok-true.ensures.done (ap Ok c.in-Ok-true.field-0-test) in
+    let is = done (goal.at.returns-in-Ok-true-clause-going c).In-Ok-true in
     let none : c.args.self.now.failed ≡ None = search rules in
-    (done.same.0 ∙ none, done.stands)
+    (is.same.0 ∙ none, is.stands)
 
 pub returns-in-Ok-true-clause-falls : goal.returns-in-Ok-true-clause-falls
-returns-in-Ok-true-clause-falls c = (c.in-Ok-true.ensures.done (ap Ok c.in-Ok-true.field-0-test)).stands.falls
+returns-in-Ok-true-clause-falls c = (done (goal.at.returns-in-Ok-true-clause-falls c).In-Ok-true).stands.falls
 
 pub returns-in-Ok-true-clause-silent : goal.returns-in-Ok-true-clause-silent
 returns-in-Ok-true-clause-silent c = λ ended.
-    let done = c.in-Ok-true.ensures.done (ap Ok c.in-Ok-true.field-0-test) in
     let standing : IsStanding c.args.self.now = search rules in
-    absurd (((standing_headline c.args.self.now standing).silence ended).nothing c.args.event done.made.can)
+    absurd (((standing_headline c.args.self.now standing).silence ended).nothing c.args.event (done (goal.at.returns-in-Ok-true-clause-silent c).In-Ok-true).made.can)
 
 pub returns-in-Ok-false-clause-setting : goal.returns-in-Ok-false-clause-setting
-returns-in-Ok-false-clause-setting c = (c.in-Ok-false.ensures.skipped (ap Ok c.in-Ok-false.field-0-test)).unchanged.setting
+returns-in-Ok-false-clause-setting c = (skipped (goal.at.returns-in-Ok-false-clause-setting c).In-Ok-false).unchanged.setting
 
 pub returns-in-Ok-false-clause-headline : goal.returns-in-Ok-false-clause-headline
-returns-in-Ok-false-clause-headline c =
-    let skipped = c.in-Ok-false.ensures.skipped (ap Ok c.in-Ok-false.field-0-test) in
-    let standing : IsStanding c.args.self.now = search rules in
-    standing_headline c.make.new.self (stand_unchanged c.args.self.now c.make.new.self skipped.unchanged standing)
+returns-in-Ok-false-clause-headline c = standing_headline c.make.new.self (still (goal.at.returns-in-Ok-false-clause-headline c).In-Ok-false)
 
 pub returns-in-Ok-false-clause-beginnings : goal.returns-in-Ok-false-clause-beginnings
 returns-in-Ok-false-clause-beginnings c =
-    let skipped = c.in-Ok-false.ensures.skipped (ap Ok c.in-Ok-false.field-0-test) in
-    let standing : IsStanding c.args.self.now = search rules in
-    (standing_headline c.make.new.self (stand_unchanged c.args.self.now c.make.new.self skipped.unchanged standing)).beginnings
+    (standing_headline c.make.new.self (still (goal.at.returns-in-Ok-false-clause-beginnings c).In-Ok-false)).beginnings
 
 pub returns-in-Ok-false-clause-going : goal.returns-in-Ok-false-clause-going
 returns-in-Ok-false-clause-going c =
-    let skipped = c.in-Ok-false.ensures.skipped (ap Ok c.in-Ok-false.field-0-test) in
-    let standing : IsStanding c.args.self.now = search rules in
-    let none : c.args.self.now.failed ≡ None = search rules in
-    (skipped.unchanged.failed ∙ none, stand_unchanged c.args.self.now c.make.new.self skipped.unchanged standing)
+    let at = (goal.at.returns-in-Ok-false-clause-going c).In-Ok-false in
+    ((skipped at).unchanged.failed ∙ (let none : c.args.self.now.failed ≡ None = search rules in none), still at)
 
 pub returns-in-Ok-false-clause-falls : goal.returns-in-Ok-false-clause-falls
-returns-in-Ok-false-clause-falls c =
-    let skipped = c.in-Ok-false.ensures.skipped (ap Ok c.in-Ok-false.field-0-test) in
-    let standing : IsStanding c.args.self.now = search rules in
-    (stand_unchanged c.args.self.now c.make.new.self skipped.unchanged standing).falls
+returns-in-Ok-false-clause-falls c = (still (goal.at.returns-in-Ok-false-clause-falls c).In-Ok-false).falls
 
 pub returns-in-Err-clause-setting : goal.returns-in-Err-clause-setting
 returns-in-Err-clause-setting c = c.in-Err.ensures.stopped.setting
@@ -92,20 +95,15 @@ returns-in-Err-clause-named c = λ going.
     record { setting = stopped.setting; stop = stopped.stop; left = stopped.left; same = stopped.same }
 
 pub returns-in-Err-clause-unannounced : goal.returns-in-Err-clause-unannounced
-returns-in-Err-clause-unannounced c =
-    let standing : IsStanding c.args.self.now = search rules in
-    (stop_leaves c.args.self.now c.make.new.self c.args.event c.in-Err.fault standing c.in-Err.ensures.stopped).unannounced
+returns-in-Err-clause-unannounced c = (left (goal.at.returns-in-Err-clause-unannounced c).In-Err).unannounced
 
 pub returns-in-Err-clause-beginnings : goal.returns-in-Err-clause-beginnings
-returns-in-Err-clause-beginnings c =
-    let standing : IsStanding c.args.self.now = search rules in
-    (stop_leaves c.args.self.now c.make.new.self c.args.event c.in-Err.fault standing c.in-Err.ensures.stopped).beginnings
+returns-in-Err-clause-beginnings c = (left (goal.at.returns-in-Err-clause-beginnings c).In-Err).beginnings
 
 pub returns-in-Err-clause-kept : goal.returns-in-Err-clause-kept
 returns-in-Err-clause-kept c =
-    let standing : IsStanding c.args.self.now = search rules in
-    let left = stop_leaves c.args.self.now c.make.new.self c.args.event c.in-Err.fault standing c.in-Err.ensures.stopped in
-    record { stop = left.stop; unannounced = left.unannounced; beginnings = left.beginnings; headline = left.headline }
+    let is = left (goal.at.returns-in-Err-clause-kept c).In-Err in
+    record { stop = is.stop; unannounced = is.unannounced; beginnings = is.beginnings; headline = is.headline }
 
 pub returns-in-Err-clause-memory : goal.returns-in-Err-clause-memory
 returns-in-Err-clause-memory c = λ going few.
@@ -116,5 +114,5 @@ returns-in-Err-clause-memory c = λ going few.
 
 pub returns-in-Err-clause-silent : goal.returns-in-Err-clause-silent
 returns-in-Err-clause-silent c = λ ended.
-    let standing : IsStanding c.args.self.now = search rules in
-    absurd (((standing_headline c.args.self.now standing).silence ended).nothing c.args.event c.in-Err.ensures.stopped.stop.0)
+    let before : IsStanding c.args.self.now = search rules in
+    absurd (((standing_headline c.args.self.now before).silence ended).nothing c.args.event c.in-Err.ensures.stopped.stop.0)

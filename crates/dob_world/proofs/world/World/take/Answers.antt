@@ -1,12 +1,6 @@
 -- The node that takes a batch.
-use Rattle.std.proofs.Common.{ℕ, refl, sym, ap, subst, Ok, Err}
-use Rattle.std.specs.List.{All}
-use Rattle.dob_pieces.specs.declared.profile.Family.{Family}
-use Rattle.dob_update.specs.Batches.{BatchView}
-use Rattle.dob_world.specs.Lanes.{IsBatchTo}
-use Rattle.dob_world.specs.declared.event.Event.TheVariants.{Take}
+use Rattle.dob_world.proofs.Common.{Err, Ok, ap, refl, subst, sym, ℕ, All, Family, BatchView, IsBatchTo, ring_of, setting_of, Take}
 use Rattle.dob_safra.specs.declared.event.RingEvent.TheVariants as ring
-use Rattle.dob_world.specs.Shown.{setting_of, ring_of}
 use Rattle.dob_world.proofs.AtLane.{AtLane, at_lane, same_at, received_at, stopped_at}
 use Rattle.dob_world.proofs.Cuts.{cuts_stay, next_same}
 use Rattle.dob_world.proofs.Done.{event_done}

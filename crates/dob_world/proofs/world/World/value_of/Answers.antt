@@ -1,7 +1,5 @@
 -- The class is its owner's own, which shows the value of the world.
-use Rattle.std.proofs.Common.{◌≡◌, ◌<◌, ◌∙◌, ℕ, ap, subst, Some, slice_get}
-use Rattle.dob_share.specs.Owners.{owner_of}
-use Rattle.dob_world.specs.Shown.{setting_of}
+use Rattle.dob_world.proofs.Common.{◌<◌, ◌∙◌, ◌≡◌, Some, ap, slice_get, subst, ℕ, owner_of, setting_of}
 use Rattle.dob_world.proofs.InPlace.{node_there}
 use Rattle.dob_world.proofs.Gathered.{owned, shows, shows_entry}
 use Rattle.dob_world.proofs.world.World.value_of.Goals as goal

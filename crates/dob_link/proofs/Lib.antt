@@ -1,2 +1,0 @@
--- Lemmas of links.
-pub mod Firsts  -- the first batch that waits

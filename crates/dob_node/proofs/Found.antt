@@ -1,0 +1,85 @@
+-- Each position has one status, and so each family has openings, whether they were listed or not; those of an owner's classes are among them.
+use Rattle.dob_node.proofs.Common.{◌*◌, ◌++◌, ◌+◌, ◌<◌, ◌∙◌, ◌∷◌, ◌≡◌, ◌≤◌, ◌⊎◌, Bool, List, MatchOption, None, Option, Some, [], arith, false, inl, inr}
+use Rattle.dob_node.proofs.Common.{length, refl, subst, suc, sym, true, zero, ℕ, slice_get-get_or, slice_get_within, at_end, head_in, none_in_empty, Family}
+use Rattle.dob_node.proofs.Common.{Profile, Setup, one_status, AreMoves-moves_of, not_tried_at, tried_at, has_tried, moves_of, AreMoves, CanCatch, HasStatus}
+use Rattle.dob_node.proofs.Common.{HasTried, IsFirstCatch, Move, Status, Caught, Open, Stuck, Tried, class_setup, classes_of, AreOwn, opening_of}
+use Rattle.dob_node.proofs.Common.{class_of_place, Opening, AreOpenings, AreOpeningsBelow, AreOwnOpenings, AreOwnSoFar, IsOpening}
+use Rattle.std.specs.Prelude.{slice_get}
+use Rattle.dob_moves.proofs.Verdicts.{catch_answer}
+use Rattle.dob_node.proofs.Starts.{openings_more}
+use Rattle.dob_node.proofs.Opens.{twelve_squares}
+
+-- ---- the status of a position
+
+-- where the game isn't over, by the list of the moves
+going_on : (profile : Profile) (p : Setup) → ¬ CanCatch p → ¬ HasTried p → (moves : List Move) → AreMoves profile p moves → (s : Status) × HasStatus profile p s
+going_on profile p no_catch no_try [] are = (Stuck, (no_catch, no_try, λ m goes. none_in_empty m (are.whole m (no_catch, no_try, (m, goes)) goes)))
+going_on profile p no_catch no_try (m ∷ moves) are = (Open, (are.sound m (head_in m moves)).0)
+
+by_catch : (p : Setup) (found : Option Move) → MatchOption found (¬ CanCatch p) (λ m. IsFirstCatch p m) → CanCatch p ⊎ (¬ CanCatch p)
+by_catch p None none = inr none
+by_catch p (Some m) is = inl (m, is.catches)
+
+by_tests : (profile : Profile) (p : Setup) → length p.board ≡ 12 → CanCatch p ⊎ (¬ CanCatch p) → (tried : Bool) → has_tried p ≡ tried → (s : Status) × HasStatus profile p s
+by_tests profile p twelve (inl catch) tried h = (Caught, catch)
+by_tests profile p twelve (inr none) true h = (Tried, (none, tried_at p _ _ _ refl refl refl h))
+by_tests profile p twelve (inr none) false h =
+    going_on profile p none (λ try. not_tried_at p _ _ _ refl refl refl h try.0 try.1 try.2) (moves_of profile p) (AreMoves-moves_of profile p twelve)
+
+pub has_status : (profile : Profile) (p : Setup) → length p.board ≡ 12 → (s : Status) × HasStatus profile p s
+has_status profile p twelve = by_tests profile p twelve (by_catch p _ (catch_answer p _ twelve refl)) (has_tried p) refl
+
+-- ---- the openings of a family
+
+-- a class has a status and moves
+an_opening : (profile : Profile) (p : Setup) → (s : Status) × HasStatus profile p s → (given : Opening) × IsOpening profile p given
+an_opening profile p has = (record { status = has.0; moves = length (moves_of profile p) }, record { status = has.1; moves = refl })
+
+openings_below : (family : Family) (upto : ℕ) → upto ≤ classes_of family → (openings : List Opening) × AreOpeningsBelow family upto openings
+openings_below family zero within = ([], record { whole = refl; each = λ k given at. absurd (cc) })
+openings_below family (suc class) within =
+    let before = openings_below family class (omega (arith, within)) in
+    let more = an_opening family.profile (class_setup family class) (has_status family.profile (class_setup family class) (twelve_squares family class (omega (arith, within)))) in
+    let one_more : class + 1 ≡ suc class = omega arith in
+    (before.0 ++ more.0 ∷ [], subst (λ (k : ℕ). AreOpeningsBelow family k (before.0 ++ more.0 ∷ [])) one_more (openings_more family class before.0 more.0 before.1 more.1))
+
+pub some_openings : (family : Family) → (openings : List Opening) × AreOpenings family openings
+some_openings family = openings_below family (classes_of family) (omega arith)
+
+-- ---- those of an owner's classes
+
+-- a position has one
+one_opening : (profile : Profile) (p : Setup) (one other : Opening) → IsOpening profile p one → IsOpening profile p other → one ≡ other
+one_opening profile p one other is is_other = λ i. record {
+  status = (one_status profile p one.status other.status is.status is_other.status) i;
+  moves = (is.moves ∙ sym is_other.moves) i;
+}
+
+-- what is listed of a class is its opening
+opening_listed : (openings : List Opening) (place : ℕ) → place < length openings → slice_get openings place ≡ Some (opening_of openings place)
+opening_listed openings place low = slice_get-get_or openings place (record { status = Stuck; moves = 0 }) low
+
+pub own_are : (family : Family) (openings own : List Opening) (n id : ℕ) → AreOpenings family openings → AreOwnOpenings family n id own → AreOwn openings n id own
+own_are family openings own n id all are = record {
+  places = λ place. (
+    λ low. subst (λ (count : ℕ). place * n + id < count) (sym all.whole) ((are.places place).0 low),
+    λ low. (are.places place).1 (subst (λ (count : ℕ). place * n + id < count) all.whole low),
+  );
+  each = λ place low.
+      let class : ℕ = class_of_place n id place in
+      let inside : class < length openings = subst (λ (count : ℕ). class < count) (sym all.whole) ((are.places place).0 low) in
+      one_opening family.profile (class_setup family class) (opening_of own place) (opening_of openings class)
+      (are.each place (opening_of own place) (opening_listed own place low))
+      (all.each class (opening_of openings class) (opening_listed openings class inside));
+}
+
+pub own_none : (family : Family) (n id : ℕ) → AreOwnSoFar family n id []
+own_none family n id place given there = let none : place < 0 = slice_get_within [] place given there in absurd (omega arith)
+
+pub own_more : (family : Family) (n id : ℕ) (own : List Opening) (given : Opening) → AreOwnSoFar family n id own →
+    IsOpening family.profile (class_setup family (class_of_place n id (length own))) given → AreOwnSoFar family n id (own ++ given ∷ [])
+own_more family n id own given before is place other there = elim (at_end own given other place there) [
+  | inl earlier ↦ before place other earlier
+  | inr last ↦ subst (λ (o : Opening). IsOpening family.profile (class_setup family (class_of_place n id place)) o) last.1
+      (subst (λ (k : ℕ). IsOpening family.profile (class_setup family (class_of_place n id k)) given) (sym last.0) is)
+]

@@ -1,0 +1,194 @@
+// The table of a build. Threads gather part after part of the values that the nodes show; while they gather one, another thread puts the part
+// before it behind the table's list and into the digest of its file.
+ghost use Rattle.std.specs.Prelude.{◌≡◌, ℕ, ◌++◌, ◌<◌, ◌≤◌, Some, IfOk, length, slice_get};
+ghost use Rattle.dob_pieces.specs.declared.profile.Family.{Family};
+ghost use Rattle.dob_rank.specs.Families.{classes_of};
+ghost use Rattle.dob_share.specs.declared.share.Share.{Share as Shower};
+ghost use Rattle.dob_share.specs.Owners.{owner_of};
+ghost use Rattle.dob_share.specs.Shares.{IsOwn};
+ghost use Rattle.dob_dbfile.specs.Format.{digest_of};
+ghost use Rattle.dob_run.specs.BuildEnd.{AreOwners, IsShownByOwner, IsCodeShown, AreShownBelow};
+ghost use Rattle.dob_run.specs.Scans.{AreFrom};
+
+use dob_classes::Classes;
+use dob_dbfile::FileHasher;
+use dob_lists::{SegmentLength, Segments};
+use dob_pieces::{Family, Memory};
+use dob_share::{Share, owner};
+use dob_value::{Table, Value, code_of_value};
+use rayon::prelude::*;
+use std::alloc::Global;
+use std::thread;
+use std::thread::Threads;
+
+// How many classes are gone over before their values join the table: enough that the threads have work, and so few that what
+// stands beside the table is small.
+const AT_A_TIME: u64 = 1 << 20;
+
+/// A table with the digest of its file.
+#[derive(Drop)]
+pub(crate) struct Gathered {
+    pub(crate) table: Table,
+    pub(crate) digest: [u8; 32],
+    ghost digested: { digest ≡ digest_of table },
+}
+
+// The codes of the first classes, which the digest has taken.
+#[derive(Drop)]
+struct Taken {
+    codes: Segments<u16>,
+    hasher: FileHasher,
+}
+
+// What is gathered: the codes that are taken, and those of the classes behind them, which aren't yet.
+#[derive(Drop)]
+struct Parts {
+    taken: Taken,
+    part: Vec<u16>,
+}
+
+/// The table of the values that the nodes' shares show, with the digest of its file. Threads gather its parts.
+///
+/// # Errors
+///
+/// `Memory`.
+pub(crate) fn gather(
+    rt: &(impl Threads + Sync),
+    alloc: Global,
+    classes: Classes,
+    shares: &[Share],
+) -> Result<Gathered, Memory>
+    requires some { 0 < length shares.now }
+    requires owners { AreOwners classes.family (length shares.now) shares.now }
+    ensures family { IfOk result (λ gathered. gathered.table.family ≡ classes.family) }
+    ensures values { IfOk result (λ gathered.
+        AreShownBelow (length shares.now) (classes_of classes.family) shares.now gathered.table.values) }
+{
+    let count = classes.class_count();
+    let taken = Taken::none(alloc, classes.family, count)?;
+    let mut class = count.min(AT_A_TIME);
+    let part = codes_of(rt, alloc, shares, 0, class)?;
+    let mut parts = Parts { taken, part };
+    'parts: while class < count {
+        let end = count.min(class + AT_A_TIME);
+        parts = parts.next(rt, alloc, shares, class, end)?;
+        class = end;
+    }
+    let Parts { taken, part } = parts;
+    let Taken { codes, hasher } = taken.with(&part)?;
+    let digest = hasher.end();
+    let table = Table::new(classes, codes);
+    Ok(Gathered { table, digest })
+}
+
+impl Taken {
+    ghost use Rattle.dob_pieces.specs.declared.profile.Family.{Family as Known};
+    ghost use Rattle.dob_run.specs.Gathering.{IsTaken};
+    ghost use Rattle.std.specs.Prelude.{[]};
+
+    // No code is taken yet of a table of the family, which has `count` classes.
+    fn none(alloc: Global, family: Family, count: u64) -> Result<Taken, Memory>
+        ensures codes { IfOk result (λ taken. taken.codes ≡ []) }
+        ensures taken { IfOk result (IsTaken family count) }
+    {
+        let hasher = FileHasher::begin(alloc, family, count)?;
+        let codes = Segments::new(alloc, SegmentLength::longest());
+        Ok(Taken { codes, hasher })
+    }
+
+    // Takes the codes of the next classes.
+    fn with(self, part: &[u16]) -> Result<Taken, Memory>
+        ensures codes { IfOk result (λ taken. taken.codes ≡ self.codes ++ part.now) }
+        ensures taken { (family : Known) (count : ℕ) → IsTaken family count self → IfOk result (IsTaken family count) }
+    {
+        let Taken { mut codes, hasher } = self;
+        codes.append(part)?;
+        let hasher = hasher.with(part);
+        Ok(Taken { codes, hasher })
+    }
+}
+
+impl Parts {
+    ghost use Rattle.dob_pieces.specs.declared.profile.Family.{Family as Known};
+    ghost use Rattle.dob_run.specs.Gathering.{IsTaken, Takes};
+
+    // Takes the part that is gathered, while threads gather the next one: the codes of the classes from `first` on, before `end`.
+    fn next(
+        self,
+        rt: &(impl Threads + Sync),
+        alloc: Global,
+        shares: &[Share],
+        first: u64,
+        end: u64,
+    ) -> Result<Parts, Memory>
+        requires order { first ≤ end }
+        requires some { 0 < length shares.now }
+        requires owned { (family : Known) × (end ≤ classes_of family) × AreOwners family (length shares.now) shares.now }
+        ensures codes { IfOk result (λ next. next.taken.codes ≡ self.taken.codes ++ self.part.items) }
+        ensures taken { (family : Known) (count : ℕ) → IsTaken family count self.taken → IfOk result (λ next. IsTaken family count next.taken) }
+        ensures part { IfOk result (λ next. AreFrom (IsCodeShown (length shares.now) shares.now) first end next.part.items) }
+    {
+        let Parts { taken, part } = self;
+        let (taken, part) = thread::join(
+            rt,
+            move || -> Result<Taken, Memory>
+                ensures { Takes taken part.items result }
+            { taken.with(&part) },
+            move || -> Result<Vec<u16>, Memory>
+                requires order { first ≤ end }
+                requires some { 0 < length shares.now }
+                requires owned { (family : Known) × (end ≤ classes_of family) × AreOwners family (length shares.now) shares.now }
+                ensures { IfOk result (λ codes. AreFrom (IsCodeShown (length shares.entry.now) shares.entry.now) first end codes.items) }
+            { codes_of(rt, alloc, shares, first, end) },
+        );
+        Ok(Parts {
+            taken: taken?,
+            part: part?,
+        })
+    }
+}
+
+// The codes of the values that the shares show for the classes from `first` on, before `end`.
+fn codes_of(
+    rt: &(impl Threads + Sync),
+    alloc: Global,
+    shares: &[Share],
+    first: u64,
+    end: u64,
+) -> Result<Vec<u16>, Memory>
+    requires order { first ≤ end }
+    requires some { 0 < length shares.now }
+    requires owned { (family : Family) × (end ≤ classes_of family) × AreOwners family (length shares.now) shares.now }
+    ensures { IfOk result (λ codes. AreFrom (IsCodeShown (length shares.now) shares.now) first end codes.items) }
+{
+    let codes = (first..end)
+        .into_par_iter()
+        .map(
+            |class: u64| -> u16
+                requires some { 0 < length shares.now }
+                requires owned { (family : Family) × (class < classes_of family) × AreOwners family (length shares.now) shares.now }
+                ensures { IsCodeShown (length shares.entry.now) shares.entry.now class result }
+            { code_of(shares, class) },
+        )
+        .collect::<Vec<_>>(rt, alloc)?;
+    Ok(codes)
+}
+
+// The code of the value that the class's owner shows.
+fn code_of(shares: &[Share], class: u64) -> u16
+    requires some { 0 < length shares.now }
+    requires owned { (family : Family) × (class < classes_of family) × AreOwners family (length shares.now) shares.now }
+    ensures { IsCodeShown (length shares.now) shares.now class result }
+{
+    code_of_value(value_of(shares, class))
+}
+
+// The value that the class's owner shows.
+fn value_of(shares: &[Share], class: u64) -> Value
+    requires some { 0 < length shares.now }
+    requires own { (share : Shower) → slice_get shares.now (owner_of (length shares.now) class) ≡ Some share → IsOwn share class }
+    ensures { IsShownByOwner (length shares.now) shares.now class result }
+{
+    let node = owner(class, shares.len());
+    shares[node].value(class)
+}
