@@ -11,7 +11,7 @@ pub(crate) fn about_build(alloc: Global, family: Family, limit: u64) -> Result<S
     Ok(tell_made(alloc, made)?)
 }
 
-/// The numbers of the table's classes; `none` if there is no table.
+// The numbers of the table's classes; `none` if there is no table.
 fn tell_made(alloc: Global, made: Option<Table>) -> Result<String, Memory> {
     match made {
         None => Ok("none".to_string(alloc)?),

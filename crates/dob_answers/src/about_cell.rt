@@ -47,7 +47,7 @@ pub(crate) fn about_cell(
     Ok(tell_replies(alloc, &mut share, class, changes)?)
 }
 
-/// The statuses and numbers of moves of that many first classes.
+// The statuses and numbers of moves of that many first classes.
 fn openings_of(alloc: Global, classes: &Classes, count: u64) -> Result<Segments<Opening>, Memory>
     requires { count ≤ classes_of classes.now.family }
 {
@@ -59,7 +59,7 @@ fn openings_of(alloc: Global, classes: &Classes, count: u64) -> Result<Segments<
     Ok(openings)
 }
 
-/// What the class's cell in the share answers to the changes, one after another.
+// What the class's cell in the share answers to the changes, one after another.
 fn tell_replies(
     alloc: Global,
     share: &mut Share,
@@ -77,7 +77,7 @@ fn tell_replies(
     Ok(text)
 }
 
-/// What the class's cell in the share answers to the change.
+// What the class's cell in the share answers to the change.
 fn reply_to(
     alloc: Global,
     share: &mut Share,
@@ -108,7 +108,7 @@ fn reply_to(
     }
 }
 
-/// The values of a change that is written `WAS>NOW`.
+// The values of a change that is written `WAS>NOW`.
 fn read_change(text: &str) -> Option<(Value, Value)> {
     let (was, now) = text.split_once('>')?;
     Some((read_value(was)?, read_value(now)?))

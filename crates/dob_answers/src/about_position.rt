@@ -39,7 +39,7 @@ pub(crate) fn about_position(
     }
 }
 
-/// The positions with the same pieces that the profile allows.
+// The positions with the same pieces that the profile allows.
 fn family_of(profile: Profile, position: &Position) -> Family
     requires { IsAllowed profile position.now.setup }
     ensures { IsPositionOf result position.now.setup }
@@ -50,7 +50,7 @@ fn family_of(profile: Profile, position: &Position) -> Family
     }
 }
 
-/// `status S moves M1 M2 ..`, in move order.
+// `status S moves M1 M2 ..`, in move order.
 fn tell_moves(alloc: Global, profile: Profile, position: &Position) -> Result<String, Memory> {
     let name = match status(Profile::A, position) {
         Status::Caught => "caught",
@@ -67,7 +67,7 @@ fn tell_moves(alloc: Global, profile: Profile, position: &Position) -> Result<St
     Ok(text)
 }
 
-/// The text of the position after the move of that number; `none` if there is no such move.
+// The text of the position after the move of that number; `none` if there is no such move.
 fn tell_after(
     alloc: Global,
     number: usize,
@@ -82,7 +82,7 @@ fn tell_after(
     write_position(alloc, &after)
 }
 
-/// The first step that catches the enemy lion, or `none`.
+// The first step that catches the enemy lion, or `none`.
 fn tell_catch(alloc: Global, position: &Position) -> Result<String, Memory> {
     match first_catch(position) {
         None => Ok("none".to_string(alloc)?),
@@ -90,7 +90,7 @@ fn tell_catch(alloc: Global, position: &Position) -> Result<String, Memory> {
     }
 }
 
-/// `win D`, `loss D` or `draw`.
+// `win D`, `loss D` or `draw`.
 fn tell_value(alloc: Global, value: Value) -> Result<String, AllocError> {
     match value {
         Value::Win(plies) => format!(in alloc; "win {plies}"),

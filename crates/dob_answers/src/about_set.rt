@@ -26,7 +26,7 @@ pub(crate) fn about_set(
     }
 }
 
-/// What is asked about the classes.
+// What is asked about the classes.
 fn about_classes(alloc: Global, classes: &Classes, matter: OfClasses) -> Result<String, Memory> {
     match matter {
         OfClasses::Size => Ok(tell_size(alloc, classes)?),
@@ -36,7 +36,7 @@ fn about_classes(alloc: Global, classes: &Classes, matter: OfClasses) -> Result<
     }
 }
 
-/// The text of the position of that rank.
+// The text of the position of that rank.
 fn tell_unranked(alloc: Global, family: Family, rank: u64) -> Result<String, Memory> {
     if rank >= size(family) {
         return Ok(none(alloc)?);
@@ -44,14 +44,14 @@ fn tell_unranked(alloc: Global, family: Family, rank: u64) -> Result<String, Mem
     write_position(alloc, &unrank(family, rank))
 }
 
-/// `positions N classes N`.
+// `positions N classes N`.
 fn tell_size(alloc: Global, classes: &Classes) -> Result<String, AllocError> {
     let positions = size(classes.family);
     let classes = classes.class_count();
     format!(in alloc; "positions {positions} classes {classes}")
 }
 
-/// The text of the class's representative.
+// The text of the class's representative.
 fn tell_class_at(alloc: Global, classes: &Classes, class: u64) -> Result<String, Memory> {
     if class >= classes.class_count() {
         return Ok(none(alloc)?);
@@ -59,7 +59,7 @@ fn tell_class_at(alloc: Global, classes: &Classes, class: u64) -> Result<String,
     write_position(alloc, &classes.class_at(class))
 }
 
-/// `back P1 P2 ..`, the classes from which moves lead into the class, ascending, each as often as moves do.
+// `back P1 P2 ..`, the classes from which moves lead into the class, ascending, each as often as moves do.
 fn tell_back(alloc: Global, classes: &Classes, class: u64) -> Result<String, Memory> {
     if class >= classes.class_count() {
         return Ok(none(alloc)?);
@@ -71,7 +71,7 @@ fn tell_back(alloc: Global, classes: &Classes, class: u64) -> Result<String, Mem
     Ok(text)
 }
 
-/// How many moves lead from the one class into the other.
+// How many moves lead from the one class into the other.
 fn tell_edges(alloc: Global, classes: &Classes, from: u64, into: u64) -> Result<String, Memory> {
     let count = classes.class_count();
     if from >= count || into >= count {

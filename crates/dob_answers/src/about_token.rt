@@ -51,7 +51,7 @@ fn read_may_announce(words: &mut SplitWhitespace<'_>) -> Option<OfToken> {
     Some(OfToken::MayAnnounce(visit, words.next()? == "idle"))
 }
 
-/// The token of the next three words at the node of the two after them.
+// The token of the next three words at the node of the two after them.
 fn read_visit(words: &mut SplitWhitespace<'_>) -> Option<Visit> {
     let token = read_token(words)?;
     let counter = read_sum(words)?;
@@ -63,7 +63,7 @@ fn read_visit(words: &mut SplitWhitespace<'_>) -> Option<Visit> {
     })
 }
 
-/// The token of the next three words.
+// The token of the next three words.
 fn read_token(words: &mut SplitWhitespace<'_>) -> Option<Token> {
     let at = read_index(words)?;
     let black = read_black(words)?;
@@ -71,17 +71,17 @@ fn read_token(words: &mut SplitWhitespace<'_>) -> Option<Token> {
     Some(Token { at, black, sum })
 }
 
-/// The node, or the number of nodes, of the next word.
+// The node, or the number of nodes, of the next word.
 fn read_index(words: &mut SplitWhitespace<'_>) -> Option<usize> {
     words.next()?.parse::<usize>().ok()
 }
 
-/// The sum or the counter of the next word.
+// The sum or the counter of the next word.
 fn read_sum(words: &mut SplitWhitespace<'_>) -> Option<i64> {
     words.next()?.parse::<i64>().ok()
 }
 
-/// Whether the colour of the next word is black; none if it is no colour.
+// Whether the colour of the next word is black; none if it is no colour.
 fn read_black(words: &mut SplitWhitespace<'_>) -> Option<bool> {
     match words.next()? {
         "black" => Some(true),
@@ -111,7 +111,7 @@ pub(crate) fn about_token(alloc: Global, matter: OfToken) -> Result<String, Allo
     }
 }
 
-/// The token after the pass, if the ring has 1 to 16 nodes and the sum stays in its bounds.
+// The token after the pass, if the ring has 1 to 16 nodes and the sum stays in its bounds.
 fn pass_of(visit: Visit, nodes: usize) -> Option<Token> {
     let Visit {
         token,
@@ -125,7 +125,7 @@ fn pass_of(visit: Visit, nodes: usize) -> Option<Token> {
     Some(passed(token, counter, black, nodes))
 }
 
-/// The token's word, if it has one.
+// The token's word, if it has one.
 fn word_of(token: Token) -> Option<u64> {
     if token.at >= 16 || token.sum < -SUM_LIMIT || token.sum > SUM_LIMIT {
         return None;
@@ -133,7 +133,7 @@ fn word_of(token: Token) -> Option<u64> {
     Some(pack(token))
 }
 
-/// `AT COLOUR SUM`.
+// `AT COLOUR SUM`.
 fn tell_token(alloc: Global, token: Token) -> Result<String, AllocError> {
     let at = token.at;
     let colour = if token.black { "black" } else { "white" };

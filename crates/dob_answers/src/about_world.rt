@@ -65,7 +65,7 @@ pub(crate) fn about_world(
     }
 }
 
-/// What driving the world answers, and what it then shows; `none` if the rounds are too many.
+// What driving the world answers, and what it then shows; `none` if the rounds are too many.
 fn tell_drive(alloc: Global, mut world: World, nodes: usize, rounds: u64) -> Result<String, Fault>
     requires nodes { world.node_count ≡ nodes }
     requires standing { IsStanding world }
@@ -80,7 +80,7 @@ fn tell_drive(alloc: Global, mut world: World, nodes: usize, rounds: u64) -> Res
     Ok(join(alloc, still, shown.as_str())?)
 }
 
-/// Whether a world of `nodes` nodes can make `rounds` rounds.
+// Whether a world of `nodes` nodes can make `rounds` rounds.
 fn are_few(rounds: u64, nodes: usize) -> bool
     requires { nodes ≤ 16 }
     ensures { result ≡ true → rounds * round_length nodes ≤ 2 ^ 40 }
@@ -92,7 +92,7 @@ fn are_few(rounds: u64, nodes: usize) -> bool
     }
 }
 
-/// The letters of the events, and what the world then shows.
+// The letters of the events, and what the world then shows.
 fn tell_events(alloc: Global, mut world: World, nodes: usize, events: &str) -> Result<String, Fault>
     requires nodes { world.node_count ≡ nodes }
     requires standing { IsStanding world }
@@ -107,7 +107,7 @@ fn tell_events(alloc: Global, mut world: World, nodes: usize, events: &str) -> R
     Ok(join(alloc, letters.as_str(), shown.as_str())?)
 }
 
-/// The letter of the event that is written so.
+// The letter of the event that is written so.
 fn happen(world: &mut World, word: &str) -> Result<char, Fault>
     requires standing { IsStanding world.old }
     requires kept { StandsOrStopped world.old }
@@ -125,7 +125,7 @@ fn happen(world: &mut World, word: &str) -> Result<char, Fault>
     }
 }
 
-/// The event that is written so; none if the text is no event.
+// The event that is written so; none if the text is no event.
 fn read_event(text: &str) -> Option<Event> {
     let letter = text.chars().next()?;
     let nodes = text.strip_prefix(letter)?;
@@ -146,7 +146,7 @@ fn read_event(text: &str) -> Option<Event> {
     }
 }
 
-/// Two nodes with a point between them.
+// Two nodes with a point between them.
 fn read_nodes(text: &str) -> Option<(usize, usize)> {
     let (from, to) = text.split_once('.')?;
     let from = from.parse::<usize>().ok()?;
@@ -158,7 +158,7 @@ fn push(letters: &mut String, letter: char) -> Result<(), Memory> {
     Ok(letters.push(letter)?)
 }
 
-/// The two with a space between them.
+// The two with a space between them.
 fn join<D: Display + Drop>(alloc: Global, answer: D, shown: &str) -> Result<String, Memory> {
     Ok(format!(in alloc; "{answer} {shown}")?)
 }

@@ -51,7 +51,7 @@ pub(crate) fn reply<R: Threads + Wait + Sync>(
     }
 }
 
-/// What is asked about how the set's values are found.
+// What is asked about how the set's values are found.
 fn about_values<R: Threads + Wait + Sync>(
     rt: &R,
     alloc: Global,
@@ -71,7 +71,7 @@ fn about_values<R: Threads + Wait + Sync>(
     }
 }
 
-/// The answer, or the line of the fault of finding it.
+// The answer, or the line of the fault of finding it.
 fn told(alloc: Global, answer: Result<String, Fault>) -> Result<String, Memory> {
     match answer {
         Ok(text) => Ok(text),
@@ -80,7 +80,7 @@ fn told(alloc: Global, answer: Result<String, Fault>) -> Result<String, Memory> 
     }
 }
 
-/// The answer, or the line of the fault of a build.
+// The answer, or the line of the fault of a build.
 fn told_build(alloc: Global, answer: Result<String, dob_node::Fault>) -> Result<String, Memory> {
     match answer {
         Ok(text) => Ok(text),
@@ -89,7 +89,7 @@ fn told_build(alloc: Global, answer: Result<String, dob_node::Fault>) -> Result<
     }
 }
 
-/// The answer, or the line of the fault of a build by threads.
+// The answer, or the line of the fault of a build by threads.
 fn told_crew(alloc: Global, answer: Result<String, dob_run::Fault>) -> Result<String, Memory> {
     match answer {
         Ok(text) => Ok(text),
@@ -98,7 +98,7 @@ fn told_crew(alloc: Global, answer: Result<String, dob_run::Fault>) -> Result<St
     }
 }
 
-/// The answer, or the line of the fault of a world.
+// The answer, or the line of the fault of a world.
 fn told_world(alloc: Global, answer: Result<String, dob_world::Fault>) -> Result<String, Memory> {
     match answer {
         Ok(text) => Ok(text),
@@ -107,7 +107,7 @@ fn told_world(alloc: Global, answer: Result<String, dob_world::Fault>) -> Result
     }
 }
 
-/// A fault's line.
+// A fault's line.
 fn fault_line<F: Display + Drop>(alloc: Global, fault: F) -> Result<String, Memory> {
     Ok(format!(in alloc; "dobutsu: {fault}")?)
 }

@@ -157,7 +157,7 @@ impl<'a> OfValues<'a> {
     }
 }
 
-/// Two numbers with a space between them.
+// Two numbers with a space between them.
 fn two_numbers(text: &str) -> Option<(u64, u64)> {
     let (first, second) = text.split_once(' ')?;
     let first = first.parse::<u64>().ok()?;

@@ -15,7 +15,7 @@ use dob_world::{History, World};
 use std::alloc::Global;
 use std::fmt::{self, Write};
 
-/// The hash of a text, made of one byte after another.
+// The hash of a text, made of one byte after another.
 #[derive(Drop)]
 struct Digest(u64);
 
@@ -35,7 +35,7 @@ impl Write for Digest {
     }
 }
 
-/// What is shown of the settlements and items of a world.
+// What is shown of the settlements and items of a world.
 #[derive(Drop)]
 struct Told {
     longest: u16,
@@ -45,7 +45,7 @@ struct Told {
 }
 
 impl Told {
-    /// What is shown of the world, which has `nodes` nodes.
+    // What is shown of the world, which has `nodes` nodes.
     fn of(world: &World, nodes: usize) -> Result<Told, fmt::Error>
         requires standing { IsStanding world.now }
         requires nodes { nodes ≡ world.now.node_count }
@@ -96,7 +96,7 @@ impl Told {
     }
 }
 
-/// How many plies it is to the end; 0 for a draw.
+// How many plies it is to the end; 0 for a draw.
 fn distance(value: Value) -> u16 {
     match value {
         Value::Win(plies) | Value::Loss(plies) => plies,

@@ -1,33 +1,20 @@
 -- What the words ask for is done, and what a build leaves, `probe` finds: the value by definition.
-use Rattle.std.proofs.Common.{◌≡◌, ◌∙◌, ℕ, List, Option, arith, inl, inr, option_map, refl, subst, sym}
-use Rattle.std.specs.Prelude.{IsTrue}
+use Rattle.dob_cli.proofs.Common.{◌∙◌, ◌≡◌, List, Option, arith, inl, inr, option_map, refl, subst, sym, ℕ, IsTrue, Profile, bytes_of, Change, Text, IsOrder}
+use Rattle.dob_cli.proofs.Common.{IsReadingOf, asks, meaning_of, number_in, profile_named, Reading, Order, ShelfChange, ShelfState, shelf_change, AnswersOver}
+use Rattle.dob_cli.proofs.Common.{Ending, TellsOneFault, AnswersValue, AnswersProbe, AnswersProbeRight, HasValueFile, Fault, AnswersBuild}
 use Rattle.dob_stops.specs.declared.fault.Fault.TheVariants as run_fault
 use Rattle.dob_dbfile.specs.declared.fault.Fault.TheVariants as file_fault
-use Rattle.dob_dbfile.specs.Format.{bytes_of}
-use Rattle.dob_dbfile.specs.Sinks.{Change}
 use Rattle.dob_probe.specs.declared.fault.Fault.TheVariants as table_fault
 use Rattle.dob_certificate.specs.declared.refusal.Refusal.TheVariants as refusal
 use Rattle.dob_query.specs.declared.certificate_fault.CertificateFault.TheVariants as certificate_fault
-use Rattle.dob_query.specs.declared.fault.Fault.{Fault}
 use Rattle.dob_query.specs.declared.fault.Fault.TheVariants as fault
 use Rattle.dob_query.specs.declared.fault.Fault.TheVariants.{SetText, TooDeep, Run, File, Table, PuzzlePlies, Certificate, Memory, Io}
 use Rattle.dob_query.specs.Faults.{status_of}
-use Rattle.dob_query.specs.Endings.{AnswersOver, Ending, TellsOneFault}
-use Rattle.dob_query.specs.Program.{AnswersValue}
-use Rattle.dob_shelf.specs.Shelves.{ShelfChange, ShelfState, shelf_change}
-use Rattle.dob_query.specs.Tables.{AnswersProbe, AnswersProbeRight, HasValueFile}
-use Rattle.dob_words.specs.Forms.{Text}
-use Rattle.dob_words.specs.Words.{asks, meaning_of, number_in, profile_named}
-use Rattle.dob_words.specs.Readings.{IsOrder, IsReadingOf}
-use Rattle.dob_words.specs.declared.command.Order.{Order}
-use Rattle.dob_words.specs.declared.command.Reading.{Reading}
 use Rattle.dob_words.specs.declared.command.Reading.TheVariants as reading
-use Rattle.dob_cli.specs.Builds.{AnswersBuild}
 use Rattle.dob_cli.specs.Laws.{BuildThenProbe, WordsAreAnswered}
 use Rattle.dob_cli.specs.Orders.{AnswersOrder, AnswersRight}
 use Rattle.dob_cli.specs.Runs.{Does, LacksMemory, Ran}
 use Rattle.dob_cli.proofs.Orders.{done_build, done_probe, done_value, probe_told}
-use Rattle.dob_pieces.specs.declared.profile.Profile.{Profile}
 
 -- no fault has the status of what is done
 not_done : (fault : Fault) → status_of fault ≡ 0 → ⊥
@@ -110,7 +97,7 @@ words_answered before after words e ran =
           (memory_answered c _ _ e tt) ran;
       build = λ rules set nodes file progress asked.
           order_done c words e _ _ (AnswersBuild c (profile_named rules) set (option_map number_in nodes) file e) asked
-          (λ o is answers right. done_build c e rules set nodes file progress o is answers) (λ lacks. memory_answered c _ _ e lacks.1.0 lacks) ran;
+          (λ o is answers right. done_build c e rules set nodes file progress o is answers) (λ lacks. memory_answered c _ _ e (tt, lacks.1.0) lacks) ran;
       probe_right = λ file text asked profile.
           order_done c words e _ _ (HasValueFile (c.before.has file) profile → AnswersProbeRight c profile file text e) asked
           (done_probe c e (λ x t. HasValueFile (c.before.has x) profile → AnswersProbeRight c profile x t e) file text (λ f t answers right. right profile))

@@ -1,98 +1,73 @@
 -- What is owed for an order is right by a value table's file, and is owed for the words that ask for it.
-use Rattle.std.proofs.Common.{◌≡◌, ◌∙◌, ℕ, Bool, List, [], ◌∷◌, Option, Some, None, ap, codes, false, inl, inr, option_map, refl, subst, sym, true, true≢false}
+use Rattle.dob_cli.proofs.Common.{◌∙◌, ◌∷◌, ◌≡◌, Bool, List, None, Option, Some, [], ap, codes, false, inl, inr, option_map, refl, subst, sym, true, true≢false}
+use Rattle.dob_cli.proofs.Common.{ℕ, Profile, Text, IsOrder, number_in, profile_named, Order, EachLine, Lines, ShelfChange, AnswersOver, Ending, AnswersValue}
+use Rattle.dob_cli.proofs.Common.{AnswersProbe, AnswersLines, AnswersBuild}
 use Rattle.std.specs.Borrow.{Bor}
 use Rattle.std.specs.Str.{bytes_eq}
-use Rattle.dob_pieces.specs.declared.profile.Profile.{Profile}
-use Rattle.dob_words.specs.Forms.{Text}
-use Rattle.dob_words.specs.Words.{number_in, profile_named}
-use Rattle.dob_words.specs.Readings.{IsOrder, name_of_order, text_given}
-use Rattle.dob_words.specs.declared.command.Order.{Order}
-use Rattle.dob_words.specs.declared.command.Order.TheVariants.{Value, Reach, Build, Probe, Each, Line, Look, LookEach, MovesEach, BestEach, LineEach, Show, Moves, Best, Stats, Zugzwangs, Puzzles}
-use Rattle.dob_query.specs.declared.fault.Fault.{Fault}
-use Rattle.dob_query.specs.Each.{AnswersLines, status_of_lines}
-use Rattle.dob_query.specs.Endings.{AnswersOver, Ending}
-use Rattle.dob_query.specs.Program.{AnswersValue}
-use Rattle.dob_shelf.specs.Shelves.{ShelfChange}
-use Rattle.dob_query.specs.Tables.{AnswersProbe}
+use Rattle.std.proofs.lemmas.Slice.Eq.{bytes_eq-Decides}
+use Rattle.dob_words.specs.Readings.{name_of, name_of_order, subcommand_asked, text_given}
+use Rattle.dob_words.specs.declared.command.orders.Asked.{Asked}
+use Rattle.dob_words.specs.declared.command.orders.Asked.TheVariants as ask
+use Rattle.dob_words.specs.declared.command.orders.LinesOrder.{LinesOrder}
+use Rattle.dob_words.specs.declared.command.orders.LinesOrder.TheVariants.{Ask, Build, Puzzles, Reach, Show, Stats, Value, Zugzwangs}
 use Rattle.dob_query.proofs.EachLine.{each_right}
 use Rattle.dob_query.proofs.Placed.{question_each_right}
 use Rattle.dob_query.proofs.Paired.{zugzwangs_right}
 use Rattle.dob_query.proofs.Reaching.{reach_right}
-use Rattle.dob_query.specs.declared.questions.Question.TheVariants as question
+use Rattle.dob_query.specs.declared.questions.Question.{Question}
 use Rattle.dob_query.proofs.Asking.{question_right}
 use Rattle.dob_query.proofs.Rightly.{puzzles_right, show_right, stats_right}
 use Rattle.dob_query.proofs.TableFaults.{probe_right}
-use Rattle.dob_cli.specs.Builds.{AnswersBuild}
-use Rattle.dob_cli.specs.Orders.{AllTold, AnswersOrder, AnswersRight, AreLinesFor, AreToldFor, IsByLines, reach_of, search_of}
-
--- ---- an order that isn't for each line of standard input
-
-module _ (o : Order) (not_each : (file : Bor Text) → o ≡ Each file → ⊥) (not_look : (file : Bor Text) → o ≡ LookEach file → ⊥)
-    (not_moves : (file : Bor Text) → o ≡ MovesEach file → ⊥) (not_best : (file : Bor Text) → o ≡ BestEach file → ⊥)
-    (not_line : (file : Bor Text) (is_numbered : Bool) → o ≡ LineEach file is_numbered → ⊥) where
-  -- lines tell it
-  pub is_by_lines : IsByLines o
-  is_by_lines = go o refl
-    where
-      go : (x : Order) → o ≡ x → IsByLines x
-      go (Each f) is = absurd (not_each f is)
-      go (LookEach f) is = absurd (not_look f is)
-      go (MovesEach f) is = absurd (not_moves f is)
-      go (BestEach f) is = absurd (not_best f is)
-      go (LineEach f n) is = absurd (not_line f n is)
-      go x is = tt
-
-  -- and none of them is refused
-  pub all_told : (c : ShelfChange) (lines : List ℕ) → AreLinesFor c o lines → AreToldFor c o false lines
-  all_told c lines right = go o refl right
-    where
-      go : (x : Order) → o ≡ x → AreLinesFor c x lines → AreToldFor c x false lines
-      go (Each f) is told = absurd told
-      go (LookEach f) is told = absurd told
-      go (MovesEach f) is told = absurd told
-      go (BestEach f) is told = absurd told
-      go (LineEach f n) is told = absurd told
-      go x is told = (refl, told)
-
--- so it is answered by lines, with status 0
-told_over : (c : ShelfChange) (AreLines : List ℕ → Type 0) (Holds : Fault → Type 0) (e : Ending) → AnswersLines c (AllTold AreLines) Holds e
-    → AnswersOver c AreLines Holds e
-told_over c AreLines Holds e (inl t) = inl (record {
-  lines = t.lines;
-  right = (t.right.0.1, t.right.1);
-  done = t.done ∙ ap status_of_lines t.right.0.0;
-  told = t.told;
-  silent = t.silent;
-})
-told_over c AreLines Holds e (inr (inl t)) = inr (inl t)
-told_over c AreLines Holds e (inr (inr t)) = inr (inr (record { lines = t.lines; right = (t.right.1.1, t.right.2); part = t.part; told = t.told }))
+use Rattle.dob_cli.specs.Orders.{AnswersAskedRight, AnswersByLines, AnswersEachAskedRight, AnswersLinesRight, AnswersOrder, AnswersRight, AreAskedLines}
+use Rattle.dob_cli.specs.Orders.{AreEachAsked, ByValueFile, IsAskedFault, IsEachAskedFault, form_of, question_of, reach_of, search_of}
 
 module _ (c : ShelfChange) (e : Ending) where
-  -- by the file of a value table what is told is right
-  pub rightly : (o : Order) → AnswersOrder c o e → AnswersRight c o e
-  rightly (Probe f t) answers = λ profile right. probe_right c profile f.now t.now e right (told_over c _ _ e answers)
-  rightly (Each f) answers = λ profile right. each_right c profile f.now e right answers
-  rightly (Line f n t) answers = λ profile right. question_right c profile (question.Line n) f.now t.now e right (told_over c _ _ e answers)
-  rightly (Look f t) answers = λ profile right. question_right c profile question.Look f.now t.now e right (told_over c _ _ e answers)
-  rightly (LookEach f) answers = λ profile right. question_each_right c profile question.Look f.now e right answers
-  rightly (MovesEach f) answers = λ profile right. question_each_right c profile question.Moves f.now e right answers
-  rightly (BestEach f) answers = λ profile right. question_each_right c profile question.Best f.now e right answers
-  rightly (LineEach f n) answers = λ profile right. question_each_right c profile (question.Line n) f.now e right answers
-  rightly (Show (Some f) p t) answers = λ profile right. show_right c profile f.now e right (text_given p) t.now (told_over c _ _ e answers)
-  rightly (Reach p (Some f) l w t) answers = λ profile right. reach_right c profile f.now e right (reach_of p l w) t.now (told_over c _ _ e answers)
-  rightly (Moves f t) answers = λ profile right. question_right c profile question.Moves f.now t.now e right (told_over c _ _ e answers)
-  rightly (Best f t) answers = λ profile right. question_right c profile question.Best f.now t.now e right (told_over c _ _ e answers)
-  rightly (Stats f b) answers = λ profile right. stats_right c profile f.now e right b (told_over c _ _ e answers)
-  rightly (Zugzwangs f n) answers = λ profile right. zugzwangs_right c profile f.now e right n (told_over c _ _ e answers)
-  rightly (Puzzles f d n k s b) answers = λ profile right.
-      puzzles_right c profile f.now e right (search_of d n k s b) (told_over c _ _ e answers)
+  -- by the file of a value table what is asked of a position is answered rightly
+  asked_right : (q : Option Question) (file text : List ℕ) → AnswersOver c (AreAskedLines q (c.before.has file) text) (IsAskedFault q (c.before.has file) text) e
+      → ByValueFile c file (λ profile. AnswersAskedRight q c profile file text e)
+  asked_right None file text answers = λ profile right. probe_right c profile file text e right answers
+  asked_right (Some q) file text answers = λ profile right. question_right c profile q file text e right answers
+
+  -- so is what is asked of each line
+  each_asked_right : (q : Option Question) (file : List ℕ) → AnswersLines c (AreEachAsked q (c.before.has file)) (IsEachAskedFault q c file) e
+      → ByValueFile c file (λ profile. AnswersEachAskedRight q c profile file e)
+  each_asked_right None file answers = λ profile right. each_right c profile file e right answers
+  each_asked_right (Some q) file answers = λ profile right. question_each_right c profile q file e right answers
+
+  -- so is what is ordered
+  rightly : (o : LinesOrder) → AnswersByLines c o e → AnswersLinesRight c o e
+  rightly (Ask f a t) answers = asked_right (question_of a) f.now t.now answers
+  rightly (Show (Some f) p t) answers = λ profile right. show_right c profile f.now e right (text_given p) t.now answers
+  rightly (Reach p (Some f) l w t) answers = λ profile right. reach_right c profile f.now e right (reach_of p l w) t.now answers
+  rightly (Stats f b j) answers = λ profile right. stats_right c profile f.now e right (form_of b j) answers
+  rightly (Zugzwangs f n) answers = λ profile right. zugzwangs_right c profile f.now e right n answers
+  rightly (Puzzles f d n k s b) answers = λ profile right. puzzles_right c profile f.now e right (search_of d n k s b) answers
   rightly o answers = tt
+
+  pub order_right : (o : Order) → AnswersOrder c o e → AnswersRight c o e
+  order_right (Lines o) answers = rightly o answers
+  order_right (EachLine f a) answers = each_asked_right (question_of a) f.now answers
 
 -- ---- by the words
 
 -- two names that differ aren't one
-differs : (a b : Text) → bytes_eq a a ≡ true → bytes_eq a b ≡ false → a ≡ b → ⊥
-differs a b own other e = true≢false (sym own ∙ subst (λ (x : Text). bytes_eq a x ≡ false) (sym e) other)
+differs : (a b : Text) → bytes_eq a b ≡ false → a ≡ b → ⊥
+differs a b other e = true≢false (sym ((bytes_eq-Decides a b).1 e) ∙ other)
+
+-- what is asked of a position has no such name
+asked_is_no_value : (a : Asked) → bytes_eq (name_of (subcommand_asked a)) (codes "value") ≡ false
+asked_is_no_value ask.Probe = refl
+asked_is_no_value (ask.Look j) = refl
+asked_is_no_value (ask.Moves j) = refl
+asked_is_no_value ask.Best = refl
+asked_is_no_value (ask.Line n j) = refl
+
+asked_is_no_build : (a : Asked) → bytes_eq (name_of (subcommand_asked a)) (codes "build") ≡ false
+asked_is_no_build ask.Probe = refl
+asked_is_no_build (ask.Look j) = refl
+asked_is_no_build (ask.Moves j) = refl
+asked_is_no_build ask.Best = refl
+asked_is_no_build (ask.Line n j) = refl
 
 -- the texts of lists of one shape
 value_texts : (x a : Option Text) (y b : Text) → x ∷ Some y ∷ [] ≡ a ∷ Some b ∷ [] → (x ≡ a) × (y ≡ b)
@@ -111,31 +86,41 @@ unlike_texts x f a b e = cc
 module _ (c : ShelfChange) (e : Ending) where
   pub done_value : (rules : Option Text) (text : Text) (o : Order) → IsOrder (codes "value") (rules ∷ Some text ∷ []) o → AnswersOrder c o e
       → AnswersValue c (profile_named rules) text e
-  done_value rules text (Value p t) is answers =
+  done_value rules text (Lines (Value p t)) is answers =
       let same = value_texts is.1.0 rules t.now text is.1.1 in
       subst (λ (x : Profile). AnswersValue c x text e) (is.1.2 ∙ ap profile_named same.0)
-      (subst (λ (x : Text). AnswersValue c p x e) same.1 (told_over c _ _ e answers))
-  done_value rules text o is answers = absurd (differs (name_of_order o) (codes "value") refl refl is.0)
+      (subst (λ (x : Text). AnswersValue c p x e) same.1 answers)
+  done_value rules text (Lines (Ask f a t)) is answers = absurd (differs (name_of (subcommand_asked a)) (codes "value") (asked_is_no_value a) is.0)
+  done_value rules text (EachLine f a) is answers = absurd (differs (name_of (subcommand_asked a)) (codes "value") (asked_is_no_value a) is.0)
+  done_value rules text o is answers = absurd (differs (name_of_order o) (codes "value") refl is.0)
 
   pub done_build : (rules : Option Text) (set : Text) (nodes : Option Text) (file : Text) (progress : Option Text) (o : Order)
       → IsOrder (codes "build") (Some set ∷ nodes ∷ Some file ∷ rules ∷ progress ∷ []) o → AnswersOrder c o e
       → AnswersBuild c (profile_named rules) set (option_map number_in nodes) file e
-  done_build rules set nodes file progress (Build p s n f b) is answers =
-      let same = build_texts s.now f.now set file is.1.0 is.1.1 is.1.2 nodes rules progress is.1.3 in
+  done_build rules set nodes file progress (Lines (Build b)) is answers =
+      let same = build_texts b.set.now b.file.now set file is.1.0 is.1.1 is.1.2 nodes rules progress is.1.3 in
       subst (λ (x : Profile). AnswersBuild c x set (option_map number_in nodes) file e) (is.1.6 ∙ ap profile_named same.3)
-      (subst (λ (x : Text). AnswersBuild c p x (option_map number_in nodes) file e) same.0
-      (subst (λ (x : Text). AnswersBuild c p s.now (option_map number_in nodes) x e) same.2
-      (subst (λ (x : Option ℕ). AnswersBuild c p s.now x f.now e) (is.1.5 ∙ ap (option_map number_in) same.1) (told_over c _ _ e answers))))
-  done_build rules set nodes file progress o is answers = absurd (differs (name_of_order o) (codes "build") refl refl is.0)
+      (subst (λ (x : Text). AnswersBuild c b.profile x (option_map number_in nodes) file e) same.0
+      (subst (λ (x : Text). AnswersBuild c b.profile b.set.now (option_map number_in nodes) x e) same.2
+      (subst (λ (x : Option ℕ). AnswersBuild c b.profile b.set.now x b.file.now e) (is.1.5 ∙ ap (option_map number_in) same.1) answers)))
+  done_build rules set nodes file progress (Lines (Ask f a t)) is answers =
+      absurd (differs (name_of (subcommand_asked a)) (codes "build") (asked_is_no_build a) is.0)
+  done_build rules set nodes file progress (EachLine f a) is answers =
+      absurd (differs (name_of (subcommand_asked a)) (codes "build") (asked_is_no_build a) is.0)
+  done_build rules set nodes file progress o is answers = absurd (differs (name_of_order o) (codes "build") refl is.0)
+
+  -- the order to probe
+  abbrev probing : Bor Text → Bor Text → LinesOrder
+  probing f t = Ask f ask.Probe t
 
   -- what holds of a probe of these texts holds of the order that was read
-  pub done_probe : (P : Text → Text → Type 0) (file text : Text) → ((f t : Bor Text) → AnswersOrder c (Probe f t) e → AnswersRight c (Probe f t) e → P f.now t.now)
+  pub done_probe : (P : Text → Text → Type 0) (file text : Text) → ((f t : Bor Text) → AnswersByLines c (probing f t) e → AnswersLinesRight c (probing f t) e → P f.now t.now)
       → (o : Order) → IsOrder (codes "probe") (Some file ∷ None ∷ Some text ∷ []) o → AnswersOrder c o e → AnswersRight c o e → P file text
-  done_probe P file text of (Probe f t) is answers right =
-      let same = probe_texts f.now t.now file text is.1 in
+  done_probe P file text of (Lines (Ask f ask.Probe t)) is answers right =
+      let same = probe_texts f.now t.now file text is.1.2 in
       subst (λ (x : Text). P x text) same.0 (subst (λ (x : Text). P f.now x) same.1 (of f t answers right))
-  done_probe P file text of (Each f) is answers right = absurd (unlike_texts f.now is.1.0 file text is.1.1)
-  done_probe P file text of o is answers right = absurd (differs (name_of_order o) (codes "probe") refl refl is.0)
+  done_probe P file text of (EachLine f ask.Probe) is answers right = absurd (unlike_texts f.now is.1.2 file text is.1.3)
+  done_probe P file text of o is answers right = absurd (differs (name_of_order o) (codes "probe") refl is.0)
 
-  pub probe_told : (f t : Bor Text) → AnswersOrder c (Probe f t) e → AnswersProbe c f.now t.now e
-  probe_told f t answers = told_over c _ _ e answers
+  pub probe_told : (f t : Bor Text) → AnswersByLines c (probing f t) e → AnswersProbe c f.now t.now e
+  probe_told f t answers = answers

@@ -1,21 +1,13 @@
 -- From what the program does with what it read to what it owes for the words.
-use Rattle.std.proofs.Common.{◌≡◌, ◌||◌, ℕ, Bool, true, false, inl, inr, List, refl, subst}
-use Rattle.dob_dbfile.specs.Sinks.{Change, IsSame, IsUntouched, Says}
-use Rattle.dob_query.specs.declared.fault.Fault.{Fault}
+use Rattle.dob_cli.proofs.Common.{◌||◌, ◌∙◌, ◌∷◌, ◌≡◌, Bool, List, [], ap, false, inl, inr, refl, subst, true, ℕ, Err, Change, IsSame, IsUntouched, Says}
+use Rattle.dob_cli.proofs.Common.{SinkState, change, Text, IsReadingOf, meaning_of, Reading, Order, EachLine, Lines, unchanged, ShelfChange, ShelfState}
+use Rattle.dob_cli.proofs.Common.{shelf_change, AnswersOver, Ending, TellsOneFault, AnswersLines, PutsAll, PutsText, StopsText, TellsOver, Fault}
 use Rattle.dob_query.specs.declared.fault.Fault.TheVariants.{Io}
-use Rattle.dob_words.specs.declared.command.Order.{Order}
-use Rattle.dob_words.specs.declared.command.Reading.{Reading}
 use Rattle.dob_words.specs.declared.command.Reading.TheVariants as reading
-use Rattle.dob_words.specs.Forms.{Text}
-use Rattle.dob_words.specs.Words.{meaning_of}
-use Rattle.dob_words.specs.Readings.{IsReadingOf}
-use Rattle.dob_query.specs.Each.{AnswersLines}
-use Rattle.dob_query.specs.Endings.{AnswersHelp, AnswersUsage, AnswersVersion, Ending, Tells, TellsMemory, TellsOneFault, version_line}
-use Rattle.dob_shelf.specs.Shelves.{ShelfChange, ShelfState, shelf_change}
-use Rattle.dob_shelf.proofs.Shelves.{unchanged}
-use Rattle.dob_cli.specs.Orders.{AnswersOrder, AreToldFor, IsFaultFor, KeepsFiles}
+use Rattle.dob_query.specs.Endings.{AnswersHelp, AnswersUsage, AnswersVersion, Tells, TellsMemory, version_line}
+use Rattle.dob_cli.specs.Orders.{AnswersOrder, AreEachAsked, AreLinesFor, IsEachAskedFault, IsFaultFor, KeepsFiles, question_of}
 use Rattle.dob_cli.specs.Runs.{Does, LeavesShelf, Ran}
-use Rattle.dob_cli.proofs.Orders.{rightly}
+use Rattle.dob_cli.proofs.Orders.{order_right}
 
 -- ---- the streams are those that they were
 
@@ -37,11 +29,34 @@ told_same text e (inr failed) = (failed.0.1.same, fault_same Io e.status e.err f
 memory_same : (e : Ending) → TellsMemory e → IsSame e.out × IsSame e.err
 memory_same e told = (untouched_same e.out told.1, said_same e.err _ told.0.1)
 
-lines_same : (c : ShelfChange) (AreLines : Bool → List ℕ → Type 0) (Holds : Fault → Type 0) (e : Ending) → AnswersLines c AreLines Holds e
+-- the pieces of a text went to the one writer
+pieces_same : (first last : SinkState) (pieces : List (List ℕ)) → PutsAll first last pieces → last.writer ≡ first.writer
+pieces_same first last [] same = ap (λ (s : SinkState). s.writer) same
+pieces_same first last (piece ∷ more) all = pieces_same all.0 last more all.2 ∙ all.1.same
+
+put_same : (c : Change) (text : List ℕ) → PutsText c text → IsSame c
+put_same c text put = pieces_same c.before c.after put.0 put.1
+
+stopped_same : (c : Change) (text : List ℕ) → StopsText c text → IsSame c
+stopped_same c text stopped = stopped.4.1.same ∙ put_same (change c.before stopped.2) stopped.0 stopped.3
+
+lines_same : (c : ShelfChange) (AreLines : List (List ℕ) → Bool → List ℕ → Type 0) (Holds : Fault → Type 0) (e : Ending) → AnswersLines c AreLines Holds e
     → IsSame e.out × IsSame e.err
-lines_same c AreLines Holds e (inl lines) = (lines.told.same, untouched_same e.err lines.silent)
-lines_same c AreLines Holds e (inr (inl is)) = (untouched_same e.out is.silent, fault_same is.fault e.status e.err is.told)
-lines_same c AreLines Holds e (inr (inr failed)) = (failed.part.1.same, fault_same Io e.status e.err failed.told)
+lines_same c AreLines Holds e (inl (r, told, status, silent)) = (put_same e.out told.0.text told.0.told, untouched_same e.err silent)
+lines_same c AreLines Holds e (inr (f, told, line)) = (out_same told, fault_same f e.status e.err line)
+  where
+    out_same : TellsOver c AreLines Holds e.out (Err f) → IsSame e.out
+    out_same (inl (holds, inl none)) = untouched_same e.out none
+    out_same (inl (holds, inr (r, some))) = elim some.told [
+      | inl put ↦ put_same e.out some.text put
+      | inr stopped ↦ stopped_same e.out some.text stopped
+    ]
+    out_same (inr (io, (r, some), works)) = stopped_same e.out some.text some.told
+
+over_same : (c : ShelfChange) (AreLines : List ℕ → Type 0) (Holds : Fault → Type 0) (e : Ending) → AnswersOver c AreLines Holds e → IsSame e.out × IsSame e.err
+over_same c AreLines Holds e (inl lines) = (lines.told.same, untouched_same e.err lines.silent)
+over_same c AreLines Holds e (inr (inl is)) = (untouched_same e.out is.silent, fault_same is.fault e.status e.err is.told)
+over_same c AreLines Holds e (inr (inr failed)) = (failed.part.1.same, fault_same Io e.status e.err failed.told)
 
 -- texts that are told, or that no memory was left for them
 help_same : (e : Ending) → AnswersHelp e → IsSame e.out × IsSame e.err
@@ -58,7 +73,8 @@ usage_same e (inr told) = memory_same e told
 
 -- what was told of what was read
 read_same : (c : ShelfChange) (r : Reading) (e : Ending) → Does c r e → IsSame e.out × IsSame e.err
-read_same c (reading.Order o) e does = lines_same c (AreToldFor c o) (IsFaultFor c o) e does.answers
+read_same c (reading.Order (Lines o)) e does = over_same c (AreLinesFor c o) (IsFaultFor c o) e does.answers
+read_same c (reading.Order (EachLine f a)) e does = lines_same c (AreEachAsked (question_of a) (c.before.has f.now)) (IsEachAskedFault (question_of a) c f.now) e does.answers
 read_same c (reading.Help _) e does = help_same e does.0
 read_same c reading.Version e does = version_same e does.0
 read_same c (reading.Usage _) e does = usage_same e does.0
@@ -71,7 +87,7 @@ module _ (c : ShelfChange) (words : List Text) (e : Ending) where
       record { done = inl (record { read = r; meant = read; done = does }); same_out = (read_same c r e does).0; same_err = (read_same c r e does).1 }
 
   pub ran_order : (o : Order) → IsReadingOf (meaning_of words) (reading.Order o) → AnswersOrder c o e → KeepsFiles o c.before.has c.after.has → Ran c words e
-  ran_order o read answers keeps = ran (reading.Order o) read (record { answers = answers; right = rightly c e o answers; files = keeps })
+  ran_order o read answers keeps = ran (reading.Order o) read (record { answers = answers; right = order_right c e o answers; files = keeps })
 
   pub ran_memory : TellsMemory e → LeavesShelf c → Ran c words e
   ran_memory told leaves =

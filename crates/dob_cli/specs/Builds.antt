@@ -7,9 +7,9 @@ use Rattle.dob_pieces.specs.declared.profile.Profile.{Profile}
 use Rattle.dob_rank.specs.Families.{family_of}
 use Rattle.dob_safra.specs.Laws.{IsSize}
 use Rattle.dob_value.specs.Follows.{ClassTable, IsValueTable}
-use Rattle.dob_run.specs.declared.build_end.Built.{Built}
+use Rattle.dob_run.specs.declared.built_table.Built.{Built}
 use Rattle.dob_run.specs.Built.{IsBuilt}
-use Rattle.dob_run.specs.Faults.{HasBuildFault}
+use Rattle.dob_run.specs.Faults.{AreWithin, HasBuildFault}
 use Rattle.dob_run.specs.BuildEnd.{IsFailureOf}
 use Rattle.dob_run.specs.BoundedRun.{StopsSo, IsUnheld}
 use Rattle.dob_runner.specs.Runners.{says_no}
@@ -19,7 +19,7 @@ use Rattle.dob_dbfile.specs.Format.{bytes_of}
 use Rattle.dob_query.specs.declared.fault.Fault.{Fault}
 use Rattle.dob_query.specs.declared.fault.Fault.TheVariants.{SetText, Run, File, Memory, Io}
 use Rattle.dob_shelf.specs.Shelves.{HasJust, SameFiles, ShelfChange}
-use Rattle.dob_query.specs.Keeping.{IsKeepingFault, class_lines}
+use Rattle.dob_query.specs.Keeping.{IsWritingFault, class_lines}
 use Rattle.dob_query.specs.Endings.{AnswersOver, Ending, GivesLines}
 
 -- so many nodes, where a number is given; else some number from 1 to 16
@@ -57,25 +57,40 @@ always_yes node answer = answer ≡ true
 abbrev pub IsRunFault : Family → ℕ → RunFault → Type 0
 IsRunFault family nodes fault = HasBuildFault nodes 256 64 fault × IsUnheld fault × StopsSo IsFailureOf (says_no always_yes) until_halted family nodes 256 64 fault
 
--- The fault of building, by its moment. While each file has what it had: no set has the text; or the run by so many nodes was refused or
--- stopped; or memory was refused, for the words, for the lines or for making the file. Then the table is there, and keeping its file failed.
-abbrev pub IsBuildFault : ShelfChange → Profile → List ℕ → Option ℕ → List ℕ → Fault → Type 0
-IsBuildFault c profile text number file SetText = ((set : PieceSet) → text ≢ set_text set) × SameFiles c.before.has c.after.has
-IsBuildFault c profile text number file (Run fault) =
+-- nodes built a table of the family, whose lines and file these are
+abbrev pub AreBuilt : Family → ℕ → List ℕ → List ℕ → Type 0
+AreBuilt family nodes lines bytes =
+    (built : Built) × IsBuilt family nodes 256 built × AreWithin nodes 256 64 × (lines ≡ class_lines built.table.values) × (bytes ≡ bytes_of built.table)
+
+-- why no file of the family's table is filled: the run by so many nodes left none, or what it left isn't written, or memory was refused
+abbrev pub IsUnbuilt : Family → ℕ → Fault → Type 0
+IsUnbuilt family nodes (Run fault) = IsRunFault family nodes fault
+IsUnbuilt family nodes (File fault) =
+    (built : Built) × IsBuilt family nodes 256 built × AreWithin nodes 256 64 × IsWritingFault built.table (File fault)
+IsUnbuilt family nodes Memory = Unit {0}
+IsUnbuilt family nodes _ = ⊥
+
+-- Why nothing is built: no set has the text; or the run by so many nodes was refused or stopped; or, where the set and the number of nodes are right,
+-- the file couldn't be made or kept; or the table is there and couldn't be written; or memory was refused.
+abbrev pub HasNoBuild : Profile → List ℕ → Option ℕ → Fault → Type 0
+HasNoBuild profile text number SetText = (set : PieceSet) → text ≢ set_text set
+HasNoBuild profile text number (Run fault) =
     (set : PieceSet) × (text ≡ set_text set) × (nodes : ℕ) × AreNodes number nodes × IsRunFault (family_of set profile) nodes fault
-    × SameFiles c.before.has c.after.has
-IsBuildFault c profile text number file Memory = SameFiles c.before.has c.after.has
-IsBuildFault c profile text number file Io = (table : ClassTable) × IsTableFor profile text number table × IsKeepingFault c file table Io
-IsBuildFault c profile text number file (File fault) =
-    (table : ClassTable) × IsTableFor profile text number table × IsKeepingFault c file table (File fault)
-IsBuildFault c profile text number file _ = ⊥
+HasNoBuild profile text number Io = (set : PieceSet) × (text ≡ set_text set) × (nodes : ℕ) × AreNodes number nodes × IsSize nodes
+HasNoBuild profile text number (File fault) = (table : ClassTable) × IsTableFor profile text number table × IsWritingFault table (File fault)
+HasNoBuild profile text number Memory = Unit {0}
+HasNoBuild profile text number _ = ⊥
+
+-- the fault of building; each file has what it had
+abbrev pub IsBuildFault : ShelfChange → Profile → List ℕ → Option ℕ → Fault → Type 0
+IsBuildFault c profile text number fault = HasNoBuild profile text number fault × SameFiles c.before.has c.after.has
 
 -- what a call gives that builds such a file
 abbrev pub GivesBuild : {X : Type 0} → Profile → List ℕ → Option ℕ → List ℕ → Result (String X) Fault → ShelfChange → Type 0
 GivesBuild profile text number file result c =
-    GivesLines c (AreBuildLines c profile text number file) (IsBuildFault c profile text number file) result
+    GivesLines c (AreBuildLines c profile text number file) (IsBuildFault c profile text number) result
 
 -- What the program does where it is asked for a file of the table of the piece set that a text names, by the rules of a profile, built by
 -- so many nodes where a number is given. Where standard output fails it does so in lines that are right, and so the file is whole.
 abbrev pub AnswersBuild : ShelfChange → Profile → List ℕ → Option ℕ → List ℕ → Ending → Type 0
-AnswersBuild c profile text number file = AnswersOver c (AreBuildLines c profile text number file) (IsBuildFault c profile text number file)
+AnswersBuild c profile text number file = AnswersOver c (AreBuildLines c profile text number file) (IsBuildFault c profile text number)

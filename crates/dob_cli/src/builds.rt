@@ -1,15 +1,23 @@
 // Building a database file.
-ghost use Rattle.std.specs.Prelude.{◌≡◌, IfOk, IfErr, OnOk};
+ghost use Rattle.std.specs.Prelude.{◌≡◌, ℕ, false, IfOk, IfErr, OnOk};
+ghost use Rattle.dob_dbfile.specs.Sinks.{change};
+ghost use Rattle.dob_pieces.specs.declared.profile.Family.{Family};
+ghost use Rattle.dob_query.specs.Keeping.{FillsSink};
 ghost use Rattle.dob_shelf.specs.Shelves.{Leaving, SameOthers};
 ghost use Rattle.dob_run.specs.Built.{IsBuilt};
 ghost use Rattle.dob_run.specs.Faults.{AreWithin};
 ghost use Rattle.dob_safra.specs.Laws.{IsSize};
-ghost use Rattle.dob_cli.specs.Builds.{AreNodes, GivesBuild, IsRunFault};
+ghost use Rattle.dob_cli.specs.Builds.{AreBuilt, AreNodes, GivesBuild, IsRunFault, IsUnbuilt};
 
 use dob_classes::count_classes;
-use dob_pieces::{Family, PieceSet, Profile};
-use dob_query::{Console, Lines, Progress, Shelf, keep_table, lines_of, tell_need};
+use dob_dbfile::Sink;
+use dob_pieces::{Family, PieceSet};
+use dob_query::{
+    Console, Lines, Progress, Shelf, fill_with_table, keep_filled, lines_of, tell_need,
+};
 use dob_run::{BATCH, Built, CAPACITY, Gate, run_nodes};
+use dob_safra::NodeCount;
+use dob_words::command::BuildOrder;
 use std::alloc::Global;
 use std::sync::Wait;
 use std::thread::{Threads, available_parallelism};
@@ -17,31 +25,62 @@ use std::thread::{Threads, available_parallelism};
 /// The most nodes that a build takes by itself.
 const MOST_NODES: usize = 16;
 
-/// Builds the table of the piece set that the text names, by the rules of the profile and by `nodes` nodes, or by `usual_nodes`, and
-/// keeps it under the name. The lines that say how many classes have which value. Its promises hold if it returns.
+/// Builds the table that is ordered, and keeps it under the name. The lines that say how many classes have which value. Its promises hold if it returns.
 ///
-/// The file is made when the table is there, and the lines too, and kept when it is whole. A fault before it is made leaves all
-/// files as they were. After that the disk's file is as it was until it is kept; in memory it is empty. Where it is watched,
-/// lines on the console say what memory it takes and how far it is.
+/// The file is made before the table is built, and kept when it is whole; until then it is as it was, and so it is after any fault.
+/// What is wrong with the set or with the number of nodes is told before it is made. Where it is watched, lines on the console say what
+/// memory the build takes and how far it is.
 pub(crate) fn answer_build<R: Threads + Wait + Sync + Console, S: Shelf>(
     rt: &R,
     alloc: Global,
     shelf: &mut S,
-    profile: Profile,
-    text: &str,
-    nodes: Option<u64>,
-    file: &str,
+    order: BuildOrder<'_>,
+) -> Lines
+    ensures { Leaving (SameOthers order.entry.file.now) S.state shelf.old shelf.new
+        (GivesBuild order.entry.profile order.entry.set.now order.entry.nodes order.entry.file.now result) }
+{
+    let BuildOrder {
+        profile,
+        set,
+        nodes,
+        file,
+        is_watched,
+    } = order;
+    let set = PieceSet::read(set)?;
+    let family = Family { set, profile };
+    let count = ring_size(rt, nodes)?;
+    let mut sink = shelf.make(file)?;
+    let filled = fill_built(rt, alloc, &mut sink, family, count, is_watched);
+    keep_filled(shelf, file, sink, filled)
+}
+
+// Builds the family's table by `nodes` nodes, and fills the sink with its file. The lines that say how many classes have which value.
+fn fill_built<R: Threads + Wait + Sync + Console, D: Sink>(
+    rt: &R,
+    alloc: Global,
+    sink: &mut D,
+    family: Family,
+    nodes: usize,
     is_watched: bool,
 ) -> Lines
-    ensures { Leaving (SameOthers file.now) S.state shelf.old shelf.new (GivesBuild profile text.now nodes file.now result) }
+    requires { (D.state sink.old).has_failed ≡ false }
+    ensures { FillsSink (AreBuilt family nodes) (IsUnbuilt family nodes) result (change (D.state sink.old) (D.state sink.new)) }
 {
-    let set = PieceSet::read(text)?;
-    let family = Family { set, profile };
-    let count = nodes_for(rt, nodes);
-    let built = run_watched(rt, alloc, family, count, is_watched)?;
+    let built = run_watched(rt, alloc, family, nodes, is_watched)?;
     let lines = lines_of(rt, alloc, &built.table)?;
-    keep_table(alloc, shelf, file, &built.table)?;
-    Ok(lines)
+    fill_with_table(alloc, sink, &built.table, &built.digest, lines)
+}
+
+// As many nodes as are asked for, if a ring may have so many.
+fn ring_size(rt: &impl Threads, nodes: Option<u64>) -> Result<usize, dob_run::Fault>
+    ensures size { IfOk result (λ count. AreNodes nodes count × IsSize count) }
+    ensures fault { IfErr result (λ fault. (family : Family) → (count : ℕ) × AreNodes nodes count × IsRunFault family count fault) }
+{
+    let count = nodes_for(rt, nodes);
+    match NodeCount::new(count) {
+        Some(_) => Ok(count),
+        None => Err(dob_run::Fault::Nodes),
+    }
 }
 
 // As many nodes as are asked for.

@@ -3,8 +3,8 @@
 // Choices:
 // - What is owed for words is said of what is read of them: there is a reading that they ask for, and it is done (`Ran`). So a subcommand is a case in
 //   `specs/Orders.antt`, and no field of `Ran`.
-// - A build's lines are made before its file and printed after it: without memory for them there is no file. Without `--nodes` the words promise some number
-//   from 1 to 16. A watched build says what memory it takes before it tests the number of nodes.
+// - A build's number of nodes is tested first, then its file is made, which changes none, so nothing is built in vain. Its lines are made before the file is
+//   written and printed after it: without memory for them there is no file. Without `--nodes` the words promise some number from 1 to 16.
 // - If a fault's line finds no memory to be formatted, E23 comes in its place, with its status.
 // - The program's streams are sinks, as a file is (`run_over`, `run_given`): one trait says what came in, where it was flushed, whether a call failed.
 //   `run_words` takes any writers of the standard library, hands each behind `Lent` to `run_over`, and says the same of the bytes that they received;
@@ -17,6 +17,7 @@ pub mod laws;
 mod program;
 
 pub use dob_query::{
-    Console, DiskFile, DiskShelf, Fault, Heard, MemShelf, Note, Place, Progress, Shelf, ShelfFault,
+    Claim, Console, DiskFile, DiskShelf, Fault, Heard, MemShelf, Note, Place, Progress, Shelf,
+    ShelfFault,
 };
 pub use program::{run_given, run_over, run_words, tell_memory};

@@ -5,10 +5,11 @@ ghost use Rattle.std.specs.declared.io.ErrorKind.TheVariants.{OutOfMemory};
 ghost use Rattle.std.specs.Vec.Iter.{into_iter_items};
 ghost use Rattle.dob_dbfile.specs.Sinks.{Says, change};
 ghost use Rattle.dob_cli.specs.Runs.{LeavesShelf, Ran, RanOver, TellsNoText, contents};
-ghost use Rattle.dob_cli.specs.Orders.{AnswersOrder, GivesFor, GivesLinesFor, IsByLines, KeepsFiles, reach_of, search_of};
-ghost use Rattle.dob_shelf.specs.Shelves.{Changes, Leaving};
+ghost use Rattle.dob_cli.specs.Orders.{AnswersByLines, AnswersEachLine, AnswersOrder, GivesAsked, GivesEachLine, GivesLinesFor, KeepsFiles, KeepsFilesFor, form_of, question_of, reach_of, search_of};
+ghost use Rattle.dob_shelf.specs.Shelves.{Changes, Leaving, SameFiles};
 ghost use Rattle.dob_query.specs.Endings.{TellsAs, TellsFaultAs, TellsMemory, TellsOneFault, ended};
 ghost use Rattle.dob_query.specs.Faults.{IsFaultLine};
+ghost use Rattle.dob_query.specs.Telling.{status_of_lines};
 ghost use Rattle.dob_query.specs.declared.fault.Fault.TheVariants.{Memory};
 
 use crate::builds::answer_build;
@@ -16,12 +17,12 @@ use dob_dbfile::{Lent, Sink, put_all, write_all};
 use dob_pieces::Profile;
 use dob_probe::Walk;
 use dob_query::{
-    Console, Fault, LineAnswers, Lines, PuzzleSearch, Question, ReachSearch, Shelf, answer_certify,
+    Console, Fault, Lines, PuzzleSearch, Question, ReachSearch, Shelf, StatsForm, answer_certify,
     answer_check, answer_count, answer_each, answer_migrate, answer_probe, answer_puzzles,
     answer_question, answer_question_each, answer_reach, answer_reply, answer_show, answer_stats,
     answer_value, answer_verify, answer_zugzwangs,
 };
-use dob_words::command::{Order, Reading, read_words};
+use dob_words::command::{Asked, LinesOrder, Order, Reading, read_words};
 use std::alloc::{AllocError, Global};
 use std::env::Args;
 use std::io::{self, Write};
@@ -104,63 +105,84 @@ fn run_order<S: Shelf, O: Sink, E: Sink>(
     ensures { Leaving (KeepsFiles order.entry) S.state shelf.old shelf.new (λ c. AnswersOrder c order.entry
         (ended result (change (O.state out.old) (O.state out.new)) (change (E.state err.old) (E.state err.new)))) }
 {
-    match answers_for(rt, alloc, order, shelf) {
-        Ok(answers) => tell(
-            alloc,
-            answers.status(),
-            answers.lines.as_str(),
-            shelf,
-            out,
-            err,
-        ),
+    match order {
+        Order::Lines(order) => run_lines(rt, alloc, order, shelf, out, err),
+        Order::EachLine { file, asked } => run_each(alloc, file, asked, shelf, out, err),
+    }
+}
+
+// Prints the lines that answer what is ordered.
+fn run_lines<S: Shelf, O: Sink, E: Sink>(
+    rt: &(impl Threads + Wait + Sync + Console),
+    alloc: Global,
+    order: LinesOrder<'_>,
+    shelf: &mut S,
+    out: &mut O,
+    err: &mut E,
+) -> u8
+    ensures { Leaving (KeepsFilesFor order.entry) S.state shelf.old shelf.new (λ c. AnswersByLines c order.entry
+        (ended result (change (O.state out.old) (O.state out.new)) (change (E.state err.old) (E.state err.new)))) }
+{
+    match answer(rt, alloc, order, shelf) {
+        Ok(lines) => tell(alloc, 0, lines.as_str(), shelf, out, err),
         Err(fault) => tell_fault(alloc, fault, shelf, err),
     }
 }
 
-// What answers what is ordered: a line for each of standard input, or lines, none refused.
-fn answers_for<S: Shelf>(
-    rt: &(impl Threads + Wait + Sync + Console),
+// Prints what each line of standard input is answered, before the next one is waited for.
+fn run_each<S: Shelf, O: Sink, E: Sink>(
     alloc: Global,
-    order: Order<'_>,
+    file: &str,
+    asked: Asked,
     shelf: &mut S,
-) -> Result<LineAnswers, Fault>
-    ensures { Leaving (KeepsFiles order.entry) S.state shelf.old shelf.new (GivesFor order.entry result) }
+    out: &mut O,
+    err: &mut E,
+) -> u8
+    ensures { Leaving SameFiles S.state shelf.old shelf.new (λ c. AnswersEachLine c file.now asked
+        (ended result (change (O.state out.old) (O.state out.new)) (change (E.state err.old) (E.state err.new)))) }
 {
-    match order {
-        Order::Each(file) => answer_each(alloc, shelf, file),
-        Order::LookEach(file) => answer_question_each(alloc, shelf, file, Question::Look),
-        Order::MovesEach(file) => answer_question_each(alloc, shelf, file, Question::Moves),
-        Order::BestEach(file) => answer_question_each(alloc, shelf, file, Question::Best),
-        Order::LineEach { file, is_numbered } => answer_question_each(
-            alloc,
-            shelf,
-            file,
-            Question::Line { is_numbered },
-        ),
-        _ => {
-            let lines = answer(rt, alloc, order, shelf)?;
-            Ok(LineAnswers {
-                lines,
-                is_refused: false,
-            })
-        }
+    match tell_each(alloc, shelf, out, file, asked) {
+        Ok(is_refused) => status_of_lines(is_refused),
+        Err(fault) => tell_fault(alloc, fault, shelf, err),
     }
+}
+
+// Tells what each line of standard input is answered, and whether one was refused.
+fn tell_each<S: Shelf, O: Sink>(
+    alloc: Global,
+    shelf: &mut S,
+    out: &mut O,
+    file: &str,
+    asked: Asked,
+) -> Result<bool, Fault>
+    ensures { Leaving SameFiles S.state shelf.old shelf.new (λ c. GivesEachLine file.now asked result c (change (O.state out.old) (O.state out.new))) }
+{
+    match question_of(asked) {
+        None => answer_each(alloc, shelf, out, file),
+        Some(question) => answer_question_each(alloc, shelf, out, file, question),
+    }
+}
+
+// The exit status where that is told.
+fn status_of_lines(is_refused: bool) -> u8
+    ensures { result ≡ status_of_lines is_refused }
+{
+    if is_refused { 1 } else { 0 }
 }
 
 // The lines that answer what is ordered.
 fn answer<S: Shelf>(
     rt: &(impl Threads + Wait + Sync + Console),
     alloc: Global,
-    order: Order<'_>,
+    order: LinesOrder<'_>,
     shelf: &mut S,
 ) -> Lines
-    requires lined { IsByLines order }
-    ensures { Leaving (KeepsFiles order.entry) S.state shelf.old shelf.new (GivesLinesFor order.entry result) }
+    ensures { Leaving (KeepsFilesFor order.entry) S.state shelf.old shelf.new (GivesLinesFor order.entry result) }
 {
     match order {
-        Order::Value { profile, position } => answer_value(alloc, profile, position),
-        Order::Count { profile, set } => answer_count(alloc, profile, set),
-        Order::Reach {
+        LinesOrder::Value { profile, position } => answer_value(alloc, profile, position),
+        LinesOrder::Count { profile, set } => answer_count(alloc, profile, set),
+        LinesOrder::Reach {
             profile,
             file,
             has_levels,
@@ -170,54 +192,25 @@ fn answer<S: Shelf>(
             let search = reach_of(profile, has_levels, is_watched);
             answer_reach(rt, alloc, shelf, search, file, position)
         }
-        Order::Build {
-            profile,
-            set,
-            nodes,
+        LinesOrder::Build(order) => answer_build(rt, alloc, shelf, order),
+        LinesOrder::Ask {
             file,
-            is_watched,
-        } => answer_build(rt, alloc, shelf, profile, set, nodes, file, is_watched),
-        Order::Probe { file, position } => answer_probe(alloc, shelf, file, position),
-        Order::Each(_) => unreachable!(),
-        Order::LookEach(_) => unreachable!(),
-        Order::MovesEach(_) => unreachable!(),
-        Order::BestEach(_) => unreachable!(),
-        Order::LineEach { .. } => unreachable!(),
-        Order::Line {
-            file,
-            is_numbered,
+            asked,
             position,
-        } => answer_question(alloc, shelf, file, Question::Line { is_numbered }, position),
-        Order::Check { file, is_watched } => answer_check(rt, alloc, shelf, file, is_watched),
-        Order::Look { file, position } => answer_question(
-            alloc,
-            shelf,
-            file,
-            Question::Look,
-            position,
-        ),
-        Order::Show {
+        } => answer_asked(alloc, shelf, file, asked, position),
+        LinesOrder::Check { file, is_watched } => answer_check(rt, alloc, shelf, file, is_watched),
+        LinesOrder::Show {
             file,
             picture,
             position,
         } => answer_show(alloc, shelf, file, picture, position),
-        Order::Moves { file, position } => answer_question(
-            alloc,
-            shelf,
+        LinesOrder::Stats {
             file,
-            Question::Moves,
-            position,
-        ),
-        Order::Best { file, position } => answer_question(
-            alloc,
-            shelf,
-            file,
-            Question::Best,
-            position,
-        ),
-        Order::Stats { file, is_csv } => answer_stats(rt, alloc, shelf, file, is_csv),
-        Order::Zugzwangs { file, listed } => answer_zugzwangs(rt, alloc, shelf, file, listed),
-        Order::Puzzles {
+            is_csv,
+            is_json,
+        } => answer_stats(rt, alloc, shelf, file, form_of(is_csv, is_json)),
+        LinesOrder::Zugzwangs { file, listed } => answer_zugzwangs(rt, alloc, shelf, file, listed),
+        LinesOrder::Puzzles {
             file,
             plies,
             count,
@@ -228,8 +221,8 @@ fn answer<S: Shelf>(
             let search = search_of(plies, count, from, seed, is_numbered);
             answer_puzzles(alloc, shelf, file, search)
         }
-        Order::Migrate { file, out } => answer_migrate(alloc, shelf, file, out),
-        Order::Certify {
+        LinesOrder::Migrate { file, out } => answer_migrate(alloc, shelf, file, out),
+        LinesOrder::Certify {
             file,
             out,
             most,
@@ -239,8 +232,56 @@ fn answer<S: Shelf>(
         } => answer_certify(
             rt, alloc, shelf, file, out, most, is_exact, is_watched, position,
         ),
-        Order::Verify { file, is_watched } => answer_verify(rt, alloc, shelf, file, is_watched),
-        Order::Reply { file, position } => answer_reply(alloc, shelf, file, position),
+        LinesOrder::Verify { file, is_watched } => answer_verify(
+            rt, alloc, shelf, file, is_watched,
+        ),
+        LinesOrder::Reply { file, position } => answer_reply(alloc, shelf, file, position),
+    }
+}
+
+// What the position is answered.
+fn answer_asked<S: Shelf>(
+    alloc: Global,
+    shelf: &mut S,
+    file: &str,
+    asked: Asked,
+    position: &str,
+) -> Lines
+    ensures { Leaving SameFiles S.state shelf.old shelf.new (GivesAsked file.now asked position.now result) }
+{
+    match question_of(asked) {
+        None => answer_probe(alloc, shelf, file, position),
+        Some(question) => answer_question(alloc, shelf, file, question, position),
+    }
+}
+
+// The question that records answer; none where the whole table does.
+fn question_of(asked: Asked) -> Option<Question>
+    ensures { result ≡ question_of asked }
+{
+    match asked {
+        Asked::Probe => None,
+        Asked::Best => Some(Question::Best),
+        Asked::Look { is_json: false } => Some(Question::Look),
+        Asked::Look { is_json: true } => Some(Question::ValueObject),
+        Asked::Moves { is_json: false } => Some(Question::Moves),
+        Asked::Moves { is_json: true } => Some(Question::MovesObject),
+        Asked::Line {
+            is_numbered,
+            is_json: false,
+        } => Some(Question::Line { is_numbered }),
+        Asked::Line { is_json: true, .. } => Some(Question::LineObject),
+    }
+}
+
+// How statistics are told.
+fn form_of(is_csv: bool, is_json: bool) -> StatsForm
+    ensures { result ≡ form_of is_csv is_json }
+{
+    match (is_csv, is_json) {
+        (_, true) => StatsForm::Objects,
+        (true, false) => StatsForm::Csv,
+        (false, false) => StatsForm::Lines,
     }
 }
 
@@ -376,53 +417,29 @@ fn run_args<S: Shelf, O: Sink, E: Sink>(
     ensures { Changes S.state shelf.old shelf.new (λ c. Ran c (map string_bytes (drop 1 (into_iter_items args)))
         (ended result (change (O.state out.old) (O.state out.new)) (change (E.state err.old) (E.state err.new)))) }
 {
-    match list_of(alloc, args) {
-        Ok(given) => run_texts(rt, alloc, after_first(&given), shelf, out, err),
-        Err(AllocError) => tell_memory(err),
-    }
+    let Ok(given) = words_of(alloc, args) else {
+        return tell_memory(err);
+    };
+    let Ok(words) = texts_of(alloc, &given) else {
+        return tell_memory(err);
+    };
+    run_over(rt, alloc, &words, shelf, out, err)
 }
 
-// The arguments as a list.
-fn list_of(alloc: Global, args: Args) -> Result<Vec<String>, AllocError>
-    ensures { IfOk result (λ given. given.items ≡ into_iter_items args) }
+// The arguments but the first, which is the program's name.
+fn words_of(alloc: Global, mut args: Args) -> Result<Vec<String>, AllocError>
+    ensures { IfOk result (λ words. words.items ≡ drop 1 (into_iter_items args)) }
 {
-    let mut given = Vec::new(alloc);
-    for arg in args {
-        given.push(arg)?;
+    let _name = args.next();
+    let mut words = Vec::new(alloc);
+    for word in args {
+        words.push(word)?;
     }
-    Ok(given)
-}
-
-// All but the first.
-fn after_first<'a>(given: &'a [String]) -> &'a [String]
-    ensures { result.now ≡ drop 1 given.now }
-{
-    match given {
-        [] => given,
-        [_, rest @ ..] => rest,
-    }
-}
-
-// Runs the program by its words, as they were given.
-fn run_texts<S: Shelf, O: Sink, E: Sink>(
-    rt: &(impl Threads + Wait + Sync + Console),
-    alloc: Global,
-    given: &[String],
-    shelf: &mut S,
-    out: &mut O,
-    err: &mut E,
-) -> u8
-    ensures { Changes S.state shelf.old shelf.new (λ c. Ran c (map string_bytes given.now)
-        (ended result (change (O.state out.old) (O.state out.new)) (change (E.state err.old) (E.state err.new)))) }
-{
-    match words_of(alloc, given) {
-        Ok(words) => run_over(rt, alloc, &words, shelf, out, err),
-        Err(AllocError) => tell_memory(err),
-    }
+    Ok(words)
 }
 
 // The words as texts.
-fn words_of<'a>(alloc: Global, given: &'a [String]) -> Result<Vec<&'a str>, AllocError>
+fn texts_of<'a>(alloc: Global, given: &'a [String]) -> Result<Vec<&'a str>, AllocError>
     ensures { IfOk result (λ words. map (λ w. w.now) words.items ≡ map string_bytes given.now) }
 {
     let mut words = Vec::new(alloc);

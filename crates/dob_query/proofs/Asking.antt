@@ -1,21 +1,15 @@
 -- The faults of the records, of the header and of opening the file are those of asking it, and by the file of a value table the answer is right.
-use Rattle.std.proofs.Common.{◌≡◌, ◌⊎◌, ℕ, List, inl, inr, subst, sym}
-use Rattle.dob_pieces.specs.declared.setup.Setup.{Setup}
-use Rattle.dob_pieces.specs.declared.profile.Family.{Family}
-use Rattle.dob_pieces.specs.declared.profile.Profile.{Profile}
+use Rattle.dob_query.proofs.Common.{◌≡◌, ◌⊎◌, List, inl, inr, subst, sym, ℕ, Err, IfOk, Ok, Result, Family, Profile, Setup, IsPositionOf, ClassTable, HasValue}
+use Rattle.dob_query.proofs.Common.{Value, Stream, whole, CountsClasses, Format, IsRefusal, IsRecorded, ShelfChange, ShelfFault, AnswersOver, Ending}
+use Rattle.dob_query.proofs.Common.{IsAnswered, fault_of_shelf, AnswersQuestionRight, AreAnswerLines, AreRightAnswerLines, GivesWhole, IsAnswerOf, IsAskFault}
+use Rattle.dob_query.proofs.Common.{IsAskingFault, IsFaultOfAsking, IsOfNamed, IsRecordsFault, IsToldBy, TellsMoves, TellsPlay, HasValueFile, IsTextOf, Fault}
+use Rattle.dob_query.proofs.Common.{Certificate, File, Io, Memory, PuzzlePlies, Run, SetText, Table, Text, TooDeep, Question, Best, Draw, Line, LineObject}
+use Rattle.dob_query.proofs.Common.{Look, Moves, MovesObject, ValueObject}
 use Rattle.dob_moves.specs.declared.game_move.Move.{Move as GameMove}
-use Rattle.dob_rank.specs.Families.{IsPositionOf}
-use Rattle.dob_value.specs.declared.value.Value.{Value}
-use Rattle.dob_value.specs.Follows.{ClassTable}
-use Rattle.dob_value.specs.Values.{HasValue}
-use Rattle.dob_dbfile.specs.Devices.{Stream, whole}
-use Rattle.dob_dbfile.specs.declared.header.Format.{Format}
 use Rattle.dob_dbfile.specs.declared.fault.Fault as file
 use Rattle.dob_dbfile.specs.declared.fault.Fault.TheVariants as file_fault
-use Rattle.dob_dbfile.specs.Faults.{CountsClasses}
 use Rattle.dob_dbfile.specs.Looking.{HasFrontFault}
 use Rattle.dob_dbfile.proofs.Looked.{table_family}
-use Rattle.dob_probe.specs.Faults.{IsRefusal}
 use Rattle.dob_probe.specs.Lines.{GivenBy, IsLine}
 use Rattle.dob_probe.specs.ValuedMoves.{AreValuedMoves}
 use Rattle.dob_probe.specs.declared.by_value.ValuedMove.{ValuedMove}
@@ -23,20 +17,8 @@ use Rattle.dob_probe.specs.declared.fault.Fault as probing
 use Rattle.dob_probe.specs.declared.fault.Fault.TheVariants as table_fault
 use Rattle.dob_probe.proofs.Best.{lines_are_best}
 use Rattle.dob_probe.proofs.ByValue.{valued_rightly}
-use Rattle.dob_records.specs.Records.{IsRecorded}
 use Rattle.dob_records.proofs.Tabled.{given_by_record, line_by, listed_by, record_of_given}
-use Rattle.dob_query.specs.declared.fault.Fault.{Fault}
-use Rattle.dob_query.specs.declared.fault.Fault.TheVariants.{Text, SetText, TooDeep, Run, File, Table, PuzzlePlies, Certificate, Memory, Io}
-use Rattle.dob_query.specs.declared.questions.Question.{Question}
-use Rattle.dob_query.specs.declared.questions.Question.TheVariants.{Look, Moves, Best, Line, Draw}
-use Rattle.std.specs.Prelude.{Err, IfOk, Ok, Result}
-use Rattle.dob_query.specs.Endings.{AnswersOver, Ending, IsAnswered}
-use Rattle.dob_query.specs.Faults.{fault_of_shelf}
-use Rattle.dob_query.specs.Questions.{GivesWhole, AnswersQuestionRight, AreAnswerLines, AreRightAnswerLines, IsAnswerOf, IsAskFault, IsAskingFault, IsFaultOfAsking, IsOfNamed, IsRecordsFault, IsToldBy, TellsMoves, TellsPlay}
-use Rattle.dob_query.specs.Tables.{HasValueFile, IsTextOf}
-use Rattle.dob_shelf.specs.declared.shelf.ShelfFault.{ShelfFault}
 use Rattle.dob_shelf.specs.declared.shelf.ShelfFault.TheVariants as shelf_fault
-use Rattle.dob_shelf.specs.Shelves.{ShelfChange}
 use Rattle.dob_query.proofs.TableFaults.{is_shut, over_weaker}
 
 -- what each of the bytes that a file may have gives of an Ok value, all of them give of it
@@ -130,6 +112,12 @@ module _ (Has : List ℕ → Type 0) (profile : Profile) (file : HasValueFile Ha
       p list are in
       subst (λ (rules : Profile). AreValuedMoves rules (HasValue rules) p list) file.rules (valued_rightly table file.right p by.member list given)
 
+  value_right : (format : Format) (value : Value) → IsOfNamed (whole file.bytes) p format table.family
+      → IsRecorded (whole file.bytes) format table.family p value → HasValue profile p value
+  value_right format value by says =
+      subst (λ (rules : Profile). HasValue rules p value) file.rules
+      (file.right.values_are p value by.member (given_by_record table file.bytes format file.right.table file.file by.named p value says))
+
   play_right : (format : Format) (value : Value) (moves : List GameMove) → IsOfNamed (whole file.bytes) p format table.family
       → IsRecorded (whole file.bytes) format table.family p value
       → IsLine table.family.profile (IsRecorded (whole file.bytes) format table.family) p moves → HasValue profile p value × IsLine profile (HasValue profile) p moves
@@ -142,16 +130,14 @@ module _ (Has : List ℕ → Type 0) (profile : Profile) (file : HasValueFile Ha
 
   told_right : (question : Question) (format : Format) (lines : List ℕ) → IsOfNamed (whole file.bytes) p format table.family
       → IsToldBy question table.family.profile (IsRecorded (whole file.bytes) format table.family) p lines → IsToldBy question profile (HasValue profile) p lines
-  told_right Look format lines by told = (
-    told.0,
-    subst (λ (rules : Profile). HasValue rules p told.0) file.rules
-        (file.right.values_are p told.0 by.member (given_by_record table file.bytes format file.right.table file.file by.named p told.0 told.1)),
-    told.2,
-  )
+  told_right Look format lines by told = (told.0, value_right format told.0 by told.1, told.2)
+  told_right ValueObject format lines by told = (told.0, value_right format told.0 by told.1, told.2)
   told_right Moves format lines by told = (told.0, moves_right format told.0 by told.1, told.2)
   told_right Best format lines by told = (told.0, moves_right format told.0 by told.1, told.2)
   told_right (Line is_numbered) format lines by told =
       let right = play_right format told.0 told.1 by told.2 told.3 in (told.0, told.1, right.0, right.1, told.4)
+  told_right MovesObject format lines by told = (told.0, moves_right format told.0 by told.1, told.2)
+  told_right LineObject format lines by told = let right = play_right format told.0 told.1 by told.2 told.3 in (told.0, told.1, right.0, right.1, told.4)
   told_right Draw format lines by told = let right = play_right format told.0 told.1 by told.2 told.3 in (told.0, told.1, right.0, right.1, told.4)
 
   pub answer_right : (question : Question) (lines : List ℕ) → ((bytes : List ℕ) → Has bytes → IsAnswerOf question (whole bytes) p lines)

@@ -1,23 +1,14 @@
 -- The answers to lines, one more at a time; what was told is what is owed for `--each`, and by a value table's file the values told are right.
-use Rattle.std.proofs.Common.{◌≡◌, ◌∙◌, ◌++◌, ◌||◌, ◌∷◌, ℕ, Bool, false, true, inl, inr, List, None, Option, Some, [], append_assoc, append-nil, ap, flat_map, refl, subst, sym}
-use Rattle.std.proofs.Math.Bool.{or-false}
-use Rattle.std.specs.Prelude.{Err, Ok, Result, is_err}
-use Rattle.std.specs.List.{list_any}
+use Rattle.dob_query.proofs.Common.{◌++◌, ◌||◌, ◌∙◌, ◌∷◌, ◌≡◌, ◌⊎◌, Bool, List, None, Option, Some, [], ap, append-nil, false, flat_map, inl, inr, refl, subst}
+use Rattle.dob_query.proofs.Common.{sym, true, ℕ, or-false, Err, IfErr, Ok, OnOk, Result, is_err, Profile, ClassTable, Value, Change, Puts, SinkState, Stops}
+use Rattle.dob_query.proofs.Common.{change, FailsWhere, ShelfChange, AnswersEachRight, AreEachLines, IsAnswer, IsEachFault, IsGivenTo, answer_line, Ending}
+use Rattle.dob_query.proofs.Common.{is_io, IsValueOf, HasValueFile, IsFileOf, IsOpeningFault, AnswersLines, AreAllLines, EndsLines, HearsLine, PutsText}
+use Rattle.dob_query.proofs.Common.{TellsOf, TellsSome, Told, Fault, Certificate, File, Io, Memory, PuzzlePlies, Run, SetText, Table, Text, TooDeep}
+use Rattle.std.proofs.Common.{append_assoc}
+use Rattle.std.proofs.lemmas.List.Folds.{concat-append}
+use Rattle.std.specs.List.{concat, list_any}
 use Rattle.std.specs.Str.Lines.{lines as lines_of}
-use Rattle.dob_value.specs.declared.value.Value.{Value}
-use Rattle.dob_value.specs.Follows.{ClassTable}
-use Rattle.dob_dbfile.specs.Sinks.{Change, SinkState, change}
-use Rattle.dob_pieces.specs.declared.profile.Profile.{Profile}
-use Rattle.dob_query.specs.declared.fault.Fault.{Fault}
-use Rattle.dob_query.specs.declared.fault.Fault.TheVariants.{Text, SetText, TooDeep, Run, File, Table, PuzzlePlies, Certificate, Memory, Io}
-use Rattle.dob_shelf.specs.declared.shelf.ShelfFault.{ShelfFault}
-use Rattle.dob_shelf.specs.declared.shelf.ShelfFault.TheVariants as shelf_fault
-use Rattle.dob_query.specs.Each.{AnswersEachRight, AnswersLines, AreAnswers, AreEachLines, IsAnswer, IsEachFault, IsGivenTo, TellsLinesOf, answer_line, status_of_lines}
-use Rattle.dob_query.specs.Endings.{Ending, TellsAs, TellsOneFault, ended}
-use Rattle.dob_query.specs.Faults.{fault_of_shelf, is_io}
-use Rattle.dob_query.specs.Program.{IsValueOf}
-use Rattle.dob_shelf.specs.Shelves.{FailsWhere, ShelfChange}
-use Rattle.dob_query.specs.Tables.{HasValueFile, IsFileOf, IsOpeningFault}
+use Rattle.dob_query.specs.Telling.{AreAnswers, AreFirstLines, PutsAll, StopsText, TellsEach, TellsLinesOf, TellsOne, TellsOver, told_refused, told_text}
 use Rattle.dob_query.proofs.TableFaults.{value_right}
 
 -- ---- one more line
@@ -47,41 +38,167 @@ refused_more A refuses (a ∷ xs) answer =
     either true y z = refl
     either false y z = refl
 
--- the lines up to what is left are answered
-pub record AreAnswered (A : Type 0) (tell : A → List ℕ) (refuses : A → Bool) (Is : List ℕ → A → Type 0) (input left : List ℕ) (is_refused : Bool)
-    (text : List ℕ) : Type 0 where
-  pub before : List (List ℕ)
-  pub answers : List A
-  pub split : lines_of input ≡ before ++ lines_of left
-  pub each : AreAnswers Is before answers
-  pub same : text ≡ flat_map tell answers
-  pub refused : is_refused ≡ list_any refuses answers
+module _ (A : Type 0) (tell : A → List ℕ) (refuses : A → Bool) (Is : List ℕ → A → Type 0) where
+  -- no line
+  none_told : TellsLinesOf A tell refuses Is [] false []
+  none_told = record { answers = []; each = tt; same = refl; refused = refl }
 
-module _ (A : Type 0) (tell : A → List ℕ) (refuses : A → Bool) (Is : List ℕ → A → Type 0) (input : List ℕ) where
-  pub none_answered : (is_refused : Bool) (text : List ℕ) → is_refused ≡ false → text ≡ [] → AreAnswered A tell refuses Is input input is_refused text
-  none_answered is_refused text none empty = record { before = []; answers = []; split = refl; each = tt; same = empty; refused = none }
-
-  pub one_answered : (left rest line : List ℕ) (answer : A) (was_refused is_refused : Bool) (old new : List ℕ)
-      → AreAnswered A tell refuses Is input left was_refused old → lines_of left ≡ line ∷ lines_of rest → Is line answer
-      → new ≡ old ++ tell answer → is_refused ≡ (was_refused || refuses answer) → AreAnswered A tell refuses Is input rest is_refused new
-  one_answered left rest line answer was_refused is_refused old new are first is grown refused = record {
-    before = are.before ++ line ∷ [];
-    answers = are.answers ++ answer ∷ [];
-    split = are.split ∙ (ap (λ (l : List (List ℕ)). are.before ++ l) first ∙ sym (append_assoc are.before (line ∷ []) (lines_of rest)));
-    each = are_more A Is are.before are.answers line answer are.each is;
-    same = grown ∙ (ap (λ (l : List ℕ). l ++ tell answer) are.same ∙ sym (lines_more A tell are.answers answer));
-    refused = refused ∙ (ap (λ (b : Bool). b || refuses answer) are.refused ∙ sym (refused_more A refuses are.answers answer));
+  -- and one behind the others
+  one_told : (lines : List (List ℕ)) (line : List ℕ) (answer : A) (was_refused is_refused : Bool) (old new : List ℕ)
+      → TellsLinesOf A tell refuses Is lines was_refused old → Is line answer → new ≡ old ++ tell answer → is_refused ≡ (was_refused || refuses answer)
+      → TellsLinesOf A tell refuses Is (lines ++ line ∷ []) is_refused new
+  one_told lines line answer was_refused is_refused old new told is grown refused = record {
+    answers = told.answers ++ answer ∷ [];
+    each = are_more A Is lines told.answers line answer told.each is;
+    same = grown ∙ (ap (λ (l : List ℕ). l ++ tell answer) told.same ∙ sym (lines_more A tell told.answers answer));
+    refused = refused ∙ (ap (λ (b : Bool). b || refuses answer) told.refused ∙ sym (refused_more A refuses told.answers answer));
   }
 
-  pub all_answered : (left : List ℕ) (is_refused : Bool) (text : List ℕ) → AreAnswered A tell refuses Is input left is_refused text → lines_of left ≡ []
-      → TellsLinesOf A tell refuses Is input is_refused text
-  all_answered left is_refused text are none = record {
-    answers = are.answers;
-    each = subst (λ (ls : List (List ℕ)). AreAnswers Is ls are.answers)
-        (sym (are.split ∙ (ap (λ (l : List (List ℕ)). are.before ++ l) none ∙ append-nil are.before))) are.each;
-    same = are.same;
-    refused = are.refused;
+-- ---- pieces, one after the other
+
+all_behind : (first next last : SinkState) (xs ys : List (List ℕ)) → PutsAll first next xs → PutsAll next last ys → PutsAll first last (xs ++ ys)
+all_behind first next last [] ys same all = subst (λ (s : SinkState). PutsAll s last ys) same all
+all_behind first next last (x ∷ xs) ys all more = (all.0, all.1, all_behind all.0 next last xs ys all.2 more)
+
+pub put_none : (first : SinkState) → PutsText (change first first) []
+put_none first = ([], refl, refl)
+
+pub put_one : (first last : SinkState) (piece : List ℕ) → Puts (change first last) piece → PutsText (change first last) piece
+put_one first last piece puts = (piece ∷ [], (last, puts, refl), sym (append-nil piece))
+
+put_more : (first next last : SinkState) (xs ys : List ℕ) → PutsText (change first next) xs → PutsText (change next last) ys
+    → PutsText (change first last) (xs ++ ys)
+put_more first next last xs ys one more = (
+  one.0 ++ more.0,
+  all_behind first next last one.0 more.0 one.1 more.1,
+  ap (λ (l : List ℕ). l ++ ys) one.2 ∙ ap (λ (l : List ℕ). concat one.0 ++ l) more.2 ∙ sym (concat-append one.0 more.0),
+)
+
+-- what a call that tells gave
+pub put_or_stopped : (c : Change) (text : List ℕ) (result : Result (Unit {0}) Fault) → OnOk result (PutsText c text)
+    → IfErr result (λ fault. (fault ≡ Io) × Stops c text) → PutsText c text ⊎ Stops c text
+put_or_stopped c text (Ok done) put stopped = inl put
+put_or_stopped c text (Err fault) put stopped = inr stopped.1
+
+-- ---- the lines that were heard
+
+-- what they come to is told, and then what is held
+pub record AreHeard (Is : List ℕ → Told → Type 0) (input left : Option (List ℕ)) (first now : SinkState) (is_refused : Bool) (held : List ℕ) : Type 0 where
+  pub lines : List (List ℕ)
+  pub split : (known : List ℕ) → input ≡ Some known → (rest : List ℕ) × (left ≡ Some rest) × (lines_of known ≡ lines ++ lines_of rest)
+  pub text : List ℕ
+  pub right : TellsOf Is lines is_refused (text ++ held)
+  pub told : PutsText (change first now) text
+
+module _ (Is : List ℕ → Told → Type 0) (input : Option (List ℕ)) (first : SinkState) where
+  pub none_heard : (is_refused : Bool) (held : List ℕ) → is_refused ≡ false → held ≡ [] → AreHeard Is input input first first is_refused held
+  none_heard is_refused held none empty = record {
+    lines = [];
+    split = λ known is. (known, is, refl);
+    text = [];
+    right = subst (λ (b : Bool). TellsOf Is [] b held) (sym none)
+        (subst (λ (l : List ℕ). TellsOf Is [] false l) (sym empty) (none_told Told told_text told_refused Is));
+    told = put_none first;
   }
+
+  module _ (left : Option (List ℕ)) (now : SinkState) (is_refused : Bool) (held : List ℕ) (heard : AreHeard Is input left first now is_refused held) where
+    -- a front of what was held is told
+    pub ahead_told : (next : SinkState) (was_refused : Bool) (front rest : List ℕ) → was_refused ≡ is_refused → PutsText (change now next) front
+        → held ≡ front ++ rest → AreHeard Is input left first next was_refused rest
+    ahead_told next was_refused front rest same put is = record {
+      lines = heard.lines;
+      split = heard.split;
+      text = heard.text ++ front;
+      right = subst (λ (b : Bool). TellsOf Is heard.lines b ((heard.text ++ front) ++ rest)) (sym same)
+          (subst (λ (l : List ℕ). TellsOf Is heard.lines is_refused l)
+          (ap (λ (l : List ℕ). heard.text ++ l) is ∙ sym (append_assoc heard.text front rest)) heard.right);
+      told = put_more first now next heard.text front heard.told put;
+    }
+
+    -- a line more is heard
+    pub one_heard : (Other : List ℕ → Told → Type 0) (after : Option (List ℕ)) (new : Told) → ((line : List ℕ) (told : Told) → Other line told → Is line told)
+        → HearsLine Other left after (record { text = held; is_refused = is_refused }) new true → AreHeard Is input after first now new.is_refused new.text
+    one_heard Other after new weaker hears =
+        let line : List ℕ = hears.0 in
+        let one : Told = hears.1 in record {
+          lines = heard.lines ++ line ∷ [];
+          split = λ known is.
+              let was = heard.split known is in
+              let takes = hears.2 was.0 was.1 in (
+                takes.0,
+                takes.1,
+                was.2 ∙ ap (λ (l : List (List ℕ)). heard.lines ++ l) takes.2 ∙ sym (append_assoc heard.lines (line ∷ []) (lines_of takes.0)),
+              );
+          text = heard.text;
+          right = one_told Told told_text told_refused Is heard.lines line one is_refused new.is_refused (heard.text ++ held) (heard.text ++ new.text)
+              heard.right (weaker line one hears.3)
+              (ap (λ (l : List ℕ). heard.text ++ l) hears.4 ∙ sym (append_assoc heard.text held one.text)) hears.5;
+          told = heard.told;
+        }
+
+    -- at the end all lines were heard, and all that was held is told
+    pub all_told : (last : SinkState) → ((known : List ℕ) → left ≡ Some known → known ≡ []) → PutsText (change now last) held
+        → TellsSome (AreAllLines input) (TellsOf Is) is_refused (PutsText (change first last))
+    all_told last none put = record {
+      lines = heard.lines;
+      which = λ known is.
+          let was = heard.split known is in
+          sym (was.2 ∙ ap (λ (l : List ℕ). heard.lines ++ lines_of l) (none was.0 was.1) ∙ append-nil heard.lines);
+      text = heard.text ++ held;
+      right = heard.right;
+      told = put_more first now last heard.text held heard.told put;
+    }
+
+    -- where it ends before, the first lines were heard
+    pub first_stopped : (last : SinkState) → Stops (change now last) held → TellsSome (AreFirstLines input) (TellsOf Is) is_refused (StopsText (change first last))
+    first_stopped last stops = record {
+      lines = heard.lines;
+      which = λ known is. let was = heard.split known is in (lines_of was.0, was.2);
+      text = heard.text ++ held;
+      right = heard.right;
+      told = (heard.text, held, now, heard.told, stops, refl);
+    }
+
+    pub first_told : (last : SinkState) → PutsText (change now last) held ⊎ Stops (change now last) held
+        → TellsSome (AreFirstLines input) (TellsOf Is) is_refused (λ text. PutsText (change first last) text ⊎ StopsText (change first last) text)
+    first_told last (inl put) = record {
+      lines = heard.lines;
+      which = λ known is. let was = heard.split known is in (lines_of was.0, was.2);
+      text = heard.text ++ held;
+      right = heard.right;
+      told = inl (put_more first now last heard.text held heard.told put);
+    }
+    first_told last (inr stops) = record {
+      lines = heard.lines;
+      which = λ known is. let was = heard.split known is in (lines_of was.0, was.2);
+      text = heard.text ++ held;
+      right = heard.right;
+      told = inr (heard.text, held, now, heard.told, stops, refl);
+    }
+
+    -- of bytes that are known all are known
+    pub never_known : left ≡ None → input ≡ None
+    never_known none = go input refl
+      where
+        go : (i : Option (List ℕ)) → input ≡ i → input ≡ None
+        go None is = is
+        go (Some known) is = let was = heard.split known is in absurd (cc)
+
+-- what is held stayed as it was
+pub same_heard : (Is : List ℕ → Told → Type 0) (input left : Option (List ℕ)) (first now : SinkState) (old new : Told) → new ≡ old
+    → AreHeard Is input left first now old.is_refused old.text → AreHeard Is input left first now new.is_refused new.text
+same_heard Is input left first now old new same heard = subst (λ (t : Told). AreHeard Is input left first now t.is_refused t.text) (sym same) heard
+
+-- no device failed, where none had and what answers hadn't
+pub still_works : (failed by : Bool) → by ≡ false → (failed || by) ≡ failed
+still_works failed by works = ap (λ (b : Bool). failed || b) works ∙ or-false failed
+
+-- what ends all by another one that answers
+pub ends_weaker : (Ends Other : Fault → Type 0) (left input : Option (List ℕ)) (fault : Fault) → ((fault : Fault) → Ends fault → Other fault)
+    → (left ≡ None → input ≡ None) → EndsLines Ends left fault → EndsLines Other input fault
+ends_weaker Ends Other left input fault weaker none (inl ends) = inl (weaker fault ends)
+ends_weaker Ends Other left input fault weaker none (inr (inl memory)) = inr (inl memory)
+ends_weaker Ends Other left input fault weaker none (inr (inr io)) = inr (inr (io.0, none io.1))
 
 -- ---- faults that end all
 
@@ -98,47 +215,68 @@ opening_ends c file (Certificate f) holds = absurd holds
 opening_ends c file (Run fault) holds = absurd holds
 opening_ends c file (Table fault) holds = absurd holds
 
--- one of reading standard input, of which nothing was known where it isn't lack of memory
-pub input_ends : (c : ShelfChange) (file : List ℕ) (lower : ShelfFault) (found : Option (List ℕ)) → found ≡ c.before.input
-    → ((bytes : List ℕ) → found ≡ Some bytes → lower ≡ shelf_fault.Memory) → IsEachFault c file (fault_of_shelf lower)
-input_ends c file shelf_fault.Memory found same read = tt
-input_ends c file shelf_fault.Failed None same read = inr (sym same)
-input_ends c file shelf_fault.Failed (Some bytes) same read = let never : shelf_fault.Failed ≡ shelf_fault.Memory = read bytes refl in absurd (cc)
+-- one of the lines
+pub lines_end : (c : ShelfChange) (file : List ℕ) (fault : Fault) → EndsLines (λ f. f ≡ Memory) c.before.input fault → IsEachFault c file fault
+lines_end c file fault (inl memory) = subst (IsEachFault c file) (sym memory) tt
+lines_end c file fault (inr (inl memory)) = subst (IsEachFault c file) (sym memory) tt
+lines_end c file fault (inr (inr io)) = subst (IsEachFault c file) (sym io.0) (inr io.1)
 
 -- ---- what was told
 
-module _ (c : ShelfChange) (AreLines : Bool → List ℕ → Type 0) (Holds : Fault → Type 0) where
-  -- lines that are right, with their status
-  pub each_told : (is_refused : Bool) (lines : List ℕ) (status : ℕ) (e : Ending) → AreLines is_refused lines → FailsWhere c false
-      → status ≡ status_of_lines is_refused → TellsAs status lines e → AnswersLines c AreLines Holds e
-  each_told is_refused lines status e right works is (inl t) =
-      inl (record { is_refused = is_refused; lines = lines; right = (right, works); done = t.0 ∙ is; told = t.1; silent = t.2 })
-  each_told is_refused lines status e right works is (inr t) =
-      inr (inr (record { lines = lines; right = (is_refused, right, works); part = t.0; told = t.1 }))
+-- some of the lines, told in some way
+pub some_weaker : (Which Other : List (List ℕ) → Type 0) (AreLines Are : List (List ℕ) → Bool → List ℕ → Type 0) (is_refused : Bool)
+    (IsToldSo IsSaidSo : List ℕ → Type 0) → ((lines : List (List ℕ)) → Which lines → Other lines)
+    → ((lines : List (List ℕ)) (text : List ℕ) → AreLines lines is_refused text → Are lines is_refused text)
+    → ((text : List ℕ) → IsToldSo text → IsSaidSo text) → TellsSome Which AreLines is_refused IsToldSo → TellsSome Other Are is_refused IsSaidSo
+some_weaker Which Other AreLines Are is_refused IsToldSo IsSaidSo which right so told = record {
+  lines = told.lines;
+  which = which told.lines told.which;
+  text = told.text;
+  right = right told.lines told.text told.right;
+  told = so told.text told.told;
+}
 
-  -- a fault that ends all, with nothing on standard output
-  pub each_refused : (fault : Fault) (status : ℕ) (out : SinkState) (err : Change) → Holds fault → FailsWhere c (is_io fault) → TellsOneFault fault status err
-      → AnswersLines c AreLines Holds (ended status (change out out) err)
-  each_refused fault status out err holds fails told = inr (inl (record { fault = fault; holds = (holds, fails); told = told; silent = refl }))
+-- of lines that are right in another way, with faults that hold too
+pub each_weaker : (input known : Option (List ℕ)) (AreLines Are : List (List ℕ) → Bool → List ℕ → Type 0) (Holds Also : Fault → Type 0) (Works Fine : Type 0)
+    (out : Change) (result : Result Bool Fault) → known ≡ input
+    → ((lines : List (List ℕ)) (is_refused : Bool) (text : List ℕ) → AreLines lines is_refused text → Are lines is_refused text)
+    → ((fault : Fault) → Holds fault → Also fault) → (Works → Fine) → TellsEach input AreLines Holds Works out result → TellsEach known Are Also Fine out result
+each_weaker input known AreLines Are Holds Also Works Fine out result same right fault fine = go result
+  where
+    all : (lines : List (List ℕ)) → AreAllLines input lines → AreAllLines known lines
+    all lines which = λ bytes is. which bytes (sym same ∙ is)
 
-  -- where lines of one kind are of another one
-  pub lines_weaker : (Others : Bool → List ℕ → Type 0) (e : Ending) → ((is_refused : Bool) (lines : List ℕ) → AreLines is_refused lines → Others is_refused lines)
-      → AnswersLines c AreLines Holds e → AnswersLines c Others Holds e
-  lines_weaker Others e weaker (inl t) = inl (record {
-    is_refused = t.is_refused;
-    lines = t.lines;
-    right = (weaker t.is_refused t.lines t.right.0, t.right.1);
-    done = t.done;
-    told = t.told;
-    silent = t.silent;
-  })
-  lines_weaker Others e weaker (inr (inl t)) = inr (inl t)
-  lines_weaker Others e weaker (inr (inr t)) = inr (inr (record {
-    lines = t.lines;
-    right = (t.right.0, weaker t.right.0 t.lines t.right.1, t.right.2);
-    part = t.part;
-    told = t.told;
-  }))
+    first : (lines : List (List ℕ)) → AreFirstLines input lines → AreFirstLines known lines
+    first lines which = λ bytes is. which bytes (sym same ∙ is)
+
+    go : (r : Result Bool Fault) → TellsEach input AreLines Holds Works out r → TellsEach known Are Also Fine out r
+    go (Ok r) told = (some_weaker _ _ AreLines Are r _ _ all (λ lines text. right lines r text) (λ text so. so) told.0, fine told.1)
+    go (Err f) (inl (holds, inl none)) = inl (fault f holds, inl none)
+    go (Err f) (inl (holds, inr (r, some))) =
+        inl (fault f holds, inr (r, some_weaker _ _ AreLines Are r _ _ first (λ lines text. right lines r text) (λ text so. so) some))
+    go (Err f) (inr (io, (r, some), works)) =
+        inr (io, (r, some_weaker _ _ AreLines Are r _ _ first (λ lines text. right lines r text) (λ text so. so) some), fine works)
+
+-- over a shelf, and so the program answers them
+over_weaker : (c : ShelfChange) (AreLines Are : List (List ℕ) → Bool → List ℕ → Type 0) (Holds : Fault → Type 0) (out : Change) (result : Result Bool Fault)
+    → ((lines : List (List ℕ)) (is_refused : Bool) (text : List ℕ) → AreLines lines is_refused text → Are lines is_refused text)
+    → TellsOver c AreLines Holds out result → TellsOver c Are Holds out result
+over_weaker c AreLines Are Holds out result right =
+    let Over : Fault → Type 0 = λ fault. Holds fault × FailsWhere c (is_io fault) in
+    each_weaker c.before.input c.before.input AreLines Are Over Over (FailsWhere c false) (FailsWhere c false) out result refl right
+    (λ fault holds. holds) (λ works. works)
+
+pub lines_weaker : (c : ShelfChange) (AreLines Are : List (List ℕ) → Bool → List ℕ → Type 0) (Holds : Fault → Type 0) (e : Ending)
+    → ((lines : List (List ℕ)) (is_refused : Bool) (text : List ℕ) → AreLines lines is_refused text → Are lines is_refused text)
+    → AnswersLines c AreLines Holds e → AnswersLines c Are Holds e
+lines_weaker c AreLines Are Holds e right (inl (r, told, status, silent)) =
+    inl (r, over_weaker c AreLines Are Holds e.out (Ok r) right told, status, silent)
+lines_weaker c AreLines Are Holds e right (inr (f, told, line)) = inr (f, over_weaker c AreLines Are Holds e.out (Err f) right told, line)
+
+-- no call failed but for what the fault says, where opening the file didn't
+pub fails_on : (before mid after fault : Bool) → mid ≡ (before || false) → (after || false) ≡ (mid || fault) → after ≡ (before || fault)
+fails_on before mid after fault opened told =
+    sym (or-false after) ∙ told ∙ ap (λ (b : Bool). b || fault) (opened ∙ or-false before)
 
 -- answers of one kind are of another one
 pub answers_are : (A : Type 0) (Is Other : List ℕ → A → Type 0) → ((line : List ℕ) (answer : A) → Is line answer → Other line answer)
@@ -149,14 +287,36 @@ answers_are A Is Other weaker (l ∷ ls) [] are = absurd are
 answers_are A Is Other weaker (l ∷ ls) (a ∷ xs) are = (weaker l a are.0, answers_are A Is Other weaker ls xs are.1)
 
 pub tells_are : (A : Type 0) (tell : A → List ℕ) (refuses : A → Bool) (Is Other : List ℕ → A → Type 0)
-    → ((line : List ℕ) (answer : A) → Is line answer → Other line answer) → (input : List ℕ) (is_refused : Bool) (text : List ℕ)
-    → TellsLinesOf A tell refuses Is input is_refused text → TellsLinesOf A tell refuses Other input is_refused text
-tells_are A tell refuses Is Other weaker input is_refused text told = record {
+    → ((line : List ℕ) (answer : A) → Is line answer → Other line answer) → (lines : List (List ℕ)) (is_refused : Bool) (text : List ℕ)
+    → TellsLinesOf A tell refuses Is lines is_refused text → TellsLinesOf A tell refuses Other lines is_refused text
+tells_are A tell refuses Is Other weaker lines is_refused text told = record {
   answers = told.answers;
-  each = answers_are A Is Other weaker (lines_of input) told.answers told.each;
+  each = answers_are A Is Other weaker lines told.answers told.each;
   same = told.same;
   refused = told.refused;
 }
+
+-- what is told of each line are its answers
+module _ (A : Type 0) (tell : A → List ℕ) (refuses : A → Bool) (Is : List ℕ → A → Type 0) where
+  answers_by : (ls : List (List ℕ)) (ts : List Told) → AreAnswers (TellsOne tell refuses Is) ls ts
+      → (xs : List A) × AreAnswers Is ls xs × (flat_map told_text ts ≡ flat_map tell xs) × (list_any told_refused ts ≡ list_any refuses xs)
+  answers_by [] [] are = ([], tt, refl, refl)
+  answers_by [] (t ∷ ts) are = absurd are
+  answers_by (l ∷ ls) [] are = absurd are
+  answers_by (l ∷ ls) (t ∷ ts) are =
+      let one = are.0 in
+      let more = answers_by ls ts are.1 in (
+        one.0 ∷ more.0,
+        (one.1, more.1),
+        ap (λ (x : List ℕ). x ++ flat_map told_text ts) one.2 ∙ ap (λ (x : List ℕ). tell one.0 ++ x) more.2,
+        ap (λ (b : Bool). b || list_any told_refused ts) one.3 ∙ ap (λ (b : Bool). refuses one.0 || b) more.3,
+      )
+
+  pub tells_by : (lines : List (List ℕ)) (is_refused : Bool) (text : List ℕ) → TellsOf (TellsOne tell refuses Is) lines is_refused text
+      → TellsLinesOf A tell refuses Is lines is_refused text
+  tells_by lines is_refused text told =
+      let by = answers_by lines told.answers told.each in
+      record { answers = by.0; each = by.1; same = told.same ∙ by.2; refused = told.refused ∙ by.3 }
 
 -- ---- by the file of a value table
 
@@ -165,18 +325,13 @@ answer_right : (Has : List ℕ → Type 0) (profile : Profile) → HasValueFile 
 answer_right Has profile right table file line (Ok value) is = value_right Has profile right table file line value is
 answer_right Has profile right table file line (Err fault) is = is
 
-lines_right : (c : ShelfChange) (profile : Profile) (file : List ℕ) → HasValueFile (c.before.has file) profile → (is_refused : Bool) (text : List ℕ)
-    → AreEachLines IsGivenTo c file is_refused text → AreEachLines (λ table. IsValueOf profile) c file is_refused text
-lines_right c profile file right is_refused text told = record {
-  table = told.table;
-  whole = told.whole;
-  input = told.input;
-  read = told.read;
-  told = tells_are (Result Value Fault) answer_line is_err (IsAnswer (IsGivenTo told.table) told.table) (IsAnswer (IsValueOf profile) told.table)
-      (answer_right (c.before.has file) profile right told.table told.whole) told.input is_refused text told.told;
-}
-
 pub each_right : (c : ShelfChange) (profile : Profile) (file : List ℕ) (e : Ending) → HasValueFile (c.before.has file) profile
-    → AnswersLines c (AreEachLines IsGivenTo c file) (IsEachFault c file) e → AnswersEachRight c profile file e
+    → AnswersLines c (AreEachLines IsGivenTo (c.before.has file)) (IsEachFault c file) e → AnswersEachRight c profile file e
 each_right c profile file e right =
-    lines_weaker c (AreEachLines IsGivenTo c file) (IsEachFault c file) (AreEachLines (λ table. IsValueOf profile) c file) e (lines_right c profile file right)
+    lines_weaker c (AreEachLines IsGivenTo (c.before.has file)) (AreEachLines (λ table. IsValueOf profile) (c.before.has file)) (IsEachFault c file) e
+    (λ lines is_refused text told. record {
+      table = told.table;
+      whole = told.whole;
+      told = tells_are (Result Value Fault) answer_line is_err (IsAnswer (IsGivenTo told.table) told.table) (IsAnswer (IsValueOf profile) told.table)
+          (answer_right (c.before.has file) profile right told.table told.whole) lines is_refused text told.told;
+    })

@@ -1,19 +1,11 @@
 -- How the program ends: from what it tells of lines or a fault to what it owes.
-use Rattle.std.proofs.Common.{◌≡◌, ℕ, inl, inr, List, refl}
-use Rattle.std.specs.Prelude.{Err, IfErr, IfOk, Ok, Result}
-use Rattle.dob_pieces.specs.declared.profile.Profile.{Profile}
-use Rattle.dob_pieces.specs.declared.setup.Setup.{Setup}
+use Rattle.dob_query.proofs.Common.{◌≡◌, List, inl, inr, refl, ℕ, Err, IfErr, IfOk, Ok, Result, Profile, Setup, FailsWhere, ShelfChange, Answers, Ending}
+use Rattle.dob_query.proofs.Common.{IsAnswered, Tells, fault_of_value, is_io_error, IsFaultOf, Fault, Memory}
 use Rattle.dob_pieces.specs.Setups.{IsLegal}
 use Rattle.dob_text.specs.PositionText.{Spells}
 use Rattle.dob_value.specs.Rosters.{SomeTooDeep, HasSamePieces}
 use Rattle.dob_value.specs.declared.fault.Fault as value
 use Rattle.dob_value.specs.declared.fault.Fault.TheVariants as value_fault
-use Rattle.dob_query.specs.declared.fault.Fault.{Fault}
-use Rattle.dob_query.specs.declared.fault.Fault.TheVariants.{Memory}
-use Rattle.dob_query.specs.Faults.{fault_of_value, is_io_error}
-use Rattle.dob_shelf.specs.Shelves.{FailsWhere, ShelfChange}
-use Rattle.dob_query.specs.Endings.{Answers, Ending, IsAnswered, Tells}
-use Rattle.dob_query.specs.Program.{IsFaultOf}
 
 -- a fault of finding a value is one of the text's
 pub value_fault_holds : (profile : Profile) (text : List ℕ) (p : Setup) (f : value.Fault) → IsLegal p → Spells text p

@@ -1,97 +1,136 @@
 -- The faults of reading a file, of making a certificate and of keeping its bytes are those of certifying.
-use Rattle.std.proofs.Common.{◌≡◌, ◌||◌, ℕ, Bool, false, List, inl, inr, refl, subst, sym}
-use Rattle.std.specs.Prelude.{IsTrue}
-use Rattle.dob_pieces.specs.declared.setup.Setup.{Setup}
-use Rattle.dob_value.specs.Follows.{ClassTable}
-use Rattle.dob_certfile.specs.Format.{Content}
+use Rattle.dob_query.proofs.Common.{◌∙◌, ◌≡◌, Bool, List, false, inl, inr, refl, subst, sym, ℕ, Err, IsTrue, Ok, Result, String, Setup, ClassTable, Change}
+use Rattle.dob_query.proofs.Common.{Content, HasJust, SameFiles, ShelfChange, ShelfState, is_io, AreThese, FillsSink, IsShelfFault, LeavesFiles, IsFileOf}
+use Rattle.dob_query.proofs.Common.{IsOpeningFault, IsTextOf, Fault, Certificate, File, Io, Memory, PuzzlePlies, Run, SetText, Table, Text, TooDeep}
+use Rattle.std.specs.Prelude.{string_bytes}
+use Rattle.dob_certfile.specs.Format.{bytes_of}
 use Rattle.dob_certify.specs.declared.fault.Fault as making
 use Rattle.dob_certify.specs.declared.fault.Fault.TheVariants as making_fault
 use Rattle.dob_certify.specs.Faults.{IsFault}
 use Rattle.dob_query.specs.declared.certificate_fault.CertificateFault.TheVariants.{Defect, Unproved, TooMany, Unfit, Unlisted}
-use Rattle.dob_query.specs.declared.fault.Fault.{Fault}
-use Rattle.dob_query.specs.declared.fault.Fault.TheVariants.{Text, SetText, TooDeep, Run, File, Table, PuzzlePlies, Certificate, Memory, Io}
-use Rattle.dob_query.specs.Certificates.{IsCertifyFault, IsMadeOf, IsSaidOf, IsUnfit, fault_of_making}
-use Rattle.dob_query.specs.Faults.{is_io}
-use Rattle.dob_query.specs.Shows.{IsPictureFault}
-use Rattle.dob_query.specs.Tables.{IsFileOf, IsOpeningFault, IsTextOf}
-use Rattle.dob_shelf.specs.Shelves.{SameFiles, ShelfChange, ShelfState}
-use Rattle.dob_query.proofs.Showing.{same_chain}
+use Rattle.dob_query.specs.Certificates.{AreCertifyLines, AreMade, IsCertifyFault, IsSaidOf, IsTableMakingFault, IsUnfit, fault_of_making, made_lines}
+use Rattle.dob_query.proofs.Kept.{AreKept, of_shelf_fault, same_chain}
 
--- no fault of making is a device's
-pub making_fails : (before after : Bool) (given : making.Fault) → after ≡ (before || false) → after ≡ (before || is_io (fault_of_making given))
-making_fails before after (making_fault.Table f) failed = failed
-making_fails before after (making_fault.Unproved r) failed = failed
-making_fails before after (making_fault.TooMany n) failed = failed
-making_fails before after making_fault.Memory failed = failed
+-- a fault of making a certificate is one of filling its file, and no device's
+pub making_fills : (table : ClassTable) (is_exact : Bool) (most : ℕ) (position : Setup) (given : making.Fault) → IsFault table is_exact position most given
+    → IsTableMakingFault table is_exact most position (fault_of_making given)
+making_fills table is_exact most position (making_fault.Table f) holds = holds
+making_fills table is_exact most position (making_fault.Unproved r) holds = holds
+making_fills table is_exact most position (making_fault.TooMany n) holds = holds
+making_fills table is_exact most position making_fault.Memory holds = tt
 
-pub unfit_fails : (said : Content) (before after : Bool) (fault : Fault) → IsUnfit said fault → after ≡ (before || false) → after ≡ (before || is_io fault)
-unfit_fails said before after (Certificate f) holds failed = failed
-unfit_fails said before after Memory holds failed = failed
-unfit_fails said before after Io holds failed = absurd holds
-unfit_fails said before after (Text f) holds failed = failed
-unfit_fails said before after SetText holds failed = failed
-unfit_fails said before after TooDeep holds failed = failed
-unfit_fails said before after PuzzlePlies holds failed = failed
-unfit_fails said before after (Run f) holds failed = failed
-unfit_fails said before after (File f) holds failed = absurd holds
-unfit_fails said before after (Table f) holds failed = failed
+pub making_works : (given : making.Fault) → false ≡ is_io (fault_of_making given)
+making_works (making_fault.Table f) = refl
+making_works (making_fault.Unproved r) = refl
+making_works (making_fault.TooMany n) = refl
+making_works making_fault.Memory = refl
 
-module _ (c : ShelfChange) (file out : List ℕ) (is_exact : Bool) (most : ℕ) (words : List ℕ) (position : Setup) (named : IsTextOf words position) where
-  -- while each file has what it had
-  module _ (same : SameFiles c.before.has c.after.has) where
-    pub opening_certifies : (fault : Fault) → IsOpeningFault (c.before.has file) fault → IsCertifyFault c file out is_exact most words fault
-    opening_certifies (File f) holds = (position, named, holds, same)
-    opening_certifies Memory holds = same
-    opening_certifies Io holds = (position, named, inl (holds, same))
-    opening_certifies (Text f) holds = absurd holds
-    opening_certifies SetText holds = absurd holds
-    opening_certifies TooDeep holds = absurd holds
-    opening_certifies PuzzlePlies holds = absurd holds
-    opening_certifies (Certificate f) holds = absurd holds
-    opening_certifies (Run f) holds = absurd holds
-    opening_certifies (Table f) holds = absurd holds
+-- so is one of what no file can say
+pub unfit_fills : (table : ClassTable) (is_exact : Bool) (most : ℕ) (position : Setup) (said : Content) → IsSaidOf table is_exact position said
+    → (fault : Fault) → IsUnfit said fault → IsTableMakingFault table is_exact most position fault
+unfit_fills table is_exact most position said made (Certificate Unfit) holds = (said, made, holds)
+unfit_fills table is_exact most position said made (Certificate (Defect d)) holds = absurd holds
+unfit_fills table is_exact most position said made (Certificate (Unproved r)) holds = absurd holds
+unfit_fills table is_exact most position said made (Certificate (TooMany n)) holds = absurd holds
+unfit_fills table is_exact most position said made (Certificate Unlisted) holds = absurd holds
+unfit_fills table is_exact most position said made Memory holds = tt
+unfit_fills table is_exact most position said made Io holds = absurd holds
+unfit_fills table is_exact most position said made (Text f) holds = absurd holds
+unfit_fills table is_exact most position said made SetText holds = absurd holds
+unfit_fills table is_exact most position said made TooDeep holds = absurd holds
+unfit_fills table is_exact most position said made PuzzlePlies holds = absurd holds
+unfit_fills table is_exact most position said made (Run f) holds = absurd holds
+unfit_fills table is_exact most position said made (File f) holds = absurd holds
+unfit_fills table is_exact most position said made (Table f) holds = absurd holds
 
-    pub making_certifies : (table : ClassTable) → IsFileOf (c.before.has file) table → (given : making.Fault) → IsFault table is_exact position most given
-        → IsCertifyFault c file out is_exact most words (fault_of_making given)
-    making_certifies table is (making_fault.Table f) holds = (position, named, (table, is, holds), same)
-    making_certifies table is (making_fault.Unproved r) holds = (position, named, (table, is, holds), same)
-    making_certifies table is (making_fault.TooMany n) holds = (position, named, holds, same)
-    making_certifies table is making_fault.Memory holds = same
+pub unfit_works : (said : Content) (fault : Fault) → IsUnfit said fault → false ≡ is_io fault
+unfit_works said (Certificate f) holds = refl
+unfit_works said Memory holds = refl
+unfit_works said Io holds = absurd holds
+unfit_works said (Text f) holds = absurd holds
+unfit_works said SetText holds = absurd holds
+unfit_works said TooDeep holds = absurd holds
+unfit_works said PuzzlePlies holds = absurd holds
+unfit_works said (Run f) holds = absurd holds
+unfit_works said (File f) holds = absurd holds
+unfit_works said (Table f) holds = absurd holds
 
-    pub unfit_certifies : (table : ClassTable) → IsFileOf (c.before.has file) table → (said : Content) → IsSaidOf table is_exact position said → (fault : Fault)
-        → IsUnfit said fault → IsCertifyFault c file out is_exact most words fault
-    unfit_certifies table is said made (Certificate Unfit) holds = (position, named, (said, record { table = table; read = is; is = made }, holds), same)
-    unfit_certifies table is said made (Certificate (Defect d)) holds = absurd holds
-    unfit_certifies table is said made (Certificate (Unproved r)) holds = absurd holds
-    unfit_certifies table is said made (Certificate (TooMany n)) holds = absurd holds
-    unfit_certifies table is said made (Certificate Unlisted) holds = absurd holds
-    unfit_certifies table is said made Memory holds = same
-    unfit_certifies table is said made Io holds = absurd holds
-    unfit_certifies table is said made (Text f) holds = absurd holds
-    unfit_certifies table is said made SetText holds = absurd holds
-    unfit_certifies table is said made TooDeep holds = absurd holds
-    unfit_certifies table is said made PuzzlePlies holds = absurd holds
-    unfit_certifies table is said made (Run f) holds = absurd holds
-    unfit_certifies table is said made (File f) holds = absurd holds
-    unfit_certifies table is said made (Table f) holds = absurd holds
+-- and one of filling a file with bytes
+shelf_fills : (table : ClassTable) (is_exact : Bool) (most : ℕ) (position : Setup) (fault : Fault) → IsShelfFault fault
+    → IsTableMakingFault table is_exact most position fault
+shelf_fills table is_exact most position = of_shelf_fault (IsTableMakingFault table is_exact most position) tt tt
 
-  -- after the table was read, which changed no file
-  pub keeping_certifies : (mid : ShelfState) → SameFiles c.before.has mid.has → mid.tells ≡ c.before.tells → (fault : Fault)
-      → IsPictureFault (record c { before = mid }) out fault → IsCertifyFault c file out is_exact most words fault
-  keeping_certifies mid same told Memory holds = same_chain c.before.has mid.has c.after.has same holds
-  keeping_certifies mid same told Io holds = (
-    position,
-    named,
-    inr (elim holds [
-      | inl still ↦ inl (same_chain c.before.has mid.has c.after.has same still)
-      | inr made ↦ inr (λ tells. made (subst (λ (b : Bool). IsTrue b) (sym told) tells))
-    ]),
-  )
-  keeping_certifies mid same told (Text f) holds = absurd holds
-  keeping_certifies mid same told SetText holds = absurd holds
-  keeping_certifies mid same told TooDeep holds = absurd holds
-  keeping_certifies mid same told PuzzlePlies holds = absurd holds
-  keeping_certifies mid same told (Certificate f) holds = absurd holds
-  keeping_certifies mid same told (Run f) holds = absurd holds
-  keeping_certifies mid same told (File f) holds = absurd holds
-  keeping_certifies mid same told (Table f) holds = absurd holds
+-- filled with the certificate's bytes
+pub certificate_fills : {X : Type 0} (table : ClassTable) (is_exact : Bool) (most : ℕ) (position : Setup) (said : Content)
+    → IsSaidOf table is_exact position said → {lines bytes : List ℕ} → lines ≡ made_lines position said → bytes ≡ bytes_of said
+    → (filled : Result (String X) Fault) (c : Change) → FillsSink (AreThese lines bytes) IsShelfFault filled c
+    → FillsSink (AreMade table is_exact position) (IsTableMakingFault table is_exact most position) filled c
+certificate_fills table is_exact most position said made lined written (Ok text) c fills = record {
+  whole = let put = fills.whole in (put.0, (said, made, put.1.0 ∙ lined, put.1.1 ∙ written), put.2);
+  fault = tt;
+  failed = fills.failed;
+}
+certificate_fills table is_exact most position said made lined written (Err fault) c fills = record {
+  whole = tt;
+  fault = shelf_fills table is_exact most position fault fills.fault;
+  failed = fills.failed;
+}
+
+module _ (c : ShelfChange) (file : List ℕ) (is_exact : Bool) (most : ℕ) (words : List ℕ) (position : Setup) (named : IsTextOf words position)
+    (same : SameFiles c.before.has c.after.has) where
+  pub opening_certifies : (fault : Fault) → IsOpeningFault (c.before.has file) fault → IsCertifyFault c file is_exact most words fault
+  opening_certifies (File f) holds = (position, named, holds, same)
+  opening_certifies Memory holds = same
+  opening_certifies Io holds = (position, named, same)
+  opening_certifies (Text f) holds = absurd holds
+  opening_certifies SetText holds = absurd holds
+  opening_certifies TooDeep holds = absurd holds
+  opening_certifies PuzzlePlies holds = absurd holds
+  opening_certifies (Certificate f) holds = absurd holds
+  opening_certifies (Run f) holds = absurd holds
+  opening_certifies (Table f) holds = absurd holds
+
+  pub shelf_certifies : (fault : Fault) → IsShelfFault fault → IsCertifyFault c file is_exact most words fault
+  shelf_certifies = of_shelf_fault (IsCertifyFault c file is_exact most words) same (position, named, same)
+
+  pub filling_certifies : (table : ClassTable) → IsFileOf (c.before.has file) table → (fault : Fault) → IsTableMakingFault table is_exact most position fault
+      → IsCertifyFault c file is_exact most words fault
+  filling_certifies table is (Table f) holds = (position, named, (table, is, holds), same)
+  filling_certifies table is (Certificate (Unproved r)) holds = (position, named, (table, is, holds), same)
+  filling_certifies table is (Certificate (TooMany n)) holds = (position, named, holds, same)
+  filling_certifies table is (Certificate Unfit) holds =
+      (position, named, (holds.0, record { table = table; read = is; is = holds.1 }, holds.2), same)
+  filling_certifies table is (Certificate (Defect d)) holds = absurd holds
+  filling_certifies table is (Certificate Unlisted) holds = absurd holds
+  filling_certifies table is Memory holds = same
+  filling_certifies table is Io holds = (position, named, same)
+  filling_certifies table is (Text f) holds = absurd holds
+  filling_certifies table is SetText holds = absurd holds
+  filling_certifies table is TooDeep holds = absurd holds
+  filling_certifies table is PuzzlePlies holds = absurd holds
+  filling_certifies table is (Run f) holds = absurd holds
+  filling_certifies table is (File f) holds = absurd holds
+
+-- after the table was read and the other file made, which changed no file
+pub keeping_certifies : (c : ShelfChange) (file : List ℕ) (is_exact : Bool) (most : ℕ) (words : List ℕ) (position : Setup) → IsTextOf words position
+    → (mid : ShelfState) (table : ClassTable) → IsFileOf (c.before.has file) table → SameFiles c.before.has mid.has → (fault : Fault)
+    → LeavesFiles (record c { before = mid }) (IsTableMakingFault table is_exact most position) fault → IsCertifyFault c file is_exact most words fault
+keeping_certifies c file is_exact most words position named mid table read same fault holds =
+    let still = same_chain c.before.has mid.has c.after.has same holds.1 in
+    elim holds.0 [
+      | inl unfilled ↦ filling_certifies c file is_exact most words position named still table read fault unfilled
+      | inr unkept ↦ shelf_certifies c file is_exact most words position named still fault unkept
+    ]
+
+-- the lines and the file that was kept
+pub certify_lines : {X : Type 0} (c : ShelfChange) (file out : List ℕ) (is_exact : Bool) (words : List ℕ) (position : Setup) → IsTextOf words position
+    → (mid : ShelfState) → mid.tells ≡ c.before.tells → (table : ClassTable) → IsFileOf (c.before.has file) table → (text : String X)
+    → AreKept (AreMade table is_exact position) out (record c { before = mid }) text → AreCertifyLines c file out is_exact words (string_bytes text)
+certify_lines c file out is_exact words position named mid told table read text is = record {
+  position = position;
+  named = named;
+  said = is.1.0;
+  made = record { table = table; read = read; is = is.1.1 };
+  kept = λ tells. subst (λ (bytes : List ℕ). HasJust out bytes c.after.has) is.1.3 (is.2 (subst (λ (b : Bool). IsTrue b) (sym told) tells));
+  same = is.1.2;
+}

@@ -1,59 +1,29 @@
--- The faults of reading a file and of keeping its table are those of migrating it.
-use Rattle.std.proofs.Common.{◌≡◌, ◌∙◌, ℕ, Bool, List, inl, inr, subst, sym}
-use Rattle.std.specs.Prelude.{IsTrue}
-use Rattle.dob_value.specs.Follows.{ClassTable}
-use Rattle.dob_dbfile.specs.declared.fault.Fault.TheVariants as file_fault
-use Rattle.dob_query.specs.declared.fault.Fault.{Fault}
-use Rattle.dob_query.specs.declared.fault.Fault.TheVariants.{Text, SetText, TooDeep, Run, File, Table, PuzzlePlies, Certificate, Memory, Io}
-use Rattle.dob_shelf.specs.Shelves.{SameFiles, ShelfChange, ShelfState}
-use Rattle.dob_query.specs.Keeping.{IsKeepingFault}
-use Rattle.dob_query.specs.Migrations.{IsMigrateFault}
-use Rattle.dob_query.specs.Tables.{IsFileOf, IsOpeningFault}
-use Rattle.dob_query.proofs.Showing.{same_chain}
+-- The faults of filling the file anew, and of keeping it, are those of migrating.
+use Rattle.dob_query.proofs.Common.{◌≡◌, Bool, List, codes, inl, inr, length, subst, sym, ℕ, IsTrue, String, ClassTable, HasJust, SameFiles, ShelfChange}
+use Rattle.dob_query.proofs.Common.{ShelfState, AreThese, IsFillingFault, LeavesFiles, AreMigrateLines, IsMigrateFault, count_line, IsFileOf, Fault}
+use Rattle.std.specs.Prelude.{string_bytes}
+use Rattle.dob_dbfile.specs.Format.{bytes_of}
+use Rattle.dob_query.proofs.Kept.{AreKept, same_chain}
 
-module _ (c : ShelfChange) (file out : List ℕ) where
-  -- while each file has what it had
-  pub opening_migrates : (fault : Fault) → SameFiles c.before.has c.after.has → IsOpeningFault (c.before.has file) fault → IsMigrateFault c file out fault
-  opening_migrates Memory same holds = same
-  opening_migrates (File f) same holds = inl (holds, same)
-  opening_migrates Io same holds = inl (holds, same)
-  opening_migrates (Text f) same holds = absurd holds
-  opening_migrates SetText same holds = absurd holds
-  opening_migrates TooDeep same holds = absurd holds
-  opening_migrates PuzzlePlies same holds = absurd holds
-  opening_migrates (Certificate f) same holds = absurd holds
-  opening_migrates (Run f) same holds = absurd holds
-  opening_migrates (Table f) same holds = absurd holds
+-- after the table was read and the other file made, which changed no file
+pub keeping_migrates : (c : ShelfChange) (file : List ℕ) (mid : ShelfState) (table : ClassTable) → IsFileOf (c.before.has file) table
+    → SameFiles c.before.has mid.has → (fault : Fault) → LeavesFiles (record c { before = mid }) (IsFillingFault table) fault → IsMigrateFault c file fault
+keeping_migrates c file mid table read same fault holds = (
+  elim holds.0 [
+    | inl unfilled ↦ inl (inr (table, read, unfilled))
+    | inr unkept ↦ inr unkept
+  ],
+  same_chain c.before.has mid.has c.after.has same holds.1,
+)
 
-  -- after the table was read, which changed no file
-  module _ (mid : ShelfState) (same : SameFiles c.before.has mid.has) (told : mid.tells ≡ c.before.tells) (table : ClassTable)
-      (is : IsFileOf (c.before.has file) table) where
-    still_tells : IsTrue c.before.tells → IsTrue mid.tells
-    still_tells tells = subst (λ (b : Bool). IsTrue b) (sym told) tells
-
-    pub keeping_migrates : (fault : Fault) → IsKeepingFault (record c { before = mid }) out table fault → IsMigrateFault c file out fault
-    keeping_migrates Memory holds = same_chain c.before.has mid.has c.after.has same holds
-    keeping_migrates Io holds = inr (
-      table,
-      is,
-      elim holds [
-        | inl still ↦ inl (same_chain c.before.has mid.has c.after.has same still)
-        | inr silent ↦ inr (sym told ∙ silent)
-      ],
-    )
-    keeping_migrates (File file_fault.Memory) holds = inr (table, is, λ tells. holds (still_tells tells))
-    keeping_migrates (File (file_fault.Io count)) holds = inr (table, is, (holds.0, λ tells. holds.1 (still_tells tells)))
-    keeping_migrates (File file_fault.Truncated) holds = absurd holds
-    keeping_migrates (File file_fault.Magic) holds = absurd holds
-    keeping_migrates (File file_fault.SetByte) holds = absurd holds
-    keeping_migrates (File file_fault.ProfileByte) holds = absurd holds
-    keeping_migrates (File file_fault.ClassCount) holds = absurd holds
-    keeping_migrates (File file_fault.Trailing) holds = absurd holds
-    keeping_migrates (File file_fault.Digest) holds = absurd holds
-    keeping_migrates (Text f) holds = absurd holds
-    keeping_migrates SetText holds = absurd holds
-    keeping_migrates TooDeep holds = absurd holds
-    keeping_migrates PuzzlePlies holds = absurd holds
-    keeping_migrates (Certificate f) holds = absurd holds
-    keeping_migrates (Run f) holds = absurd holds
-    keeping_migrates (Table f) holds = absurd holds
+-- the lines and the file that was kept
+pub migrate_lines : {X : Type 0} (c : ShelfChange) (file out : List ℕ) (mid : ShelfState) → mid.tells ≡ c.before.tells → (table : ClassTable)
+    → IsFileOf (c.before.has file) table → (text : String X)
+    → AreKept (AreThese (count_line (codes "classes ") (length table.values)) (bytes_of table)) out (record c { before = mid }) text
+    → AreMigrateLines c file out (string_bytes text)
+migrate_lines c file out mid told table read text is = record {
+  table = table;
+  read = read;
+  kept = λ tells. subst (λ (bytes : List ℕ). HasJust out bytes c.after.has) is.1.1 (is.2 (subst (λ (b : Bool). IsTrue b) (sym told) tells));
+  same = is.1.0;
+}

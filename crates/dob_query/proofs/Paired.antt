@@ -1,19 +1,9 @@
 -- The pairs of a table whose lines are written, and by a value table's file they are right.
-use Rattle.std.proofs.Common.{ℕ, List, Option, None, Some, arith, subst, take, drop}
-use Rattle.std.specs.Prelude.{Contains, IfSome}
-use Rattle.std.proofs.lemmas.List.{take-append-drop}
-use Rattle.std.proofs.lemmas.List.Elements.{Contains-append_left}
-use Rattle.dob_pieces.specs.declared.profile.Profile.{Profile}
-use Rattle.dob_value.specs.Follows.{ClassTable}
-use Rattle.dob_zugzwang.specs.declared.pairs.Zugzwang.{Zugzwang}
-use Rattle.dob_zugzwang.specs.Counts.{IsDeepest}
-use Rattle.dob_zugzwang.specs.Pairs.{ArePairs}
+use Rattle.dob_query.proofs.Common.{List, None, Option, Some, arith, drop, subst, take, ℕ, take-append-drop, Contains-append_left, Contains, IfSome, Profile}
+use Rattle.dob_query.proofs.Common.{ClassTable, IsDeepest, ArePairs, Zugzwang, ShelfChange, AnswersOver, Ending, HasValueFile, IsFileOf, IsOpeningFault}
+use Rattle.dob_query.proofs.Common.{IsRightFileOf, AnswersZugzwangsRight, AreOfTable, AreZugzwangLines, IsOfTable, first_pairs}
 use Rattle.dob_zugzwang.proofs.Listing.{pair_within}
-use Rattle.dob_query.specs.Endings.{AnswersOver, Ending}
-use Rattle.dob_query.specs.Tables.{HasValueFile, IsFileOf, IsOpeningFault, IsRightFileOf}
-use Rattle.dob_query.specs.Zugzwangs.{AnswersZugzwangsRight, AreOfTable, AreZugzwangLines, IsOfTable, first_pairs}
 use Rattle.dob_query.proofs.TableFaults.{over_weaker, right_table}
-use Rattle.dob_shelf.specs.Shelves.{ShelfChange}
 
 module _ (table : ClassTable) (pairs : List Zugzwang) (are : ArePairs table pairs) where
   -- they are of the table

@@ -1,24 +1,18 @@
 -- The faults of reading a certificate and of its lists are those of verifying it, of making one, and of asking one for a reply.
-use Rattle.std.proofs.Common.{◌≡◌, ◌∙◌, ◌||◌, ◌⊎◌, ℕ, Bool, false, List, inl, inr, refl, subst, sym}
-use Rattle.std.specs.Prelude.{Err, IfErr, IfOk, IsTrue, Ok, Result, String, string_bytes}
-use Rattle.dob_pieces.specs.declared.setup.Setup.{Setup}
+use Rattle.dob_query.proofs.Common.{◌||◌, ◌∙◌, ◌≡◌, ◌⊎◌, Bool, List, false, inl, inr, refl, subst, sym, ℕ, Err, IfErr, IfOk, IsTrue, Ok, Result, String, Setup}
+use Rattle.dob_query.proofs.Common.{Content, HasCertFault, FailsWhere, ShelfChange, ShelfFault, fault_of_shelf, is_io, IsShut, IsTextOf, Fault, Certificate}
+use Rattle.dob_query.proofs.Common.{File, Io, Memory, PuzzlePlies, Run, SetText, Table, Text, TooDeep}
+use Rattle.std.specs.Prelude.{string_bytes}
 use Rattle.dob_certificate.specs.declared.refusal.Refusal.{Refusal}
 use Rattle.dob_certificate.specs.declared.refusal.Refusal.TheVariants as refusal
 use Rattle.dob_certfile.specs.declared.defect.Defect.{Defect as AnyDefect}
 use Rattle.dob_certfile.specs.declared.defect.ReadFault.{ReadFault}
 use Rattle.dob_certfile.specs.declared.defect.ReadFault.TheVariants as reading
-use Rattle.dob_certfile.specs.Format.{Content}
-use Rattle.dob_certfile.specs.Reading.{HasCertFault}
 use Rattle.dob_query.specs.declared.certificate_fault.CertificateFault.TheVariants.{Defect, Unproved, TooMany, Unfit, Unlisted}
-use Rattle.dob_query.specs.declared.fault.Fault.{Fault}
-use Rattle.dob_query.specs.declared.fault.Fault.TheVariants.{Text, SetText, TooDeep, Run, File, Table, PuzzlePlies, Certificate, Memory, Io}
-use Rattle.dob_query.specs.Certificates.{AreBytes, GivesVerify, IsBytesFault, IsCertificateFile, IsDisproved, IsReadingFault, IsVerdict, IsVerdictFault, IsVerifyFault, fault_of_reading}
-use Rattle.dob_query.specs.Faults.{fault_of_shelf, is_io}
+use Rattle.dob_query.specs.Certificates.{AreBytes, GivesVerify, IsBytesFault, IsCertificateFile, IsDisproved, IsReadingFault, IsVerdict, IsVerdictFault}
+use Rattle.dob_query.specs.Certificates.{IsVerifyFault, fault_of_reading}
 use Rattle.dob_query.specs.Replying.{GivesReply, IsReplyFault, IsReplyFaultOf, IsToldReply}
-use Rattle.dob_query.specs.Tables.{IsShut, IsTextOf}
 use Rattle.dob_query.proofs.TableFaults.{is_shut}
-use Rattle.dob_shelf.specs.Shelves.{FailsWhere, ShelfChange}
-use Rattle.dob_shelf.specs.declared.shelf.ShelfFault.{ShelfFault}
 use Rattle.dob_shelf.specs.declared.shelf.ShelfFault.TheVariants as shelf_fault
 
 -- ---- the file

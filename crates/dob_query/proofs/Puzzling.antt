@@ -1,11 +1,7 @@
 -- The lines of puzzles, one after the other, and which classes they are of.
-use Rattle.std.proofs.Common.{◌≡◌, ◌∙◌, ◌+◌, ◌<◌, ◌++◌, ◌∷◌, [], ℕ, List, ap, append-nil, flat_map, get_or, length, subst, sym, take}
-use Rattle.std.specs.Prelude.{Contains}
-use Rattle.std.proofs.lemmas.List.{take_more}
+use Rattle.dob_query.proofs.Common.{◌++◌, ◌+◌, ◌<◌, ◌∙◌, ◌∷◌, ◌≡◌, List, [], ap, append-nil, flat_map, get_or, length, subst, sym, take, ℕ, take_more}
+use Rattle.dob_query.proofs.Common.{Contains-get_or, slice_get_within, Contains, ClassTable}
 use Rattle.std.proofs.lemmas.Grind.{flat_map-append}
-use Rattle.std.proofs.lemmas.List.Elements.{Contains-get_or}
-use Rattle.std.proofs.lemmas.Option.{slice_get_within}
-use Rattle.dob_value.specs.Follows.{ClassTable}
 use Rattle.dob_probe.specs.declared.puzzles.Puzzle.{Puzzle}
 use Rattle.dob_probe.specs.declared.walks.Walk.{Walk}
 use Rattle.dob_probe.specs.Puzzles.{ArePuzzles}

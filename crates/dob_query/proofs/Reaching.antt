@@ -1,12 +1,9 @@
 -- What can be reached, by rules or by a file, and how the lines tell it.
-use Rattle.std.proofs.Common.{◌≡◌, ℕ, suc, ◌+◌, ◌++◌, List, Some, ap, arith, get_or}
-use Rattle.dob_pieces.specs.declared.profile.Profile.{Profile}
-use Rattle.dob_query.specs.Endings.{AnswersOver, Ending}
+use Rattle.dob_query.proofs.Common.{◌++◌, ◌+◌, ◌≡◌, List, Some, ap, arith, get_or, suc, ℕ, Profile, ShelfChange, AnswersOver, Ending, HasValueFile, IsFileOf}
+use Rattle.dob_query.proofs.Common.{IsPositionFault, IsRightFileOf}
 use Rattle.dob_query.specs.Reaches.{AnswersReachRight, AreReachLinesBy, AreReachLinesFor, IsReachFaultFor, level_line, level_lines}
 use Rattle.dob_query.specs.declared.reaches.ReachSearch.{ReachSearch}
-use Rattle.dob_query.specs.Tables.{HasValueFile, IsFileOf, IsPositionFault, IsRightFileOf}
 use Rattle.dob_query.proofs.TableFaults.{over_weaker, right_table}
-use Rattle.dob_shelf.specs.Shelves.{ShelfChange}
 
 -- one distance more
 pub one_level : (levels : List ℕ) (distance : ℕ) → level_lines levels (distance + 1) ≡ level_lines levels distance ++ level_line distance (get_or levels distance 0)

@@ -1,14 +1,8 @@
 -- By the file of a value table what is told of it is right: drawings, counts and puzzles.
-use Rattle.std.proofs.Common.{ℕ, Bool, List, Option, Some, subst}
-use Rattle.dob_pieces.specs.declared.profile.Profile.{Profile}
-use Rattle.dob_value.specs.Follows.{ClassTable}
-use Rattle.dob_query.specs.Endings.{AnswersOver, Ending}
-use Rattle.dob_query.specs.Puzzles.{AnswersPuzzlesRight, ArePuzzleLines, IsPuzzlesFault}
-use Rattle.dob_shelf.specs.Shelves.{ShelfChange}
-use Rattle.dob_query.specs.Shows.{AnswersShowRight, AreRightShowLines, AreShowLines, IsShowFault}
-use Rattle.dob_query.specs.Stats.{AnswersStatsRight, AreStatsLines, IsStatsFault}
-use Rattle.dob_query.specs.Tables.{HasValueFile, IsFileOf, IsRightFileOf}
-use Rattle.dob_query.specs.declared.questions.Question.TheVariants.{Draw}
+use Rattle.dob_query.proofs.Common.{Bool, List, Option, Some, subst, ℕ, Profile, ClassTable, ShelfChange, AnswersOver, Ending, AnswersPuzzlesRight}
+use Rattle.dob_query.proofs.Common.{ArePuzzleLines, IsPuzzlesFault, AnswersShowRight, AreRightShowLines, AreShowLines, IsShowFault, AnswersStatsRight}
+use Rattle.dob_query.proofs.Common.{AreStatsLines, IsStatsFault, HasValueFile, IsFileOf, IsRightFileOf, Draw}
+use Rattle.dob_query.specs.declared.stats.StatsForm.{StatsForm}
 use Rattle.dob_query.proofs.Asking.{answer_right}
 use Rattle.dob_query.specs.declared.puzzles.PuzzleSearch.{PuzzleSearch}
 use Rattle.dob_query.proofs.TableFaults.{over_weaker, right_table}
@@ -18,8 +12,8 @@ module _ (Has : List ℕ → Type 0) (profile : Profile) (right : HasValueFile H
   right_file : (table : ClassTable) → IsFileOf Has table → IsRightFileOf Has profile table
   right_file table file = let is = right_table Has profile right table file in record { file = file; right = is.0; rules = is.1 }
 
-  stats_rightly : (is_csv : Bool) (lines : List ℕ) → AreStatsLines (IsFileOf Has) is_csv lines → AreStatsLines (IsRightFileOf Has profile) is_csv lines
-  stats_rightly is_csv lines told = record {
+  stats_rightly : (form : StatsForm) (lines : List ℕ) → AreStatsLines (IsFileOf Has) form lines → AreStatsLines (IsRightFileOf Has profile) form lines
+  stats_rightly form lines told = record {
     table = told.table;
     is = right_file told.table told.is;
     groups = told.groups;
@@ -55,11 +49,11 @@ module _ (c : ShelfChange) (profile : Profile) (file : List ℕ) (e : Ending) (r
       over_weaker c (AreShowLines c (Some file) picture words) (AreRightShowLines c profile picture words) (IsShowFault c (Some file) picture words) e
       (λ lines. show_rightly c profile file picture words lines right)
 
-  pub stats_right : (is_csv : Bool)
-      → AnswersOver c (AreStatsLines (IsFileOf (c.before.has file)) is_csv) (IsStatsFault (c.before.has file)) e → AnswersStatsRight c profile file is_csv e
-  stats_right is_csv =
-      over_weaker c (AreStatsLines (IsFileOf (c.before.has file)) is_csv) (AreStatsLines (IsRightFileOf (c.before.has file) profile) is_csv) (IsStatsFault (c.before.has file)) e
-      (stats_rightly (c.before.has file) profile right is_csv)
+  pub stats_right : (form : StatsForm)
+      → AnswersOver c (AreStatsLines (IsFileOf (c.before.has file)) form) (IsStatsFault (c.before.has file)) e → AnswersStatsRight c profile file form e
+  stats_right form =
+      over_weaker c (AreStatsLines (IsFileOf (c.before.has file)) form) (AreStatsLines (IsRightFileOf (c.before.has file) profile) form) (IsStatsFault (c.before.has file)) e
+      (stats_rightly (c.before.has file) profile right form)
 
   pub puzzles_right : (search : PuzzleSearch)
       → AnswersOver c (ArePuzzleLines (IsFileOf (c.before.has file)) search) (IsPuzzlesFault (c.before.has file) search.plies) e → AnswersPuzzlesRight c profile file search e

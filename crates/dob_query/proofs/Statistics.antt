@@ -1,13 +1,11 @@
 -- The longest win and the longest loss of a table are among its groups.
-use Rattle.std.proofs.Common.{◌<◌, List, [], ◌∷◌, Contains, IfSome, arith, fold, length, suc}
-use Rattle.std.proofs.lemmas.Option.{slice_get_within}
+use Rattle.dob_query.proofs.Common.{◌<◌, ◌∷◌, List, [], arith, fold, length, suc, slice_get_within, Value, longest_of, with_group, with_value}
+use Rattle.std.proofs.Common.{Contains, IfSome}
 use Rattle.dob_pieces.proofs.Lists.{head_in}
-use Rattle.dob_value.specs.declared.value.Value.{Value}
 use Rattle.dob_value.specs.declared.value.Value.TheVariants.{Win, Loss, Draw}
 use Rattle.dob_probe.specs.declared.groups.Group.{Group}
 use Rattle.dob_probe.specs.Statistics.{AreGroups}
 use Rattle.dob_query.specs.declared.stats.Longest.{Longest}
-use Rattle.dob_query.specs.Stats.{longest_of, with_group, with_value}
 
 tail_in : (head : Group) (groups : List Group) (other : Group) → Contains groups other → Contains (head ∷ groups) other
 tail_in head groups other there = (suc there.0, omega (arith, there.1), there.2)

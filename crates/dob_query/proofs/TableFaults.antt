@@ -1,27 +1,14 @@
 -- The faults of a table are those of the file that it was read from, and by the file of a value table the value told is right.
-use Rattle.std.proofs.Common.{◌≡◌, ◌||◌, ℕ, Bool, false, List, inl, inr, subst}
-use Rattle.std.specs.Prelude.{Err}
-use Rattle.dob_pieces.specs.declared.setup.Setup.{Setup}
+use Rattle.dob_query.proofs.Common.{◌||◌, ◌≡◌, Bool, List, false, inl, inr, subst, ℕ, Err, Profile, Setup, ClassTable, IsValueTable, HasValue, Value}
+use Rattle.dob_query.proofs.Common.{IsFaultOfCheck, IsRefusal, FailsWhere, ShelfChange, is_failed, ShelfFault, IsGivenTo, Answers, AnswersOver, Ending}
+use Rattle.dob_query.proofs.Common.{fault_of_shelf, is_io, IsValueLineOf, IsValueOf, HasValueFile, IsFileOf, IsOpeningFault, IsPositionFault, IsShut, IsTextOf}
+use Rattle.dob_query.proofs.Common.{Fault, Certificate, File, Io, Memory, PuzzlePlies, Run, SetText, Table, Text, TooDeep}
 use Rattle.dob_pieces.specs.Profiles.{IsAllowed}
-use Rattle.dob_pieces.specs.declared.profile.Profile.{Profile}
-use Rattle.dob_value.specs.Values.{HasValue}
-use Rattle.dob_value.specs.declared.value.Value.{Value}
-use Rattle.dob_value.specs.Follows.{ClassTable, IsValueTable}
 use Rattle.dob_dbfile.proofs.Written.{same_files}
 use Rattle.dob_probe.specs.declared.fault.Fault as probing
 use Rattle.dob_probe.specs.declared.fault.Fault.TheVariants as table_fault
-use Rattle.dob_probe.specs.Faults.{IsFaultOfCheck, IsRefusal}
-use Rattle.dob_query.specs.declared.fault.Fault.{Fault}
-use Rattle.dob_query.specs.declared.fault.Fault.TheVariants.{Text, SetText, TooDeep, Run, File, Table, PuzzlePlies, Certificate, Memory, Io}
-use Rattle.dob_shelf.specs.Shelves.{FailsWhere, ShelfChange, is_failed}
-use Rattle.dob_query.specs.Faults.{fault_of_shelf, is_io}
-use Rattle.dob_shelf.specs.declared.shelf.ShelfFault.{ShelfFault}
 use Rattle.dob_shelf.specs.declared.shelf.ShelfFault.TheVariants as shelf_fault
-use Rattle.dob_query.specs.Endings.{Answers, AnswersOver, Ending}
-use Rattle.dob_query.specs.Each.{IsGivenTo}
-use Rattle.dob_query.specs.Program.{IsValueLineOf, IsValueOf}
-use Rattle.dob_query.specs.Tables.{AnswersProbe, AnswersProbeRight, HasValueFile, IsCheckFault, IsFileOf, IsOpeningFault, IsPositionFault, IsProbingFault, IsShut}
-use Rattle.dob_query.specs.Tables.{IsProbeLine, IsTextOf}
+use Rattle.dob_query.specs.Tables.{AnswersProbe, AnswersProbeRight, IsCheckFault, IsProbingFault, IsProbeLine}
 
 module _ (Has : List ℕ → Type 0) (table : ClassTable) (file : IsFileOf Has table) where
   pub check_fault_holds : (fault : probing.Fault) → IsFaultOfCheck table fault → IsCheckFault Has (Table fault)

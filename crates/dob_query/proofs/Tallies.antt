@@ -1,11 +1,7 @@
 -- The tally of a list from tallies of its parts.
-use Rattle.std.proofs.Common.{◌≡◌, ◌+◌, ◌<◌, ◌^◌, ◌++◌, ◌∷◌, [], ℕ, arith, refl, sym, ap, subst, length, List, Some}
-use Rattle.std.specs.Prelude.{slice_get}
-use Rattle.std.specs.List.{AllZip, range_with_len}
-use Rattle.std.proofs.lemmas.List.{length-append, append_assoc}
-use Rattle.dob_query.specs.declared.tally.Tally.{Tally}
-use Rattle.dob_value.specs.declared.value.Value.{Value}
-use Rattle.dob_query.specs.Keeping.{AreAddedUp, IsTally, IsTallyAt}
+use Rattle.dob_query.proofs.Common.{◌++◌, ◌+◌, ◌<◌, ◌^◌, ◌∷◌, ◌≡◌, List, Some, [], ap, arith, length, refl, subst, sym, ℕ, append_assoc, length-append, AllZip}
+use Rattle.dob_query.proofs.Common.{range_with_len, slice_get, Value, IsTally, IsTallyAt, Tally}
+use Rattle.dob_query.specs.Keeping.{AreAddedUp}
 
 -- the tally of one value each, place by place
 abbrev AreOnes : List Value → List Tally → Type 0

@@ -28,9 +28,8 @@ use Rattle.dob_certify.specs.Faults.{IsUnproved}
 use Rattle.dob_query.specs.declared.certificate_fault.CertificateFault.TheVariants.{Defect, Unproved, TooMany, Unfit}
 use Rattle.dob_query.specs.declared.fault.Fault.{Fault}
 use Rattle.dob_query.specs.declared.fault.Fault.TheVariants.{Text, File, Table, Certificate, Memory, Io}
-use Rattle.dob_query.specs.Endings.{GivesLines, IsAnswered}
+use Rattle.dob_query.specs.Endings.{GivesLines}
 use Rattle.dob_query.specs.Program.{value_line}
-use Rattle.dob_query.specs.Shows.{IsPictureFault}
 use Rattle.dob_query.specs.Sizes.{count_line}
 use Rattle.dob_query.specs.Tables.{HasFileFault, IsFileOf, IsShut, IsTextOf}
 use Rattle.dob_shelf.specs.Shelves.{HasJust, SameFiles, ShelfChange}
@@ -165,7 +164,7 @@ IsUnfit said Memory = Unit {0}
 IsUnfit said _ = ⊥
 
 -- a fault of making a certificate of the position: the file's, or E26 before E7, or the lists that were found don't prove the claim, or a list
--- would have more entries than it may, or the file of what was made can't say it; or memory failed, or the file couldn't be opened
+-- would have more entries than it may, or the file of what was made can't say it
 abbrev pub IsMakingFault : (List ℕ → Type 0) → Bool → ℕ → Setup → Fault → Type 0
 IsMakingFault Has is_exact most position (File fault) = HasFileFault Has fault
 IsMakingFault Has is_exact most position (Table fault) = (table : ClassTable) × IsFileOf Has table × by_table.IsRefusal table.family position fault
@@ -173,24 +172,32 @@ IsMakingFault Has is_exact most position (Certificate (Unproved refusal)) =
     (table : ClassTable) × IsFileOf Has table × IsUnproved table is_exact position refusal
 IsMakingFault Has is_exact most position (Certificate (TooMany number)) = number ≡ most
 IsMakingFault Has is_exact most position (Certificate Unfit) = (said : Content) × IsMadeOf Has is_exact position said × ¬ Fits said
-IsMakingFault Has is_exact most position Memory = Unit {0}
-IsMakingFault Has is_exact most position Io = IsShut Has
 IsMakingFault Has is_exact most position _ = ⊥
 
--- The fault by its moment. While each file has what it had: the text is no position's, or making a certificate of it failed, or memory was refused.
--- Then keeping its file failed.
-abbrev pub IsCertifyFault : ShelfChange → List ℕ → List ℕ → Bool → ℕ → List ℕ → Fault → Type 0
-IsCertifyFault c file out is_exact most words (Text fault) = HasTextFault A words fault × SameFiles c.before.has c.after.has
-IsCertifyFault c file out is_exact most words Memory = SameFiles c.before.has c.after.has
-IsCertifyFault c file out is_exact most words Io = (position : Setup) × IsTextOf words position
-    × ((IsMakingFault (c.before.has file) is_exact most position Io × SameFiles c.before.has c.after.has) ⊎ IsPictureFault c out Io)
-IsCertifyFault c file out is_exact most words fault = (position : Setup) × IsTextOf words position
+-- the same by the table that was read; or memory was refused, or the other file isn't written
+abbrev pub IsTableMakingFault : ClassTable → Bool → ℕ → Setup → Fault → Type 0
+IsTableMakingFault table is_exact most position (Table fault) = by_table.IsRefusal table.family position fault
+IsTableMakingFault table is_exact most position (Certificate (Unproved refusal)) = IsUnproved table is_exact position refusal
+IsTableMakingFault table is_exact most position (Certificate (TooMany number)) = number ≡ most
+IsTableMakingFault table is_exact most position (Certificate Unfit) = (said : Content) × IsSaidOf table is_exact position said × ¬ Fits said
+IsTableMakingFault table is_exact most position Memory = Unit {0}
+IsTableMakingFault table is_exact most position Io = Unit {0}
+IsTableMakingFault table is_exact most position _ = ⊥
+
+-- such a certificate goes with the lines and the file's bytes
+abbrev pub AreMade : ClassTable → Bool → Setup → List ℕ → List ℕ → Type 0
+AreMade table is_exact position lines bytes =
+    (said : Content) × IsSaidOf table is_exact position said × (lines ≡ made_lines position said) × (bytes ≡ bytes_of said)
+
+-- The fault of certifying: the text is no position's; or the database file couldn't be opened, or the other one not made, written or kept; or memory was
+-- refused; or making a certificate of the position failed. Each file has what it had.
+abbrev pub IsCertifyFault : ShelfChange → List ℕ → Bool → ℕ → List ℕ → Fault → Type 0
+IsCertifyFault c file is_exact most words (Text fault) = HasTextFault A words fault × SameFiles c.before.has c.after.has
+IsCertifyFault c file is_exact most words Memory = SameFiles c.before.has c.after.has
+IsCertifyFault c file is_exact most words Io = (position : Setup) × IsTextOf words position × SameFiles c.before.has c.after.has
+IsCertifyFault c file is_exact most words fault = (position : Setup) × IsTextOf words position
     × IsMakingFault (c.before.has file) is_exact most position fault × SameFiles c.before.has c.after.has
 
 abbrev pub GivesCertify : {X : Type 0} → List ℕ → List ℕ → Bool → Option ℕ → List ℕ → Result (String X) Fault → ShelfChange → Type 0
 GivesCertify file out is_exact most words result c =
-    GivesLines c (AreCertifyLines c file out is_exact words) (IsCertifyFault c file out is_exact (most_entries most) words) result
-
--- what keeping a file's bytes gives
-abbrev pub KeepsBytes : List ℕ → List ℕ → Result Unit Fault → ShelfChange → Type 0
-KeepsBytes name bytes result c = IsAnswered c (λ _. IsTrue c.before.tells → HasJust name bytes c.after.has) (IsPictureFault c name) result
+    GivesLines c (AreCertifyLines c file out is_exact words) (IsCertifyFault c file is_exact (most_entries most) words) result

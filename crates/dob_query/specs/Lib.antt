@@ -2,9 +2,11 @@ pub mod Faults
 pub mod Endings
 pub mod Program
 pub mod Tables
+pub mod Telling
 pub mod Each
 pub mod Played
 pub mod ValuedMoves
+pub mod Objects
 pub mod Questions
 pub mod Shows
 pub mod Sizes

@@ -3,10 +3,9 @@ use Rattle.std.specs.Prelude.{◌≡◌, ◌⊎◌, ℕ, IsTrue, List, codes, le
 use Rattle.dob_value.specs.Follows.{ClassTable}
 use Rattle.dob_dbfile.specs.Format.{bytes_of}
 use Rattle.dob_query.specs.declared.fault.Fault.{Fault}
-use Rattle.dob_query.specs.declared.fault.Fault.TheVariants.{Memory}
-use Rattle.dob_shelf.specs.Shelves.{HasJust, SameFiles, ShelfChange}
+use Rattle.dob_shelf.specs.Shelves.{HasJust, ShelfChange}
 use Rattle.dob_query.specs.Sizes.{count_line}
-use Rattle.dob_query.specs.Keeping.{IsKeepingFault}
+use Rattle.dob_query.specs.Keeping.{IsFillingFault, LeavesFiles}
 use Rattle.dob_query.specs.Tables.{IsFileOf, IsOpeningFault}
 use Rattle.dob_query.specs.Endings.{GivesLines}
 
@@ -18,14 +17,15 @@ pub record AreMigrateLines (c : ShelfChange) (file out lines : List ℕ) : Type 
   pub kept : IsTrue c.before.tells → HasJust out (bytes_of table) c.after.has
   pub same : lines ≡ count_line (codes "classes ") (length table.values)
 
--- The fault by its moment. While each file has what it had: the file couldn't be opened, or it has that fault, or memory was refused. Then
--- the table is there, and keeping its file failed.
-abbrev pub IsMigrateFault : ShelfChange → List ℕ → List ℕ → Fault → Type 0
-IsMigrateFault c file out Memory = SameFiles c.before.has c.after.has
-IsMigrateFault c file out fault =
-    (IsOpeningFault (c.before.has file) fault × SameFiles c.before.has c.after.has)
-    ⊎ ((table : ClassTable) × IsFileOf (c.before.has file) table × IsKeepingFault c out table fault)
+-- a fault of writing the file's table anew
+abbrev pub IsRewritingFault : (List ℕ → Type 0) → Fault → Type 0
+IsRewritingFault Has fault = (table : ClassTable) × IsFileOf Has table × IsFillingFault table fault
+
+-- The fault of migrating: the file couldn't be opened, or it has that fault, or its table isn't written, or the other one is neither made nor kept.
+-- Each file has what it had.
+abbrev pub IsMigrateFault : ShelfChange → List ℕ → Fault → Type 0
+IsMigrateFault c file = LeavesFiles c (λ fault. IsOpeningFault (c.before.has file) fault ⊎ IsRewritingFault (c.before.has file) fault)
 
 -- what the call gives
 abbrev pub GivesMigrate : {X : Type 0} → List ℕ → List ℕ → Result (String X) Fault → ShelfChange → Type 0
-GivesMigrate file out result c = GivesLines c (AreMigrateLines c file out) (IsMigrateFault c file out) result
+GivesMigrate file out result c = GivesLines c (AreMigrateLines c file out) (IsMigrateFault c file) result

@@ -26,8 +26,9 @@ use Rattle.dob_records.specs.Records.{IsRecorded, LacksAlong, LacksNext, LacksRe
 use Rattle.dob_query.specs.declared.fault.Fault.{Fault}
 use Rattle.dob_query.specs.declared.fault.Fault.TheVariants.{Text, File, Table, Memory, Io}
 use Rattle.dob_query.specs.declared.questions.Question.{Question}
-use Rattle.dob_query.specs.declared.questions.Question.TheVariants.{Look, Moves, Best, Line, Draw}
+use Rattle.dob_query.specs.declared.questions.Question.TheVariants.{Look, Moves, Best, Line, Draw, ValueObject, MovesObject, LineObject}
 use Rattle.dob_query.specs.Endings.{AnswersOver, Ending, GivesLines}
+use Rattle.dob_query.specs.Objects.{line_object, moves_object, value_object}
 use Rattle.dob_query.specs.Program.{value_line}
 use Rattle.dob_query.specs.Played.{moves_lines, played_drawing}
 use Rattle.dob_query.specs.Tables.{IsShut, IsTextOf}
@@ -37,8 +38,8 @@ use Rattle.dob_shelf.specs.Shelves.{ShelfChange}
 -- ---- the answer, where Has says which value a position has
 
 -- the line tells the position's value
-abbrev pub TellsValue : (Setup → Value → Type 0) → Setup → List ℕ → Type 0
-TellsValue Has p lines = (value : Value) × Has p value × (lines ≡ value_line value)
+abbrev pub TellsValue : (Value → List ℕ) → (Setup → Value → Type 0) → Setup → List ℕ → Type 0
+TellsValue tell Has p lines = (value : Value) × Has p value × (lines ≡ tell value)
 
 -- the lines tell the moves of the position with their values
 abbrev pub TellsMoves : (List ValuedMove → List ℕ) → Profile → (Setup → Value → Type 0) → Setup → List ℕ → Type 0
@@ -51,11 +52,14 @@ TellsPlay tell profile Has p lines =
 
 -- the lines answer the question of the position
 abbrev pub IsToldBy : Question → Profile → (Setup → Value → Type 0) → Setup → List ℕ → Type 0
-IsToldBy Look profile Has p = TellsValue Has p
+IsToldBy Look profile Has p = TellsValue value_line Has p
 IsToldBy Moves profile Has p = TellsMoves move_lines profile Has p
 IsToldBy Best profile Has p = TellsMoves best_move_line profile Has p
 IsToldBy (Line is_numbered) profile Has p = TellsPlay (moves_lines is_numbered) profile Has p
 IsToldBy Draw profile Has p = TellsPlay (played_drawing p) profile Has p
+IsToldBy ValueObject profile Has p = TellsValue (value_object p) Has p
+IsToldBy MovesObject profile Has p = TellsMoves (moves_object p) profile Has p
+IsToldBy LineObject profile Has p = TellsPlay (line_object p) profile Has p
 
 -- the stream's header names the family and the format, and the position is of that family
 pub record IsOfNamed (stream : Stream) (position : Setup) (format : Format) (family : Family) : Type 0 where
@@ -78,6 +82,9 @@ LacksFor Moves = LacksNext
 LacksFor Best = LacksNext
 LacksFor (Line is_numbered) = LacksAlong
 LacksFor Draw = LacksAlong
+LacksFor ValueObject = LacksRecord
+LacksFor MovesObject = LacksNext
+LacksFor LineObject = LacksAlong
 
 -- where it asks for the line, that breaks off at the class
 abbrev pub BreaksFor : Question → Stream → Format → Family → Setup → ℕ → Type 0
@@ -86,6 +93,9 @@ BreaksFor Moves stream format family p class = ⊥
 BreaksFor Best stream format family p class = ⊥
 BreaksFor (Line is_numbered) stream format family p class = BreaksBy family (IsRecorded stream format family) p class
 BreaksFor Draw stream format family p class = BreaksBy family (IsRecorded stream format family) p class
+BreaksFor ValueObject stream format family p class = ⊥
+BreaksFor MovesObject stream format family p class = ⊥
+BreaksFor LineObject stream format family p class = BreaksBy family (IsRecorded stream format family) p class
 
 -- a fault of answering by the records of a source that shows these streams, in that format and family
 abbrev pub IsRecordsFault : Question → (Stream → Type 0) → Format → Family → Setup → Fault → Type 0

@@ -1,5 +1,5 @@
 -- What the program owes where it is asked about the position of each line of standard input.
-use Rattle.std.specs.Prelude.{◌≡◌, ◌⊎◌, true, false, ℕ, Bool, List, [], ◌∷◌, ◌++◌, None, Option, Some, Result, Ok, Err, String, is_err, string_bytes}
+use Rattle.std.specs.Prelude.{◌≡◌, ◌⊎◌, true, false, ℕ, Bool, List, [], ◌∷◌, ◌++◌, None, Option, Result, Ok, Err, String, is_err, string_bytes}
 use Rattle.dob_pieces.specs.declared.profile.Family.{Family}
 use Rattle.dob_pieces.specs.declared.profile.Profile.{Profile}
 use Rattle.dob_pieces.specs.declared.profile.Profile.TheVariants.{A}
@@ -9,45 +9,57 @@ use Rattle.dob_text.specs.Faults.{HasTextFault}
 use Rattle.dob_rank.specs.Families.{IsPositionOf}
 use Rattle.dob_value.specs.Values.{HasValue}
 use Rattle.dob_dbfile.specs.declared.fault.Fault.TheVariants as file_fault
-use Rattle.dob_dbfile.specs.Devices.{Stream, whole}
+use Rattle.dob_dbfile.specs.Devices.{Stream}
+use Rattle.dob_dbfile.specs.Sinks.{Change}
 use Rattle.dob_dbfile.specs.declared.header.Format.{Format}
 use Rattle.dob_dbfile.specs.Faults.{CountsClasses}
 use Rattle.dob_dbfile.specs.Looking.{HasFrontFault}
 use Rattle.dob_probe.specs.declared.fault.Fault.TheVariants as table_fault
 use Rattle.dob_probe.specs.Faults.{IsRefusal}
 use Rattle.dob_records.specs.Records.{IsRecorded}
-use Rattle.dob_query.specs.declared.each.LineAnswers.{LineAnswers}
 use Rattle.dob_query.specs.declared.fault.Fault.{Fault}
 use Rattle.dob_query.specs.declared.fault.Fault.TheVariants.{Text, File, Table, Memory, Io}
 use Rattle.dob_query.specs.declared.questions.Question.{Question}
-use Rattle.dob_query.specs.declared.questions.Question.TheVariants.{Moves, Line}
-use Rattle.dob_query.specs.Each.{AnswersLines, GivesAnswers, TellsLinesOf}
+use Rattle.dob_query.specs.declared.questions.Question.TheVariants.{Moves, Line, ValueObject, MovesObject, LineObject}
+use Rattle.dob_query.specs.Telling.{AnswersLines, TellsLinesOf, TellsOne, TellsOver, Told}
 use Rattle.dob_query.specs.Endings.{Ending}
 use Rattle.dob_query.specs.Faults.{fault_text, is_io}
+use Rattle.dob_query.specs.Objects.{fault_object}
 use Rattle.dob_query.specs.Questions.{GivesWhole, IsAnswerOf, IsFaultOfAsking, IsOfNamed, IsRecordsFault, IsToldBy, LacksFor}
 use Rattle.dob_query.specs.Tables.{IsShut, IsTextOf}
 use Rattle.dob_shelf.specs.Shelves.{ShelfChange}
 
 -- ---- what is printed
 
--- what stands behind each answer: an empty line where an answer may have more lines than one
-abbrev pub end_of : Question → List ℕ
-end_of Moves = line_feed ∷ []
-end_of (Line true) = line_feed ∷ []
-end_of _ = []
+-- what stands behind an answer, and how a fault is told in its place
+abbrev pub End : Type 0
+End = List ℕ × (Fault → List ℕ)
+
+-- such an end, and a fault without `dobutsu: ` before it
+abbrev pub plain_end : List ℕ → End
+plain_end end = (end, λ fault. fault_text fault ++ (line_feed ∷ end))
+
+-- an empty line where an answer may have more lines than one; a fault is an object where answers are
+abbrev pub end_of : Question → End
+end_of Moves = plain_end (line_feed ∷ [])
+end_of (Line true) = plain_end (line_feed ∷ [])
+end_of ValueObject = ([], fault_object)
+end_of MovesObject = ([], fault_object)
+end_of LineObject = ([], fault_object)
+end_of _ = plain_end []
 
 -- what a call gave, as bytes
 abbrev pub bytes_of : {X : Type 0} → Result (String X) Fault → Result (List ℕ) Fault
 bytes_of (Ok text) = Ok (string_bytes text)
 bytes_of (Err fault) = Err fault
 
--- the lines of an answer, or of a fault without `dobutsu: `, and then that end
-abbrev pub ended_lines : List ℕ → Result (List ℕ) Fault → List ℕ
-ended_lines end (Ok lines) = lines ++ end
-ended_lines end (Err fault) = fault_text fault ++ (line_feed ∷ end)
+-- the lines of an answer with that end, or of a fault
+abbrev pub ended_lines : End → Result (List ℕ) Fault → List ℕ
+ended_lines end (Ok lines) = lines ++ end.0
+ended_lines end (Err fault) = end.1 fault
 
--- the text gives what the lines of the input come to, and whether one was refused
-abbrev pub TellsAnswersOf : Question → (List ℕ → Result (List ℕ) Fault → Type 0) → List ℕ → Bool → List ℕ → Type 0
+-- the text gives what the lines come to, and whether one was refused
+abbrev pub TellsAnswersOf : Question → (List ℕ → Result (List ℕ) Fault → Type 0) → List (List ℕ) → Bool → List ℕ → Type 0
 TellsAnswersOf question = TellsLinesOf (Result (List ℕ) Fault) (ended_lines (end_of question)) is_err
 
 -- ---- a line, by a file that may give these streams
@@ -76,12 +88,9 @@ abbrev pub IsPlaceAnswer : (List ℕ → List ℕ → Type 0) → Question → (
 IsPlaceAnswer IsTold question Gives line (Ok lines) = IsTold line lines
 IsPlaceAnswer IsTold question Gives line (Err fault) = IsPlaceFault question Gives line fault
 
--- the text gives what the lines of standard input's bytes come to, where these are known
-pub record ArePlaceLines (IsTold : List ℕ → List ℕ → Type 0) (question : Question) (c : ShelfChange) (file : List ℕ) (is_refused : Bool)
-    (text : List ℕ) : Type 0 where
-  pub input : List ℕ
-  pub read : (known : List ℕ) → c.before.input ≡ Some known → input ≡ known
-  pub told : TellsAnswersOf question (IsPlaceAnswer IsTold question (GivesWhole (c.before.has file))) input is_refused text
+-- the text gives what the lines come to by the file
+abbrev pub ArePlaceLines : (List ℕ → List ℕ → Type 0) → Question → (List ℕ → Type 0) → List (List ℕ) → Bool → List ℕ → Type 0
+ArePlaceLines IsTold question Has = TellsAnswersOf question (IsPlaceAnswer IsTold question (GivesWhole Has))
 
 -- A fault that ends all: one of the header, or memory failed, or the file couldn't be opened. Or standard input failed, of which nothing was
 -- known.
@@ -130,15 +139,12 @@ abbrev pub ends_all_in : {X : Type 0} → Result X Fault → Bool
 ends_all_in (Ok x) = false
 ends_all_in (Err fault) = ends_all fault
 
--- By a source that may give and show these streams: the text gives what the lines of standard input's bytes come to, by the family that the
--- header names.
-pub record TellsRecords (question : Question) (Gives Shows : Stream → Type 0) (known : Option (List ℕ)) (is_refused : Bool) (text : List ℕ) : Type 0 where
+-- By a source that may give and show these streams the text gives what the lines come to, by the family that the header names.
+pub record TellsRecords (question : Question) (Gives Shows : Stream → Type 0) (lines : List (List ℕ)) (is_refused : Bool) (text : List ℕ) : Type 0 where
   pub format : Format
   pub family : Family
   pub named : (stream : Stream) → Gives stream → CountsClasses format family stream.bytes
-  pub input : List ℕ
-  pub read : (bytes : List ℕ) → known ≡ Some bytes → input ≡ bytes
-  pub told : TellsAnswersOf question (IsRecordAnswer question Shows format family) input is_refused text
+  pub told : TellsAnswersOf question (IsRecordAnswer question Shows format family) lines is_refused text
 
 -- what ends all of that
 abbrev pub EndsRecords : (Stream → Type 0) → (Stream → Type 0) → Option (List ℕ) → Fault → Type 0
@@ -148,12 +154,17 @@ EndsRecords Gives Shows known Memory = Unit {0}
 EndsRecords Gives Shows known Io = known ≡ None
 EndsRecords Gives Shows known _ = ⊥
 
--- ---- what the program does
+-- what is told of a line that comes to that
+abbrev pub IsToldOf : Question → (Stream → Type 0) → Format → Family → List ℕ → Told → Type 0
+IsToldOf question Shows format family = TellsOne (ended_lines (end_of question)) is_err (IsRecordAnswer question Shows format family)
 
-abbrev pub GivesQuestionEach : Question → List ℕ → Result LineAnswers Fault → ShelfChange → Type 0
-GivesQuestionEach question file result c =
-    GivesAnswers c (ArePlaceLines (AnswersLine question (GivesWhole (c.before.has file))) question c file) (IsPlacesFault c file) result
+-- ---- what the call gives, and what the program does
+
+abbrev pub GivesQuestionEach : Question → List ℕ → Result Bool Fault → ShelfChange → Change → Type 0
+GivesQuestionEach question file result c out =
+    TellsOver c (ArePlaceLines (AnswersLine question (GivesWhole (c.before.has file))) question (c.before.has file)) (IsPlacesFault c file) out result
 
 -- the same, where each answer says what is right by definition and the rules of the profile
 abbrev pub AnswersQuestionEachRight : ShelfChange → Profile → Question → List ℕ → Ending → Type 0
-AnswersQuestionEachRight c profile question file = AnswersLines c (ArePlaceLines (AnswersLineRight question profile) question c file) (IsPlacesFault c file)
+AnswersQuestionEachRight c profile question file =
+    AnswersLines c (ArePlaceLines (AnswersLineRight question profile) question (c.before.has file)) (IsPlacesFault c file)

@@ -1,5 +1,5 @@
 -- What the program owes where it is asked to show a position.
-use Rattle.std.specs.Prelude.{◌≡◌, ◌⊎◌, ℕ, IsTrue, List, [], Option, None, Some, Result, String}
+use Rattle.std.specs.Prelude.{◌≡◌, ◌⊎◌, ℕ, IsTrue, List, Option, None, Some, Result, String, is_some, true}
 use Rattle.dob_pieces.specs.declared.profile.Profile.TheVariants.{A}
 use Rattle.dob_pieces.specs.declared.setup.Setup.{Setup}
 use Rattle.dob_text.specs.Drawings.{drawing_of}
@@ -9,8 +9,9 @@ use Rattle.dob_pieces.specs.declared.profile.Profile.{Profile}
 use Rattle.dob_value.specs.Values.{HasValue}
 use Rattle.dob_query.specs.declared.fault.Fault.{Fault}
 use Rattle.dob_query.specs.declared.fault.Fault.TheVariants.{Text, Memory, Io}
-use Rattle.dob_query.specs.Endings.{AnswersOver, Ending, GivesLines, IsAnswered}
+use Rattle.dob_query.specs.Endings.{AnswersOver, Ending, GivesLines}
 use Rattle.dob_shelf.specs.Shelves.{Files, HasJust, SameFiles, SameOthers, ShelfChange}
+use Rattle.dob_query.specs.Keeping.{IsShelfFault}
 use Rattle.dob_query.specs.Tables.{IsTextOf}
 use Rattle.dob_query.specs.declared.questions.Question.TheVariants.{Draw}
 use Rattle.dob_query.specs.Questions.{IsAnswerBy, IsAskingFault, IsToldBy}
@@ -53,34 +54,23 @@ abbrev pub IsDrawingFault : Files → Option (List ℕ) → Setup → Fault → 
 IsDrawingFault Has file position Memory = Unit {0}
 IsDrawingFault Has file position fault = IsFaultBy Has file position fault
 
--- The fault of keeping a picture's file, by its moment. Memory for the picture or for making the file was refused, or the file couldn't
--- be made: each file has what it had. Or it was made and nothing of it is kept: where the shelf tells its bytes it is empty.
-abbrev pub IsPictureFault : ShelfChange → List ℕ → Fault → Type 0
-IsPictureFault c name Memory = SameFiles c.before.has c.after.has
-IsPictureFault c name Io = SameFiles c.before.has c.after.has ⊎ (IsTrue c.before.tells → HasJust name [] c.after.has)
-IsPictureFault c name _ = ⊥
-
--- the picture that is asked for, if one is, failed
-abbrev pub IsUnkept : ShelfChange → Option (List ℕ) → Type 0
-IsUnkept c None = ⊥
-IsUnkept c (Some name) = IsPictureFault c name Io
-
--- The fault of showing, by its moment. While each file has what it had: the text is no position's, or asking the file failed, or memory
--- was refused. Then the picture's file failed.
+-- The fault of showing: the text is no position's, or asking the file failed, or the file of the picture that is asked for, if one is, or memory was
+-- refused. Each file has what it had.
 abbrev pub IsShowFault : ShelfChange → Option (List ℕ) → Option (List ℕ) → List ℕ → Fault → Type 0
 IsShowFault c file picture words (Text fault) = HasTextFault A words fault × SameFiles c.before.has c.after.has
 IsShowFault c file picture words Memory = SameFiles c.before.has c.after.has
 IsShowFault c file picture words Io = (position : Setup) × IsTextOf words position
-    × ((IsFaultBy c.before.has file position Io × SameFiles c.before.has c.after.has) ⊎ IsUnkept c picture)
+    × (IsFaultBy c.before.has file position Io ⊎ (is_some picture ≡ true)) × SameFiles c.before.has c.after.has
 IsShowFault c file picture words fault = (position : Setup) × IsTextOf words position
     × IsFaultBy c.before.has file position fault × SameFiles c.before.has c.after.has
 
 -- ---- what the calls give
 
--- the picture's file is kept, or its fault holds
-abbrev pub KeepsPicture : List ℕ → Setup → Result Unit Fault → ShelfChange → Type 0
-KeepsPicture name position result c =
-    IsAnswered c (λ _. IsTrue c.before.tells → HasJust name (picture_of position) c.after.has) (IsPictureFault c name) result
+-- the picture's file is kept and the lines are told, or that failed and each file has what it had
+abbrev pub KeepsPicture : {X : Type 0} → List ℕ → Setup → List ℕ → Result (String X) Fault → ShelfChange → Type 0
+KeepsPicture name position lines result c =
+    GivesLines c (λ told. (told ≡ lines) × (IsTrue c.before.tells → HasJust name (picture_of position) c.after.has))
+    (λ fault. IsShelfFault fault × SameFiles c.before.has c.after.has) result
 
 abbrev pub GivesShow : {X : Type 0} → Option (List ℕ) → Option (List ℕ) → List ℕ → Result (String X) Fault → ShelfChange → Type 0
 GivesShow file picture words result c = GivesLines c (AreShowLines c file picture words) (IsShowFault c file picture words) result

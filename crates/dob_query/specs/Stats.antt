@@ -1,5 +1,5 @@
 -- What the program owes where it is asked for the statistics of a database file.
-use Rattle.std.specs.Prelude.{◌≡◌, ℕ, Bool, true, false, List, [], ◌∷◌, ◌++◌, Option, None, Some, codes, flat_map, fold, Result, String}
+use Rattle.std.specs.Prelude.{◌≡◌, ℕ, List, [], ◌∷◌, ◌++◌, Option, None, Some, codes, flat_map, fold, Result, String}
 use Rattle.std.specs.Fmt.{decimal}
 use Rattle.dob_pieces.specs.declared.profile.Profile.{Profile}
 use Rattle.dob_pieces.specs.declared.setup.Setup.{Setup}
@@ -12,6 +12,9 @@ use Rattle.dob_value.specs.Follows.{ClassTable}
 use Rattle.dob_probe.specs.declared.groups.Group.{Group}
 use Rattle.dob_probe.specs.Statistics.{AreGroups}
 use Rattle.dob_query.specs.declared.stats.Longest.{Longest}
+use Rattle.dob_query.specs.declared.stats.StatsForm.{StatsForm}
+use Rattle.dob_query.specs.declared.stats.StatsForm.TheVariants as forms
+use Rattle.dob_query.specs.Objects.{group_object}
 use Rattle.dob_query.specs.Keeping.{class_lines}
 use Rattle.dob_query.specs.declared.fault.Fault.{Fault}
 use Rattle.dob_query.specs.Endings.{AnswersOver, Ending, GivesLines}
@@ -36,10 +39,11 @@ group_line group = distance_line group.value group.classes
 abbrev pub csv_row : Group → List ℕ
 csv_row group = value_row (codes ",") group.value group.classes
 
--- the line of a group in one of the two ways
-abbrev pub group_text : Bool → Group → List ℕ
-group_text true = csv_row
-group_text false = group_line
+-- the line of a group in one of the three ways
+abbrev pub group_text : StatsForm → Group → List ℕ
+group_text forms.Lines = group_line
+group_text forms.Csv = csv_row
+group_text forms.Objects = group_object
 
 -- the names of both fields, and a line for each value that occurs: the draws, and then by ascending distance
 abbrev pub csv_lines : List Group → List ℕ
@@ -79,28 +83,29 @@ pub record AreStatsOf (table : ClassTable) (groups : List Group) (lines : List �
   pub longest_loss : IsLongestLine table (longest_of groups).loss loss
   pub same : lines ≡ class_lines table.values ++ (flat_map group_line groups ++ (win ++ loss))
 
--- what is printed of the table by its groups, in one of the two ways
-abbrev pub AreStatsFor : Bool → ClassTable → List Group → List ℕ → Type 0
-AreStatsFor true table groups lines = lines ≡ csv_lines groups
-AreStatsFor false table groups lines = AreStatsOf table groups lines
+-- what is printed of the table by its groups, in one of the three ways
+abbrev pub AreStatsFor : StatsForm → ClassTable → List Group → List ℕ → Type 0
+AreStatsFor forms.Lines table groups lines = AreStatsOf table groups lines
+AreStatsFor forms.Csv table groups lines = lines ≡ csv_lines groups
+AreStatsFor forms.Objects table groups lines = lines ≡ flat_map group_object groups
 
 -- the lines give the numbers of such a table, by the groups of its classes of one value
-pub record AreStatsLines (Is : ClassTable → Type 0) (is_csv : Bool) (lines : List ℕ) : Type 0 where
+pub record AreStatsLines (Is : ClassTable → Type 0) (form : StatsForm) (lines : List ℕ) : Type 0 where
   pub table : ClassTable
   pub is : Is table
   pub groups : List Group
   pub grouped : AreGroups table.values groups
-  pub told : AreStatsFor is_csv table groups lines
+  pub told : AreStatsFor form table groups lines
 
 -- the fault is one of opening the file, or memory failed
 abbrev pub IsStatsFault : (List ℕ → Type 0) → Fault → Type 0
 IsStatsFault Has fault = IsOpeningFault Has fault
 
 -- what the call gives
-abbrev pub GivesStats : {X : Type 0} → List ℕ → Bool → Result (String X) Fault → ShelfChange → Type 0
-GivesStats file is_csv result c = GivesLines c (AreStatsLines (IsFileOf (c.before.has file)) is_csv) (IsStatsFault (c.before.has file)) result
+abbrev pub GivesStats : {X : Type 0} → List ℕ → StatsForm → Result (String X) Fault → ShelfChange → Type 0
+GivesStats file form result c = GivesLines c (AreStatsLines (IsFileOf (c.before.has file)) form) (IsStatsFault (c.before.has file)) result
 
 -- what the program answers where the values that are counted are right by the rules of the profile
-abbrev pub AnswersStatsRight : ShelfChange → Profile → List ℕ → Bool → Ending → Type 0
-AnswersStatsRight c profile file is_csv =
-    AnswersOver c (AreStatsLines (IsRightFileOf (c.before.has file) profile) is_csv) (IsStatsFault (c.before.has file))
+abbrev pub AnswersStatsRight : ShelfChange → Profile → List ℕ → StatsForm → Ending → Type 0
+AnswersStatsRight c profile file form =
+    AnswersOver c (AreStatsLines (IsRightFileOf (c.before.has file) profile) form) (IsStatsFault (c.before.has file))

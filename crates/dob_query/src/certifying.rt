@@ -1,24 +1,27 @@
 // Making a certificate's file by the table of a database file.
-ghost use Rattle.std.specs.Prelude.{◌≡◌, ◌++◌, IfOk, IfErr, OnOk, codes, string_bytes};
+ghost use Rattle.std.specs.Prelude.{◌≡◌, ◌++◌, IfOk, IfErr, OnOk, codes, false, string_bytes};
 ghost use Rattle.dob_rank.specs.Families.{IsInClass, IsPositionOf};
 ghost use Rattle.dob_certificate.specs.Claims.{Holds};
 ghost use Rattle.dob_certfile.specs.Format.{bytes_of, content};
 ghost use Rattle.dob_certify.specs.Made.{IsMade};
 ghost use Rattle.dob_certify.specs.Faults.{IsFault};
 ghost use Rattle.dob_shelf.specs.Shelves.{Leaving, SameOthers};
-ghost use Rattle.dob_query.specs.Certificates.{GivesCertify, IsSaidOf, IsUnfit, KeepsBytes, made_lines, most_entries};
+ghost use Rattle.dob_dbfile.specs.Sinks.{change};
+ghost use Rattle.dob_query.specs.Certificates.{AreMade, GivesCertify, IsSaidOf, IsTableMakingFault, IsUnfit, made_lines, most_entries};
+ghost use Rattle.dob_query.specs.Keeping.{FillsSink};
 ghost use Rattle.dob_query.specs.Sizes.{count_line};
 
 use crate::certificate_fault::CertificateFault;
 use crate::certificates::claim_line;
 use crate::fault::{Fault, Lines};
+use crate::keeping::{fill, keep_filled};
 use crate::positions::position_named;
 use crate::progress::{Console, Progress};
 use crate::tables::open;
 use dob_certfile::{CertificateFile, WriteFault, certificate_bytes};
 use dob_certify::{Certified, certify, rounds_of};
 use dob_classes::Classes;
-use dob_dbfile::{Failed, put_all};
+use dob_dbfile::Sink;
 use dob_pieces::{Memory, Position};
 use dob_probe::probe;
 use dob_shelf::Shelf;
@@ -28,7 +31,7 @@ use std::thread::Threads;
 
 /// Keeps under the other name a certificate of what the table of the file says of the position that the text names, exact if that is asked for and
 /// of at most `most` entries if a number is given. Gives the lines that say what it proves and how many entries it has. Where it is watched, lines
-/// on the console say how far that is.
+/// on the console say how far that is. The other file is made when the first one is read, before the certificate is looked for.
 pub fn answer_certify<S: Shelf>(
     rt: &(impl Threads + Sync + Console),
     alloc: Global,
@@ -45,11 +48,32 @@ pub fn answer_certify<S: Shelf>(
     let position = position_named(text)?;
     let table = open(alloc, shelf, file)?;
     let most = most_entries(most);
-    let certificate = made_file(rt, alloc, &table, &position, most, is_exact, is_watched)?;
+    let mut sink = shelf.make(out)?;
+    let filled = fill_certificate(
+        rt, alloc, &mut sink, &table, &position, most, is_exact, is_watched,
+    );
+    keep_filled(shelf, out, sink, filled)
+}
+
+// Fills the sink with the file of a certificate of the position by the table. The lines that say what is proved.
+fn fill_certificate<D: Sink>(
+    rt: &(impl Threads + Sync + Console),
+    alloc: Global,
+    sink: &mut D,
+    table: &Table,
+    position: &Position,
+    most: u64,
+    is_exact: bool,
+    is_watched: bool,
+) -> Lines
+    requires { (D.state sink.old).has_failed ≡ false }
+    ensures { FillsSink (AreMade table.now is_exact position.now.setup) (IsTableMakingFault table.now is_exact most position.now.setup) result
+        (change (D.state sink.old) (D.state sink.new)) }
+{
+    let certificate = made_file(rt, alloc, table, position, most, is_exact, is_watched)?;
     let bytes = bytes_of(alloc, &certificate)?;
-    let lines = made_lines(alloc, &position, &certificate)?;
-    keep_bytes(shelf, out, &bytes)?;
-    Ok(lines)
+    let lines = made_lines(alloc, position, &certificate)?;
+    fill(sink, &bytes, lines)
 }
 
 // The greatest number of entries.
@@ -147,23 +171,5 @@ fn bytes_of(alloc: Global, file: &CertificateFile) -> Result<Vec<u8>, Fault>
         Ok(bytes) => Ok(bytes),
         Err(WriteFault::Unfit) => Err(Fault::Certificate(CertificateFault::Unfit)),
         Err(WriteFault::Memory | WriteFault::Io(_)) => Err(Fault::Memory),
-    }
-}
-
-// Keeps a file of these bytes under the name. Where it can't be written its sink is given up.
-fn keep_bytes<S: Shelf>(shelf: &mut S, name: &str, bytes: &[u8]) -> Result<(), Fault>
-    ensures { Leaving (SameOthers name.now) S.state shelf.old shelf.new (KeepsBytes name.now bytes.now result) }
-{
-    let mut sink = shelf.make(name)?;
-    match put_all(&mut sink, bytes) {
-        Ok(()) => {}
-        Err(_) => {
-            shelf.discard(name, sink);
-            return Err(Fault::Io);
-        }
-    }
-    match shelf.keep(name, sink) {
-        Ok(()) => Ok(()),
-        Err(Failed) => Err(Fault::Io),
     }
 }

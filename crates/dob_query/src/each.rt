@@ -1,78 +1,54 @@
 // The answers to the lines of standard input, by the table of a database file.
-ghost use Rattle.std.specs.Prelude.{◌≡◌, ◌++◌, ◌||◌, [], false, IfOk, OnOk, string_bytes};
-ghost use Rattle.dob_query.specs.Each.{IsAnswer, IsGivenTo, TellsValuesOf, answer_line, status_of_lines, GivesEach};
+ghost use Rattle.std.specs.Prelude.{◌≡◌, false, IfOk, string_bytes};
+ghost use Rattle.dob_dbfile.specs.Sinks.{change};
+ghost use Rattle.dob_query.specs.Each.{GivesEach, IsAnswer, IsGivenTo, IsToldValue, answer_line};
+ghost use Rattle.dob_query.specs.declared.fault.Fault.TheVariants.{Memory as OutOfMemory};
 ghost use Rattle.dob_shelf.specs.Shelves.{Leaving, SameFiles};
 
 use crate::fault::Fault;
-use crate::input_lines::first_line;
 use crate::positions::position_on;
 use crate::tables::open;
+use crate::talk::{Answerer, LineAnswers, tell_each};
 use crate::values::line_of;
+use dob_dbfile::Sink;
 use dob_pieces::Memory;
 use dob_probe::probe;
 use dob_shelf::Shelf;
 use dob_value::{Table, Value};
 use std::alloc::Global;
 
-/// The answers to some lines, each on a line of its own, and whether one of these was refused.
-#[derive(Drop)]
-pub struct LineAnswers {
-    pub lines: String,
-    pub is_refused: bool,
-}
-
-impl LineAnswers {
-    /// The exit status that goes with them.
-    pub fn status(&self) -> u8
-        ensures { result ≡ status_of_lines self.now.is_refused }
-    {
-        if self.is_refused { 1 } else { 0 }
-    }
-
-    /// No answers.
-    pub(crate) fn none(alloc: Global) -> LineAnswers
-        ensures lines { string_bytes result.lines ≡ [] }
-        ensures refused { result.is_refused ≡ false }
-    {
-        LineAnswers {
-            lines: String::new(alloc),
-            is_refused: false,
-        }
-    }
-
-    /// Adds the lines of an answer behind the others, of a line that may be refused.
-    pub(crate) fn add(&mut self, lines: &str, is_refused: bool) -> Result<(), Memory>
-        ensures lines { OnOk result (string_bytes self.new.lines ≡ string_bytes self.old.lines ++ lines.now) }
-        ensures refused { OnOk result (self.new.is_refused ≡ (self.old.is_refused || is_refused)) }
-    {
-        self.lines.push_str(lines)?;
-        self.is_refused |= is_refused;
-        Ok(())
-    }
-}
-
-/// The answers to the lines of standard input by the table of the file, which is read before them.
-pub fn answer_each<S: Shelf>(alloc: Global, shelf: &mut S, file: &str) -> Result<LineAnswers, Fault>
-    ensures { Leaving SameFiles S.state shelf.old shelf.new (GivesEach file.now result) }
+/// Tells the answer to each line of standard input by the table of the file, which is read before the first one, and whether one of them was refused.
+pub fn answer_each<S: Shelf, O: Sink>(
+    alloc: Global,
+    shelf: &mut S,
+    out: &mut O,
+    file: &str,
+) -> Result<bool, Fault>
+    ensures { Leaving SameFiles S.state shelf.old shelf.new (λ c. GivesEach file.now result c (change (O.state out.old) (O.state out.new))) }
 {
     let table = open(alloc, shelf, file)?;
-    let input = shelf.input()?;
-    Ok(answers_to(alloc, &table, &input)?)
+    tell_each(alloc, &mut ByTable { table }, shelf, out)
 }
 
-// The answers to the lines of the bytes.
-fn answers_to(alloc: Global, table: &Table, input: &[u8]) -> Result<LineAnswers, Memory>
-    ensures { IfOk result (λ answers. TellsValuesOf (IsAnswer (IsGivenTo table.now) table.now) input.now answers.is_refused (string_bytes answers.lines)) }
-{
-    let mut answers = LineAnswers::none(alloc);
-    let mut left = input;
-    while let Some((line, rest)) = first_line(left) {
-        let answer = answer_to(table, line);
-        let told = answer_line(alloc, answer)?;
-        answers.add(told.as_str(), answer.is_err())?;
-        left = rest;
+// What answers lines by a table.
+#[derive(Drop)]
+struct ByTable {
+    table: Table,
+}
+
+impl Answerer for ByTable {
+    ghost answers = { λ by. IsToldValue by.table };
+
+    ghost ends = { λ _ fault. fault ≡ OutOfMemory };
+
+    ghost has_failed = { λ _. false };
+
+    fn answer(&mut self, alloc: Global, line: &[u8]) -> Result<LineAnswers, Fault> {
+        let answer = answer_to(&self.table, line);
+        let is_refused = answer.is_err();
+        let lines = answer_line(alloc, answer)?;
+        Ok(LineAnswers { lines, is_refused })
     }
-    Ok(answers)
 }
 
 // The value that the table gives the line's position, or why there is none.

@@ -4,8 +4,9 @@
 // - `reach` with a file goes by the file's rules, whatever `--rules` says. `show` draws in letters, those of a position's text.
 // - `stats` finds the longest ends by their groups; a kind that doesn't occur has no line. `puzzles` answers a length that no puzzle has by a line with
 //   status 2, since `clap` has no rule for odd numbers.
-// - `probe --each` answers a refused line on standard output, so answers stand in the order of the lines; a fault that ends all leaves no answer. `look
-//   --each` reads the header once, before standard input; a record that isn't whole refuses its line alone, a device that fails ends all.
+// - `probe --each` answers a refused line on standard output, so answers stand in the order of the lines; a fault that ends all comes behind the answers of
+//   the lines before. `look --each` reads the header once, before standard input; a record that isn't whole refuses its line alone, a device that fails
+//   ends all. Answers are held only while the next line is at hand, and 64 KB of them at most; so each line is answered before the next is waited for.
 // - `migrate` reads the whole file into a table and writes it as `build` does: no digest is carried over, both names may be one, and a damaged file makes no
 //   other. `show --svg` makes its file last.
 // - Progress is estimated by settlements: those expanded, of as many as there are classes. Drawn classes have none (0.5 to 7 %), improved ones several;
@@ -21,9 +22,9 @@ mod certifying;
 mod counts;
 mod each;
 mod fault;
-mod input_lines;
 mod keeping;
 mod migrations;
+mod objects;
 mod played;
 mod positions;
 mod progress;
@@ -35,6 +36,7 @@ mod replying;
 mod shows;
 mod stats;
 mod tables;
+mod talk;
 mod tally;
 mod valued_moves;
 mod values;
@@ -44,10 +46,10 @@ pub use certificate_fault::CertificateFault;
 pub use certificates::answer_verify;
 pub use certifying::answer_certify;
 pub use counts::answer_count;
-pub use dob_shelf::{DiskFile, DiskShelf, Heard, MemShelf, Note, Place, Shelf, ShelfFault};
-pub use each::{LineAnswers, answer_each};
+pub use dob_shelf::{Claim, DiskFile, DiskShelf, Heard, MemShelf, Note, Place, Shelf, ShelfFault};
+pub use each::answer_each;
 pub use fault::{Fault, Lines};
-pub use keeping::{keep_table, lines_of};
+pub use keeping::{fill_with_table, keep_filled, lines_of};
 pub use migrations::answer_migrate;
 pub use progress::{Console, Progress, tell_need};
 pub use puzzles::{PuzzleSearch, answer_puzzles};
@@ -56,7 +58,7 @@ pub use questions_each::answer_question_each;
 pub use reaches::{ReachSearch, answer_reach};
 pub use replying::answer_reply;
 pub use shows::answer_show;
-pub use stats::answer_stats;
+pub use stats::{StatsForm, answer_stats};
 pub use tables::{answer_check, answer_probe};
 pub use values::answer_value;
 pub use zugzwangs::answer_zugzwangs;

@@ -6,10 +6,11 @@ ghost use Rattle.dob_records.specs.Records.{IsRecorded};
 ghost use Rattle.dob_shelf.specs.Shelves.{Leaving, SameFiles};
 ghost use Rattle.dob_query.specs.Endings.{GivesLines};
 ghost use Rattle.dob_query.specs.Faults.{is_io_error};
-ghost use Rattle.dob_query.specs.declared.questions.Question.TheVariants.{Look, Moves, Best, Line, Draw};
+ghost use Rattle.dob_query.specs.declared.questions.Question.TheVariants.{Look, Moves, Best, Line, Draw, ValueObject, MovesObject, LineObject};
 ghost use Rattle.dob_query.specs.Questions.{GivesAnswer, IsAnswerBy, IsAnswerOf, IsAskingFault, IsFaultOfAsking, IsRecordsFault, IsToldBy};
 
 use crate::fault::Lines;
+use crate::objects::{line_object, moves_object, value_object};
 use crate::played::{moves_lines, played_drawing};
 use crate::positions::position_named;
 use crate::valued_moves::{best_move_line, move_lines};
@@ -35,6 +36,12 @@ pub enum Question {
     Line { is_numbered: bool },
     /// Its drawing, with its value and its line.
     Draw,
+    /// Its value, as a JSON object.
+    ValueObject,
+    /// Its moves with their values, as one.
+    MovesObject,
+    /// Its value and its line, as one.
+    LineObject,
 }
 
 /// The lines that answer the question of the position that the text names, by the header of the file and the records that it needs. The file is
@@ -118,6 +125,9 @@ pub(crate) fn answer_by_records<R: PlacedSource>(
             position,
         ),
         Question::Draw => told_drawing(alloc, source, format, classes, position),
+        Question::ValueObject => told_value_object(alloc, source, format, classes, position),
+        Question::MovesObject => told_moves_object(alloc, source, format, classes, position),
+        Question::LineObject => told_line_object(alloc, source, format, classes, position),
     }
 }
 
@@ -215,4 +225,61 @@ fn told_drawing<R: PlacedSource>(
 {
     let (value, moves) = line_by_records(alloc, source, format, classes, position)?;
     Ok(played_drawing(alloc, position, value, &moves)?)
+}
+
+// The value, as an object.
+fn told_value_object<R: PlacedSource>(
+    alloc: Global,
+    source: &mut R,
+    format: Format,
+    classes: &Classes,
+    position: &Position,
+) -> Lines
+    requires { IsPositionOf classes.now.family position.now.setup }
+    ensures ok { (stream : Stream) → R.shows source.old stream → IfOk result (λ lines. IsToldBy ValueObject classes.now.family.profile
+        (IsRecorded stream format classes.now.family) position.now.setup (string_bytes lines)) }
+    ensures fault { IfErr result (IsRecordsFault ValueObject (R.shows source.old) format classes.now.family position.now.setup) }
+    ensures shown { (stream : Stream) → R.shows source.old stream → R.shows source.new stream }
+    ensures failed { R.has_failed source.new ≡ (R.has_failed source.old || is_io_error result) }
+{
+    let value = value_at(source, format, classes, position)?;
+    Ok(value_object(alloc, position, value)?)
+}
+
+// The moves with their values, as an object.
+fn told_moves_object<R: PlacedSource>(
+    alloc: Global,
+    source: &mut R,
+    format: Format,
+    classes: &Classes,
+    position: &Position,
+) -> Lines
+    requires { IsPositionOf classes.now.family position.now.setup }
+    ensures ok { (stream : Stream) → R.shows source.old stream → IfOk result (λ lines. IsToldBy MovesObject classes.now.family.profile
+        (IsRecorded stream format classes.now.family) position.now.setup (string_bytes lines)) }
+    ensures fault { IfErr result (IsRecordsFault MovesObject (R.shows source.old) format classes.now.family position.now.setup) }
+    ensures shown { (stream : Stream) → R.shows source.old stream → R.shows source.new stream }
+    ensures failed { R.has_failed source.new ≡ (R.has_failed source.old || is_io_error result) }
+{
+    let the_moves = moves_by_records(alloc, source, format, classes, position)?;
+    Ok(moves_object(alloc, position, &the_moves)?)
+}
+
+// The value and the line, as an object.
+fn told_line_object<R: PlacedSource>(
+    alloc: Global,
+    source: &mut R,
+    format: Format,
+    classes: &Classes,
+    position: &Position,
+) -> Lines
+    requires { IsPositionOf classes.now.family position.now.setup }
+    ensures ok { (stream : Stream) → R.shows source.old stream → IfOk result (λ lines. IsToldBy LineObject classes.now.family.profile
+        (IsRecorded stream format classes.now.family) position.now.setup (string_bytes lines)) }
+    ensures fault { IfErr result (IsRecordsFault LineObject (R.shows source.old) format classes.now.family position.now.setup) }
+    ensures shown { (stream : Stream) → R.shows source.old stream → R.shows source.new stream }
+    ensures failed { R.has_failed source.new ≡ (R.has_failed source.old || is_io_error result) }
+{
+    let (value, moves) = line_by_records(alloc, source, format, classes, position)?;
+    Ok(line_object(alloc, position, value, &moves)?)
 }

@@ -1,83 +1,108 @@
 // The answers to the lines of standard input, each by the records of a database file that it needs, whatever the file's size.
-ghost use Rattle.std.specs.Prelude.{◌≡◌, ◌||◌, ◌++◌, Some, false, true, IfErr, IfOk, MatchResult, string_bytes};
+ghost use Rattle.std.specs.Prelude.{◌≡◌, ◌||◌, Ok, Some, false, true, IfOk, MatchResult, string_bytes};
 ghost use Rattle.dob_dbfile.specs.Devices.{Stream};
-ghost use Rattle.dob_query.specs.Faults.{is_io_error};
-ghost use Rattle.dob_query.specs.QuestionsEach.{EndsRecords, GivesQuestionEach, GivesRecordAnswer, IsRecordAnswer, IsRecordEnd, TellsAnswersOf, TellsRecords};
+ghost use Rattle.dob_dbfile.specs.Sinks.{change};
+ghost use Rattle.dob_query.specs.Faults.{is_io, is_io_error};
+ghost use Rattle.dob_query.specs.QuestionsEach.{EndsRecords, GivesQuestionEach, GivesRecordAnswer, IsRecordEnd, IsToldOf, TellsRecords};
 ghost use Rattle.dob_query.specs.QuestionsEach.{bytes_of, end_of, ended_lines, ends_all, ends_all_in};
+ghost use Rattle.dob_query.specs.Telling.{TellsEach};
 ghost use Rattle.dob_shelf.specs.Shelves.{Leaving, SameFiles};
 
-use crate::each::LineAnswers;
 use crate::fault::{Fault, Lines};
-use crate::input_lines::first_line;
+use crate::objects::fault_object;
 use crate::positions::position_on;
 use crate::questions::{Question, answer_by_records};
+use crate::talk::{Answerer, LineAnswers, tell_each};
 use dob_classes::Classes;
-use dob_dbfile::{Format, PlacedSource, read_classes};
+use dob_dbfile::{Format, PlacedSource, Sink, read_classes};
 use dob_pieces::Memory;
 use dob_probe::check_member;
 use dob_shelf::Shelf;
 use std::alloc::Global;
 
-/// The answers to the lines of standard input, each to the question of its position by the records of the file that it needs. The header is read before
-/// them, and the classes of its family are opened once. An empty line stands behind each answer where one may have more lines than one.
-pub fn answer_question_each<S: Shelf>(
+/// Tells the answer to the question of the position of each line of standard input, by the records of the file that it needs, and whether one of them was
+/// refused. The header is read before the first line, and the classes of its family are opened once. An empty line stands behind each answer where one may
+/// have more lines than one.
+pub fn answer_question_each<S: Shelf, O: Sink>(
     alloc: Global,
     shelf: &mut S,
+    out: &mut O,
     file: &str,
     question: Question,
-) -> Result<LineAnswers, Fault>
-    ensures { Leaving SameFiles S.state shelf.old shelf.new (GivesQuestionEach question file.now result) }
+) -> Result<bool, Fault>
+    ensures { Leaving SameFiles S.state shelf.old shelf.new (λ c. GivesQuestionEach question file.now result c (change (O.state out.old) (O.state out.new))) }
 {
-    let mut source = shelf.find(file)?;
-    let answers = answers_by(alloc, shelf, &mut source, question);
+    let source = shelf.find(file)?;
+    let (source, told) = told_by(alloc, shelf, out, source, question);
     shelf.close(source);
-    answers
+    told
 }
 
-// The answers by a source that is new.
-fn answers_by<S: Shelf>(
+// The same by a source that is new, which is given back.
+fn told_by<S: Shelf, O: Sink>(
     alloc: Global,
     shelf: &mut S,
-    source: &mut S::Src,
+    out: &mut O,
+    mut source: S::Src,
     question: Question,
-) -> Result<LineAnswers, Fault>
-    requires { S.Src.has_failed source.old ≡ false }
-    ensures ok { IfOk result (λ answers. TellsRecords question (S.Src.gives source.old) (S.Src.shows source.old) (S.state shelf.old).input
-        answers.is_refused (string_bytes answers.lines)) }
-    ensures err { IfErr result (EndsRecords (S.Src.gives source.old) (S.Src.shows source.old) (S.state shelf.old).input) }
+) -> (S::Src, Result<bool, Fault>)
+    requires { S.Src.has_failed source ≡ false }
+    ensures told { TellsEach (S.state shelf.old).input (TellsRecords question (S.Src.gives source) (S.Src.shows source))
+        (λ fault. EndsRecords (S.Src.gives source) (S.Src.shows source) (S.state shelf.old).input fault
+        × (((S.state shelf.new).has_failed || S.Src.has_failed result.0) ≡ ((S.state shelf.old).has_failed || is_io fault)))
+        (((S.state shelf.new).has_failed || S.Src.has_failed result.0) ≡ ((S.state shelf.old).has_failed || false))
+        (change (O.state out.old) (O.state out.new)) result.1 }
     ensures files { SameFiles (S.state shelf.old).has (S.state shelf.new).has }
-    ensures failed { ((S.state shelf.new).has_failed || S.Src.has_failed source.new) ≡ ((S.state shelf.old).has_failed || is_io_error result) }
 {
-    let (format, classes) = read_classes(alloc, source)?;
-    let input = shelf.input()?;
-    answers_at(alloc, source, format, &classes, question, &input)
+    match read_classes(alloc, &mut source) {
+        Ok((format, classes)) => {
+            let mut by = ByRecords {
+                source,
+                format,
+                classes,
+                question,
+            };
+            let told = tell_each(alloc, &mut by, shelf, out);
+            let ByRecords {
+                source,
+                format: _format,
+                classes: _classes,
+                question: _question,
+            } = by;
+            (source, told)
+        }
+        Err(fault) => (source, Err(Fault::File(fault))),
+    }
 }
 
-// The answers to the lines of the bytes, each by its own records.
-fn answers_at<R: PlacedSource>(
-    alloc: Global,
-    source: &mut R,
+// What answers lines by the records of a source whose header was read.
+struct ByRecords<R> {
+    source: R,
     format: Format,
-    classes: &Classes,
+    classes: Classes,
     question: Question,
-    input: &[u8],
-) -> Result<LineAnswers, Fault>
-    requires { R.has_failed source.old ≡ false }
-    ensures ok { IfOk result (λ answers. TellsAnswersOf question (IsRecordAnswer question (R.shows source.old) format classes.now.family) input.now
-        answers.is_refused (string_bytes answers.lines)) }
-    ensures err { IfErr result (IsRecordEnd (R.shows source.old)) }
-    ensures failed { R.has_failed source.new ≡ is_io_error result }
-{
-    let mut answers = LineAnswers::none(alloc);
-    let mut left = input;
-    while let Some((line, rest)) = first_line(left) {
-        let answer = line_answer(answer_at(alloc, source, format, classes, question, line))?;
+}
+
+impl<R: PlacedSource> Answerer for ByRecords<R> {
+    ghost answers = { λ by. IsToldOf by.question (R.shows by.source) by.format by.classes.family };
+
+    ghost ends = { λ by. IsRecordEnd (R.shows by.source) };
+
+    ghost has_failed = { λ by. R.has_failed by.source };
+
+    fn answer(&mut self, alloc: Global, line: &[u8]) -> Result<LineAnswers, Fault> {
+        let answer = line_answer(answer_at(
+            alloc,
+            &mut self.source,
+            self.format,
+            &self.classes,
+            self.question,
+            line,
+        ))?;
         let is_refused = answer.is_err();
-        let told = ended_lines(alloc, answer, end_of(question))?;
-        answers.add(told.as_str(), is_refused)?;
-        left = rest;
+        let lines = ended_lines(alloc, answer, self.question)?;
+        Ok(LineAnswers { lines, is_refused })
     }
-    Ok(answers)
 }
 
 // The answer to the question of the line's position, or why there is none.
@@ -126,7 +151,7 @@ fn ends_all(fault: Fault) -> bool
 
 // What stands behind each answer.
 fn end_of(question: Question) -> &'static str
-    ensures { result.now ≡ end_of question }
+    ensures { result.now ≡ (end_of question).0 }
 {
     match question {
         Question::Moves | Question::Line { is_numbered: true } => "\n",
@@ -135,14 +160,29 @@ fn end_of(question: Question) -> &'static str
 }
 
 // The lines of the answer, and that end.
-fn ended_lines(alloc: Global, answer: Lines, end: &str) -> Result<String, Memory>
-    ensures { IfOk result (λ lines. string_bytes lines ≡ ended_lines end.now (bytes_of answer)) }
+fn ended_lines(alloc: Global, answer: Lines, question: Question) -> Result<String, Memory>
+    ensures { IfOk result (λ lines. string_bytes lines ≡ ended_lines (end_of question) (bytes_of answer)) }
 {
     match answer {
         Ok(mut lines) => {
-            lines.push_str(end)?;
+            lines.push_str(end_of(question))?;
             Ok(lines)
         }
-        Err(fault) => Ok(format!(in alloc; "{fault}\n{end}")?),
+        Err(fault) => fault_lines(alloc, fault, question),
+    }
+}
+
+// The lines of the fault.
+fn fault_lines(alloc: Global, fault: Fault, question: Question) -> Result<String, Memory>
+    ensures { IfOk result (λ lines. string_bytes lines ≡ (end_of question).1 fault) }
+{
+    match question {
+        Question::ValueObject | Question::MovesObject | Question::LineObject => {
+            fault_object(alloc, fault)
+        }
+        Question::Moves | Question::Line { is_numbered: true } => {
+            Ok(format!(in alloc; "{fault}\n\n")?)
+        }
+        _ => Ok(format!(in alloc; "{fault}\n")?),
     }
 }

@@ -5,10 +5,10 @@ ghost use Rattle.dob_words.specs.Readings.{text_given};
 ghost use Rattle.dob_shelf.specs.Shelves.{Leaving, SameFiles, SameOthers};
 ghost use Rattle.dob_query.specs.Shows.{AreDrawn, IsDrawingFault, KeepsButPicture, GivesShow, KeepsPicture};
 
-use crate::fault::{Fault, Lines};
+use crate::fault::Lines;
+use crate::keeping::{fill, keep_filled};
 use crate::positions::position_named;
 use crate::questions::{Question, answer_of};
-use dob_dbfile::{Failed, put_all};
 use dob_pieces::Position;
 use dob_shelf::Shelf;
 use dob_text::{draw_position, picture_position};
@@ -30,10 +30,7 @@ pub fn answer_show<S: Shelf>(
     let lines = drawn_lines(alloc, shelf, file, &position)?;
     match picture {
         None => Ok(lines),
-        Some(name) => {
-            keep_picture(alloc, shelf, name, &position)?;
-            Ok(lines)
-        }
+        Some(name) => keep_picture(alloc, shelf, name, &position, lines),
     }
 }
 
@@ -55,26 +52,18 @@ fn drawn_lines<S: Shelf>(
     }
 }
 
-// Keeps the position's picture under the name. Where it can't be written its sink is given up.
+// Keeps the position's picture under the name, and gives back the lines that go with it.
 fn keep_picture<S: Shelf>(
     alloc: Global,
     shelf: &mut S,
     name: &str,
     position: &Position,
-) -> Result<(), Fault>
-    ensures { Leaving (SameOthers name.now) S.state shelf.old shelf.new (KeepsPicture name.now position.now.setup result) }
+    lines: String,
+) -> Lines
+    ensures { Leaving (SameOthers name.now) S.state shelf.old shelf.new (KeepsPicture name.now position.now.setup (string_bytes lines) result) }
 {
     let picture = picture_position(alloc, position)?;
     let mut sink = shelf.make(name)?;
-    match put_all(&mut sink, picture.as_bytes()) {
-        Ok(()) => {}
-        Err(_) => {
-            shelf.discard(name, sink);
-            return Err(Fault::Io);
-        }
-    }
-    match shelf.keep(name, sink) {
-        Ok(()) => Ok(()),
-        Err(Failed) => Err(Fault::Io),
-    }
+    let filled = fill(&mut sink, picture.as_bytes(), lines);
+    keep_filled(shelf, name, sink, filled)
 }

@@ -2,10 +2,12 @@
 ghost use Rattle.std.specs.Prelude.{◌≡◌, ◌++◌, ◌<◌, IfOk, IfSome, OnOk, flat_map, length, string_bytes};
 ghost use Rattle.dob_probe.specs.Statistics.{AreGroups};
 ghost use Rattle.dob_shelf.specs.Shelves.{Leaving, SameFiles};
+ghost use Rattle.dob_query.specs.Objects.{group_object};
 ghost use Rattle.dob_query.specs.Stats.{AreStatsFor, AreStatsOf, IsLongestLine, csv_lines, distance_line, group_text, longest_of, longest_text, value_row, with_group, GivesStats};
 
 use crate::fault::Lines;
 use crate::keeping::lines_of;
+use crate::objects::group_object;
 use crate::tables::open;
 use dob_check::statistics;
 use dob_pieces::Memory;
@@ -16,6 +18,14 @@ use dob_value::{Table, Value};
 use std::alloc::Global;
 use std::thread::Threads;
 
+/// How statistics are told: as lines, as lines of two fields for scripts, or as JSON objects.
+#[derive(Clone, Copy)]
+pub enum StatsForm {
+    Lines,
+    Csv,
+    Objects,
+}
+
 /// The last group of wins and the last of losses, if there are any.
 #[derive(Clone, Copy)]
 pub(crate) struct Longest {
@@ -24,36 +34,36 @@ pub(crate) struct Longest {
 }
 
 /// The lines that say how many classes of the file's table have which value, and the longest win and loss with an example each; or,
-/// for scripts, a line of two fields for each value that occurs, below their names.
+/// for scripts, a line of two fields for each value that occurs, below their names, or a JSON object for each.
 pub fn answer_stats<S: Shelf>(
     rt: &(impl Threads + Sync),
     alloc: Global,
     shelf: &mut S,
     file: &str,
-    is_csv: bool,
+    form: StatsForm,
 ) -> Lines
-    ensures { Leaving SameFiles S.state shelf.old shelf.new (GivesStats file.now is_csv result) }
+    ensures { Leaving SameFiles S.state shelf.old shelf.new (GivesStats file.now form result) }
 {
     let table = open(alloc, shelf, file)?;
     let groups = statistics(rt, alloc, &table)?;
-    Ok(told_lines(rt, alloc, &table, &groups, is_csv)?)
+    Ok(told_lines(rt, alloc, &table, &groups, form)?)
 }
 
-// The lines about the table, by its groups, in one of the two ways.
+// The lines about the table, by its groups, in one of the three ways.
 fn told_lines(
     rt: &(impl Threads + Sync),
     alloc: Global,
     table: &Table,
     groups: &[Group],
-    is_csv: bool,
+    form: StatsForm,
 ) -> Result<String, Memory>
     requires { AreGroups table.now.values groups.now }
-    ensures { IfOk result (λ lines. AreStatsFor is_csv table.now groups.now (string_bytes lines)) }
+    ensures { IfOk result (λ lines. AreStatsFor form table.now groups.now (string_bytes lines)) }
 {
-    if is_csv {
-        csv_lines(alloc, groups)
-    } else {
-        stats_lines(rt, alloc, table, groups)
+    match form {
+        StatsForm::Lines => stats_lines(rt, alloc, table, groups),
+        StatsForm::Csv => csv_lines(alloc, groups),
+        StatsForm::Objects => object_lines(alloc, groups),
     }
 }
 
@@ -62,7 +72,16 @@ fn csv_lines(alloc: Global, groups: &[Group]) -> Result<String, Memory>
     ensures { IfOk result (λ lines. string_bytes lines ≡ csv_lines groups.now) }
 {
     let mut lines = "value,classes\n".to_string(alloc)?;
-    push_groups(alloc, &mut lines, true, groups)?;
+    push_groups(alloc, &mut lines, StatsForm::Csv, groups)?;
+    Ok(lines)
+}
+
+// An object for each group.
+fn object_lines(alloc: Global, groups: &[Group]) -> Result<String, Memory>
+    ensures { IfOk result (λ lines. string_bytes lines ≡ flat_map group_object groups.now) }
+{
+    let mut lines = String::new(alloc);
+    push_groups(alloc, &mut lines, StatsForm::Objects, groups)?;
     Ok(lines)
 }
 
@@ -77,7 +96,7 @@ fn stats_lines(
     ensures { IfOk result (λ lines. AreStatsOf table.now groups.now (string_bytes lines)) }
 {
     let mut lines = lines_of(rt, alloc, table)?;
-    push_groups(alloc, &mut lines, false, groups)?;
+    push_groups(alloc, &mut lines, StatsForm::Lines, groups)?;
     let longest = longest_of(groups);
     let win = longest_line(alloc, table, longest.win)?;
     let loss = longest_line(alloc, table, longest.loss)?;
@@ -90,34 +109,39 @@ fn stats_lines(
 fn push_groups(
     alloc: Global,
     lines: &mut String,
-    is_csv: bool,
+    form: StatsForm,
     groups: &[Group],
 ) -> Result<(), Memory>
-    ensures { OnOk result (string_bytes lines.new ≡ string_bytes lines.old ++ flat_map (group_text is_csv) groups.now) }
+    ensures { OnOk result (string_bytes lines.new ≡ string_bytes lines.old ++ flat_map (group_text form) groups.now) }
 {
     for group in groups {
-        push_group(alloc, lines, is_csv, *group)?;
+        push_group(alloc, lines, form, *group)?;
     }
     Ok(())
 }
 
 // Writes the line of the group at the end.
-fn push_group(alloc: Global, lines: &mut String, is_csv: bool, group: Group) -> Result<(), Memory>
-    ensures { OnOk result (string_bytes lines.new ≡ string_bytes lines.old ++ group_text is_csv group) }
+fn push_group(
+    alloc: Global,
+    lines: &mut String,
+    form: StatsForm,
+    group: Group,
+) -> Result<(), Memory>
+    ensures { OnOk result (string_bytes lines.new ≡ string_bytes lines.old ++ group_text form group) }
 {
-    let line = group_text(alloc, is_csv, group)?;
+    let line = group_text(alloc, form, group)?;
     lines.push_str(line.as_str())?;
     Ok(())
 }
 
-// The line of the group, in one of the two ways.
-fn group_text(alloc: Global, is_csv: bool, group: Group) -> Result<String, Memory>
-    ensures { IfOk result (λ line. string_bytes line ≡ group_text is_csv group) }
+// The line of the group, in one of the three ways.
+fn group_text(alloc: Global, form: StatsForm, group: Group) -> Result<String, Memory>
+    ensures { IfOk result (λ line. string_bytes line ≡ group_text form group) }
 {
-    if is_csv {
-        value_row(alloc, ",", group.value, group.classes)
-    } else {
-        distance_line(alloc, group.value, group.classes)
+    match form {
+        StatsForm::Lines => distance_line(alloc, group.value, group.classes),
+        StatsForm::Csv => value_row(alloc, ",", group.value, group.classes),
+        StatsForm::Objects => group_object(alloc, group),
     }
 }
 

@@ -1,5 +1,7 @@
 -- What is known of a shelf, and how a call changes that.
-use Rattle.std.specs.Prelude.{◌≡◌, ◌≢◌, ◌↔◌, ◌||◌, ℕ, Bool, true, false, List, Option, option_map, String, Vec, Result, Ok, Err}
+use Rattle.std.specs.Prelude.{◌≡◌, ◌≢◌, ◌↔◌, ◌||◌, ◌==◌, ◌++◌, ◌∷◌, ℕ, Bool, true, false, List, [], Option, Some, option_map, String, Vec, Result, Ok, Err}
+use Rattle.std.specs.List.{All}
+use Rattle.std.specs.Str.Lines.{lines, strip_carriage_return}
 use Rattle.std.specs.BTreeMap.{BTreeMap, get_by_text}
 use Rattle.dob_shelf.specs.declared.shelf.ShelfFault.{ShelfFault}
 use Rattle.dob_shelf.specs.declared.shelf.ShelfFault.TheVariants.{Memory, Failed}
@@ -60,3 +62,19 @@ HasJust name bytes Has = (found : List ℕ) → Has name found ↔ (found ≡ by
 -- the bytes that a map has under the name
 abbrev pub bytes_in : {X Y : Type 0} → BTreeMap (String X) (Vec ℕ Y) → List ℕ → Option (List ℕ)
 bytes_in files name = option_map (λ bytes. bytes.items) (get_by_text files name)
+
+-- ---- lines of standard input, which are std's `lines` of its bytes
+
+-- of these bytes the first line was taken, and those are left; or there is no line, and nothing is left
+abbrev pub TakesLine : List ℕ → Bool → List ℕ → Option (List ℕ) → Type 0
+TakesLine bytes true line left = (rest : List ℕ) × (left ≡ Some rest) × (lines bytes ≡ line ∷ lines rest)
+TakesLine bytes false line left = (bytes ≡ []) × (left ≡ Some [])
+
+-- none of the bytes ends a line
+abbrev pub LacksEnd : List ℕ → Type 0
+LacksEnd = All (λ b. (b == 10) ≡ false)
+
+-- what was read up to the line feed came to the line, which is then whole without its end; or all of it did, where there is no line feed
+abbrev pub TakesRead : List ℕ → Bool → List ℕ → List ℕ → List ℕ → Type 0
+TakesRead read true old new left = (piece : List ℕ) × LacksEnd piece × (read ≡ piece ++ 10 ∷ left) × (new ≡ strip_carriage_return (old ++ piece))
+TakesRead read false old new left = LacksEnd read × (new ≡ old ++ read) × (left ≡ [])

@@ -1,12 +1,12 @@
 // The files that the system has, each written beside its name and put there when it is whole, and the standard input that it gives.
 ghost use Rattle.std.specs.Prelude.{◌≡◌, None, false};
 
-use crate::inputs::read_all;
+use crate::line_reader::LineReader;
 use crate::said::{Heard, Note, Place};
 use crate::shelf::{Shelf, ShelfFault, is_failed};
-use dob_dbfile::{Failed, Sink, Source, Std};
+use dob_dbfile::{Sink, Source, Std};
 use std::alloc::{AllocError, Global};
-use std::fs::{self, File, OpenFile, OpenOptions, Permissions};
+use std::fs::{self, File, OpenFile, OpenOptions, Permissions, TryLockError};
 use std::io::{self, ErrorKind, Read, Write};
 use std::os::unix::fs::{MetadataExt, OpenOptionsExt, PermissionsExt};
 use std::rt::Files;
@@ -15,16 +15,18 @@ use std::rt::Files;
 ///
 /// A file is written under its name with `.part` behind it, and takes its name once the system was made to put its bytes on the
 /// disk; then the folder is put there too. So the file of that name is as it was until then, whatever happens, and whole from then
-/// on; where only the folder fails, it is whole, and the shelf says that it failed. It has the mode of the file that it replaces. A part that a run left behind is taken away
-/// by the next one; so of two that write one name at once the later one keeps its file, and the other one fails. What is no
-/// regular file (a pipe, a device, a link) is written where it is; what a link leads to is put on the disk then.
+/// on; where only the folder fails, it is whole, and the shelf says that it failed. It has the mode of the file that it replaces.
+///
+/// The part is claimed when the file is made: another run is refused it until this one ends. One that a run left behind is taken away
+/// by the next one. What is no regular file (a pipe, a device, a link) is written where it is, and what a link leads to is put on the
+/// disk then; it has the bytes that it had until the first ones are written.
 ///
 /// What the system says of a failure is left in its note, and the shelf keeps the name of the last file that it was asked for.
 #[derive(Drop)]
 pub struct DiskShelf<'a, R, I> {
     rt: &'a R,
     alloc: Global,
-    input: Std<Heard<'a, I>>,
+    input: LineReader<Std<Heard<'a, I>>>,
     note: &'a Note,
     name: String,
     has_failed: bool,
@@ -37,15 +39,49 @@ enum Way {
     InPlace,
 }
 
-/// A file that is being written, and its name until it is kept, where that is another one.
+/// An open file that one run alone writes.
+pub trait Claim {
+    /// Claims it until it is closed, and fails where another run has. Where the file system knows no claims nothing is known of others.
+    fn claim(&self) -> io::Result<()>;
+}
+
+impl Claim for File {
+    fn claim(&self) -> io::Result<()> {
+        match self.try_lock() {
+            Err(TryLockError::WouldBlock) => Err(taken()),
+            Ok(()) | Err(TryLockError::Error(_)) => Ok(()),
+        }
+    }
+}
+
+// What is said of a part that is another run's.
+fn taken() -> io::Error {
+    io::Error::new(ErrorKind::ResourceBusy, "another run is writing it")
+}
+
+/// A file that is being written; its name until it is kept, where that is another one; and whether what stood there before may still
+/// be there.
 #[derive(Drop)]
 pub struct DiskFile<F> {
     file: F,
     part: Option<String>,
+    has_old: bool,
 }
 
-impl<F: Write> Write for DiskFile<F> {
+impl<F: OpenFile> DiskFile<Heard<'_, F>> {
+    // Takes away what stood there before.
+    fn clear(&mut self) -> io::Result<()> {
+        if self.has_old {
+            self.file.clear()?;
+            self.has_old = false;
+        }
+        Ok(())
+    }
+}
+
+impl<F: Write + OpenFile> Write for DiskFile<Heard<'_, F>> {
     fn write(&mut self, bytes: &[u8]) -> io::Result<usize> {
+        self.clear()?;
         self.file.write(bytes)
     }
 
@@ -62,7 +98,7 @@ impl<'a, R, I> DiskShelf<'a, R, I> {
         DiskShelf {
             rt,
             alloc,
-            input: Std::new(Heard::new(input, Place::Input, note)),
+            input: LineReader::new(alloc, Std::new(Heard::new(input, Place::Input, note))),
             note,
             name: String::new(alloc),
             has_failed: false,
@@ -70,7 +106,10 @@ impl<'a, R, I> DiskShelf<'a, R, I> {
     }
 }
 
-impl<'a, R: Files, I> DiskShelf<'a, R, I> {
+impl<'a, R: Files, I> DiskShelf<'a, R, I>
+where
+    R::File: Claim,
+{
     // The file of that name.
     fn open(&mut self, name: &str) -> Result<Heard<'a, R::File>, ShelfFault>
         ensures { self.new.has_failed ≡ self.old.has_failed }
@@ -91,18 +130,47 @@ impl<'a, R: Files, I> DiskShelf<'a, R, I> {
         }
     }
 
-    // The file of a part that is new, where a part of an earlier run may be left; it has that mode, and never a wider one.
-    fn begin(&self, part: &str, mode: Option<u32>) -> io::Result<R::File> {
-        let _ = fs::remove_file(self.rt, part);
-        let Some(mode) = mode else {
-            return File::create_new(self.rt, part);
-        };
+    // Claims the part that an earlier run left, if there is one. That run may still be writing it: then it fails.
+    fn claim_left(&self, part: &str) -> io::Result<Option<R::File>> {
+        match fs::symlink_metadata(self.rt, part) {
+            Ok(found) if found.is_file() => {}
+            _ => return Ok(None),
+        }
+        let left = fs::open(self.rt, part)?;
+        self.claim_own(&left, part)?;
+        Ok(Some(left))
+    }
+
+    // Claims the file, which the part's name has to lead to.
+    fn claim_own(&self, file: &R::File, part: &str) -> io::Result<()> {
+        file.claim()?;
+        if self.is_own(file, part)? {
+            Ok(())
+        } else {
+            Err(taken())
+        }
+    }
+
+    // A part of that mode, or of the usual one, where there is none.
+    fn create_part(&self, part: &str, mode: Option<u32>) -> io::Result<R::File> {
         let mut how = OpenOptions::new();
-        how.read(true)
-            .write(true)
-            .create_new(true)
-            .mode(mode & 0o777);
-        let file = how.open(self.rt, part)?;
+        how.read(true).write(true).create_new(true);
+        if let Some(mode) = mode {
+            how.mode(mode & 0o777);
+        }
+        how.open(self.rt, part)
+    }
+
+    // The claimed file of a part that is new, where a part of an earlier run may be left; it has that mode, and never a wider one.
+    fn begin(&self, part: &str, mode: Option<u32>) -> io::Result<R::File> {
+        // What was left stays claimed until the new one is, so that no other run takes that for one that was left.
+        let _left = self.claim_left(part)?;
+        let _ = fs::remove_file(self.rt, part);
+        let file = self.create_part(part, mode)?;
+        self.claim_own(&file, part)?;
+        let Some(mode) = mode else {
+            return Ok(file);
+        };
         match file.set_permissions(Permissions::from_mode(mode & 0o7777)) {
             Ok(()) => Ok(file),
             Err(error) => {
@@ -110,6 +178,13 @@ impl<'a, R: Files, I> DiskShelf<'a, R, I> {
                 Err(error)
             }
         }
+    }
+
+    // What stands at that name, no regular file, opened for writing.
+    fn open_in_place(&self, name: &str) -> io::Result<R::File> {
+        let mut how = OpenOptions::new();
+        how.write(true).create(true);
+        how.open(self.rt, name)
     }
 
     // A new file for the bytes of that name.
@@ -120,7 +195,7 @@ impl<'a, R: Files, I> DiskShelf<'a, R, I> {
         let way = self.way_to(name);
         self.note.hear(Place::File, &way);
         let (made, part) = match way? {
-            Way::InPlace => (fs::create(self.rt, name), None),
+            Way::InPlace => (self.open_in_place(name), None),
             Way::Beside(mode) => {
                 let part = format!(in self.alloc; "{name}.part")?;
                 (self.begin(part.as_str(), mode), Some(part))
@@ -128,7 +203,12 @@ impl<'a, R: Files, I> DiskShelf<'a, R, I> {
         };
         self.note.hear(Place::File, &made);
         let file = Heard::new(made?, Place::File, self.note);
-        Ok(DiskFile { file, part })
+        let has_old = part.is_none();
+        Ok(DiskFile {
+            file,
+            part,
+            has_old,
+        })
     }
 
     // Whether the part's name still has that file, and no other run's.
@@ -142,7 +222,7 @@ impl<'a, R: Files, I> DiskShelf<'a, R, I> {
     fn put_in_place(&self, file: &R::File, part: &str, name: &str) -> io::Result<()> {
         file.sync_all()?;
         if !self.is_own(file, part)? {
-            return Err(ErrorKind::AlreadyExists.into());
+            return Err(taken());
         }
         fs::rename(self.rt, part, name)?;
         fs::open(self.rt, folder_of(name))?.sync_all()
@@ -158,8 +238,9 @@ impl<'a, R: Files, I> DiskShelf<'a, R, I> {
     }
 
     // Keeps the file under the name. One that isn't kept takes its part along.
-    fn keep_file(&self, name: &str, kept: DiskFile<Heard<'a, R::File>>) -> io::Result<()> {
-        let DiskFile { file, part } = kept;
+    fn keep_file(&self, name: &str, mut kept: DiskFile<Heard<'a, R::File>>) -> io::Result<()> {
+        kept.clear()?;
+        let DiskFile { file, part, .. } = kept;
         let Some(part) = part else {
             return self.put_down(file.inner());
         };
@@ -187,7 +268,10 @@ fn folder_of(name: &str) -> &str {
     }
 }
 
-impl<'a, R: Files, I: Read> Shelf for DiskShelf<'a, R, I> {
+impl<'a, R: Files, I: Read> Shelf for DiskShelf<'a, R, I>
+where
+    R::File: Claim,
+{
     type Src = Std<Heard<'a, R::File>>;
 
     type Dst = Std<DiskFile<Heard<'a, R::File>>>;
@@ -215,7 +299,11 @@ impl<'a, R: Files, I: Read> Shelf for DiskShelf<'a, R, I> {
         Ok(Std::new(made?))
     }
 
-    fn keep(&mut self, name: &str, sink: Std<DiskFile<Heard<'a, R::File>>>) -> Result<(), Failed> {
+    fn keep(
+        &mut self,
+        name: &str,
+        sink: Std<DiskFile<Heard<'a, R::File>>>,
+    ) -> Result<(), ShelfFault> {
         self.has_failed |= Sink::failed(&sink);
         let kept = self.keep_file(name, sink.into_inner());
         self.note.hear(Place::File, &kept);
@@ -223,23 +311,27 @@ impl<'a, R: Files, I: Read> Shelf for DiskShelf<'a, R, I> {
             Ok(()) => Ok(()),
             Err(_) => {
                 self.has_failed = true;
-                Err(Failed)
+                Err(ShelfFault::Failed)
             }
         }
     }
 
     fn discard(&mut self, _name: &str, sink: Std<DiskFile<Heard<'a, R::File>>>) {
         self.has_failed |= Sink::failed(&sink);
-        let DiskFile { file, part } = sink.into_inner();
+        let DiskFile { file, part, .. } = sink.into_inner();
         if let Some(part) = part {
             self.take_away(file.inner(), part.as_str());
         }
     }
 
-    fn input(&mut self) -> Result<Vec<u8>, ShelfFault> {
-        let read = read_all(self.alloc, &mut self.input);
-        self.has_failed |= is_failed(&read);
-        read
+    fn next_line(&mut self, line: &mut Vec<u8>) -> Result<bool, ShelfFault> {
+        let found = self.input.next_line(line);
+        self.has_failed |= is_failed(&found);
+        found
+    }
+
+    fn has_line(&self) -> bool {
+        self.input.has_line()
     }
 
     fn said(&self, alloc: Global) -> Result<Option<String>, AllocError> {

@@ -7,7 +7,7 @@ use crate::shelf::ShelfFault;
 use dob_dbfile::{Failed, Source};
 use std::alloc::Global;
 
-/// How many bytes are asked for at once.
+// How many bytes are asked for at once.
 const ROOM: usize = 4096;
 
 /// The bytes that the source still has, all of them up to its end, which may be none.

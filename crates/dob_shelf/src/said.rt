@@ -1,6 +1,7 @@
 // What devices say when they fail: which one it was, and the system's reason.
 use std::alloc::{AllocError, Global};
 use std::cell::Cell;
+use std::fs::OpenFile;
 use std::io::{self, Read, Seek, SeekFrom, Write};
 
 /// Which device it is.
@@ -14,7 +15,7 @@ pub enum Place {
     Output,
 }
 
-/// Why a device failed.
+// Why a device failed.
 #[derive(Clone, Copy)]
 struct Said {
     place: Place,
@@ -81,6 +82,24 @@ impl<'a, T> Heard<'a, T> {
     /// What it was made over.
     pub(crate) fn inner(&self) -> &T {
         &self.inner
+    }
+}
+
+impl<T: OpenFile> Heard<'_, T> {
+    /// Takes away the bytes of a regular file; a pipe and a device have none.
+    pub(crate) fn clear(&self) -> io::Result<()> {
+        let cleared = clear_file(&self.inner);
+        self.note.hear(self.place, &cleared);
+        cleared
+    }
+}
+
+// The same, unheard.
+fn clear_file(file: &impl OpenFile) -> io::Result<()> {
+    if file.metadata()?.is_file() {
+        file.set_len(0)
+    } else {
+        Ok(())
     }
 }
 

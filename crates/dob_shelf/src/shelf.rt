@@ -1,13 +1,13 @@
 // Where the program finds and keeps database files.
 ghost use Rattle.std.specs.Prelude.{◌≡◌, ◌||◌, ℕ, List, [], None, Some, false, true, IfErr, IfOk, MatchResult, OnErr, OnOk, IsTrue};
-ghost use Rattle.std.specs.Prelude.{is_err};
 ghost use Rattle.dob_dbfile.specs.Devices.{whole};
-ghost use Rattle.dob_shelf.specs.Shelves.{HasJust, SameFiles, SameOthers, ShelfState, bytes_in, is_failed};
+ghost use Rattle.dob_shelf.specs.Shelves.{HasJust, SameFiles, SameOthers, ShelfState, TakesLine, bytes_in, is_failed};
 
-use dob_dbfile::{Failed, MemSink, MemSource, PlacedSource, Sink, Source};
+use crate::input_lines::first_line;
+use dob_dbfile::{MemSink, MemSource, PlacedSource, Sink, Source};
 use std::alloc::{AllocError, Global};
 use std::collections::BTreeMap;
-use std::{io, mem};
+use std::io;
 
 /// Why a shelf opens or makes no file. The files keep their bytes then.
 #[derive(Clone, Copy, Debug, PartialEq, Eq)]
@@ -87,32 +87,32 @@ pub trait Shelf {
         ensures input { (state self.new).input ≡ (state self.old).input }
         ensures failed { (state self.new).has_failed ≡ ((state self.old).has_failed || Self.Src.has_failed source) };
 
-    /// An empty sink for the bytes of a file of that name, which has no bytes from here on. Other files keep their bytes.
+    /// An empty sink for the bytes that a file of that name is to have. The files keep their bytes, that one too until the sink is kept.
     ///
     /// # Errors
     ///
-    /// The file isn't made, and nothing has changed.
+    /// The file can't be made, or is being made elsewhere; or memory for it was refused.
     fn make(&mut self, name: &str) -> Result<Self::Dst, ShelfFault>
         ensures working { IfOk result (λ sink. (Self.Dst.state sink).has_failed ≡ false) }
         ensures empty { IfOk result (λ sink. IsTrue (state self.old).tells → (Self.Dst.state sink).received ≡ Some []) }
-        ensures made { OnOk result (IsTrue (state self.old).tells → HasJust name.now [] (state self.new).has) }
-        ensures others { SameOthers name.now (state self.old).has (state self.new).has }
-        ensures unchanged { OnErr result (SameFiles (state self.old).has (state self.new).has) }
+        ensures kept { SameFiles (state self.old).has (state self.new).has }
         ensures told { (state self.new).tells ≡ (state self.old).tells }
         ensures input { (state self.new).input ≡ (state self.old).input }
         ensures failed { (state self.new).has_failed ≡ ((state self.old).has_failed || is_failed result) };
 
-    /// Saves exactly the sink's bytes under that name, for which `make` gave a sink. Other files keep their bytes. It fails where
-    /// the device does, which no shelf does whose bytes are known; the sink is gone then, as after `discard`.
-    fn keep(&mut self, name: &str, sink: Self::Dst) -> Result<(), Failed>
-        requires { IsTrue (state self.old).tells → (bytes : List ℕ) × (state self.old).has name.now bytes }
+    /// Saves exactly the sink's bytes under that name, for which `make` gave the sink. Other files keep their bytes.
+    ///
+    /// # Errors
+    ///
+    /// The device failed, or memory was refused. That file keeps its bytes then too, and the sink is gone, as after `discard`.
+    fn keep(&mut self, name: &str, sink: Self::Dst) -> Result<(), ShelfFault>
         ensures kept { (bytes : List ℕ) → IsTrue (state self.old).tells → (Self.Dst.state sink).received ≡ Some bytes
-            → HasJust name.now bytes (state self.new).has }
-        ensures silent { OnErr result ((state self.old).tells ≡ false) }
+            → OnOk result (HasJust name.now bytes (state self.new).has) }
+        ensures unchanged { OnErr result (SameFiles (state self.old).has (state self.new).has) }
         ensures others { SameOthers name.now (state self.old).has (state self.new).has }
         ensures told { (state self.new).tells ≡ (state self.old).tells }
         ensures input { (state self.new).input ≡ (state self.old).input }
-        ensures failed { (state self.new).has_failed ≡ (((state self.old).has_failed || (Self.Dst.state sink).has_failed) || is_err result) };
+        ensures failed { (state self.new).has_failed ≡ (((state self.old).has_failed || (Self.Dst.state sink).has_failed) || is_failed result) };
 
     /// Gives up the sink that `make` gave for that name, and what it has received, and notes whether it has failed. The files keep
     /// their bytes.
@@ -122,18 +122,20 @@ pub trait Shelf {
         ensures input { (state self.new).input ≡ (state self.old).input }
         ensures failed { (state self.new).has_failed ≡ ((state self.old).has_failed || (Self.Dst.state sink).has_failed) };
 
-    /// The bytes that standard input still has, all of them up to its end. The files keep their bytes.
+    /// Puts the next line of standard input in place of what `line` held, without its end; `false` if there is none. The files keep their bytes.
     ///
     /// # Errors
     ///
-    /// It failed before its end; or memory for its bytes was refused.
-    fn input(&mut self) -> Result<Vec<u8>, ShelfFault>
+    /// It failed before the line's end; or memory for the line was refused.
+    fn next_line(&mut self, line: &mut Vec<u8>) -> Result<bool, ShelfFault>
         ensures read { (bytes : List ℕ) → (state self.old).input ≡ Some bytes
-            → MatchResult result (λ input. input.items ≡ bytes) (λ fault. fault ≡ ShelfFault.Memory) }
-        ensures end { (bytes : List ℕ) → (state self.old).input ≡ Some bytes → OnOk result ((state self.new).input ≡ Some []) }
+            → MatchResult result (λ found. TakesLine bytes found line.new.items (state self.new).input) (λ fault. fault ≡ ShelfFault.Memory) }
         ensures kept { SameFiles (state self.old).has (state self.new).has }
         ensures told { (state self.new).tells ≡ (state self.old).tells }
         ensures failed { (state self.new).has_failed ≡ ((state self.old).has_failed || is_failed result) };
+
+    /// Whether the next line of standard input is at hand, so that `next_line` doesn't wait for it. Nothing is promised of that.
+    fn has_line(&self) -> bool;
 
     /// What the device said that failed last, as text: which one it is, and why it failed. `None` if that isn't known. Nothing is promised of
     /// what a device says.
@@ -188,9 +190,9 @@ impl MemShelf {
         }
     }
 
-    // Puts an empty file under the name.
-    fn clear(&mut self, name: &str) -> Result<(), AllocError>
-        ensures cleared { OnOk result (HasJust name.now [] (λ other bytes. bytes_in self.new.files other ≡ Some bytes)) }
+    // Puts a file of these bytes under the name.
+    fn put(&mut self, name: &str, bytes: Vec<u8>) -> Result<(), AllocError>
+        ensures put { OnOk result (HasJust name.now bytes.items (λ other found. bytes_in self.new.files other ≡ Some found)) }
         ensures others { SameOthers name.now (λ other bytes. bytes_in self.old.files other ≡ Some bytes)
             (λ other bytes. bytes_in self.new.files other ≡ Some bytes) }
         ensures unchanged { OnErr result (SameFiles (λ other bytes. bytes_in self.old.files other ≡ Some bytes)
@@ -199,7 +201,7 @@ impl MemShelf {
         ensures failed { self.new.has_failed ≡ self.old.has_failed }
     {
         let name = name.to_string(self.alloc)?;
-        self.files.insert(name, Vec::new(self.alloc))?;
+        self.files.insert(name, bytes)?;
         Ok(())
     }
 }
@@ -226,27 +228,34 @@ impl Shelf for MemShelf {
         self.has_failed |= source.failed();
     }
 
-    fn make(&mut self, name: &str) -> Result<MemSink, ShelfFault> {
-        match self.clear(name) {
-            Ok(()) => Ok(MemSink::new(self.alloc)),
-            Err(AllocError) => Err(ShelfFault::Memory),
-        }
+    fn make(&mut self, _name: &str) -> Result<MemSink, ShelfFault> {
+        Ok(MemSink::new(self.alloc))
     }
 
-    fn keep(&mut self, name: &str, sink: MemSink) -> Result<(), Failed> {
+    fn keep(&mut self, name: &str, sink: MemSink) -> Result<(), ShelfFault> {
         self.has_failed |= sink.failed();
-        if let Some(bytes) = self.files.get_mut(name) {
-            *bytes = sink.into_bytes();
+        match self.put(name, sink.into_bytes()) {
+            Ok(()) => Ok(()),
+            Err(AllocError) => Err(ShelfFault::Memory),
         }
-        Ok(())
     }
 
     fn discard(&mut self, _name: &str, sink: MemSink) {
         self.has_failed |= sink.failed();
     }
 
-    fn input(&mut self) -> Result<Vec<u8>, ShelfFault> {
-        Ok(mem::replace(&mut self.input, Vec::new(self.alloc)))
+    fn next_line(&mut self, line: &mut Vec<u8>) -> Result<bool, ShelfFault> {
+        line.clear();
+        let Some((first, rest)) = first_line(&self.input) else {
+            return Ok(false);
+        };
+        line.extend_from_slice(first)?;
+        self.input = rest.to_vec(self.alloc)?;
+        Ok(true)
+    }
+
+    fn has_line(&self) -> bool {
+        !self.input.is_empty()
     }
 
     fn said(&self, _alloc: Global) -> Result<Option<String>, AllocError> {

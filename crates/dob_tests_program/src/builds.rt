@@ -3,7 +3,7 @@ ghost use Rattle.std.specs.Prelude.{None, false};
 
 use crate::program::{FILE, run_on};
 use dob_cli::{Console, Shelf, ShelfFault};
-use dob_dbfile::{Failed, MemSink, MemSource, Sink, Source};
+use dob_dbfile::{MemSink, MemSource, Sink, Source};
 use std::alloc::{AllocError, Global};
 use std::process::Abort;
 use std::sync::Wait;
@@ -11,7 +11,7 @@ use std::thread::Threads;
 
 const BUILD: [&str; 7] = ["build", "--set", "000", "--nodes", "2", "--out", FILE];
 
-/// A shelf that is full: it makes no file, or one that takes only some bytes, and saves none.
+// A shelf that is full: it makes no file, or one that takes only some bytes, and saves none.
 #[derive(Drop)]
 struct FullShelf {
     alloc: Global,
@@ -50,18 +50,22 @@ impl Shelf for FullShelf {
         }
     }
 
-    fn keep(&mut self, _name: &str, _sink: MemSink) -> Result<(), Failed> {
+    fn keep(&mut self, _name: &str, _sink: MemSink) -> Result<(), ShelfFault> {
         self.has_failed = true;
-        Err(Failed)
+        Err(ShelfFault::Failed)
     }
 
     fn discard(&mut self, _name: &str, sink: MemSink) {
         self.has_failed |= sink.failed();
     }
 
-    fn input(&mut self) -> Result<Vec<u8>, ShelfFault> {
+    fn next_line(&mut self, _line: &mut Vec<u8>) -> Result<bool, ShelfFault> {
         self.has_failed = true;
         Err(ShelfFault::Failed)
+    }
+
+    fn has_line(&self) -> bool {
+        false
     }
 
     fn said(&self, _alloc: Global) -> Result<Option<String>, AllocError> {

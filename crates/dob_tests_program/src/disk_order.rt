@@ -4,7 +4,7 @@ use crate::lions::file;
 use crate::program::run_on;
 use crate::shelves::{has, put, removes};
 use crate::typed::Typed;
-use dob_cli::{Console, DiskShelf, Note};
+use dob_cli::{Claim, Console, DiskShelf, Note};
 use std::alloc::{Allocator, Global};
 use std::cell::RefCell;
 use std::fs::{self, Metadata, OpenFile, OpenOptions, Permissions};
@@ -33,10 +33,14 @@ const INNER: &str = "outer_of_a_test/inner_of_a_test";
 
 const OUTER: &str = "outer_of_a_test";
 
-// How a file is made: its bytes are on the disk before the name is theirs.
+// How a file is made: its part is claimed, and looked for once more, before it is written; its bytes are on the disk before the name is theirs.
 const MADE: &str = "look at name
+look at part
 remove part
 open part
+claim part
+ask part
+look at part
 write part
 flush part
 sync part
@@ -59,13 +63,15 @@ remove part
 // A link stays: the file that it leads to is written where it is, and put on the disk there.
 const LINKED: &str = "look at link
 open link
+ask link
+cut link
 write link
 flush link
 ask link
 sync link
 ";
 
-/// The calls that were made, a line each. The one that reads so fails.
+// The calls that were made, a line each. The one that reads so fails.
 #[derive(Drop)]
 struct Log {
     calls: RefCell<String>,
@@ -124,14 +130,14 @@ fn called(path: &str) -> &'static str {
     }
 }
 
-/// The files of the system, with a list of the calls on them.
+// The files of the system, with a list of the calls on them.
 #[derive(Drop)]
 struct Listed<'a, R> {
     rt: &'a R,
     log: &'a Log,
 }
 
-/// One of them, by its name in the list.
+// One of them, by its name in the list.
 #[derive(Drop)]
 struct ListedFile<'a, F> {
     file: F,
@@ -227,6 +233,7 @@ impl<F: OpenFile> OpenFile for ListedFile<'_, F> {
     }
 
     fn set_len(&self, size: u64) -> io::Result<()> {
+        self.log.note("cut", self.path)?;
         self.file.set_len(size)
     }
 
@@ -245,6 +252,13 @@ impl<F: OpenFile> OpenFile for ListedFile<'_, F> {
     }
 }
 
+impl<F: Claim> Claim for ListedFile<'_, F> {
+    fn claim(&self) -> io::Result<()> {
+        self.log.note("claim", self.path)?;
+        self.file.claim()
+    }
+}
+
 // Puts the bytes under the name; that one of the calls fails; the calls that were made are these. Whether the shelf kept them.
 fn puts<R: Abort + Files + AllocGlobal>(
     rt: &R,
@@ -252,7 +266,10 @@ fn puts<R: Abort + Files + AllocGlobal>(
     bytes: &[u8],
     failing: &'static str,
     calls: &[&str],
-) -> bool {
+) -> bool
+where
+    R::File: Claim,
+{
     let log = Log::new(rt.alloc(), failing);
     let files = Listed { rt, log: &log };
     let note = Note::new();
@@ -263,14 +280,20 @@ fn puts<R: Abort + Files + AllocGlobal>(
 }
 
 // Whether the file of that name has exactly these bytes, by the system's own files.
-fn stands<R: Files + AllocGlobal>(rt: &R, name: &str, bytes: &[u8]) -> bool {
+fn stands<R: Files + AllocGlobal>(rt: &R, name: &str, bytes: &[u8]) -> bool
+where
+    R::File: Claim,
+{
     let note = Note::new();
     let mut shelf = DiskShelf::new(rt, rt.alloc(), Typed::whole(b""), &note);
     has(&mut shelf, name, bytes)
 }
 
 // A build that reports a failure leaves the file that was there, and no part.
-fn leaves<R: Abort + Files + AllocGlobal>(rt: &R, failing: &'static str, calls: &[&str]) {
+fn leaves<R: Abort + Files + AllocGlobal>(rt: &R, failing: &'static str, calls: &[&str])
+where
+    R::File: Claim,
+{
     assert!(rt; !puts(rt, NAME, b"new", failing, calls));
     assert!(rt; stands(rt, NAME, b"kept") && fs::symlink_metadata(rt, PART).is_err());
 }
@@ -278,6 +301,10 @@ fn leaves<R: Abort + Files + AllocGlobal>(rt: &R, failing: &'static str, calls: 
 #[test]
 fn bytes_before_the_name(rt: HostRuntime) {
     assert!(rt; puts(&rt, NAME, b"kept", "", &[MADE, NAMED]));
+    // a part that another run has claimed, and one that the part's name no longer leads to
+    let claimed = "look at name\nlook at part\nremove part\nopen part\nclaim part\n";
+    assert!(rt; !puts(&rt, NAME, b"new", "claim part\n", &[claimed]));
+    removes(&rt, PART);
     // bytes that can't be put on the disk never get the name, nor do those whose name can't be changed
     leaves(&rt, "sync part\n", &[MADE, "remove part\n"]);
     leaves(&rt, "rename part\n", &[MADE, "rename part\n", GIVEN_UP]);
@@ -309,10 +336,10 @@ fn a_link_stays(rt: HostRuntime) {
 }
 
 // The word answers two lines, and the file is opened once for both.
-fn opens_once<R: Abort + Files + AllocGlobal + Threads + Wait + Sync + Console>(
-    rt: &R,
-    word: &str,
-) {
+fn opens_once<R: Abort + Files + AllocGlobal + Threads + Wait + Sync + Console>(rt: &R, word: &str)
+where
+    R::File: Claim,
+{
     let log = Log::new(rt.alloc(), "");
     let files = Listed { rt, log: &log };
     let typed = Typed::whole(b"..l/.../L../... - -\n.../.../..l/L.. - -\n");

@@ -3,7 +3,7 @@ use crate::lions::first_file;
 use crate::program::{Told, run_on};
 use crate::shelves::{put, removes};
 use crate::typed::Typed;
-use dob_cli::{Console, DiskShelf, MemShelf, Note, Shelf};
+use dob_cli::{Claim, Console, DiskShelf, MemShelf, Note, Shelf};
 use std::alloc::Global;
 use std::io::ErrorKind;
 use std::process::Abort;
@@ -13,7 +13,7 @@ use std::thread::Threads;
 
 const FILE: &str = "lions_asked_by_a_test.db";
 
-/// Standard input, with the exit status and the standard output that answer it.
+// Standard input, with the exit status and the standard output that answer it.
 type Row = (&'static str, u8, &'static str);
 
 const ROWS: &[Row] = &[
@@ -182,13 +182,16 @@ For more information, try '--help'.
     assert!(rt; run_on(&rt, rt.alloc(), &mut shelf, &both).is(2, b"", said));
 }
 
-// What the program answers by the file on a disk to an input in pieces of seven bytes, which the error stops.
+// What the program answers by the file on a disk to an input in pieces of so many bytes, which the error stops.
 fn told_of_pieces<R: Abort + AllocGlobal + Files + Threads + Wait + Sync + Console>(
     rt: &R,
     left: &'static [u8],
+    longest: usize,
     error: Option<ErrorKind>,
-) -> Told {
-    let longest = 7;
+) -> Told
+where
+    R::File: Claim,
+{
     let typed = Typed {
         left,
         longest,
@@ -205,13 +208,32 @@ fn told_of_pieces<R: Abort + AllocGlobal + Files + Threads + Wait + Sync + Conso
 #[test]
 fn input_in_pieces(rt: HostRuntime) {
     let both = b"..l/.../L../... - -\n.../.../..l/L.. - -\n";
-    let told = told_of_pieces(&rt, both, None);
+    let told = told_of_pieces(&rt, both, 7, None);
     assert!(rt; told.is(0, b"win 3\nloss 2\n", b""));
     let first = b"..l/.../L../... - -\n";
-    let told = told_of_pieces(&rt, first, None);
+    let told = told_of_pieces(&rt, first, 7, None);
     assert!(rt; told.is(0, b"win 3\n", b""));
-    let told = told_of_pieces(&rt, first, Some(ErrorKind::Other));
-    assert!(rt; told.is(3, b"", b"dobutsu: E24 Io: standard input: other error\n"));
+    let told = told_of_pieces(&rt, first, 7, Some(ErrorKind::Other));
+    assert!(rt;
+        told.is(
+            3,
+            b"win 3\n",
+            b"dobutsu: E24 Io: standard input: other error\n"
+        )
+    );
+}
+
+// An answer is told before a line is waited for, and lines that came together are answered together.
+#[test]
+fn answers_before_the_next_line(rt: HostRuntime) {
+    let both = b"..l/.../L../... - -\n.../.../..l/L.. - -\n";
+    let told = told_of_pieces(&rt, both, 20, None);
+    assert!(rt; told.is(0, b"win 3\nloss 2\n", b"") && told.out.flushes() == [6, 13].as_slice());
+    let told = told_of_pieces(&rt, both, 50, None);
+    assert!(rt; told.is(0, b"win 3\nloss 2\n", b"") && told.out.flushes() == [13].as_slice());
+    // the second line begins in the first piece
+    let told = told_of_pieces(&rt, both, 30, None);
+    assert!(rt; told.is(0, b"win 3\nloss 2\n", b"") && told.out.flushes() == [6, 13].as_slice());
 }
 
 const LINE: &[u8] = b"..l/.../L../... - -\n";
@@ -226,8 +248,9 @@ fn leaves_input<R: Abort + AllocGlobal + Threads + Wait + Sync + Console>(
 ) {
     let told = told_of(rt, rt.alloc(), &mut shelf, words, LINE);
     assert!(rt; told.is(status, b"", said));
-    let left = shelf.input().ok().expect(rt, "standard input");
-    assert!(rt; left.as_slice() == LINE);
+    let mut left = Vec::new(rt.alloc());
+    let found = matches!(shelf.next_line(&mut left), Ok(true));
+    assert!(rt; found && left.as_slice() == b"..l/.../L../... - -".as_slice());
 }
 
 // A shelf whose file has no bytes.

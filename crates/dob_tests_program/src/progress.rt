@@ -17,7 +17,7 @@ use std::sync::{Mutex, Wait};
 use std::thread::Threads;
 use std::time::Duration;
 
-/// A console whose clock stands until it is set, and that keeps what comes on its standard error.
+// A console whose clock stands until it is set, and that keeps what comes on its standard error.
 #[derive(Drop)]
 struct Paper {
     seconds: AtomicU64,
@@ -124,8 +124,8 @@ fn unwatched_work_is_silent(rt: HostRuntime) {
     assert!(rt; paper.says(""));
 }
 
-/// A console whose clock is a second later at each look, so that the smallest work has a line to print whenever it is reported, by whichever
-/// thread.
+// A console whose clock is a second later at each look, so that the smallest work has a line to print whenever it is reported, by whichever
+// thread.
 #[derive(Drop)]
 struct Moving<'a, R> {
     rt: &'a R,
@@ -245,7 +245,7 @@ fn checks_tell_how_far_they_are(rt: HostRuntime) {
     assert!(rt; text.as_str() == "\r1 s, 99 %, 0 s left\x1b[K\r\x1b[K");
 }
 
-/// Adds up what a check reports.
+// Adds up what a check reports.
 #[derive(Drop)]
 struct Sum(AtomicU64);
 

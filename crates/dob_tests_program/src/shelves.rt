@@ -1,5 +1,5 @@
 // Files that are made, kept and found again on a disk.
-use dob_cli::{DiskShelf, Note, Shelf, ShelfFault};
+use dob_cli::{Claim, DiskShelf, Note, Shelf, ShelfFault};
 use dob_dbfile::{Sink, put_all, read_full};
 use std::fs;
 use std::io::Read;
@@ -42,7 +42,10 @@ fn keeps_file<S: Shelf>(rt: &impl Abort, shelf: &mut S, name: &str, bytes: &[u8]
 }
 
 // A file made anew on the disk is as it was until it is kept, and stays so if it is given up; its part is gone then.
-fn leaves_file<R: Abort + Files, I: Read>(rt: &R, shelf: &mut DiskShelf<'_, R, I>) {
+fn leaves_file<R: Abort + Files, I: Read>(rt: &R, shelf: &mut DiskShelf<'_, R, I>)
+where
+    R::File: Claim,
+{
     keeps_file(rt, shelf, NAME, b"kept");
     let mut sink = shelf.make(NAME).ok().expect(rt, "a file on the disk");
     assert!(rt;
@@ -54,19 +57,22 @@ fn leaves_file<R: Abort + Files, I: Read>(rt: &R, shelf: &mut DiskShelf<'_, R, I
     );
 }
 
-// Of two files that are made under one name on the disk the later one is kept. The other one can't be, and leaves no part.
-fn keeps_the_later_file<R: Abort + Files, I: Read>(rt: &R, shelf: &mut DiskShelf<'_, R, I>) {
+// While a file is made under a name on the disk no other one can be, and the first one is kept. What a run left is nobody's.
+fn keeps_the_first_file<R: Abort + Files, I: Read>(rt: &R, shelf: &mut DiskShelf<'_, R, I>)
+where
+    R::File: Claim,
+{
     keeps_file(rt, shelf, NAME, b"kept");
+    keeps_file(rt, shelf, PART, b"left");
     let mut first = shelf.make(NAME).ok().expect(rt, "a file on the disk");
     assert!(rt; put_all(&mut first, b"first").is_ok());
-    let mut later = shelf.make(NAME).ok().expect(rt, "a file on the disk");
-    assert!(rt; put_all(&mut later, b"later").is_ok());
-    assert!(rt; shelf.keep(NAME, first).is_err());
-    assert!(rt; has(shelf, NAME, b"kept") && has(shelf, PART, b"later"));
-    assert!(rt; shelf.keep(NAME, later).is_ok());
+    assert!(rt; shelf.make(NAME).err() == Some(ShelfFault::Failed));
+    assert!(rt; has(shelf, NAME, b"kept") && has(shelf, PART, b"first"));
+    assert!(rt; shelf.keep(NAME, first).is_ok());
     assert!(rt;
-        has(shelf, NAME, b"later") && shelf.find(PART).is_err() && has(shelf, OTHER, b"other")
+        has(shelf, NAME, b"first") && shelf.find(PART).is_err() && has(shelf, OTHER, b"other")
     );
+    keeps_file(rt, shelf, NAME, b"again");
 }
 
 // Files are found as they were kept, also one that is kept again, and the other one stays.
@@ -79,7 +85,10 @@ fn keeps_files<S: Shelf>(rt: &impl Abort, shelf: &mut S) {
 }
 
 // Neither a file that was removed is found, nor is one made where none can be.
-fn has_no_others<R: Abort + Files, I: Read>(rt: &R, shelf: &mut DiskShelf<'_, R, I>) {
+fn has_no_others<R: Abort + Files, I: Read>(rt: &R, shelf: &mut DiskShelf<'_, R, I>)
+where
+    R::File: Claim,
+{
     assert!(rt; shelf.find(NAME).err() == Some(ShelfFault::Failed));
     assert!(rt; shelf.make("no_such_folder/kept.db").err() == Some(ShelfFault::Failed));
     assert!(rt; shelf.make(".").err() == Some(ShelfFault::Failed));
@@ -95,7 +104,7 @@ fn files_on_a_disk(rt: HostRuntime) {
     let mut shelf = DiskShelf::new(&rt, rt.alloc(), rt.stdin(), &note);
     keeps_files(&rt, &mut shelf);
     leaves_file(&rt, &mut shelf);
-    keeps_the_later_file(&rt, &mut shelf);
+    keeps_the_first_file(&rt, &mut shelf);
     removes(&rt, NAME);
     removes(&rt, OTHER);
     has_no_others(&rt, &mut shelf);

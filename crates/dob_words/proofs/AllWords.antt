@@ -1,23 +1,17 @@
 -- How `clap` reads all the words of the program.
-use Rattle.std.proofs.Common.{rules, ◌==◌, ◌++◌, inl, inr, ◌≡◌, ◌∙◌, Bool, refl, sym, ap, subst, cond, codes, true, false, [], ◌∷◌, List, Option, Some, None}
-use Rattle.std.proofs.Common.{true≢false}
-use Rattle.std.specs.Prelude.{find, fold, is_some, map, option_map}
-use Rattle.std.specs.Option.{option_map_or}
-use Rattle.std.specs.Str.{bytes_eq}
-use Rattle.std.proofs.lemmas.Slice.Eq.{bytes_eq-Decides}
-use Rattle.clap.specs.Words.{App, Row, built, fault_of, subcommand_of}
+use Rattle.dob_words.proofs.Common.{◌++◌, ◌∙◌, ◌∷◌, ◌≡◌, Bool, List, None, Option, Some, [], ap, codes, cond, false, inl, inr, refl, rules, subst, sym, true}
+use Rattle.dob_words.proofs.Common.{true≢false, or-false, bytes_eq-Decides, option_map_or, find, fold, is_some, option_map, bytes_eq, Kinds, or_else, Shape}
+use Rattle.dob_words.proofs.Common.{entered, names_of, App, AreProfiles, Finds, IsMet, ProfileNames, dobutsu_app, Meaning, asks, help, is_dashes, is_help_flag}
+use Rattle.dob_words.proofs.Common.{is_text, is_topic, meaning_of_command, meaning_of_form, meaning_of_other, usage, version}
+use Rattle.std.proofs.Common.{◌==◌}
+use Rattle.std.specs.Prelude.{map}
+use Rattle.clap.specs.Words.{Row, built, fault_of, subcommand_of}
 use Rattle.clap.specs.Walk.{answers_to, Names, Walk, finished, idle, nothing_held, rows_after, settled, subcommand_met, walked}
-use Rattle.clap.specs.Simple.{Shape, entered, names_of}
-use Rattle.clap.specs.Kinds.{Kinds, or_else}
 use Rattle.clap.specs.Faults.{check_fault, defaults_fault, entered_fault, level_fault, settle_fault, turn_fault, walk_fault}
 use Rattle.clap.specs.declared.error.kind.ErrorKind.TheVariants as kind
 use Rattle.clap.proofs.FaultLemmas.{stopped_fault}
 use Rattle.clap.proofs.WalkLemmas.{walk_stopped}
-use Rattle.std.proofs.Math.Bool.{or-false}
 use Rattle.dob_words.specs.Forms.{Form, Text, forms}
-use Rattle.dob_words.specs.Words.{Meaning, asks, help, is_dashes, is_help_flag, is_text, meaning_of_command, meaning_of_form, meaning_of_other, usage}
-use Rattle.dob_words.specs.Words.{is_topic, version}
-use Rattle.dob_words.specs.Shapes.{AreProfiles, Finds, IsMet, ProfileNames, dobutsu_app}
 use Rattle.dob_words.proofs.Lexing.{flip_bytes}
 use Rattle.dob_words.proofs.Turns.{KnowsHelp, help_flag, is_usage, none, or_else_usage}
 use Rattle.dob_words.proofs.Steps.{help_turn, open_at, other_turn, text_turn}

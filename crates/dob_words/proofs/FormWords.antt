@@ -1,33 +1,23 @@
 -- How `clap` reads the words after the name of a subcommand, for any form. `IsTaken` is found by computing (proofs/Taken.antt).
-use Rattle.std.proofs.Common.{ap₂, ◌≡◌, ◌∙◌, ℕ, ◌+◌, min, Bool, refl, sym, ap, subst, cond, codes, true, false, [], ◌∷◌, ◌++◌, List, Option, Some, None, map}
-use Rattle.std.proofs.Common.{true≢false}
-use Rattle.std.specs.Prelude.{is_some, not, find, fold, option_map, ◌&&◌, ◌||◌, ◌==◌}
-use Rattle.std.specs.Option.{option_map_or}
-use Rattle.std.specs.List.{after_first, list_any}
-use Rattle.std.specs.Str.{bytes_eq}
-use Rattle.std.proofs.lemmas.Slice.Eq.{bytes_eq-Decides}
-use Rattle.clap.specs.Lexer.{usize_max}
-use Rattle.clap.specs.Words.{first_of}
+use Rattle.dob_words.proofs.Common.{◌++◌, ◌+◌, ◌∙◌, ◌∷◌, ◌≡◌, Bool, List, None, Option, Some, [], ap, ap₂, codes, cond, false, map, min, refl, subst, sym, true}
+use Rattle.dob_words.proofs.Common.{true≢false, ℕ, or-false, bytes_eq-Decides, after_first, list_any, option_map_or, ◌&&◌, ◌==◌, ◌||◌, find, fold, is_some, not}
+use Rattle.dob_words.proofs.Common.{option_map, bytes_eq, Kinds, or_else, usize_max, Shape, built_leaf, inherited, marked_built, with_leaf_noted, is_given}
+use Rattle.dob_words.proofs.Common.{first_of, AreProfiles, ProfileNames, bare_app, form_app, Given, Meaning, Stand, Text, after_dashes, after_part, after_word}
+use Rattle.dob_words.proofs.Common.{asked, asks, at_end, behind, between, call, dashes, ended, fits, flag, help, is_dashes, is_help_flag, is_text, kept}
+use Rattle.dob_words.proofs.Common.{label_of, meaning_of_form, name_in, named_part, once, option, placed, text, text_behind, texts_of, unknown, usage, valued}
+use Rattle.dob_words.proofs.Common.{version, wanted, wants}
 use Rattle.clap.specs.Walk.{rows_after, value as a_value, is_pending, with_default, Held, Row, Rule, Waiting, Walk, arg_by_id, arg_by_index, arg_by_long}
 use Rattle.clap.specs.Walk.{arg_by_short, finished, idle, next_position, nothing_held, option as waits_for, positional as several, settled, settled_rows}
 use Rattle.clap.specs.Walk.{subcommand_met, walk_from, walked}
-use Rattle.clap.specs.Simple.{Shape, built_leaf, inherited, marked_built, with_leaf_noted}
-use Rattle.clap.specs.Takes.{is_given}
-use Rattle.clap.specs.Kinds.{Kinds, or_else}
 use Rattle.clap.specs.Faults.{check_fault, defaults_fault, level_fault, settle_fault, step_fault, turn_fault, walk_fault}
 use Rattle.clap.specs.declared.error.kind.ErrorKind.TheVariants as kind
-use Rattle.std.proofs.Math.Bool.{or-false}
 use Rattle.dob_words.specs.Forms.{Form, is_among, labels}
-use Rattle.dob_words.specs.Words.{Given, Meaning, Stand, Text, after_dashes, after_part, after_word, asked, asks, at_end, behind, between, call, dashes, ended}
-use Rattle.dob_words.specs.Words.{fits, help, is_dashes, is_help_flag, is_text, flag, kept, label_of, meaning_of_form, name_in, named_part, once, option, placed, text}
-use Rattle.dob_words.specs.Words.{text_behind, texts_of, unknown, usage, valued, version, wanted, wants}
-use Rattle.dob_words.specs.Shapes.{AreProfiles, ProfileNames, bare_app, form_app}
 use Rattle.dob_words.proofs.Lexing.{View, empty as no_byte, letter as a_letter, hyphen as one_hyphen, dashes as two_hyphens, long as a_long, short as a_short}
 use Rattle.dob_words.proofs.Lexing.{flip_bytes, long_name, long_short, no_first, flag_letter, view}
 use Rattle.dob_words.proofs.Turns.{KnowsHelp, help_flag, held, is_usage, or_else_usage}
 use Rattle.dob_words.proofs.Steps.{closed_at, failing_turn, help_turn, open_at, other_turn, text_taken, text_turn, text_turn_at, text_walked, waiting_at}
-use Rattle.dob_words.proofs.Texts.{Each, Looked, defaults_none, flag_arg, flag_passes, flag_twice, flagged_fresh, looked, no_faults, kept_both, misfit_usage, rows_of, some_missing}
-use Rattle.dob_words.proofs.Texts.{text_arg, use_misfit, use_passes, use_twice, used_fresh}
+use Rattle.dob_words.proofs.Texts.{Each, Looked, defaults_none, flag_arg, flag_passes, flag_twice, flagged_fresh, looked, no_faults, kept_both, misfit_usage}
+use Rattle.dob_words.proofs.Texts.{rows_of, some_missing, text_arg, use_misfit, use_passes, use_twice, used_fresh}
 
 -- ---- the subcommand's arguments, built
 

@@ -1,15 +1,8 @@
 -- What `clap`'s lexer makes of a word, by the word's first bytes.
-use Rattle.std.proofs.Common.{◌≡◌, ◌∙◌, ◌+◌, ◌==◌, ◌||◌, ℕ, Bool, arith, suc, take, refl, sym, ap, subst, codes, true, false, [], ◌∷◌, Option, Some, None}
-use Rattle.std.proofs.Common.{true≢false}
-use Rattle.std.specs.Prelude.{slice_get, is_some, not}
-use Rattle.std.specs.Str.{bytes_eq, chars}
-use Rattle.std.specs.List.{before_first}
-use Rattle.std.proofs.lemmas.Slice.Eq.{bytes_eq-Decides}
-use Rattle.std.proofs.lemmas.Bool.Decides.{Decides-eqb}
-use Rattle.clap.specs.Lexer.{has_byte, long_of, short_of}
-use Rattle.std.specs.Option.{option_map_or}
-use Rattle.std.proofs.Math.Bool.{or-false}
-use Rattle.dob_words.specs.Words.{Text, flag_of, is_help_flag, is_text}
+use Rattle.dob_words.proofs.Common.{◌+◌, ◌∙◌, ◌∷◌, ◌≡◌, Bool, None, Option, Some, [], ap, arith, codes, false, refl, subst, suc, sym, take, true, true≢false, ℕ}
+use Rattle.dob_words.proofs.Common.{or-false, Decides-eqb, bytes_eq-Decides, before_first, option_map_or, is_some, not, slice_get, bytes_eq, chars, has_byte}
+use Rattle.dob_words.proofs.Common.{long_of, short_of, Text, flag_of, is_help_flag, is_text}
+use Rattle.std.proofs.Common.{◌==◌, ◌||◌}
 
 -- the first bytes of a word
 pub data View : Text → Type 0 where

@@ -1,23 +1,14 @@
 -- The lines that ask for something are just those that the words' meaning says.
-use Rattle.std.proofs.Common.{rules, ◌≡◌, ◌∙◌, ◌+◌, ℕ, Bool, arith, suc, drop, refl, sym, ap, subst, cond, codes, inl, inr, true, false, [], ◌∷◌, ◌++◌, List, Option}
-use Rattle.std.proofs.Common.{Some, None, append_assoc, append-nil, true≢false}
-use Rattle.std.specs.Prelude.{find, fold, is_some, not, option_map, ◌||◌, ◌&&◌, ◌==◌, unwrap_or}
-use Rattle.std.specs.Option.{option_map_or}
-use Rattle.std.specs.List.{after_first, before_first}
-use Rattle.std.specs.Str.{bytes_eq}
-use Rattle.std.proofs.lemmas.Slice.Eq.{bytes_eq-Decides}
-use Rattle.std.proofs.lemmas.Bool.Decides.{Decides-eqb}
-use Rattle.clap.specs.Lexer.{has_byte}
-use Rattle.dob_words.specs.Forms.{is_among, is_needed}
-use Rattle.dob_words.specs.Forms.{Form, Text, forms, labels, no_form}
-use Rattle.dob_words.specs.Words.{Given, Meaning, Part, Stand, after_dashes, after_part, after_word, asked, asks, at_end, behind, between, call, dashes}
-use Rattle.dob_words.specs.Words.{ended, fits, flag, has_topic, help, kept, meaning_of_topic, named_part}
-use Rattle.dob_words.specs.Words.{is_dashes, is_help_flag, is_text, label_of, meaning_of, meaning_of_form, meaning_of_other, name_in, option}
-use Rattle.dob_words.specs.Words.{is_clear, meaning_of_command, part_named, placed, settled, takes_lines, text, text_behind, texts_of, unknown, usage, valued, version, wanted, wants}
+use Rattle.dob_words.proofs.Common.{◌++◌, ◌+◌, ◌∙◌, ◌∷◌, ◌≡◌, Bool, List, None, Option, Some, [], ap, append-nil, append_assoc, arith, codes, cond, drop, false}
+use Rattle.dob_words.proofs.Common.{inl, inr, refl, rules, subst, suc, sym, true, true≢false, ℕ, Decides-eqb, bytes_eq-Decides, after_first, before_first}
+use Rattle.dob_words.proofs.Common.{option_map_or, ◌&&◌, ◌==◌, ◌||◌, find, fold, is_some, not, option_map, unwrap_or, bytes_eq, has_byte, IsReadingOf, AreFit}
+use Rattle.dob_words.proofs.Common.{IsFit, Given, Meaning, Part, Stand, after_dashes, after_part, after_word, asked, asks, at_end, behind, between, call}
+use Rattle.dob_words.proofs.Common.{dashes, ended, fits, flag, has_topic, help, is_clear, is_dashes, is_help_flag, is_text, kept, label_of, meaning_of}
+use Rattle.dob_words.proofs.Common.{meaning_of_command, meaning_of_form, meaning_of_other, meaning_of_topic, name_in, named_part, option, part_named, placed}
+use Rattle.dob_words.proofs.Common.{settled, takes_lines, text, text_behind, texts_of, unknown, usage, valued, version, wanted, wants, writes_stream, Reading}
+use Rattle.dob_words.specs.Forms.{is_among, is_needed, Form, Text, forms, labels, no_form}
 use Rattle.dob_words.specs.Lines.{AreNew, Behind, Gives, IsAmong, IsCommandLine, by_dashes, by_flag, by_option, by_place, by_value, next, none, nothing}
-use Rattle.dob_words.specs.Shapes.{AreFit, IsFit}
-use Rattle.dob_words.specs.Readings.{ComesFromLine, IsReadingOf, SomeLine}
-use Rattle.dob_words.specs.declared.command.Reading.{Reading}
+use Rattle.dob_words.specs.Readings.{ComesFromLine, SomeLine}
 use Rattle.dob_words.specs.declared.command.Reading.TheVariants as reading
 use Rattle.dob_words.proofs.Lexing.{hyphen_first, before_none, take_one}
 use Rattle.dob_words.proofs.Texts.{Each, kept_both}
@@ -445,11 +436,12 @@ form_line f rest name texts e =
     texts_asked (Some ts) e = (ap asked_name e, ap (λ m. Some (asked_texts m)) e)
 
 settled_asks : (m : Meaning) (name : Text) (texts : List (Option Text)) → settled m ≡ asks name texts → m ≡ asks name texts
-settled_asks (asks n ts) name texts e = go (takes_lines n && not (is_clear ts)) e
+settled_asks (asks n ts) name texts e = go (writes_stream n ts) (takes_lines n && not (is_clear ts)) e
   where
-    go : (b : Bool) → cond b usage (asks n ts) ≡ asks name texts → asks n ts ≡ asks name texts
-    go true e = not_usage no_form name texts e
-    go false e = e
+    go : (a b : Bool) → cond a usage (cond b usage (asks n ts)) ≡ asks name texts → asks n ts ≡ asks name texts
+    go true b e = not_usage no_form name texts e
+    go false true e = not_usage no_form name texts e
+    go false false e = e
 settled_asks help name texts e = e
 settled_asks version name texts e = e
 settled_asks usage name texts e = e

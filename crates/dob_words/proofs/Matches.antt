@@ -1,20 +1,21 @@
--- The texts of a subcommand, from its own matches, and which form's matches they are.
-use Rattle.std.proofs.Common.{◌≡◌, ◌∙◌, ℕ, true, false, inl, inr, ap, ap₂, sym, subst, refl, rules}
-use Rattle.std.proofs.Common.{true≢false, map, List, [], ◌∷◌, Option, Some, None, is_some}
-use Rattle.std.specs.Prelude.{Err, is_err, Result, option_map, unwrap_or}
+-- The texts of a subcommand, from its own matches, which form's matches they are, and the row of its name.
+use Rattle.dob_words.proofs.Common.{◌∙◌, ◌∷◌, ◌≡◌, Bool, List, None, Option, Some, [], ap, ap₂, arith, codes, false, inl, inr, length, map, refl, rules, subst}
+use Rattle.dob_words.proofs.Common.{suc, sym, true, true≢false, ℕ, Ok-from_Ok_iff, bytes_eq-Decides, Bor, list_any, option_map, unwrap_or, bytes_eq}
+use Rattle.dob_words.proofs.Common.{first_value-rows, first_of, subcommand_rows_of, IsReadFor, AreFit, Finds, HasFit, IsFit, IsMet, IsMetBySome, IsNamed}
+use Rattle.dob_words.proofs.Common.{ReadRow, texts_in, asks, cleared, is_number, number_in, settled, Order}
+use Rattle.std.proofs.Common.{◌<◌, zero, ◌||◌, is_some}
+use Rattle.std.specs.Prelude.{Err, get_or, is_err, Result}
 use Rattle.std.specs.Str.Parse.{ParsesUnsigned}
-use Rattle.std.proofs.lemmas.Result.{Ok-from_Ok_iff}
-use Rattle.clap.specs.Words.{Row, first_of, first_value, found_of, rows_of, subcommand_name_of, subcommand_rows_of}
+use Rattle.clap.specs.Words.{Row, first_value, found_of, rows_of, subcommand_name_of}
 use Rattle.clap.specs.declared.parser.ArgMatches.{ArgMatches}
 use Rattle.clap.specs.declared.builder.value_parser.ValueParser.TheVariants.{Unsigned}
 use Rattle.clap.proofs.ValueTestLemmas.{accepts-Accepts}
-use Rattle.clap.proofs.WalkLemmas.{first_value-rows}
 use Rattle.dob_words.specs.Forms.{Form, Text, form_named, forms, is_needed, labels}
 use Rattle.dob_words.specs.Lines.{IsAmong}
-use Rattle.dob_words.specs.Words.{asks, is_number, number_in, settled}
-use Rattle.dob_words.specs.Shapes.{AreFit, Finds, HasFit, IsFit, IsMet, IsMetBySome, IsNamed, texts_in}
-use Rattle.dob_words.specs.Readings.{IsReadFor}
-use Rattle.dob_words.specs.declared.command.Order.{Order}
+use Rattle.dob_words.specs.Readings.{AreNamed, IsFlaggedBy, IsOneOf, form_for, name_of, subcommand_asked, texts_asked}
+use Rattle.dob_words.specs.declared.command.orders.Asked.{Asked}
+use Rattle.dob_words.specs.declared.command.orders.Asked.TheVariants as ask
+use Rattle.dob_words.specs.declared.command.orders.Order.TheVariants as order
 use Rattle.dob_words.proofs.Texts.{Each, taken_number}
 
 -- ---- texts that fit
@@ -103,3 +104,50 @@ module _ (m inner : ArgMatches) (name : Text) (named : Some name ≡ subcommand_
   reads o is =
       subst (λ (n : Text). IsReadFor (settled (asks n texts)) o) (sym name_is)
       (subst (λ (ts : List (Option Text)). IsReadFor (settled (asks name ts)) o) (ap (λ (f : Form). texts_in f inner) form_is ∙ texts_are) is)
+
+-- ---- the row of a name
+
+-- each row is of the subcommand that it names
+pub named_at : (rows : List ReadRow) (i : ℕ) (d : ReadRow) → i < length rows → AreNamed rows → name_of (get_or rows i d).0 ≡ (get_or rows i d).1.now
+named_at [] i d below named = absurd (omega (arith, below))
+named_at (r ∷ rs) zero d below named = named.0
+named_at (r ∷ rs) (suc i) d below named = named_at rs i d (omega (arith, below)) named.1
+
+-- a form of this name is found by it
+pub any_named : (name : Text) (fs : List Form) → IsNamed name fs → list_any (λ n. bytes_eq n name) (map (λ f. f.name) fs) ≡ true
+any_named name [] none = absurd none
+any_named name (f ∷ fs) (inl is) = ap (λ (b : Bool). b || list_any (λ n. bytes_eq n name) (map (λ g. g.name) fs)) ((bytes_eq-Decides f.name name).1 is)
+any_named name (f ∷ fs) (inr more) = go (bytes_eq f.name name) (any_named name fs more)
+  where
+    go : (b : Bool) → list_any (λ n. bytes_eq n name) (map (λ g. g.name) fs) ≡ true → (b || list_any (λ n. bytes_eq n name) (map (λ g. g.name) fs)) ≡ true
+    go true later = refl
+    go false later = later
+
+-- ---- what is asked of each line
+
+-- the texts of what is asked are those of its form
+asked_texts : (a : Asked) (m : ArgMatches)
+    → texts_asked a (first_value (found_of m) (codes "FILE")) (first_value (found_of m) (codes "numbered")) (first_value (found_of m) (codes "each"))
+    (first_value (found_of m) (codes "json")) (first_value (found_of m) (codes "POSITION")) ≡ texts_in (form_for (subcommand_asked a)) m
+asked_texts ask.Probe m = refl
+asked_texts (ask.Look j) m = refl
+asked_texts (ask.Moves j) m = refl
+asked_texts ask.Best m = refl
+asked_texts (ask.Line n j) m = refl
+
+-- by `--each` alone it is clear
+each_clear : (a : Asked) (x n y j z : Option Text) (file : Bor Text) (flag : Text) → x ≡ Some file.now → y ≡ Some flag → z ≡ None → IsFlaggedBy a n j
+    → IsReadFor (cleared (asks (name_of (subcommand_asked a)) (texts_asked a x n y j z))) (Some (order.EachLine file a))
+each_clear ask.Probe x n y j z file flag f e p is = rw (f, e, p) (refl, (n, j, flag, refl, is))
+each_clear (ask.Look b) x n y j z file flag f e p is = rw (f, e, p) (refl, (n, j, flag, refl, is))
+each_clear (ask.Moves b) x n y j z file flag f e p is = rw (f, e, p) (refl, (n, j, flag, refl, is))
+each_clear ask.Best x n y j z file flag f e p is = rw (f, e, p) (refl, (n, j, flag, refl, is))
+each_clear (ask.Line a b) x n y j z file flag f e p is = rw (f, e, p) (refl, (n, j, flag, refl, is))
+
+pub each_read : (a : Asked) (m : ArgMatches) (file : Bor Text) → first_value (found_of m) (codes "FILE") ≡ Some file.now
+    → IsOneOf (first_value (found_of m) (codes "each")) (first_value (found_of m) (codes "POSITION")) (Some None)
+    → IsFlaggedBy a (first_value (found_of m) (codes "numbered")) (first_value (found_of m) (codes "json"))
+    → IsReadFor (cleared (asks (name_of (subcommand_asked a)) (texts_in (form_for (subcommand_asked a)) m))) (Some (order.EachLine file a))
+each_read a m file f one is =
+    subst (λ (texts : List (Option Text)). IsReadFor (cleared (asks (name_of (subcommand_asked a)) texts)) (Some (order.EachLine file a))) (asked_texts a m)
+    (each_clear a _ _ _ _ _ file one.0 f one.1 one.2 is)

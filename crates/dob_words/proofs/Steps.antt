@@ -1,13 +1,10 @@
 -- What one word of the program's command line does to the walk over the words.
-use Rattle.std.proofs.Common.{◌≡◌, ◌∙◌, ℕ, Bool, ap, codes, true, false, [], ◌∷◌, List, Option, None}
-use Rattle.std.specs.Str.{bytes_eq}
+use Rattle.dob_words.proofs.Common.{◌∙◌, ◌∷◌, ◌≡◌, Bool, List, None, Option, [], ap, codes, false, true, ℕ, bytes_eq, Kinds, or_else, Shape, Text, is_help_flag}
+use Rattle.dob_words.proofs.Common.{is_text}
 use Rattle.clap.specs.Walk.{Held, Names, Row, Step, Waiting, Walk, after_step, arg_by_index, idle, plain_word, subcommand_met, to_positional, value, walked}
 use Rattle.clap.specs.Walk.{word_met}
-use Rattle.clap.specs.Simple.{Shape}
-use Rattle.clap.specs.Kinds.{Kinds, or_else}
 use Rattle.clap.specs.Faults.{settle_fault, step_fault, turn_fault, word_fault}
 use Rattle.clap.specs.declared.error.kind.ErrorKind.TheVariants as kind
-use Rattle.dob_words.specs.Words.{Text, is_help_flag, is_text}
 use Rattle.dob_words.proofs.Lexing.{long_name, view, text_flag, text_differs, help_differs}
 use Rattle.dob_words.proofs.Turns.{KnowsHelp, held, help_word, is_usage, or_else_usage, other_word, text_passes, text_plain, word_fails}
 

@@ -1,7 +1,6 @@
 -- `clap` takes the words of each form so: what `proofs/FormWords.antt` asks of a form holds by computing.
-use Rattle.std.proofs.Common.{rules}
+use Rattle.dob_words.proofs.Common.{rules, ProfileNames}
 use Rattle.dob_words.specs.Forms.{forms}
-use Rattle.dob_words.specs.Shapes.{ProfileNames}
 use Rattle.dob_words.proofs.Texts.{Each}
 use Rattle.dob_words.proofs.FormWords.{IsTaken}
 

@@ -1,12 +1,11 @@
 -- The rows that `clap` keeps of given texts.
-use Rattle.std.proofs.Common.{◌≡◌, ◌∙◌, ℕ, Bool, arith, refl, sym, ap, cond, true, false, [], ◌∷◌, ◌++◌, List, Option, Some, None, map, append-nil, true≢false}
-use Rattle.std.specs.Prelude.{is_some, not, find, length, nat_le, nat_lt, option_map, option_and_then, slice_get, fold, unwrap_or, ◌&&◌, ◌||◌, ◌^◌}
-use Rattle.std.specs.Option.{option_map_or}
-use Rattle.std.specs.List.{list_all, list_any}
+use Rattle.dob_words.proofs.Common.{◌++◌, ◌∙◌, ◌∷◌, ◌≡◌, Bool, List, None, Option, Some, [], ap, append-nil, arith, cond, false, map, refl, sym, true}
+use Rattle.dob_words.proofs.Common.{true≢false, ℕ, le-leb, ltb-true, or_right, Bor, list_all, list_any, option_map_or, ◌&&◌, ◌||◌, find, fold, is_some, not}
+use Rattle.dob_words.proofs.Common.{option_map, slice_get, unwrap_or, bytes_eq, Kinds, or_else, value_kinds, filled, is_given, ErrorKind, AreProfiles}
+use Rattle.dob_words.proofs.Common.{ProfileNames, flag_rule, no_names, text_rule, Given, Text, fits, is_number, is_profile, number_in, text_behind, texts_of}
+use Rattle.std.specs.Prelude.{length, nat_le, nat_lt, option_and_then, ◌^◌}
 use Rattle.std.specs.Char.{digit_value}
 use Rattle.std.specs.Str.Parse.{without_leading_plus}
-use Rattle.std.specs.Str.{bytes_eq}
-use Rattle.std.proofs.lemmas.Bool.{le-leb, ltb-true, or_right}
 use Rattle.std.proofs.lemmas.List.{map-append}
 use Rattle.clap.specs.Facts.{explicit_source, parser_of_value}
 use Rattle.clap.specs.Values.{reading_of}
@@ -15,18 +14,11 @@ use Rattle.clap.specs.declared.builder.value_parser.Reading.{Reading}
 use Rattle.clap.specs.declared.builder.value_parser.Reading.TheVariants.{AsWritten}
 use Rattle.clap.specs.declared.builder.value_parser.ValueParser.TheVariants.{Names, String, Unsigned}
 use Rattle.clap.specs.Walk.{Row, Rule, at_row, first_of, has_row, more_values, used, with_default, with_values, without}
-use Rattle.clap.specs.Simple.{filled}
-use Rattle.clap.specs.Takes.{is_given}
-use Rattle.clap.specs.Kinds.{Kinds, or_else, value_kinds}
 use Rattle.clap.specs.Faults.{default_fault, defaults_fault, use_fault}
-use Rattle.clap.specs.declared.error.kind.ErrorKind.{ErrorKind}
 use Rattle.clap.specs.declared.error.kind.ErrorKind.TheVariants as kind
 use Rattle.clap.specs.declared.builder.value_parser.ValueParser.{ValueParser}
-use Rattle.std.specs.Borrow.{Bor}
 use Rattle.clap.specs.declared.parser.matches.ValueSource.TheVariants.{CommandLine}
-use Rattle.dob_words.specs.Words.{Given, Text, fits, is_number, is_profile, number_in, text_behind, texts_of}
 use Rattle.dob_words.specs.Forms.{Form, is_among, is_needed, no_form}
-use Rattle.dob_words.specs.Shapes.{AreProfiles, ProfileNames, flag_rule, no_names, text_rule}
 use Rattle.dob_words.proofs.Turns.{is_usage}
 
 -- the argument of a text, built: an option's by its name, another by its place

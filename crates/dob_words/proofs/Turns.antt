@@ -1,23 +1,14 @@
 -- What `clap` makes of one word of the program's command line, at a command whose one flag is the
 -- help flag; it may have an option too.
-use Rattle.std.proofs.Common.{◌≡◌, ◌∙◌, ◌==◌, ◌&&◌, ℕ, Bool, refl, sym, ap, subst, cond, codes, true, false, [], ◌∷◌, List, Option, Some, None, length, zero}
-use Rattle.std.proofs.Common.{suc, true≢false}
-use Rattle.std.specs.Prelude.{slice_get, is_some, not}
-use Rattle.std.specs.Option.{option_map_or}
-use Rattle.std.specs.List.{before_first}
-use Rattle.std.specs.Str.{bytes_eq, chars}
-use Rattle.std.proofs.lemmas.Slice.Eq.{bytes_eq-Decides}
-use Rattle.clap.specs.Words.{Rule}
+use Rattle.dob_words.proofs.Common.{◌∙◌, ◌∷◌, ◌≡◌, Bool, List, None, Option, Some, [], ap, codes, cond, false, length, refl, subst, suc, sym, true, true≢false}
+use Rattle.dob_words.proofs.Common.{ℕ, bytes_eq-Decides, before_first, option_map_or, is_some, not, slice_get, bytes_eq, chars, Kinds, or_else, has_byte}
+use Rattle.dob_words.proofs.Common.{long_of, name_and_value, filled, help_rule, Rule, ErrorKind, Text, flag_of, is_help_flag, is_text}
+use Rattle.std.proofs.Common.{◌==◌, ◌&&◌, zero}
 use Rattle.clap.specs.Walk.{Held, Row, Waiting, attached_value, plain, plain_word, arg_by_long, arg_by_short, bundle_met, long_or_other, takes_values}
-use Rattle.clap.specs.Simple.{filled, help_rule}
-use Rattle.clap.specs.Lexer.{has_byte, long_of, name_and_value}
-use Rattle.clap.specs.Kinds.{Kinds, or_else}
 use Rattle.clap.specs.Faults.{flag_word_fault, flags_fault, long_fault, option_fault, react_fault, settle_fault, short_fault}
-use Rattle.clap.specs.declared.error.kind.ErrorKind.{ErrorKind}
 use Rattle.clap.specs.declared.error.kind.ErrorKind.TheVariants as kind
-use Rattle.dob_words.specs.Words.{Text, flag_of, is_help_flag, is_text}
-use Rattle.dob_words.proofs.Lexing.{help_letter, help_hyphen, help_dashes, help_long, help_short, View, empty, letter, hyphen, dashes, long, short, hyphen_first}
-use Rattle.dob_words.proofs.Lexing.{long_name, no_first, long_letter, short_letter, flag_letter, long_short, short_short, before_none}
+use Rattle.dob_words.proofs.Lexing.{help_letter, help_hyphen, help_dashes, help_long, help_short, View, empty, letter, hyphen, dashes, long, short}
+use Rattle.dob_words.proofs.Lexing.{hyphen_first, long_name, no_first, long_letter, short_letter, flag_letter, long_short, short_short, before_none}
 
 -- the help flag, built
 abbrev pub help_flag : Rule

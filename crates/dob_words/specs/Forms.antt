@@ -1,4 +1,4 @@
--- The subcommands of the program: what each of them takes, by its row in src/table.rt.
+-- The subcommands of the program: what each of them takes, by its row in src/rows.rt.
 use Rattle.std.specs.Prelude.{ℕ, Bool, true, false, not, List, [], ◌++◌, map, find, unwrap_or}
 use Rattle.std.specs.List.{filter, list_any}
 use Rattle.std.specs.Str.{bytes_eq}
@@ -6,7 +6,7 @@ use Rattle.dob_words.specs.declared.table.Kind.{Kind}
 use Rattle.dob_words.specs.declared.table.Kind.TheVariants as kind
 use Rattle.dob_words.specs.declared.table.Need.{Need}
 use Rattle.dob_words.specs.declared.table.Need.TheVariants as need
-use Rattle.dob_words.specs.declared.table.TheConstants.{ROWS}
+use Rattle.dob_words.specs.declared.rows.TheConstants.{ROWS}
 
 abbrev pub Text : Type 0
 Text = List ℕ
@@ -53,13 +53,13 @@ Choice = Text × Place
 abbrev pub Row : Type 0
 Row = Text × List Choice × List Text × List Place
 
--- those of src/table.rt
+-- those of src/rows.rt
 abbrev pub rows : List Row
 rows = map (λ r. (
-  r.0.now,
-  map (λ c. (c.0.now, (c.1.0.now, c.1.1, c.1.2))) r.2.now,
-  map (λ f. f.0.now) r.3.now,
-  map (λ p. (p.0.now, p.1, p.2)) r.4.now,
+  r.1.now,
+  map (λ c. (c.0.now, (c.1.0.now, c.1.1, c.1.2))) r.3.now,
+  map (λ f. f.0.now) r.4.now,
+  map (λ p. (p.0.now, p.1, p.2)) r.5.now,
 )) ROWS.now
 
 abbrev pub is_number_kind : Kind → Bool
@@ -69,6 +69,10 @@ is_number_kind _ = false
 abbrev pub is_profile_kind : Kind → Bool
 is_profile_kind kind.Profile = true
 is_profile_kind _ = false
+
+abbrev pub is_output_kind : Kind → Bool
+is_output_kind kind.Output = true
+is_output_kind _ = false
 
 abbrev pub is_may : Need → Bool
 is_may need.May = true

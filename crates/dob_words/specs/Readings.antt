@@ -3,96 +3,142 @@ use Rattle.std.specs.Prelude.{◌≡◌, IfSome, true, List, [], ◌∷◌, None
 use Rattle.std.specs.Borrow.{Bor}
 use Rattle.clap.specs.declared.error.kind.ErrorKind.{ErrorKind}
 use Rattle.clap.specs.declared.error.kind.ErrorKind.TheVariants as kind
-use Rattle.dob_words.specs.Forms.{Form, Text, forms}
+use Rattle.dob_words.specs.Forms.{Form, Text, form_named, forms}
 use Rattle.dob_words.specs.Lines.{IsAmong, IsCommandLine}
 use Rattle.dob_words.specs.Words.{Meaning, asks, help, is_number, number_in, profile_named, usage, version}
-use Rattle.dob_words.specs.declared.command.Order.{Order}
-use Rattle.dob_words.specs.declared.command.Order.TheVariants as order
-use Rattle.dob_words.specs.declared.command.orders.Asker.{Asker}
-use Rattle.dob_words.specs.declared.command.orders.Asker.TheVariants as asker
+use Rattle.dob_words.specs.Shapes.{ReadRow}
+use Rattle.dob_words.specs.declared.command.orders.Asked.{Asked}
+use Rattle.dob_words.specs.declared.command.orders.Asked.TheVariants as ask
+use Rattle.dob_words.specs.declared.command.orders.LinesOrder.{LinesOrder}
+use Rattle.dob_words.specs.declared.command.orders.LinesOrder.TheVariants as lines
+use Rattle.dob_words.specs.declared.command.orders.Order.{Order}
+use Rattle.dob_words.specs.declared.command.orders.Order.TheVariants as order
 use Rattle.dob_words.specs.declared.command.Reading.{Reading}
 use Rattle.dob_words.specs.declared.command.Reading.TheVariants as reading
+use Rattle.dob_words.specs.declared.rows.Subcommand.{Subcommand}
+use Rattle.dob_words.specs.declared.rows.Subcommand.TheVariants as subcommand
+
+-- the name of a subcommand
+abbrev pub name_of : Subcommand → Text
+name_of subcommand.Value = codes "value"
+name_of subcommand.Count = codes "count"
+name_of subcommand.Reach = codes "reach"
+name_of subcommand.Build = codes "build"
+name_of subcommand.Probe = codes "probe"
+name_of subcommand.Line = codes "line"
+name_of subcommand.Check = codes "check"
+name_of subcommand.Look = codes "look"
+name_of subcommand.Show = codes "show"
+name_of subcommand.Moves = codes "moves"
+name_of subcommand.Best = codes "best"
+name_of subcommand.Stats = codes "stats"
+name_of subcommand.Zugzwangs = codes "zugzwangs"
+name_of subcommand.Puzzles = codes "puzzles"
+name_of subcommand.Migrate = codes "migrate"
+name_of subcommand.Certify = codes "certify"
+name_of subcommand.Verify = codes "verify"
+name_of subcommand.Reply = codes "reply"
+
+-- each row is of the subcommand that it names
+abbrev pub AreNamed : List ReadRow → Type 0
+AreNamed [] = Unit {0}
+AreNamed (row ∷ more) = (name_of row.0 ≡ row.1.now) × AreNamed more
+
+-- what the subcommand takes
+abbrev pub form_for : Subcommand → Form
+form_for s = form_named (name_of s)
+
+-- the subcommand that asks this
+abbrev pub subcommand_asked : Asked → Subcommand
+subcommand_asked ask.Probe = subcommand.Probe
+subcommand_asked (ask.Look _) = subcommand.Look
+subcommand_asked (ask.Moves _) = subcommand.Moves
+subcommand_asked ask.Best = subcommand.Best
+subcommand_asked (ask.Line _ _) = subcommand.Line
 
 -- the subcommand that the order is for
-abbrev pub name_of_order : Order → Text
-name_of_order (order.Value _ _) = codes "value"
-name_of_order (order.Count _ _) = codes "count"
-name_of_order (order.Reach _ _ _ _ _) = codes "reach"
-name_of_order (order.Build _ _ _ _ _) = codes "build"
-name_of_order (order.Probe _ _) = codes "probe"
-name_of_order (order.Each _) = codes "probe"
-name_of_order (order.Line _ _ _) = codes "line"
-name_of_order (order.Check _ _) = codes "check"
-name_of_order (order.Look _ _) = codes "look"
-name_of_order (order.LookEach _) = codes "look"
-name_of_order (order.MovesEach _) = codes "moves"
-name_of_order (order.BestEach _) = codes "best"
-name_of_order (order.LineEach _ _) = codes "line"
-name_of_order (order.Show _ _ _) = codes "show"
-name_of_order (order.Moves _ _) = codes "moves"
-name_of_order (order.Best _ _) = codes "best"
-name_of_order (order.Stats _ _) = codes "stats"
-name_of_order (order.Zugzwangs _ _) = codes "zugzwangs"
-name_of_order (order.Puzzles _ _ _ _ _ _) = codes "puzzles"
-name_of_order (order.Migrate _ _) = codes "migrate"
-name_of_order (order.Certify _ _ _ _ _ _) = codes "certify"
-name_of_order (order.Verify _ _) = codes "verify"
-name_of_order (order.Reply _ _) = codes "reply"
+abbrev pub subcommand_of : LinesOrder → Subcommand
+subcommand_of (lines.Value _ _) = subcommand.Value
+subcommand_of (lines.Count _ _) = subcommand.Count
+subcommand_of (lines.Reach _ _ _ _ _) = subcommand.Reach
+subcommand_of (lines.Build _) = subcommand.Build
+subcommand_of (lines.Ask _ asked _) = subcommand_asked asked
+subcommand_of (lines.Check _ _) = subcommand.Check
+subcommand_of (lines.Show _ _ _) = subcommand.Show
+subcommand_of (lines.Stats _ _ _) = subcommand.Stats
+subcommand_of (lines.Zugzwangs _ _) = subcommand.Zugzwangs
+subcommand_of (lines.Puzzles _ _ _ _ _ _) = subcommand.Puzzles
+subcommand_of (lines.Migrate _ _) = subcommand.Migrate
+subcommand_of (lines.Certify _ _ _ _ _ _) = subcommand.Certify
+subcommand_of (lines.Verify _ _) = subcommand.Verify
+subcommand_of (lines.Reply _ _) = subcommand.Reply
 
--- the subcommand of that name
-abbrev pub name_of_asker : Asker → Text
-name_of_asker asker.Probe = codes "probe"
-name_of_asker asker.Look = codes "look"
-name_of_asker asker.Moves = codes "moves"
-name_of_asker asker.Best = codes "best"
+abbrev pub name_of_order : Order → Text
+name_of_order (order.Lines o) = name_of (subcommand_of o)
+name_of_order (order.EachLine file asked) = name_of (subcommand_asked asked)
+
+-- the flags `--numbered` and `--json` are given where that is asked
+abbrev pub IsFlaggedBy : Asked → Option Text → Option Text → Type 0
+IsFlaggedBy (ask.Look is_json) numbered json = is_json ≡ is_some json
+IsFlaggedBy (ask.Moves is_json) numbered json = is_json ≡ is_some json
+IsFlaggedBy (ask.Line is_numbered is_json) numbered json = (is_numbered ≡ is_some numbered) × (is_json ≡ is_some json)
+IsFlaggedBy _ numbered json = Unit {0}
+
+-- the texts of what is asked, by those of FILE, `--numbered`, `--each`, `--json` and POSITION
+abbrev pub texts_asked : Asked → Option Text → Option Text → Option Text → Option Text → Option Text → List (Option Text)
+texts_asked (ask.Look _) file numbered each json position = file ∷ each ∷ json ∷ position ∷ []
+texts_asked (ask.Moves _) file numbered each json position = file ∷ each ∷ json ∷ position ∷ []
+texts_asked (ask.Line _ _) file numbered each json position = file ∷ numbered ∷ each ∷ json ∷ position ∷ []
+texts_asked _ file numbered each json position = file ∷ each ∷ position ∷ []
 
 -- the text that may be left out
 abbrev pub text_given : Option (Bor Text) → Option Text
 text_given = option_map (λ t. t.now)
 
 -- it has these texts, in the order of the subcommand's form; of a number the text may be any that tells it
-abbrev pub HasTexts : List (Option Text) → Order → Type 0
-HasTexts texts (order.Value profile position) =
+abbrev pub HasLinesTexts : List (Option Text) → LinesOrder → Type 0
+HasLinesTexts texts (lines.Value profile position) =
     (rules : Option Text) × (rules ∷ Some position.now ∷ [] ≡ texts) × (profile ≡ profile_named rules)
-HasTexts texts (order.Count profile set) =
+HasLinesTexts texts (lines.Count profile set) =
     (rules : Option Text) × (Some set.now ∷ rules ∷ [] ≡ texts) × (profile ≡ profile_named rules)
-HasTexts texts (order.Reach profile file has_levels is_watched position) =
+HasLinesTexts texts (lines.Reach profile file has_levels is_watched position) =
     (rules levels flag : Option Text) × (text_given file ∷ rules ∷ levels ∷ flag ∷ Some position.now ∷ [] ≡ texts) × (profile ≡ profile_named rules)
     × (has_levels ≡ is_some levels) × (is_watched ≡ is_some flag)
-HasTexts texts (order.Build profile set nodes file is_watched) =
-    (n rules flag : Option Text) × (Some set.now ∷ n ∷ Some file.now ∷ rules ∷ flag ∷ [] ≡ texts) × IfSome n (λ t. is_number t ≡ true)
-    × (nodes ≡ option_map number_in n) × (profile ≡ profile_named rules) × (is_watched ≡ is_some flag)
-HasTexts texts (order.Probe file position) = Some file.now ∷ None ∷ Some position.now ∷ [] ≡ texts
-HasTexts texts (order.Each file) = (flag : Text) × (Some file.now ∷ Some flag ∷ None ∷ [] ≡ texts)
-HasTexts texts (order.Line file is_numbered position) =
-    (flag : Option Text) × (Some file.now ∷ flag ∷ None ∷ Some position.now ∷ [] ≡ texts) × (is_numbered ≡ is_some flag)
-HasTexts texts (order.Check file is_watched) = (flag : Option Text) × (Some file.now ∷ flag ∷ [] ≡ texts) × (is_watched ≡ is_some flag)
-HasTexts texts (order.Look file position) = Some file.now ∷ None ∷ Some position.now ∷ [] ≡ texts
-HasTexts texts (order.LookEach file) = (flag : Text) × (Some file.now ∷ Some flag ∷ None ∷ [] ≡ texts)
-HasTexts texts (order.MovesEach file) = (flag : Text) × (Some file.now ∷ Some flag ∷ None ∷ [] ≡ texts)
-HasTexts texts (order.BestEach file) = (flag : Text) × (Some file.now ∷ Some flag ∷ None ∷ [] ≡ texts)
-HasTexts texts (order.LineEach file is_numbered) =
-    (flag : Option Text) × (each : Text) × (Some file.now ∷ flag ∷ Some each ∷ None ∷ [] ≡ texts) × (is_numbered ≡ is_some flag)
-HasTexts texts (order.Show file picture position) = text_given file ∷ text_given picture ∷ Some position.now ∷ [] ≡ texts
-HasTexts texts (order.Moves file position) = Some file.now ∷ None ∷ Some position.now ∷ [] ≡ texts
-HasTexts texts (order.Best file position) = Some file.now ∷ None ∷ Some position.now ∷ [] ≡ texts
-HasTexts texts (order.Stats file is_csv) = (flag : Option Text) × (Some file.now ∷ flag ∷ [] ≡ texts) × (is_csv ≡ is_some flag)
-HasTexts texts (order.Zugzwangs file listed) =
+HasLinesTexts texts (lines.Build build) =
+    (n rules flag : Option Text) × (Some build.set.now ∷ n ∷ Some build.file.now ∷ rules ∷ flag ∷ [] ≡ texts) × IfSome n (λ t. is_number t ≡ true)
+    × (build.nodes ≡ option_map number_in n) × (build.profile ≡ profile_named rules) × (build.is_watched ≡ is_some flag)
+HasLinesTexts texts (lines.Ask file asked position) =
+    (numbered json : Option Text) × (texts_asked asked (Some file.now) numbered None json (Some position.now) ≡ texts) × IsFlaggedBy asked numbered json
+HasLinesTexts texts (lines.Check file is_watched) = (flag : Option Text) × (Some file.now ∷ flag ∷ [] ≡ texts) × (is_watched ≡ is_some flag)
+HasLinesTexts texts (lines.Show file picture position) = text_given file ∷ text_given picture ∷ Some position.now ∷ [] ≡ texts
+HasLinesTexts texts (lines.Stats file is_csv is_json) =
+    (csv json : Option Text) × (Some file.now ∷ csv ∷ json ∷ [] ≡ texts) × (is_csv ≡ is_some csv) × (is_json ≡ is_some json)
+HasLinesTexts texts (lines.Zugzwangs file listed) =
     (n : Option Text) × (Some file.now ∷ n ∷ [] ≡ texts) × IfSome n (λ t. is_number t ≡ true) × (listed ≡ option_map number_in n)
-HasTexts texts (order.Puzzles file plies count from seed is_numbered) =
+HasLinesTexts texts (lines.Puzzles file plies count from seed is_numbered) =
     (d n : Text) × (f s flag : Option Text) × (Some file.now ∷ Some d ∷ Some n ∷ f ∷ s ∷ flag ∷ [] ≡ texts) × (is_number d ≡ true)
     × (plies ≡ number_in d) × (is_number n ≡ true) × (count ≡ number_in n) × (from ≡ option_map number_in f) × (seed ≡ option_map number_in s)
     × (is_numbered ≡ is_some flag)
-HasTexts texts (order.Migrate file out) = Some file.now ∷ Some out.now ∷ [] ≡ texts
-HasTexts texts (order.Certify file out most is_exact is_watched position) =
+HasLinesTexts texts (lines.Migrate file out) = Some file.now ∷ Some out.now ∷ [] ≡ texts
+HasLinesTexts texts (lines.Certify file out most is_exact is_watched position) =
     (n exact flag : Option Text) × (Some file.now ∷ Some out.now ∷ n ∷ exact ∷ flag ∷ Some position.now ∷ [] ≡ texts) × IfSome n (λ t. is_number t ≡ true)
     × (most ≡ option_map number_in n) × (is_exact ≡ is_some exact) × (is_watched ≡ is_some flag)
-HasTexts texts (order.Verify file is_watched) = (flag : Option Text) × (Some file.now ∷ flag ∷ [] ≡ texts) × (is_watched ≡ is_some flag)
-HasTexts texts (order.Reply file position) = Some file.now ∷ Some position.now ∷ [] ≡ texts
+HasLinesTexts texts (lines.Verify file is_watched) = (flag : Option Text) × (Some file.now ∷ flag ∷ [] ≡ texts) × (is_watched ≡ is_some flag)
+HasLinesTexts texts (lines.Reply file position) = Some file.now ∷ Some position.now ∷ [] ≡ texts
+
+abbrev pub HasTexts : List (Option Text) → Order → Type 0
+HasTexts texts (order.Lines o) = HasLinesTexts texts o
+HasTexts texts (order.EachLine file asked) =
+    (numbered json : Option Text) × (each : Text) × (texts_asked asked (Some file.now) numbered (Some each) json None ≡ texts)
+    × IsFlaggedBy asked numbered json
 
 -- the order is for this subcommand and these texts
 abbrev pub IsOrder : Text → List (Option Text) → Order → Type 0
 IsOrder name texts o = (name_of_order o ≡ name) × HasTexts texts o
+
+-- the same of an order that lines answer
+abbrev pub IsLinesOrder : Subcommand → List (Option Text) → LinesOrder → Type 0
+IsLinesOrder s texts o = IsOrder (name_of s) texts (order.Lines o)
 
 -- what was read is what the words ask for
 abbrev pub IsReadingOf : Meaning → Reading → Type 0

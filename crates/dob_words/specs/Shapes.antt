@@ -1,6 +1,8 @@
 -- What `clap` reads of the program's commands.
 use Rattle.std.specs.Borrow.{Bor}
-use Rattle.std.specs.Prelude.{◌≡◌, ◌⊎◌, ◌++◌, List, [], ◌∷◌, Option, None, Some, codes, false, fold, if◌then◌else◌, map, not, true}
+use Rattle.std.specs.Prelude.{◌≡◌, ◌&&◌, ◌⊎◌, ◌++◌, Bool, List, [], ◌∷◌, Option, None, Some, codes, false, fold, if◌then◌else◌, map, not, true}
+use Rattle.std.specs.List.{list_any}
+use Rattle.std.specs.Str.{bytes_eq}
 use Rattle.clap.specs.declared.builder.Arg.{Arg}
 use Rattle.clap.specs.declared.builder.Command.{Command}
 use Rattle.clap.specs.declared.builder.Command.TheViews.{out-Command}
@@ -9,11 +11,12 @@ use Rattle.clap.specs.Words.{App, Row as FoundRow, Rule, app_of, first_of, first
 use Rattle.clap.specs.declared.builder.action.ArgAction.TheVariants.{Set}
 use Rattle.clap.specs.declared.builder.value_parser.ValueParser.{ValueParser}
 use Rattle.clap.specs.declared.builder.value_parser.ValueParser.TheVariants.{Names, Unsigned}
+use Rattle.dob_words.specs.declared.rows.Subcommand.{Subcommand}
 use Rattle.dob_words.specs.declared.table.Need.{Need}
 use Rattle.dob_words.specs.declared.table.Kind.{Kind}
 use Rattle.dob_words.specs.declared.table.Kind.TheVariants as kind
 use Rattle.dob_words.specs.Forms.{Choice, Form, Place, Row, Text, forms, is_among, is_may, is_needed, labels}
-use Rattle.dob_words.specs.Words.{fits}
+use Rattle.dob_words.specs.Words.{fits, is_misplaced}
 
 -- the command is read so, and none of its arguments is one of each subcommand too
 abbrev pub HasCommandShape : App → Command → Type 0
@@ -73,6 +76,7 @@ abbrev pub kind_parser : ProfileNames → Kind → Option ValueParser
 kind_parser profiles kind.Any = None
 kind_parser profiles kind.Number = Some (Unsigned 0 18446744073709551615)
 kind_parser profiles kind.Profile = Some (Names profiles)
+kind_parser profiles kind.Output = None
 
 abbrev pub place_rule : ProfileNames → Place → Rule
 place_rule profiles p = record (new_rule p.0) { required = not (is_may p.2); parser = kind_parser profiles p.1 }
@@ -99,9 +103,14 @@ choice_said c = (c.0.now, place_said c.1)
 abbrev pub flag_said : Bor Text × Bor Text → Text
 flag_said f = f.0.now
 
-abbrev pub row_said : Bor Text × Bor Text × Bor (List (Bor Text × (Bor Text × Kind × Need × Bor Text))) × Bor (List (Bor Text × Bor Text))
-    × Bor (List (Bor Text × Kind × Need × Bor Text)) → Row
-row_said r = (r.0.now, map choice_said r.2.now, map flag_said r.3.now, map place_said r.4.now)
+-- a row, as the code reads it
+abbrev pub ReadRow : Type 0
+ReadRow =
+    Subcommand × Bor Text × Bor Text × Bor (List (Bor Text × (Bor Text × Kind × Need × Bor Text))) × Bor (List (Bor Text × Bor Text))
+    × Bor (List (Bor Text × Kind × Need × Bor Text))
+
+abbrev pub row_said : ReadRow → Row
+row_said r = (r.1.now, map choice_said r.3.now, map flag_said r.4.now, map place_said r.5.now)
 
 -- the program without its subcommands
 abbrev pub bare_app : App
@@ -159,3 +168,11 @@ texts_in form matches = map (first_value (found_of matches)) (labels form)
 -- each of them fits
 abbrev pub HasFit : Form → ArgMatches → Type 0
 HasFit form matches = AreFit form (labels form) (texts_in form matches)
+
+-- they have a stream for this option, where it has to have the name of a file that is written
+abbrev pub is_stream_for : ArgMatches → Choice → Bool
+is_stream_for matches choice = is_misplaced choice (first_value (found_of matches) choice.1.0)
+
+-- so for an option of this row, which is of this name
+abbrev pub is_stream_in : Text → ArgMatches → Row → Bool
+is_stream_in name matches row = bytes_eq row.0 name && list_any (is_stream_for matches) row.1

@@ -2,7 +2,7 @@
 -- the list of its bytes, which are UTF-8.
 use Rattle.std.specs.Prelude.{◌==◌, ◌&&◌, ◌||◌, ◌^◌, ℕ, Bool, false, true, not, List, [], ◌∷◌, ◌++◌, Option, None, Some, is_some}
 use Rattle.std.specs.Prelude.{if◌then◌else◌, codes, length, nat_lt, slice_get, find, fold, map, option_map}
-use Rattle.std.specs.List.{before_first, after_first, list_all, list_any}
+use Rattle.std.specs.List.{before_first, after_first, list_all, list_any, starts_with}
 use Rattle.std.specs.Char.{digit_value}
 use Rattle.std.specs.Option.{option_map_or}
 use Rattle.std.specs.Str.{bytes_eq, chars}
@@ -10,7 +10,7 @@ use Rattle.std.specs.Str.Parse.{digits_value, without_leading_plus}
 use Rattle.dob_pieces.specs.Bytes.{hyphen, equals_sign, lower_h}
 use Rattle.dob_pieces.specs.declared.profile.Profile.{Profile}
 use Rattle.dob_pieces.specs.declared.profile.Profile.TheVariants.{A, B}
-use Rattle.dob_words.specs.Forms.{Form, forms, is_among, is_needed, labels}
+use Rattle.dob_words.specs.Forms.{Choice, Form, forms, is_among, is_needed, is_output_kind, labels, rows}
 pub use Rattle.dob_words.specs.Forms.{Text}
 
 -- ---- what one word is
@@ -235,15 +235,46 @@ takes_lines name =
     bytes_eq (codes "probe") name || (bytes_eq (codes "look") name
     || (bytes_eq (codes "moves") name || (bytes_eq (codes "best") name || bytes_eq (codes "line") name)))
 
--- of `--each` and a POSITION, which these have behind FILE, and `line` behind `--numbered` too, just one is given
+-- of `--each` and a POSITION, which these have behind FILE, with `--json` between them, and `line` with `--numbered` before them, just one is given
 abbrev pub is_clear : List (Option Text) → Bool
 is_clear (file ∷ each ∷ position ∷ []) = if is_some each then not (is_some position) else is_some position
-is_clear (file ∷ numbered ∷ each ∷ position ∷ []) = if is_some each then not (is_some position) else is_some position
+is_clear (file ∷ each ∷ json ∷ position ∷ []) = if is_some each then not (is_some position) else is_some position
+is_clear (file ∷ numbered ∷ each ∷ json ∷ position ∷ []) = if is_some each then not (is_some position) else is_some position
 is_clear texts = true
 
--- what is asked for, where it is clear
+-- what is asked for, where one of `--each` and a POSITION is given
+abbrev pub cleared : Meaning → Meaning
+cleared (asks name texts) = if takes_lines name && not (is_clear texts) then usage else asks name texts
+cleared help = help
+cleared version = version
+cleared usage = usage
+
+-- names of the program's own streams
+abbrev pub streams : List Text
+streams = codes "-" ∷ codes "/dev/stdin" ∷ codes "/dev/stdout" ∷ codes "/dev/stderr" ∷ []
+
+-- the text is no name of a file, but that of one of the program's own streams
+abbrev pub is_stream : Text → Bool
+is_stream t =
+    is_among streams t
+    || (starts_with ◌==◌ t (codes "/dev/fd/") || starts_with ◌==◌ t (codes "/proc/self/fd/"))
+
+-- so is the one that is given for this option, where a file is written by that name
+abbrev pub is_misplaced : Choice → Option Text → Bool
+is_misplaced choice t = is_output_kind choice.1.1 && option_map_or is_stream t false
+
+-- so is one of the texts, which begin with those of these options
+abbrev pub is_some_misplaced : List Choice → List (Option Text) → Bool
+is_some_misplaced (choice ∷ more) (t ∷ texts) = is_misplaced choice t || is_some_misplaced more texts
+is_some_misplaced _ _ = false
+
+-- a file is to be written to a stream, by the subcommand of this name with these texts
+abbrev pub writes_stream : Text → List (Option Text) → Bool
+writes_stream name texts = list_any (λ row. bytes_eq row.0 name && is_some_misplaced row.1 texts) rows
+
+-- what is asked for, where that can be
 abbrev pub settled : Meaning → Meaning
-settled (asks name texts) = if takes_lines name && not (is_clear texts) then usage else asks name texts
+settled (asks name texts) = if writes_stream name texts then usage else cleared (asks name texts)
 settled help = help
 settled version = version
 settled usage = usage

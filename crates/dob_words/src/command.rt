@@ -1,159 +1,32 @@
 // What the words of the program `dobutsu` ask for, read by `clap`.
 //
-// A further subcommand, as `best --db FILE POSITION`, has
-// - here a row in table.rt and a text in helps.rt; a variant of `Order`; its name and its texts in specs/Readings.antt; and an arm of
-//   `order_named` in command/orders.rt that reads it (where texts exclude each other, as POSITION and `--each`, see `settled` of
-//   specs/Words.antt);
-// - in dob_query what it owes, and in dob_cli a case in the definitions of specs/Orders.antt and an arm of `answer` in program.rt with its
-//   answer; where a value table's file makes its answer right, that in `AnswersRight` and `rightly` of proofs/Orders.antt.
-ghost use Rattle.std.specs.Prelude.{◌≡◌, [], IfOk, List, Option, codes, false, map, true};
+// A further subcommand, as `stats --db FILE`, has
+// - here a variant of `Subcommand`, a row, a text for its help and an arm of `help_of` in rows.rt; a variant of `LinesOrder` and an arm of `order_for` in
+//   command/orders.rt; and its name, its order and its texts in specs/Readings.antt;
+// - in dob_query what it owes in a file of specs/, and its answer in a file of src/, each named in the Lib.antt or lib.rt there;
+// - in dob_cli a case in the definitions of specs/Orders.antt, an arm of `answer` in program.rt, and that arm's line in its Answers.antt; where a value
+//   table's file makes its answer right, that in `AnswersLinesRight` and `rightly` of proofs/Orders.antt.
+// What is asked of a position by a file, as `best --db FILE POSITION`, is a variant of `Asked` instead, and of `--each` too.
+ghost use Rattle.std.specs.Prelude.{◌≡◌, [], IfOk, IfSome, List, Option, codes, false, is_some, map, true};
 ghost use Rattle.std.specs.List.{list_any};
 ghost use Rattle.std.specs.Str.{bytes_eq};
 ghost use Rattle.clap.specs.Words.{App, kind_of, new_app, subcommand_rows_of};
-ghost use Rattle.dob_words.specs.Forms.{Form, Text, forms, rows};
+ghost use Rattle.dob_words.specs.Forms.{Form, Text, form_named, forms, rows};
 ghost use Rattle.dob_words.specs.Lines.{IsAmong, IsCommandLine};
-ghost use Rattle.dob_words.specs.Words.{Meaning, asks, has_topic, is_topic, is_version, meaning_of, meaning_of_topic, names_subcommand, settled};
-ghost use Rattle.dob_words.specs.Shapes.{AreProfiles, Finds, HasCommandShape, IsMetBySome, IsProgram, IsRead, bare_app, choice_rule, choice_said, flag_rule, flag_said, place_rule, place_said, row_app, row_said, with_rows, with_rules};
-ghost use Rattle.dob_words.specs.Readings.{ComesFromLine, IsReadFor, IsReadingOf, IsReadingOfKind};
+ghost use Rattle.dob_words.specs.Words.{Meaning, asks, cleared, has_topic, is_topic, is_version, meaning_of, meaning_of_topic, names_subcommand, settled};
+ghost use Rattle.dob_words.specs.Shapes.{AreProfiles, Finds, HasCommandShape, HasFit, IsMetBySome, IsNamed, IsProgram, IsRead, bare_app, choice_rule, choice_said, flag_rule, flag_said, place_rule, place_said, row_app, row_said, texts_in, with_rows, with_rules};
+ghost use Rattle.dob_words.specs.Readings.{AreNamed, ComesFromLine, IsReadFor, IsReadingOf, IsReadingOfKind, name_of};
 
+mod misplaced;
 mod orders;
 
-use crate::helps::{PROGRAM, help_of};
-use crate::table::{Choice, Flag, Kind, Need, PROFILES, Place, ROWS, Row};
+use crate::rows::{PROGRAM, ROWS, Subcommand, help_of};
+use crate::table::{Choice, Flag, Kind, Need, PROFILES, Place, Row};
 use clap::error::ErrorKind;
 use clap::{Arg, ArgAction, ArgMatches, Command, Error, value_parser};
-use dob_pieces::Profile;
+use misplaced::Misplaced;
+pub use orders::{Asked, BuildOrder, LinesOrder, Order};
 use std::alloc::{AllocError, Global};
-
-/// What the program is asked to do.
-#[derive(Clone, Copy)]
-pub enum Order<'a> {
-    /// To print the value of the position that the text names, by the rules of the profile.
-    Value {
-        profile: Profile,
-        position: &'a str,
-    },
-    /// To print the numbers of positions and of classes of the piece set that the text names, by the rules of the profile.
-    Count {
-        profile: Profile,
-        set: &'a str,
-    },
-    /// To print how many classes are reached from that of the position, by the rules of the profile; where a table's file is named, by
-    /// its rules, and how many of them have which value. A line for each distance where it has levels; and how far it is if it is watched.
-    Reach {
-        profile: Profile,
-        file: Option<&'a str>,
-        has_levels: bool,
-        is_watched: bool,
-        position: &'a str,
-    },
-    /// To build the table of the piece set that the text names, by the rules of the profile and by `nodes` nodes, or by as many as
-    /// there are processors, and to keep it under the name; and how far that is if it is watched.
-    Build {
-        profile: Profile,
-        set: &'a str,
-        nodes: Option<u64>,
-        file: &'a str,
-        is_watched: bool,
-    },
-    /// To print the value of the position by the table of the file.
-    Probe {
-        file: &'a str,
-        position: &'a str,
-    },
-    /// To print the same of each line of standard input.
-    Each(&'a str),
-    /// To print the line of the position by the table of the file, each move on a line with its number if it is numbered.
-    Line {
-        file: &'a str,
-        is_numbered: bool,
-        position: &'a str,
-    },
-    /// To tell whether the table of the file is consistent, and how far that is if it is watched.
-    Check {
-        file: &'a str,
-        is_watched: bool,
-    },
-    /// To print the value that the file's record of the position's class says.
-    Look {
-        file: &'a str,
-        position: &'a str,
-    },
-    /// To print the same of each line of standard input.
-    LookEach(&'a str),
-    /// To print the moves of the position of each line, as `Moves` does.
-    MovesEach(&'a str),
-    /// To print the first of them of each line, as `Best` does.
-    BestEach(&'a str),
-    /// To print the line of the position of each line, as `Line` does.
-    LineEach {
-        file: &'a str,
-        is_numbered: bool,
-    },
-    /// To draw the position that the text names, in a file too if one is named for the picture; where a table's file is
-    /// named, to print the position's value and its line by it.
-    Show {
-        file: Option<&'a str>,
-        picture: Option<&'a str>,
-        position: &'a str,
-    },
-    /// To print the moves of the position with their values by the table of the file.
-    Moves {
-        file: &'a str,
-        position: &'a str,
-    },
-    /// To print the first move of the position's line with its value by the table of the file.
-    Best {
-        file: &'a str,
-        position: &'a str,
-    },
-    /// To print how many classes of the file's table have which value, as lines of two fields if it is for scripts.
-    Stats {
-        file: &'a str,
-        is_csv: bool,
-    },
-    /// To print how many pairs of classes of the file's table whoever has to move would rather not move in, and the first N of them
-    /// where a number is given.
-    Zugzwangs {
-        file: &'a str,
-        listed: Option<u64>,
-    },
-    /// To print the first `count` positions of the file's table with exactly one fastest win, in `plies` plies: those behind a class where one is
-    /// given, in the order that a seed makes if one is given, each with the number of its class if it is numbered.
-    Puzzles {
-        file: &'a str,
-        plies: u64,
-        count: u64,
-        from: Option<u64>,
-        seed: Option<u64>,
-        is_numbered: bool,
-    },
-    /// To keep the table of the file under the other name, in the format that is written.
-    Migrate {
-        file: &'a str,
-        out: &'a str,
-    },
-    /// To make a certificate of the position by the table of the file, exact if that is asked for and of at most `most` entries if a
-    /// number is given, and to keep it under the other name; and to say how far that is if it is watched.
-    Certify {
-        file: &'a str,
-        out: &'a str,
-        most: Option<u64>,
-        is_exact: bool,
-        is_watched: bool,
-        position: &'a str,
-    },
-    /// To say what the certificate of the file proves, and how far that is if it is watched.
-    Verify {
-        file: &'a str,
-        is_watched: bool,
-    },
-    /// To print the move that the certificate of the file gives for the position.
-    Reply {
-        file: &'a str,
-        position: &'a str,
-    },
-}
 
 /// What the words come to.
 #[derive(Drop)]
@@ -188,7 +61,7 @@ pub fn read_words<'a>(alloc: Global, words: &'a [&'a str]) -> Result<Reading<'a>
         return read_topic(alloc, words);
     }
     match dobutsu_command(alloc)?.try_get_matches_from(words) {
-        Ok(matches) => read_order(alloc, order_of(&matches), first_word(words)),
+        Ok(matches) => read_order(alloc, order_of(&matches), &matches, first_word(words)),
         Err(error) => read_error(alloc, &error),
     }
 }
@@ -243,20 +116,22 @@ fn has_topic(words: &[&str]) -> bool
 fn names_subcommand(name: &str) -> bool
     ensures { result ≡ names_subcommand name.now }
 {
-    name == "help" || names_row(rows(), name)
+    name == "help" || subcommand_named(rows(), name).is_some()
 }
 
-// Whether one of the rows has that name.
-fn names_row(rows: &[Row], name: &str) -> bool
-    ensures { result ≡ list_any (λ n. bytes_eq n name.now) (map (λ r. r.0) (map row_said rows.now)) }
+// The subcommand of that name, if one of the rows is its.
+fn subcommand_named(rows: &[Row], name: &str) -> Option<Subcommand>
+    requires { AreNamed rows.now }
+    ensures named { IfSome result (λ s. name_of s ≡ name.now) }
+    ensures known { is_some result ≡ list_any (λ n. bytes_eq n name.now) (map (λ r. r.0) (map row_said rows.now)) }
 {
     for row in rows {
-        let (own, _, _, _, _) = *row;
+        let (subcommand, own, ..) = *row;
         if own == name {
-            return true;
+            return Some(subcommand);
         }
     }
-    false
+    None
 }
 
 // What `--rules` takes, in a struct, so that a loop's invariant can name the reference.
@@ -278,7 +153,8 @@ fn dobutsu_command<'a>(alloc: Global) -> Result<Command<'a>, AllocError>
 
 // The subcommands.
 fn rows<'a>() -> &'a [Row]
-    ensures { map row_said result.now ≡ rows }
+    ensures said { map row_said result.now ≡ rows }
+    ensures named { AreNamed result.now }
 {
     ROWS
 }
@@ -306,20 +182,25 @@ fn row_command<'a>(
 ) -> Result<Command<'a>, AllocError>
     ensures { IfOk result (HasCommandShape (row_app profiles.entry.names (row_said row.entry))) }
 {
-    let (name, about, options, flags, places) = row;
-    let command = named_command(alloc, name, about);
+    let (subcommand, name, about, options, flags, places) = row;
+    let command = named_command(alloc, subcommand, name, about);
     let command = add_options(alloc, command, profiles, options)?;
     let command = add_flags(alloc, command, flags)?;
     add_places(alloc, command, profiles, places)
 }
 
 // A subcommand without its arguments.
-fn named_command<'a>(alloc: Global, name: &'a str, about: &'a str) -> Command<'a>
+fn named_command<'a>(
+    alloc: Global,
+    subcommand: Subcommand,
+    name: &'a str,
+    about: &'a str,
+) -> Command<'a>
     ensures { HasCommandShape (new_app name.now) result }
 {
     Command::new(alloc, name)
         .about(about)
-        .after_help(help_of(name))
+        .after_help(help_of(subcommand))
 }
 
 // The command with these options.
@@ -418,7 +299,7 @@ fn place_argument<'a>(alloc: Global, profiles: Profiles<'a>, place: Place) -> Ar
         .required(matches!(need, Need::Must))
         .help(help);
     match kind {
-        Kind::Any => argument,
+        Kind::Any | Kind::Output => argument,
         Kind::Number => {
             let number = value_parser!(u64);
             argument.value_parser(number)
@@ -427,14 +308,36 @@ fn place_argument<'a>(alloc: Global, profiles: Profiles<'a>, place: Place) -> Ar
     }
 }
 
-// What the matches of the program's command ask for, if it is clear.
+// What the matches of the program's command ask for, if it is clear and can be.
 fn order_of<'a>(matches: &ArgMatches<'a>) -> Option<Order<'a>>
     requires { IsMetBySome (subcommand_rows_of matches.now) }
     ensures { (form : Form) (texts : List (Option Text)) → IsAmong form forms → Finds form texts (subcommand_rows_of matches.now)
         → IsReadFor (settled (asks form.name texts)) result }
 {
     let (name, inner) = matches.subcommand()?;
-    orders::order_named(name, inner)
+    order_by(name, inner)
+}
+
+// What the matches of the subcommand of that name ask for, if it is clear and can be.
+fn order_by<'a>(name: &str, inner: &ArgMatches<'a>) -> Option<Order<'a>>
+    requires named { IsNamed name.now forms }
+    requires fit { HasFit (form_named name.now) inner.now }
+    ensures { IsReadFor (settled (asks name.now (texts_in (form_named name.now) inner.now))) result }
+{
+    match misplaced::stream_of(rows(), name, inner) {
+        Some(_) => None,
+        None => clear_order(name, inner),
+    }
+}
+
+// The same, if no file is to be written to a stream.
+fn clear_order<'a>(name: &str, inner: &ArgMatches<'a>) -> Option<Order<'a>>
+    requires named { IsNamed name.now forms }
+    requires fit { HasFit (form_named name.now) inner.now }
+    ensures { IsReadFor (cleared (asks name.now (texts_in (form_named name.now) inner.now))) result }
+{
+    let subcommand = subcommand_named(rows(), name)?;
+    orders::order_for(subcommand, inner)
 }
 
 // The first word, if there is one.
@@ -445,18 +348,33 @@ fn first_word<'a>(words: &[&'a str]) -> &'a str {
     }
 }
 
-// What the words come to where the matches of that subcommand were read so, and what is said of them if they aren't clear.
+// What the words come to where these matches, of the subcommand of that name, were read so, and what is said of them if they ask for nothing.
 fn read_order<'a>(
     alloc: Global,
     order: Option<Order<'a>>,
+    matches: &ArgMatches<'a>,
     name: &str,
 ) -> Result<Reading<'a>, AllocError>
     ensures { (meant : Meaning) → IsReadFor meant order.entry → IfOk result (IsReadingOf meant) }
 {
     match order {
         Some(order) => Ok(Reading::Order(order)),
-        None => Ok(Reading::Usage(unclear_text(alloc, name)?)),
+        None => Ok(Reading::Usage(refusal_text(alloc, matches, name)?)),
     }
+}
+
+// What is said where the matches of the subcommand of that name ask for nothing.
+fn refusal_text(alloc: Global, matches: &ArgMatches<'_>, name: &str) -> Result<String, AllocError> {
+    match stream_given(matches) {
+        Some(stream) => stream.text(alloc),
+        None => unclear_text(alloc, name),
+    }
+}
+
+// The stream that is given where a file is written, if one is.
+fn stream_given<'a>(matches: &ArgMatches<'a>) -> Option<Misplaced<'a>> {
+    let (name, inner) = matches.subcommand()?;
+    misplaced::stream_of(rows(), name, inner)
 }
 
 // What is said where the subcommand is asked by a position and by `--each`, or by none of them.

@@ -3,7 +3,7 @@
 //
 // Choices:
 // - A flag is an option without a text to `clap` (`num_args(0)`), not a `SetTrue`, so what words give is one list.
-// - A subcommand is one row of a table (`src/table.rt`), from which `clap`'s command, the help, the meaning of words, the manual page and the completions
+// - A subcommand is one row of a table (`src/rows.rt`), from which `clap`'s command, the help, the meaning of words, the manual page and the completions
 //   are made.
 // - POSITION and `--each` exclude each other by `settled`, a last look at what `clap` took: `clap`'s contracts say when a parse fails only of arguments
 //   without rules on one another.
@@ -12,5 +12,5 @@
 #![tactic(auto)]
 
 pub mod command;
-mod helps;
+pub mod rows;
 pub mod table;

@@ -14,16 +14,16 @@ use std::process::Abort;
 /// How many bytes the file has.
 pub(super) const FILE_LEN: usize = 161;
 
-/// How many of them stand before the digest.
+// How many of them stand before the digest.
 const CONTENTS_LEN: usize = 129;
 
-/// How many bytes the file of the first format has, and how many of them stand before the digest.
+// How many bytes the file of the first format has, and how many of them stand before the digest.
 const FIRST_LEN: usize = 160;
 
 const FIRST_CONTENTS_LEN: usize = 128;
 
-/// The digests of the files of both profiles and of the file of the first format, as another program made them from values
-/// that others found.
+// The digests of the files of both profiles and of the file of the first format, as another program made them from values
+// that others found.
 const DIGEST_A: [u8; 32] = [
     0x69, 0x1c, 0x2a, 0xf8, 0xbf, 0x1a, 0x12, 0x79, 0xcc, 0xba, 0x2a, 0x14, 0x15, 0x48, 0xdf, 0x7e,
     0xd1, 0x40, 0x2e, 0xf7, 0x17, 0x73, 0xa6, 0x1e, 0x89, 0x14, 0x27, 0x32, 0x1e, 0x6f, 0xfb, 0xff,

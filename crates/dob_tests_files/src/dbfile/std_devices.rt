@@ -10,8 +10,8 @@ use dob_dbfile::{
 use std::io::{self, ErrorKind, Read, Seek, SeekFrom, Write};
 use std::process::Abort;
 
-/// A reader or a writer that moves at most that many bytes in one call. Where it has moved as many as it has room for,
-/// it answers the error, or, if there is none, that it moved nothing.
+// A reader or a writer that moves at most that many bytes in one call. Where it has moved as many as it has room for,
+// it answers the error, or, if there is none, that it moved nothing.
 #[derive(Drop)]
 struct Shaky {
     bytes: Vec<u8>,
@@ -149,8 +149,8 @@ fn a_failure_is_kept_in_mind(rt: HostRuntime) {
     assert!(rt; Sink::failed(&device));
 }
 
-/// A reader and a writer that moves all it is given or asked for, and counts its calls. The call of that number fails, and no
-/// other.
+// A reader and a writer that moves all it is given or asked for, and counts its calls. The call of that number fails, and no
+// other.
 #[derive(Drop)]
 struct Once {
     bytes: Vec<u8>,
@@ -269,7 +269,7 @@ fn a_read_that_fails_once(rt: HostRuntime) {
     assert!(rt; source.into_inner().calls == 3);
 }
 
-/// A reader that goes to no place.
+// A reader that goes to no place.
 #[derive(Drop)]
 struct Still;
 

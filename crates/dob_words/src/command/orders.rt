@@ -1,85 +1,216 @@
-// What the matches of each subcommand ask for.
+// What the program is asked to do, and how the matches of a subcommand say it.
 ghost use Rattle.std.specs.Prelude.{◌≡◌, IfSome, Some, codes, is_some, option_map, true};
 ghost use Rattle.clap.specs.Words.{first_value, found_of};
-ghost use Rattle.dob_words.specs.Forms.{form_named, forms};
-ghost use Rattle.dob_words.specs.Shapes.{HasFit, IsNamed, texts_in};
-ghost use Rattle.dob_words.specs.Readings.{IsOneOf, IsOrder, IsReadFor, name_of_asker, text_given};
-ghost use Rattle.dob_words.specs.Words.{asks, is_number, number_in, profile_named, settled};
+ghost use Rattle.dob_words.specs.Shapes.{HasFit, texts_in};
+ghost use Rattle.dob_words.specs.Readings.{IsLinesOrder, IsFlaggedBy, IsOneOf, IsReadFor, form_for, name_of, subcommand_asked, text_given};
+ghost use Rattle.dob_words.specs.Words.{asks, cleared, is_number, number_in, profile_named};
+ghost use Rattle.dob_words.specs.declared.rows.Subcommand.TheVariants.{Build, Certify, Puzzles, Reach, Zugzwangs};
 
-use super::Order;
+use crate::rows::Subcommand;
 use clap::ArgMatches;
 use dob_pieces::Profile;
 
-/// A subcommand that asks for one position or for each line, with no other flag.
+/// What a position is asked by a database file.
 #[derive(Clone, Copy)]
-pub(super) enum Asker {
+pub enum Asked {
+    /// Its value, by the whole table.
     Probe,
-    Look,
-    Moves,
+    /// Its value, by its record, as JSON if it is.
+    Look { is_json: bool },
+    /// Its moves with their values, as JSON if they are.
+    Moves { is_json: bool },
+    /// The first move of its line, with its value.
     Best,
+    /// Its line, as JSON if it is, or each move on a line with its number if it is numbered.
+    Line { is_numbered: bool, is_json: bool },
 }
 
-/// What the matches of the subcommand of that name ask for; nothing if that isn't clear, as `probe` and `line` with both a position
-/// and `--each`.
-pub(super) fn order_named<'a>(name: &str, inner: &ArgMatches<'a>) -> Option<Order<'a>>
-    requires named { IsNamed name.now forms }
-    requires fit { HasFit (form_named name.now) inner.now }
-    ensures { IsReadFor (settled (asks name.now (texts_in (form_named name.now) inner.now))) result }
+/// What the program is asked to do.
+#[derive(Clone, Copy)]
+pub enum Order<'a> {
+    /// To print lines, or to be refused.
+    Lines(LinesOrder<'a>),
+    /// To answer the position of each line of standard input by the file, where a line may be refused.
+    EachLine { file: &'a str, asked: Asked },
+}
+
+/// What is answered by lines, or by a fault.
+#[derive(Clone, Copy)]
+pub enum LinesOrder<'a> {
+    /// To print the value of the position that the text names, by the rules of the profile.
+    Value {
+        profile: Profile,
+        position: &'a str,
+    },
+    /// To print the numbers of positions and of classes of the piece set that the text names, by the rules of the profile.
+    Count {
+        profile: Profile,
+        set: &'a str,
+    },
+    /// To print how many classes are reached from that of the position, by the rules of the profile; where a table's file is named, by
+    /// its rules, and how many of them have which value. A line for each distance where it has levels; and how far it is if it is watched.
+    Reach {
+        profile: Profile,
+        file: Option<&'a str>,
+        has_levels: bool,
+        is_watched: bool,
+        position: &'a str,
+    },
+    /// To build a table.
+    Build(BuildOrder<'a>),
+    /// To print what the position is asked by the file.
+    Ask {
+        file: &'a str,
+        asked: Asked,
+        position: &'a str,
+    },
+    /// To tell whether the table of the file is consistent, and how far that is if it is watched.
+    Check {
+        file: &'a str,
+        is_watched: bool,
+    },
+    /// To draw the position that the text names, in a file too if one is named for the picture; where a table's file is
+    /// named, to print the position's value and its line by it.
+    Show {
+        file: Option<&'a str>,
+        picture: Option<&'a str>,
+        position: &'a str,
+    },
+    /// To print how many classes of the file's table have which value, as JSON or as lines of two fields if it is for scripts.
+    Stats {
+        file: &'a str,
+        is_csv: bool,
+        is_json: bool,
+    },
+    /// To print how many pairs of classes of the file's table whoever has to move would rather not move in, and the first N of them
+    /// where a number is given.
+    Zugzwangs {
+        file: &'a str,
+        listed: Option<u64>,
+    },
+    /// To print the first `count` positions of the file's table with exactly one fastest win, in `plies` plies: those behind a class where one is
+    /// given, in the order that a seed makes if one is given, each with the number of its class if it is numbered.
+    Puzzles {
+        file: &'a str,
+        plies: u64,
+        count: u64,
+        from: Option<u64>,
+        seed: Option<u64>,
+        is_numbered: bool,
+    },
+    /// To keep the table of the file under the other name, in the format that is written.
+    Migrate {
+        file: &'a str,
+        out: &'a str,
+    },
+    /// To make a certificate of the position by the table of the file, exact if that is asked for and of at most `most` entries if a
+    /// number is given, and to keep it under the other name; and to say how far that is if it is watched.
+    Certify {
+        file: &'a str,
+        out: &'a str,
+        most: Option<u64>,
+        is_exact: bool,
+        is_watched: bool,
+        position: &'a str,
+    },
+    /// To say what the certificate of the file proves, and how far that is if it is watched.
+    Verify {
+        file: &'a str,
+        is_watched: bool,
+    },
+    /// To print the move that the certificate of the file gives for the position.
+    Reply {
+        file: &'a str,
+        position: &'a str,
+    },
+}
+
+/// To build the table of the piece set that the text names, by the rules of the profile and by `nodes` nodes, or by as many as
+/// there are processors, and to keep it under the name; and how far that is if it is watched.
+#[derive(Clone, Copy)]
+pub struct BuildOrder<'a> {
+    pub profile: Profile,
+    pub set: &'a str,
+    pub nodes: Option<u64>,
+    pub file: &'a str,
+    pub is_watched: bool,
+}
+
+// What the matches of the subcommand ask for; nothing if that isn't clear, as of `probe` with both a position and `--each`.
+pub(super) fn order_for<'a>(subcommand: Subcommand, inner: &ArgMatches<'a>) -> Option<Order<'a>>
+    requires { HasFit (form_for subcommand) inner.now }
+    ensures { IsReadFor (cleared (asks (name_of subcommand) (texts_in (form_for subcommand) inner.now))) result }
 {
-    match name {
-        "value" => Some(Order::Value {
+    match subcommand {
+        Subcommand::Probe => asked_order(inner, Asked::Probe),
+        Subcommand::Look => {
+            let is_json = inner.get_str("json").is_some();
+            asked_order(inner, Asked::Look { is_json })
+        }
+        Subcommand::Moves => {
+            let is_json = inner.get_str("json").is_some();
+            asked_order(inner, Asked::Moves { is_json })
+        }
+        Subcommand::Best => asked_order(inner, Asked::Best),
+        Subcommand::Line => {
+            let is_numbered = inner.get_str("numbered").is_some();
+            let is_json = inner.get_str("json").is_some();
+            asked_order(
+                inner,
+                Asked::Line {
+                    is_numbered,
+                    is_json,
+                },
+            )
+        }
+        Subcommand::Value => Some(Order::Lines(LinesOrder::Value {
             profile: profile_named(inner.get_str("PROFILE")),
             position: text(inner, "POSITION"),
-        }),
-        "count" => Some(Order::Count {
+        })),
+        Subcommand::Count => Some(Order::Lines(LinesOrder::Count {
             profile: profile_named(inner.get_str("PROFILE")),
             set: text(inner, "CEG"),
-        }),
-        "reach" => Some(reach_order(inner)),
-        "build" => Some(build_order(inner)),
-        "probe" => asked_order(inner, Asker::Probe),
-        "line" => line_order(inner),
-        "check" => Some(Order::Check {
+        })),
+        Subcommand::Reach => Some(Order::Lines(reach_order(inner))),
+        Subcommand::Build => Some(Order::Lines(build_order(inner))),
+        Subcommand::Check => Some(Order::Lines(LinesOrder::Check {
             file: text(inner, "FILE"),
             is_watched: inner.get_str("progress").is_some(),
-        }),
-        "look" => asked_order(inner, Asker::Look),
-        "show" => Some(Order::Show {
+        })),
+        Subcommand::Show => Some(Order::Lines(LinesOrder::Show {
             file: inner.get_str("FILE"),
             picture: inner.get_str("OUT"),
             position: text(inner, "POSITION"),
-        }),
-        "moves" => asked_order(inner, Asker::Moves),
-        "best" => asked_order(inner, Asker::Best),
-        "stats" => Some(Order::Stats {
+        })),
+        Subcommand::Stats => Some(Order::Lines(LinesOrder::Stats {
             file: text(inner, "FILE"),
             is_csv: inner.get_str("csv").is_some(),
-        }),
-        "zugzwangs" => Some(zugzwangs_order(inner)),
-        "puzzles" => Some(puzzles_order(inner)),
-        "migrate" => Some(Order::Migrate {
+            is_json: inner.get_str("json").is_some(),
+        })),
+        Subcommand::Zugzwangs => Some(Order::Lines(zugzwangs_order(inner))),
+        Subcommand::Puzzles => Some(Order::Lines(puzzles_order(inner))),
+        Subcommand::Migrate => Some(Order::Lines(LinesOrder::Migrate {
             file: text(inner, "FILE"),
             out: text(inner, "OUT"),
-        }),
-        "certify" => Some(certify_order(inner)),
-        "verify" => Some(Order::Verify {
+        })),
+        Subcommand::Certify => Some(Order::Lines(certify_order(inner))),
+        Subcommand::Verify => Some(Order::Lines(LinesOrder::Verify {
             file: text(inner, "CERT"),
             is_watched: inner.get_str("progress").is_some(),
-        }),
-        "reply" => Some(Order::Reply {
+        })),
+        Subcommand::Reply => Some(Order::Lines(LinesOrder::Reply {
             file: text(inner, "CERT"),
             position: text(inner, "POSITION"),
-        }),
-        _ => unreachable!(),
+        })),
     }
 }
 
 // What the matches of `reach` ask for.
-fn reach_order<'a>(inner: &ArgMatches<'a>) -> Order<'a>
-    requires { HasFit (form_named (codes "reach")) inner.now }
-    ensures { IsOrder (codes "reach") (texts_in (form_named (codes "reach")) inner.now) result }
+fn reach_order<'a>(inner: &ArgMatches<'a>) -> LinesOrder<'a>
+    requires { HasFit (form_for Reach) inner.now }
+    ensures { IsLinesOrder Reach (texts_in (form_for Reach) inner.now) result }
 {
-    Order::Reach {
+    LinesOrder::Reach {
         profile: profile_named(inner.get_str("PROFILE")),
         file: inner.get_str("FILE"),
         has_levels: inner.get_str("levels").is_some(),
@@ -89,36 +220,36 @@ fn reach_order<'a>(inner: &ArgMatches<'a>) -> Order<'a>
 }
 
 // What the matches of `build` ask for.
-fn build_order<'a>(inner: &ArgMatches<'a>) -> Order<'a>
-    requires { HasFit (form_named (codes "build")) inner.now }
-    ensures { IsOrder (codes "build") (texts_in (form_named (codes "build")) inner.now) result }
+fn build_order<'a>(inner: &ArgMatches<'a>) -> LinesOrder<'a>
+    requires { HasFit (form_for Build) inner.now }
+    ensures { IsLinesOrder Build (texts_in (form_for Build) inner.now) result }
 {
-    Order::Build {
+    LinesOrder::Build(BuildOrder {
         profile: profile_named(inner.get_str("PROFILE")),
         set: text(inner, "CEG"),
         nodes: number_given(inner.get_str("N")),
         file: text(inner, "FILE"),
         is_watched: inner.get_str("progress").is_some(),
-    }
+    })
 }
 
 // What the matches of `zugzwangs` ask for.
-fn zugzwangs_order<'a>(inner: &ArgMatches<'a>) -> Order<'a>
-    requires { HasFit (form_named (codes "zugzwangs")) inner.now }
-    ensures { IsOrder (codes "zugzwangs") (texts_in (form_named (codes "zugzwangs")) inner.now) result }
+fn zugzwangs_order<'a>(inner: &ArgMatches<'a>) -> LinesOrder<'a>
+    requires { HasFit (form_for Zugzwangs) inner.now }
+    ensures { IsLinesOrder Zugzwangs (texts_in (form_for Zugzwangs) inner.now) result }
 {
-    Order::Zugzwangs {
+    LinesOrder::Zugzwangs {
         file: text(inner, "FILE"),
         listed: number_given(inner.get_str("N")),
     }
 }
 
 // What the matches of `puzzles` ask for.
-fn puzzles_order<'a>(inner: &ArgMatches<'a>) -> Order<'a>
-    requires { HasFit (form_named (codes "puzzles")) inner.now }
-    ensures { IsOrder (codes "puzzles") (texts_in (form_named (codes "puzzles")) inner.now) result }
+fn puzzles_order<'a>(inner: &ArgMatches<'a>) -> LinesOrder<'a>
+    requires { HasFit (form_for Puzzles) inner.now }
+    ensures { IsLinesOrder Puzzles (texts_in (form_for Puzzles) inner.now) result }
 {
-    Order::Puzzles {
+    LinesOrder::Puzzles {
         file: text(inner, "FILE"),
         plies: number(text(inner, "D")),
         count: number(text(inner, "N")),
@@ -129,11 +260,11 @@ fn puzzles_order<'a>(inner: &ArgMatches<'a>) -> Order<'a>
 }
 
 // What the matches of `certify` ask for.
-fn certify_order<'a>(inner: &ArgMatches<'a>) -> Order<'a>
-    requires { HasFit (form_named (codes "certify")) inner.now }
-    ensures { IsOrder (codes "certify") (texts_in (form_named (codes "certify")) inner.now) result }
+fn certify_order<'a>(inner: &ArgMatches<'a>) -> LinesOrder<'a>
+    requires { HasFit (form_for Certify) inner.now }
+    ensures { IsLinesOrder Certify (texts_in (form_for Certify) inner.now) result }
 {
-    Order::Certify {
+    LinesOrder::Certify {
         file: text(inner, "FILE"),
         out: text(inner, "CERT"),
         most: number_given(inner.get_str("N")),
@@ -143,38 +274,20 @@ fn certify_order<'a>(inner: &ArgMatches<'a>) -> Order<'a>
     }
 }
 
-// What the matches of `probe`, `look`, `moves` or `best` ask for, if it is clear.
-fn asked_order<'a>(inner: &ArgMatches<'a>, asker: Asker) -> Option<Order<'a>>
-    requires { HasFit (form_named (codes "probe")) inner.now }
-    ensures { IsReadFor (settled (asks (name_of_asker asker) (texts_in (form_named (codes "probe")) inner.now))) result }
+// What the matches ask for by one position or by `--each`, if it is clear.
+fn asked_order<'a>(inner: &ArgMatches<'a>, asked: Asked) -> Option<Order<'a>>
+    requires fit { HasFit (form_for (subcommand_asked asked)) inner.now }
+    requires flagged { IsFlaggedBy asked (first_value (found_of inner.now) (codes "numbered")) (first_value (found_of inner.now) (codes "json")) }
+    ensures { IsReadFor (cleared (asks (name_of (subcommand_asked asked)) (texts_in (form_for (subcommand_asked asked)) inner.now))) result }
 {
     let file = text(inner, "FILE");
-    match (asker, asked_of(inner)?) {
-        (Asker::Probe, Some(position)) => Some(Order::Probe { file, position }),
-        (Asker::Probe, None) => Some(Order::Each(file)),
-        (Asker::Look, Some(position)) => Some(Order::Look { file, position }),
-        (Asker::Look, None) => Some(Order::LookEach(file)),
-        (Asker::Moves, Some(position)) => Some(Order::Moves { file, position }),
-        (Asker::Moves, None) => Some(Order::MovesEach(file)),
-        (Asker::Best, Some(position)) => Some(Order::Best { file, position }),
-        (Asker::Best, None) => Some(Order::BestEach(file)),
-    }
-}
-
-// What the matches of `line` ask for, if it is clear.
-fn line_order<'a>(inner: &ArgMatches<'a>) -> Option<Order<'a>>
-    requires { HasFit (form_named (codes "line")) inner.now }
-    ensures { IsReadFor (settled (asks (codes "line") (texts_in (form_named (codes "line")) inner.now))) result }
-{
-    let file = text(inner, "FILE");
-    let is_numbered = inner.get_str("numbered").is_some();
     match asked_of(inner)? {
-        Some(position) => Some(Order::Line {
+        Some(position) => Some(Order::Lines(LinesOrder::Ask {
             file,
-            is_numbered,
+            asked,
             position,
-        }),
-        None => Some(Order::LineEach { file, is_numbered }),
+        })),
+        None => Some(Order::EachLine { file, asked }),
     }
 }
 

@@ -1,63 +1,56 @@
--- The build is of the text's piece set, and what is kept is its table's file. Before the file is made nothing has changed.
+-- The build is of the text's piece set, and what is kept is its table's file. Until then nothing has changed.
+use Rattle.dob_cli.proofs.Common.{Bool, subst, IsTrue, family_of, others_kept, unchanged, shelf_change}
 use Rattle.std.proofs.lemmas.Result.{err_from_is_err_and}
-use Rattle.dob_shelf.specs.Shelves.{shelf_change}
-use Rattle.dob_cli.proofs.Building.{keeping_holds, table_for}
+use Rattle.dob_query.proofs.Kept.{answered_later, filled_answers, others_after, shelf_fails, shelf_keeps}
+use Rattle.dob_cli.proofs.Building.{build_lines, building_holds, unkept}
 use Rattle.dob_cli.proofs.Runs.{none_failed}
-use Rattle.dob_shelf.proofs.Shelves.{others_kept, unchanged}
 use Rattle.dob_cli.proofs.builds.answer_build.Goals as goal
 
-pub returns-in_err-built : goal.returns-in_err-built
-returns-in_err-built g c =
-    let p = err_from_is_err_and c.from_residual-in_err-built.result c.from_residual-in_err-built.ensures.1 in
+pub returns-in_err-count : goal.returns-in_err-count
+returns-in_err-count g c =
+    let p = err_from_is_err_and c.from_residual-in_err-count.result c.from_residual-in_err-count.ensures.1 in
     let shelf = g.S.Shelf.state c.args.shelf.now in
+    let refused = c.in_err-count.ensures.fault (family_of c.in_ok-set.set c.args.order.profile) in
+    rw (p.1, p.2) (
+      (
+        ((c.in_ok-set.set, c.in_ok-set.ensures.ok, refused.0, refused.1, refused.2), unchanged shelf.has),
+        none_failed shelf.has_failed,
+      ),
+      others_kept c.args.order.file.now _ _ (unchanged shelf.has),
+    )
+
+pub returns-in_err-sink : goal.returns-in_err-sink
+returns-in_err-sink g c =
+    let p = err_from_is_err_and c.from_residual-in_err-sink.result c.from_residual-in_err-sink.ensures.1 in
+    let made = c.in_err-sink.ensures in
+    let count = c.in_ok-count.ensures.size in
     rw (p.1, p.2) (
       (
         (
-          c.in_ok-set.set,
-          c.in_ok-set.ensures.ok,
-          c.nodes_for-count.result,
-          c.nodes_for-count.ensures,
-          c.in_err-built.ensures.fault,
-          unchanged shelf.has,
+          unkept c.args.order.profile c.args.order.set.now c.in_ok-set.set c.in_ok-set.ensures.ok c.args.order.nodes _ count.0 count.1 _
+              (shelf_keeps c.in_err-sink.field-0.0),
+          made.kept,
         ),
-        none_failed shelf.has_failed,
+        shelf_fails c.make.result _ _ c.in_err-sink.field-0.0 made.failed,
       ),
-      others_kept c.args.file.now _ _ (unchanged shelf.has),
-    )
-
-pub returns-in_err-lines : goal.returns-in_err-lines
-returns-in_err-lines g c =
-    let p = err_from_is_err_and c.from_residual-in_err-lines.result c.from_residual-in_err-lines.ensures.1 in
-    let shelf = g.S.Shelf.state c.args.shelf.now in
-    rw (p.1, p.2) ((unchanged shelf.has, none_failed shelf.has_failed), others_kept c.args.file.now _ _ (unchanged shelf.has))
-
-pub returns-in_err-keep_table : goal.returns-in_err-keep_table
-returns-in_err-keep_table g c =
-    let p = err_from_is_err_and c.from_residual-in_err-keep_table.result c.from_residual-in_err-keep_table.ensures.1 in
-    let kept = c.in_err-keep_table.ensures in
-    let change = shelf_change (g.S.Shelf.state c.args.shelf.now) (g.S.Shelf.state c.keep_table.new.shelf) in
-    rw (p.1, p.2) (
-      (
-        keeping_holds change c.args.file.now c.in_ok-built.built.table c.args.profile c.args.text.now _ _ (table_for c.args.profile c.args.text.now
-            c.in_ok-set.set c.args.nodes _ _ c.in_ok-built.built c.in_ok-set.ensures.ok c.nodes_for-count.ensures c.in_ok-built.ensures.built
-            c.in_ok-built.ensures.within) kept.0.0,
-        kept.0.1,
-      ),
-      kept.1,
+      others_kept c.args.order.file.now _ _ made.kept,
     )
 
 pub returns : goal.returns
 returns g c =
-    let kept = c.in_ok-keep_table.ensures in (
-      (
-        record {
-          table = c.in_ok-built.built.table;
-          built = table_for c.args.profile c.args.text.now c.in_ok-set.set c.args.nodes _ _ c.in_ok-built.built c.in_ok-set.ensures.ok
-              c.nodes_for-count.ensures c.in_ok-built.ensures.built c.in_ok-built.ensures.within;
-          kept = kept.0.0;
-          same = c.in_ok-lines.ensures;
-        },
-        kept.0.1,
-      ),
-      kept.1,
+    let made = c.in_ok-sink.ensures in
+    let count = c.in_ok-count.ensures.size in
+    let old = g.S.Shelf.state c.args.shelf.now in
+    let mid = g.S.Shelf.state c.make.new.self in
+    let new = g.S.Shelf.state c.keep_filled.new.shelf in
+    let change = shelf_change old new in
+    let profile = c.args.order.profile in
+    let text = c.args.order.set.now in
+    let set = c.in_ok-set.set in (
+      answered_later old mid new _ _ _ _ c.keep_filled.result made.failed
+          (build_lines profile text set c.in_ok-set.ensures.ok c.args.order.nodes c.in_ok-count.count count.0 count.1 change mid c.args.order.file.now made.told)
+          (building_holds profile text set c.in_ok-set.ensures.ok c.args.order.nodes c.in_ok-count.count count.0 count.1 change mid made.kept)
+          (filled_answers (shelf_change mid new) c.args.order.file.now _ _ _ c.fill_built-filled.result c.keep_filled.result
+          (λ tells. made.empty (subst (λ (b : Bool). IsTrue b) made.told tells)) c.fill_built-filled.ensures c.keep_filled.ensures.0),
+      others_after c.args.order.file.now _ _ _ made.kept c.keep_filled.ensures.1,
     )

@@ -1,8 +1,5 @@
 -- Each subcommand's answer is the order's.
-use Rattle.std.proofs.Common.{rules}
-use Rattle.dob_query.proofs.Endings.{answered_by}
-use Rattle.dob_shelf.specs.Shelves.{shelf_change}
-use Rattle.dob_shelf.proofs.Shelves.{unchanged}
+use Rattle.dob_cli.proofs.Common.{rules, unchanged, shelf_change, answered_by}
 use Rattle.dob_cli.proofs.program.answer.Goals as goal
 
 pub returns-in-Value : goal.returns-in-Value
@@ -18,8 +15,8 @@ returns-in-Count g c =
 pub returns-in-Reach : goal.returns-in-Reach
 returns-in-Reach g c = rw c.in-Reach.is (rw c.reach_of-search.ensures at c.answer_reach.ensures)
 
-pub returns-in-Probe : goal.returns-in-Probe
-returns-in-Probe g c = rw c.in-Probe.is c.answer_probe.ensures
+pub returns-in-Ask : goal.returns-in-Ask
+returns-in-Ask g c = rw c.in-Ask.is c.answer_asked.ensures
 
 pub returns-in-Check : goal.returns-in-Check
 returns-in-Check g c = rw c.in-Check.is c.answer_check.ensures
@@ -31,7 +28,7 @@ pub returns-in-Show : goal.returns-in-Show
 returns-in-Show g c = rw c.in-Show.is c.answer_show.ensures
 
 pub returns-in-Stats : goal.returns-in-Stats
-returns-in-Stats g c = rw c.in-Stats.is c.answer_stats.ensures
+returns-in-Stats g c = rw c.in-Stats.is (rw c.form_of.ensures at c.answer_stats.ensures)
 
 pub returns-in-Migrate : goal.returns-in-Migrate
 returns-in-Migrate g c = rw c.in-Migrate.is c.answer_migrate.ensures
@@ -50,15 +47,3 @@ returns-in-Verify g c = rw c.in-Verify.is c.answer_verify.ensures
 
 pub returns-in-Reply : goal.returns-in-Reply
 returns-in-Reply g c = rw c.in-Reply.is c.answer_reply.ensures
-
-pub returns-in-Line : goal.returns-in-Line
-returns-in-Line g c = rw c.in-Line.is c.answer_question.ensures
-
-pub returns-in-Look : goal.returns-in-Look
-returns-in-Look g c = rw c.in-Look.is c.answer_question-in-Look.ensures
-
-pub returns-in-Moves : goal.returns-in-Moves
-returns-in-Moves g c = rw c.in-Moves.is c.answer_question-in-Moves.ensures
-
-pub returns-in-Best : goal.returns-in-Best
-returns-in-Best g c = rw c.in-Best.is c.answer_question-in-Best.ensures

@@ -1,9 +1,10 @@
--- Where no memory is left for the arguments, nothing else is done.
-use Rattle.std.proofs.Common.{refl}
-use Rattle.dob_cli.proofs.Runs.{leaves, ran_memory}
+-- What was done is what the words that were given ask for.
+use Rattle.std.proofs.Common.{◌∙◌, ap, map, string_bytes}
+use Rattle.dob_cli.proofs.Runs.{ran_on}
 use Rattle.dob_cli.proofs.program.run_args.Goals as goal
 
-pub returns-in-Err : goal.returns-in-Err
-returns-in-Err g c =
-    let shelf = g.S.Shelf.state c.args.shelf.now in
-    ran_memory _ _ _ (c.tell_memory.ensures, refl) (leaves shelf)
+pub returns : goal.returns
+returns g c =
+    ran_on _ _ _ _
+    (ap (map (λ w. w.now)) c.deref-2.ensures.value ∙ (c.in-Ok-texts_of.ensures ∙ ap (map string_bytes) (c.deref.ensures.value ∙ c.in-Ok.ensures)))
+    c.run_over.ensures

@@ -1,7 +1,5 @@
 -- What is found of the file's certificate is found of the file.
-use Rattle.std.proofs.lemmas.Result.{err_from_is_err_and}
-use Rattle.dob_certfile.specs.Format.{content}
-use Rattle.dob_shelf.specs.Shelves.{shelf_change}
+use Rattle.dob_query.proofs.Common.{err_from_is_err_and, content, shelf_change}
 use Rattle.dob_query.proofs.Proven.{read_verifies, verified}
 use Rattle.dob_query.proofs.certificates.answer_verify.Goals as goal
 

@@ -1,10 +1,8 @@
 -- The bytes that were read are the file's.
-use Rattle.std.proofs.Common.{◌∙◌, ℕ, List, subst, sym}
+use Rattle.dob_query.proofs.Common.{◌∙◌, List, subst, sym, ℕ, err_from_is_err_and, HasCertFault}
 use Rattle.std.specs.Prelude.{◌≡◌, ◌⊎◌}
-use Rattle.std.proofs.lemmas.Result.{err_from_is_err_and}
 use Rattle.dob_certfile.specs.declared.defect.Defect.{Defect as AnyDefect}
 use Rattle.dob_certfile.specs.declared.defect.ReadFault.TheVariants as reading
-use Rattle.dob_certfile.specs.Reading.{HasCertFault}
 use Rattle.dob_query.proofs.Proven.{bytes_read, defect_read, read_fails}
 use Rattle.dob_query.proofs.certificates.open_certificate.Goals as goal
 

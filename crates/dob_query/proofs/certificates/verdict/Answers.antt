@@ -1,10 +1,6 @@
 -- What is refused is what the file says of its root's class.
-use Rattle.std.proofs.Common.{subst}
-use Rattle.std.proofs.lemmas.Result.{err_from_is_err_and}
-use Rattle.dob_pieces.specs.declared.profile.Family.{Family}
-use Rattle.dob_rank.specs.Families.{RepresentsClass}
+use Rattle.dob_query.proofs.Common.{subst, err_from_is_err_and, Family, RepresentsClass, content}
 use Rattle.dob_certificate.specs.Refusals.{IsRefusal}
-use Rattle.dob_certfile.specs.Format.{content}
 use Rattle.dob_query.proofs.certificates.verdict.Goals as goal
 
 pub returns-in_err-check_certificate-clause-err : goal.returns-in_err-check_certificate-clause-err

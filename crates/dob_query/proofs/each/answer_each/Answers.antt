@@ -1,10 +1,9 @@
--- The answers are to the lines of the bytes that standard input had, by the file's table.
-use Rattle.std.proofs.Common.{◌∙◌, List, ℕ, string_bytes, subst, rules}
-use Rattle.std.proofs.lemmas.Result.{err_from_is_err_and}
-use Rattle.dob_query.specs.Each.{IsAnswer, IsGivenTo, TellsValuesOf}
-use Rattle.dob_shelf.specs.Shelves.{shelf_change}
-use Rattle.dob_query.proofs.EachLine.{input_ends, opening_ends}
-use Rattle.dob_query.proofs.TableFaults.{shelf_fails}
+-- What is told of each line is by the table of the file.
+use Rattle.dob_query.proofs.Common.{◌∙◌, ◌≡◌, false, inl, refl, sym, err_from_is_err_and, Result, is_err, Value, FailsWhere, shelf_change, AreEachLines}
+use Rattle.dob_query.proofs.Common.{IsAnswer, IsEachFault, IsGivenTo, IsToldValue, answer_line, is_io, TellsOf, Fault, Memory}
+use Rattle.dob_dbfile.specs.Sinks.{change as sink_change}
+use Rattle.dob_query.proofs.EachLine.{each_weaker, ends_weaker, fails_on, lines_end, opening_ends, tells_by}
+use Rattle.dob_query.proofs.Kept.{same_chain}
 use Rattle.dob_query.proofs.each.answer_each.Goals as goal
 
 pub returns-in_err-table : goal.returns-in_err-table
@@ -12,32 +11,29 @@ returns-in_err-table g c =
     let p = err_from_is_err_and c.from_residual.result c.from_residual.ensures.1 in
     let opened = c.in_err-table.ensures.opened in
     let change = shelf_change (g.S.Shelf.state c.args.shelf.now) (g.S.Shelf.state c.open.new.shelf) in
-    rw (p.1, p.2) ((opening_ends change c.args.file.now c.in_err-table.field-0.0 opened.0.0, opened.0.1), opened.1)
-
-pub returns-in_err-input : goal.returns-in_err-input
-returns-in_err-input g c =
-    let p = err_from_is_err_and c.from_residual-in_err-input.result c.from_residual-in_err-input.ensures.1 in
-    let change = shelf_change (g.S.Shelf.state c.args.shelf.now) (g.S.Shelf.state c.input.new.self) in
-    rw (p.1, p.2) (
-      (
-        input_ends change c.args.file.now c.in_err-input.field-0.0 _ c.open.ensures.input c.in_err-input.ensures.read,
-        shelf_fails _ _ c.in_err-input.field-0.0 (search rules),
-      ),
-      search rules,
-    )
+    rw (p.1, p.2) (inl ((opening_ends change c.args.file.now c.in_err-table.field-0.0 opened.0.0, opened.0.1), inl refl), opened.1)
 
 pub returns : goal.returns
-returns g c = (
-  (
-    record {
-      table = c.in_ok-table.table;
-      whole = c.in_ok-table.ensures.opened.0.0;
-      input = c.in_ok-input.input.items;
-      read = λ known is. c.in_ok-input.ensures.read known (c.open.ensures.input ∙ is);
-      told = subst (λ (bytes : List ℕ). TellsValuesOf (IsAnswer (IsGivenTo c.in_ok-table.table) c.in_ok-table.table) bytes c.in_ok-answers_to.field-0.is_refused
-          (string_bytes c.in_ok-answers_to.field-0.lines)) c.deref.ensures.value c.in_ok-answers_to.ensures;
-    },
-    search rules,
-  ),
-  search rules,
-)
+returns g c =
+    let opened = c.in_ok-table.ensures.opened in
+    let table = c.in_ok-table.table in
+    let before = g.S.Shelf.state c.args.shelf.now in
+    let mid = g.S.Shelf.state c.open.new.shelf in
+    let after = g.S.Shelf.state c.tell_each.new.shelf in
+    let change = shelf_change before after in (
+      each_weaker mid.input before.input (TellsOf (IsToldValue table)) (AreEachLines IsGivenTo (before.has c.args.file.now)) _
+          (λ fault. IsEachFault change c.args.file.now fault × FailsWhere change (is_io fault)) _ (FailsWhere change false)
+          (sink_change (g.O.Sink.state c.args.out.now) (g.O.Sink.state c.tell_each.new.out)) c.tell_each.result (sym c.open.ensures.input)
+          (λ lines is_refused text told. record {
+            table = table;
+            whole = opened.0.0;
+            told = tells_by (Result Value Fault) answer_line is_err (IsAnswer (IsGivenTo table) table) lines is_refused text told;
+          })
+          (λ fault holds. (
+            lines_end change c.args.file.now fault
+                (ends_weaker (λ f. f ≡ Memory) (λ f. f ≡ Memory) mid.input before.input fault (λ f is. is) (λ none. sym c.open.ensures.input ∙ none) holds.0),
+            fails_on before.has_failed mid.has_failed after.has_failed (is_io fault) opened.0.1 holds.1,
+          ))
+          (fails_on before.has_failed mid.has_failed after.has_failed false opened.0.1) c.tell_each.ensures.told,
+      same_chain before.has mid.has after.has opened.1 c.tell_each.ensures.files,
+    )

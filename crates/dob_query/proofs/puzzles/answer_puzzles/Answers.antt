@@ -1,6 +1,5 @@
 -- The puzzles are those of the file's table.
-use Rattle.std.proofs.Common.{◌∙◌, ap}
-use Rattle.dob_query.specs.Puzzles.{puzzle_lines}
+use Rattle.dob_query.proofs.Common.{◌∙◌, ap, puzzle_lines}
 use Rattle.dob_query.proofs.Puzzling.{puzzle_within}
 use Rattle.dob_query.proofs.puzzles.answer_puzzles.Goals as goal
 

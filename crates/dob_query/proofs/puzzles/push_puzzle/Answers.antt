@@ -1,11 +1,6 @@
 -- The class's representative is the one that its number gives.
-use Rattle.std.proofs.Common.{◌≡◌, ◌∙◌, ◌++◌, ◌<◌, ℕ, List, ap, string_bytes, subst, sym}
-use Rattle.dob_pieces.specs.declared.profile.Family.{Family}
-use Rattle.dob_pieces.specs.declared.setup.Setup.{Setup}
-use Rattle.dob_rank.specs.Families.{HasClass, IsRepresentative, class_setup, classes_of}
-use Rattle.dob_classes.proofs.OfFamilies.FamilyRepresentatives.{class_setup_only}
-use Rattle.dob_rank.proofs.OfFamilies.Present.{HasClasses-classes_of}
-use Rattle.dob_query.specs.Puzzles.{puzzle_text}
+use Rattle.dob_query.proofs.Common.{◌++◌, ◌<◌, ◌∙◌, ◌≡◌, List, ap, string_bytes, subst, sym, ℕ, Family, Setup, HasClasses-classes_of, HasClass}
+use Rattle.dob_query.proofs.Common.{IsRepresentative, class_setup, classes_of, class_setup_only, puzzle_text}
 use Rattle.dob_query.proofs.puzzles.push_puzzle.Goals as goal
 
 pub returns : goal.returns

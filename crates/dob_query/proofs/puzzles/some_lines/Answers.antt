@@ -1,6 +1,5 @@
 -- Each puzzle gone over is one of the list, and its line comes to those before.
-use Rattle.std.proofs.Common.{string_bytes}
-use Rattle.dob_query.specs.Puzzles.{line_of_puzzle}
+use Rattle.dob_query.proofs.Common.{string_bytes, line_of_puzzle}
 use Rattle.dob_query.proofs.Puzzling.{is_listed, one_line_more}
 use Rattle.dob_query.proofs.puzzles.some_lines.Goals as goal
 

@@ -1,6 +1,5 @@
 -- The lines of the puzzles so far.
-use Rattle.std.proofs.Common.{◌≡◌, flat_map, string_bytes, take}
-use Rattle.dob_query.specs.Puzzles.{line_of_puzzle}
+use Rattle.dob_query.proofs.Common.{◌≡◌, flat_map, string_bytes, take, line_of_puzzle}
 use Rattle.dob_query.proofs.puzzles.some_lines.Given as goal
 
 abbrev pub invariant-loop-puzzle : goal.invariant-loop-puzzle

@@ -1,9 +1,6 @@
 -- What the source told is what the file has.
-use Rattle.std.proofs.Common.{List, rules, ℕ}
-use Rattle.std.specs.Prelude.{String, string_bytes}
-use Rattle.dob_dbfile.specs.Devices.{Stream, whole}
-use Rattle.dob_query.specs.Questions.{IsAnswerBy, IsAnswerOf, IsAskingFault, IsFaultOfAsking}
-use Rattle.dob_shelf.specs.Shelves.{shelf_change}
+use Rattle.dob_query.proofs.Common.{List, rules, ℕ, String, Stream, whole, shelf_change, IsAnswerBy, IsAnswerOf, IsAskingFault, IsFaultOfAsking}
+use Rattle.std.specs.Prelude.{string_bytes}
 use Rattle.dob_query.proofs.Asking.{ok_each, source_asks}
 use Rattle.dob_query.proofs.Endings.{answered_by}
 use Rattle.dob_query.proofs.Placed.{err_weaker}

@@ -1,8 +1,7 @@
 -- The position is the text's.
+use Rattle.dob_query.proofs.Common.{shelf_change, AreAnswerLines, IsAnswerBy, IsAskFault, IsAskingFault}
 use Rattle.std.specs.Prelude.{string_bytes}
-use Rattle.dob_query.specs.Questions.{AreAnswerLines, IsAskFault, IsAskingFault, IsAnswerBy}
 use Rattle.dob_query.proofs.Asking.{answered_weaker, asks_for_text}
-use Rattle.dob_shelf.specs.Shelves.{shelf_change}
 use Rattle.dob_query.proofs.questions.answer_question.Goals as goal
 
 pub returns : goal.returns

@@ -1,8 +1,6 @@
 -- The records are those of the family that the header names.
-use Rattle.std.proofs.lemmas.Result.{err_from_is_err_and}
+use Rattle.dob_query.proofs.Common.{err_from_is_err_and, Stream, IsFaultOfAsking, IsRecordsFault}
 use Rattle.rayon.proofs.ListFacts.{IfOk-then}
-use Rattle.dob_dbfile.specs.Devices.{Stream}
-use Rattle.dob_query.specs.Questions.{IsFaultOfAsking, IsRecordsFault}
 use Rattle.dob_query.proofs.Asking.{records_ask, refusal_asks}
 use Rattle.dob_query.proofs.Placed.{err_weaker}
 use Rattle.dob_query.proofs.questions.ask.Goals as goal

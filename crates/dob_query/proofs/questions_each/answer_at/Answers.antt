@@ -1,6 +1,5 @@
 -- The records are those of the position of the line, which is one of the family.
-use Rattle.std.proofs.Common.{Global}
-use Rattle.std.proofs.lemmas.Result.{err_from_is_err_and}
+use Rattle.dob_query.proofs.Common.{Global, err_from_is_err_and}
 use Rattle.dob_query.proofs.Placed.{refused_line, told_line}
 use Rattle.dob_query.proofs.questions_each.answer_at.Goals as goal
 

@@ -1,8 +1,6 @@
 -- By rules no file is asked; else the file is.
-use Rattle.std.proofs.Common.{rules}
+use Rattle.dob_query.proofs.Common.{rules, unchanged, shelf_change}
 use Rattle.dob_query.proofs.Endings.{answered_by}
-use Rattle.dob_shelf.specs.Shelves.{shelf_change}
-use Rattle.dob_shelf.proofs.Shelves.{unchanged}
 use Rattle.dob_query.proofs.reaches.answer_reach.Goals as goal
 
 pub returns-in-None : goal.returns-in-None

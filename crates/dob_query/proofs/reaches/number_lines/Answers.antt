@@ -1,8 +1,5 @@
 -- The three lines, one after the other.
-use Rattle.std.proofs.Common.{◌≡◌, ◌-◌, ◌∙◌, ◌++◌, [], ◌∷◌, ℕ, List, ap, arith, codes, length, sym}
-use Rattle.std.specs.Fmt.{decimal}
-use Rattle.std.proofs.lemmas.List.{append_assoc}
-use Rattle.dob_query.specs.Sizes.{count_line}
+use Rattle.dob_query.proofs.Common.{◌++◌, ◌-◌, ◌∙◌, ◌∷◌, ◌≡◌, List, [], ap, arith, codes, length, sym, ℕ, append_assoc, decimal, count_line}
 use Rattle.dob_query.proofs.reaches.number_lines.Goals as goal
 
 pub returns : goal.returns

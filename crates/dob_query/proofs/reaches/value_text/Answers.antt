@@ -1,8 +1,5 @@
 -- The three lines, one after the other.
-use Rattle.std.proofs.Common.{◌≡◌, ◌∙◌, ◌++◌, [], ◌∷◌, ℕ, List, ap, codes, sym}
-use Rattle.std.specs.Fmt.{decimal}
-use Rattle.std.proofs.lemmas.List.{append_assoc}
-use Rattle.dob_query.specs.Sizes.{count_line}
+use Rattle.dob_query.proofs.Common.{◌++◌, ◌∙◌, ◌∷◌, ◌≡◌, List, [], ap, codes, sym, ℕ, append_assoc, decimal, count_line}
 use Rattle.dob_query.proofs.reaches.value_text.Goals as goal
 
 pub returns : goal.returns

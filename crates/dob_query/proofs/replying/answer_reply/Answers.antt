@@ -1,7 +1,5 @@
 -- What the file's certificate says of the position is what the file says of the text.
-use Rattle.std.proofs.lemmas.Result.{err_from_is_err_and}
-use Rattle.dob_certfile.specs.Format.{content}
-use Rattle.dob_shelf.specs.Shelves.{shelf_change}
+use Rattle.dob_query.proofs.Common.{err_from_is_err_and, content, shelf_change}
 use Rattle.dob_query.proofs.Proven.{read_replies, replied}
 use Rattle.dob_query.proofs.replying.answer_reply.Goals as goal
 

@@ -1,8 +1,6 @@
 -- The classes are those of the certificate's family.
-use Rattle.std.proofs.Common.{subst}
-use Rattle.dob_pieces.specs.declared.profile.Family.{Family}
+use Rattle.dob_query.proofs.Common.{subst, Family, content}
 use Rattle.dob_certificate.specs.Lost.{SupportsAllLost}
-use Rattle.dob_certfile.specs.Format.{content}
 use Rattle.dob_certify.specs.Replies.{IsReply, IsRight}
 use Rattle.dob_query.proofs.replying.proved_reply.Goals as goal
 

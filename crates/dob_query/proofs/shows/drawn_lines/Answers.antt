@@ -1,9 +1,6 @@
 -- A fault of asking the file is one of drawing.
+use Rattle.dob_query.proofs.Common.{shelf_change, IsAnswerBy, IsAskingFault, AreDrawn, IsDrawingFault, Draw}
 use Rattle.std.specs.Prelude.{Some, string_bytes}
-use Rattle.dob_shelf.specs.Shelves.{shelf_change}
-use Rattle.dob_query.specs.declared.questions.Question.TheVariants.{Draw}
-use Rattle.dob_query.specs.Questions.{IsAnswerBy, IsAskingFault}
-use Rattle.dob_query.specs.Shows.{AreDrawn, IsDrawingFault}
 use Rattle.dob_query.proofs.Asking.{answered_weaker}
 use Rattle.dob_query.proofs.Showing.{asking_draws}
 use Rattle.dob_query.proofs.shows.drawn_lines.Goals as goal

@@ -1,20 +1,33 @@
 -- The sink was empty and took the picture, which the shelf then keeps.
-use Rattle.std.proofs.Common.{◌≡◌, ◌∙◌, Bool, List, ℕ, subst, sym, rules}
-use Rattle.std.specs.Prelude.{IsTrue}
+use Rattle.dob_query.proofs.Common.{◌∙◌, ◌≡◌, Bool, List, subst, sym, ℕ, err_from_is_err_and, IsTrue, others_kept, HasJust, shelf_change}
 use Rattle.dob_text.specs.Pictures.{picture_of}
-use Rattle.dob_shelf.specs.Shelves.{HasJust}
-use Rattle.dob_query.proofs.Kept.{received_all}
+use Rattle.dob_query.proofs.Kept.{answered_later, filled_answers, others_after, shelf_fails, shelf_keeps, shelf_leaves}
 use Rattle.dob_query.proofs.shows.keep_picture.Goals as goal
 
-pub returns-in-Ok-keep : goal.returns-in-Ok-keep
-returns-in-Ok-keep g c =
-    let bytes : List ℕ = c.as_bytes.result.now in
-    let is_picture : bytes ≡ picture_of c.args.position.now.setup = c.as_bytes.ensures.value ∙ c.in_ok-picture.ensures in (
-      (
-        λ tells. subst (λ (b : List ℕ). HasJust c.args.name.now b (g.S.Shelf.state c.keep.new.self).has) is_picture
-            (c.in-Ok-keep.ensures.kept bytes (subst (λ (b : Bool). IsTrue b) (sym c.make.ensures.told) tells)
-            (received_all _ _ bytes (c.in_ok-sink.ensures.empty tells) c.in-Ok.ensures.done.all)),
-        search rules,
-      ),
-      search rules,
+pub returns-in_err-sink : goal.returns-in_err-sink
+returns-in_err-sink g c =
+    let p = err_from_is_err_and c.from_residual-in_err-sink.result c.from_residual-in_err-sink.ensures.1 in
+    let made = c.in_err-sink.ensures in
+    rw (p.1, p.2) (
+      ((shelf_keeps c.in_err-sink.field-0.0, made.kept), shelf_fails c.make.result _ _ c.in_err-sink.field-0.0 made.failed),
+      others_kept c.args.name.now _ _ made.kept,
+    )
+
+pub returns : goal.returns
+returns g c =
+    let made = c.in_ok-sink.ensures in
+    let old = g.S.Shelf.state c.args.shelf.now in
+    let mid = g.S.Shelf.state c.make.new.self in
+    let new = g.S.Shelf.state c.keep_filled.new.shelf in
+    let is_picture : c.as_bytes.result.now ≡ picture_of c.args.position.now.setup = c.as_bytes.ensures.value ∙ c.in_ok-picture.ensures in (
+      answered_later old mid new _ _ _ _ c.keep_filled.result made.failed
+          (λ text kept. (
+            kept.1.0,
+            λ tells. subst (λ (b : List ℕ). HasJust c.args.name.now b new.has) (kept.1.1 ∙ is_picture)
+                (kept.2 (subst (λ (b : Bool). IsTrue b) (sym made.told) tells)),
+          ))
+          (λ fault. shelf_leaves (shelf_change old new) mid made.kept fault)
+          (filled_answers (shelf_change mid new) c.args.name.now _ _ _ c.fill-filled.result c.keep_filled.result
+          (λ tells. made.empty (subst (λ (b : Bool). IsTrue b) made.told tells)) c.fill-filled.ensures c.keep_filled.ensures.0),
+      others_after c.args.name.now _ _ _ made.kept c.keep_filled.ensures.1,
     )

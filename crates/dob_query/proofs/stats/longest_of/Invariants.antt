@@ -1,6 +1,5 @@
 -- What is left of the groups makes of the longest so far what all of them make of none; fewer are left each time.
-use Rattle.std.proofs.Common.{◌≡◌, fold, length}
-use Rattle.dob_query.specs.Stats.{longest_of, with_group}
+use Rattle.dob_query.proofs.Common.{◌≡◌, fold, length, longest_of, with_group}
 use Rattle.dob_query.proofs.stats.longest_of.Given as goal
 
 abbrev pub invariant-loop-first : goal.invariant-loop-first

@@ -1,10 +1,8 @@
 -- The tallies of the values in their places, of which each part that a thread adds up has the tally of its values.
-use Rattle.std.proofs.Common.{◌≡◌, ℕ, ◌-◌, ◌<◌, ◌∷◌, [], List, length, ap, subst, ◌∙◌, arith}
-use Rattle.std.specs.List.{AllZip, range_with_len}
+use Rattle.dob_query.proofs.Common.{◌-◌, ◌<◌, ◌∙◌, ◌∷◌, ◌≡◌, List, [], ap, arith, length, subst, ℕ, AllZip, range_with_len, IsTallyAt}
 use Rattle.rayon.specs.Numbers.{nat_range}
 use Rattle.rayon.proofs.Reducing.{Reduces-elim}
 use Rattle.rayon.proofs.ToStd.{nat_range-All}
-use Rattle.dob_query.specs.Keeping.{IsTallyAt}
 use Rattle.dob_query.proofs.Tallies.{IsWhole, both_whole, none_whole, one_whole, ones_at}
 use Rattle.dob_query.proofs.tally.tally_of.Goals as goal
 

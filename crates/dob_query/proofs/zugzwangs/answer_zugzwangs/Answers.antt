@@ -1,9 +1,5 @@
 -- The pairs are those of the file's table.
-use Rattle.std.proofs.Common.{◌∙◌, List, ap, subst, sym}
-use Rattle.dob_zugzwang.specs.declared.pairs.Zugzwang.{Zugzwang}
-use Rattle.dob_zugzwang.specs.Counts.{AreCounts}
-use Rattle.dob_zugzwang.specs.Pairs.{ArePairs}
-use Rattle.dob_query.specs.Zugzwangs.{zugzwang_lines}
+use Rattle.dob_query.proofs.Common.{◌∙◌, List, ap, subst, sym, AreCounts, ArePairs, Zugzwang, zugzwang_lines}
 use Rattle.dob_query.proofs.zugzwangs.answer_zugzwangs.Goals as goal
 
 pub pairs_told-requires : goal.pairs_told-requires

@@ -1,8 +1,5 @@
 -- The two lines, one after the other.
-use Rattle.std.proofs.Common.{◌∙◌, ◌++◌, [], ◌∷◌, List, ℕ, ap, codes, sym}
-use Rattle.std.specs.Fmt.{decimal}
-use Rattle.std.proofs.lemmas.List.{append_assoc}
-use Rattle.dob_query.specs.Sizes.{count_line}
+use Rattle.dob_query.proofs.Common.{◌++◌, ◌∙◌, ◌∷◌, List, [], ap, codes, sym, ℕ, append_assoc, decimal, count_line}
 use Rattle.dob_query.proofs.zugzwangs.count_text.Goals as goal
 
 pub returns : goal.returns

@@ -1,11 +1,6 @@
 -- The class's representative is the one that its number gives.
-use Rattle.std.proofs.Common.{◌≡◌, ◌∙◌, ◌<◌, ℕ, ap, subst, sym}
-use Rattle.dob_pieces.specs.declared.profile.Family.{Family}
-use Rattle.dob_pieces.specs.declared.setup.Setup.{Setup}
-use Rattle.dob_rank.specs.Families.{HasClass, IsRepresentative, class_setup, classes_of}
-use Rattle.dob_classes.proofs.OfFamilies.FamilyRepresentatives.{class_setup_only}
-use Rattle.dob_rank.proofs.OfFamilies.Present.{HasClasses-classes_of}
-use Rattle.dob_query.specs.Zugzwangs.{pair_text}
+use Rattle.dob_query.proofs.Common.{◌<◌, ◌∙◌, ◌≡◌, ap, subst, sym, ℕ, Family, Setup, HasClasses-classes_of, HasClass, IsRepresentative, class_setup, classes_of}
+use Rattle.dob_query.proofs.Common.{class_setup_only, pair_text}
 use Rattle.dob_query.proofs.zugzwangs.pair_line.Goals as goal
 
 pub returns : goal.returns

@@ -1,7 +1,5 @@
 -- Each pair gone over is one of the list, and its line comes to those before.
-use Rattle.std.proofs.Common.{string_bytes}
-use Rattle.std.proofs.lemmas.List.Elements.{Contains-get_or}
-use Rattle.dob_query.specs.Zugzwangs.{pair_line}
+use Rattle.dob_query.proofs.Common.{string_bytes, Contains-get_or, pair_line}
 use Rattle.dob_query.proofs.Puzzling.{next_line}
 use Rattle.dob_query.proofs.zugzwangs.pair_lines.Goals as goal
 

@@ -1,6 +1,5 @@
 -- The lines of the pairs so far.
-use Rattle.std.proofs.Common.{◌≡◌, flat_map, string_bytes, take}
-use Rattle.dob_query.specs.Zugzwangs.{pair_line}
+use Rattle.dob_query.proofs.Common.{◌≡◌, flat_map, string_bytes, take, pair_line}
 use Rattle.dob_query.proofs.zugzwangs.pair_lines.Given as goal
 
 abbrev pub invariant-loop-pair : goal.invariant-loop-pair

@@ -1,6 +1,5 @@
 -- The pairs whose lines are written are of the table.
-use Rattle.std.proofs.Common.{subst, sym}
-use Rattle.dob_query.specs.Zugzwangs.{AreOfTable}
+use Rattle.dob_query.proofs.Common.{subst, sym, AreOfTable}
 use Rattle.dob_query.proofs.Paired.{deepest_of_table, first_of_table}
 use Rattle.dob_query.proofs.zugzwangs.pairs_told.Goals as goal
 

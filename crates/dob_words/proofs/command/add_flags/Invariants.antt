@@ -1,7 +1,5 @@
 -- The flags so far have joined the command.
-use Rattle.std.proofs.Common.{map, take}
-use Rattle.clap.specs.Words.{App}
-use Rattle.dob_words.specs.Shapes.{HasCommandShape, flag_rule, flag_said, with_rules}
+use Rattle.dob_words.proofs.Common.{map, take, App, HasCommandShape, flag_rule, flag_said, with_rules}
 use Rattle.dob_words.proofs.command.add_flags.Given as goal
 
 abbrev pub invariant-loop-flag : goal.invariant-loop-flag

@@ -1,7 +1,5 @@
 -- The options so far have joined the command.
-use Rattle.std.proofs.Common.{map, take}
-use Rattle.clap.specs.Words.{App}
-use Rattle.dob_words.specs.Shapes.{HasCommandShape, choice_rule, choice_said, with_rules}
+use Rattle.dob_words.proofs.Common.{map, take, App, HasCommandShape, choice_rule, choice_said, with_rules}
 use Rattle.dob_words.proofs.command.add_options.Given as goal
 
 abbrev pub invariant-loop-choice : goal.invariant-loop-choice

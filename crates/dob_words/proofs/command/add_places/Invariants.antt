@@ -1,7 +1,5 @@
 -- The texts so far have joined the command.
-use Rattle.std.proofs.Common.{map, take}
-use Rattle.clap.specs.Words.{App}
-use Rattle.dob_words.specs.Shapes.{HasCommandShape, place_rule, place_said, with_rules}
+use Rattle.dob_words.proofs.Common.{map, take, App, HasCommandShape, place_rule, place_said, with_rules}
 use Rattle.dob_words.proofs.command.add_places.Given as goal
 
 abbrev pub invariant-loop-place : goal.invariant-loop-place

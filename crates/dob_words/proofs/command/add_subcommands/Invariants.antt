@@ -1,7 +1,5 @@
 -- The subcommands so far have joined the command.
-use Rattle.std.proofs.Common.{map, take}
-use Rattle.clap.specs.Words.{App}
-use Rattle.dob_words.specs.Shapes.{HasCommandShape, row_said, with_rows}
+use Rattle.dob_words.proofs.Common.{map, take, App, HasCommandShape, row_said, with_rows}
 use Rattle.dob_words.proofs.command.add_subcommands.Given as goal
 
 abbrev pub invariant-loop-row : goal.invariant-loop-row

@@ -1,7 +1,5 @@
 -- Three words or more ask for no help.
-use Rattle.std.proofs.Common.{◌≡◌, ◌≤◌, [], ◌∷◌, List, arith, false, length, map, refl}
-use Rattle.std.specs.Borrow.{Bor}
-use Rattle.dob_words.specs.Words.{Text, has_topic}
+use Rattle.dob_words.proofs.Common.{◌∷◌, ◌≡◌, ◌≤◌, List, [], arith, false, length, map, refl, Bor, Text, has_topic}
 use Rattle.dob_words.proofs.command.has_topic.Goals as goal
 
 too_many : (words : List (Bor Text)) → 3 ≤ length words → false ≡ has_topic (map (λ w. w.now) words)

@@ -2,17 +2,17 @@
 use Rattle.dob_words.proofs.Matches.{found_by_some, has_fit, is_named, reads}
 use Rattle.dob_words.proofs.command.order_of.Goals as goal
 
-pub order_named-requires-clause-named : goal.order_named-requires-clause-named
-order_named-requires-clause-named c =
+pub order_by-requires-clause-named : goal.order_by-requires-clause-named
+order_by-requires-clause-named c =
     let met = found_by_some _ c.requires in
     is_named c.args.matches.now c.in_ok-name.inner.now c.in_ok-name.name.now c.in_ok-name.ensures.name c.in_ok-name.ensures.rows met.form met.texts met.among met.found
 
-pub order_named-requires-clause-fit : goal.order_named-requires-clause-fit
-order_named-requires-clause-fit c =
+pub order_by-requires-clause-fit : goal.order_by-requires-clause-fit
+order_by-requires-clause-fit c =
     let met = found_by_some _ c.requires in
     has_fit c.args.matches.now c.in_ok-name.inner.now c.in_ok-name.name.now c.in_ok-name.ensures.name c.in_ok-name.ensures.rows met.form met.texts met.among met.found
 
 pub returns : goal.returns
 returns c = λ form texts among found.
     reads c.args.matches.now c.in_ok-name.inner.now c.in_ok-name.name.now c.in_ok-name.ensures.name c.in_ok-name.ensures.rows form texts among found
-    c.order_named.result c.order_named.ensures
+    c.order_by.result c.order_by.ensures

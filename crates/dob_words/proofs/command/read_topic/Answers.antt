@@ -1,6 +1,5 @@
 -- By `help` there are no matches, and which text is told the words say.
-use Rattle.std.proofs.Common.{map}
-use Rattle.clap.specs.Words.{app_of}
+use Rattle.dob_words.proofs.Common.{map, app_of}
 use Rattle.dob_words.proofs.Outcomes.{no_matches}
 use Rattle.dob_words.proofs.command.read_topic.Goals as goal
 

@@ -1,9 +1,6 @@
 -- What `clap` answers is what the words ask for.
-use Rattle.std.proofs.Common.{◌∙◌, IfOk, map, subst, sym}
-use Rattle.dob_words.specs.Readings.{IsReadingOf}
-use Rattle.dob_words.specs.Words.{meaning_of_command, settled}
-use Rattle.std.proofs.lemmas.Result.{IfOk-weaker}
-use Rattle.clap.specs.Words.{app_of, subcommand_rows_of}
+use Rattle.dob_words.proofs.Common.{◌∙◌, map, subst, sym, IfOk-weaker, app_of, subcommand_rows_of, IsReadingOf, meaning_of_command, settled}
+use Rattle.std.proofs.Common.{IfOk}
 use Rattle.dob_words.proofs.Lines.{order_from_line, reading_at_line}
 use Rattle.dob_words.proofs.Outcomes.{IsAsked, command_meaning, topic_meaning, asked_by_matches, met_by_some, order_is_meant, error_of_words}
 use Rattle.dob_words.proofs.command.read_words.Goals as goal

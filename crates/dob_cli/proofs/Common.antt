@@ -1,0 +1,23 @@
+-- The names that the proofs here use most, from other crates and the definitions of this one.
+pub use Rattle.std.proofs.Common.{◌||◌, ◌∙◌, ◌∷◌, ◌≡◌, Bool, List, None, Option, Some, [], ap, arith, codes, false, inl, inr, option_map, refl, rules, subst}
+pub use Rattle.std.proofs.Common.{sym, true, true≢false, ℕ}
+pub use Rattle.std.specs.Prelude.{Err, IsTrue}
+pub use Rattle.dob_pieces.specs.declared.profile.Profile.{Profile}
+pub use Rattle.dob_rank.specs.Families.{family_of}
+pub use Rattle.dob_dbfile.specs.Format.{bytes_of}
+pub use Rattle.dob_dbfile.specs.Sinks.{Change, IsSame, IsUntouched, Says, SinkState, change}
+pub use Rattle.dob_words.specs.Forms.{Text}
+pub use Rattle.dob_words.specs.Readings.{IsOrder, IsReadingOf}
+pub use Rattle.dob_words.specs.Words.{asks, meaning_of, number_in, profile_named}
+pub use Rattle.dob_words.specs.declared.command.Reading.{Reading}
+pub use Rattle.dob_words.specs.declared.command.orders.Order.{Order}
+pub use Rattle.dob_words.specs.declared.command.orders.Order.TheVariants.{EachLine, Lines}
+pub use Rattle.dob_shelf.proofs.Shelves.{others_kept, unchanged}
+pub use Rattle.dob_shelf.specs.Shelves.{HasJust, SameFiles, ShelfChange, ShelfState, shelf_change}
+pub use Rattle.dob_query.proofs.Endings.{answered, answered_by}
+pub use Rattle.dob_query.specs.Endings.{AnswersOver, Ending, TellsOneFault}
+pub use Rattle.dob_query.specs.Program.{AnswersValue}
+pub use Rattle.dob_query.specs.Tables.{AnswersProbe, AnswersProbeRight, HasValueFile}
+pub use Rattle.dob_query.specs.Telling.{AnswersLines, PutsAll, PutsText, StopsText, TellsOver}
+pub use Rattle.dob_query.specs.declared.fault.Fault.{Fault}
+pub use Rattle.dob_cli.specs.Builds.{AnswersBuild}

@@ -1,0 +1,694 @@
+// The subcommands of the program, a row each: from here come `clap`'s command, the help and what words mean (specs/Forms.antt). Below the rows stands what
+// the program and each subcommand say of themselves where help is asked for, behind what `clap` writes of their words.
+use crate::table::{
+    CERT, DB, EACH, JSON, Kind, LONE_POSITION, Need, POSITION, PROGRESS, RULES, Row, SET,
+};
+
+/// A subcommand.
+#[derive(Clone, Copy)]
+pub enum Subcommand {
+    Value,
+    Count,
+    Reach,
+    Build,
+    Probe,
+    Line,
+    Check,
+    Look,
+    Show,
+    Moves,
+    Best,
+    Stats,
+    Zugzwangs,
+    Puzzles,
+    Migrate,
+    Certify,
+    Verify,
+    Reply,
+}
+
+/// The subcommands, in the order of the help.
+pub const ROWS: &[Row] = &[
+    (
+        Subcommand::Value,
+        "value",
+        "Prints the value of a position",
+        &[RULES],
+        &[],
+        &[POSITION],
+    ),
+    (
+        Subcommand::Count,
+        "count",
+        "Prints how many positions and classes a piece set has, as `count --set 100`",
+        &[SET, RULES],
+        &[],
+        &[],
+    ),
+    (
+        Subcommand::Reach,
+        "reach",
+        "Prints how many classes a game from a position can reach, and how far they lie",
+        &[
+            (
+                "db",
+                (
+                    "FILE",
+                    Kind::Any,
+                    Need::May,
+                    "A database file, for how many of them are won, lost and drawn; its rules count",
+                ),
+            ),
+            RULES,
+        ],
+        &[
+            (
+                "levels",
+                "A line for each distance, as `2 17`, behind the others",
+            ),
+            PROGRESS,
+        ],
+        &[POSITION],
+    ),
+    (
+        Subcommand::Build,
+        "build",
+        "Builds the database file of a piece set, as `build --set 100 --out 100.db`",
+        &[
+            SET,
+            (
+                "nodes",
+                (
+                    "N",
+                    Kind::Number,
+                    Need::May,
+                    "The number of nodes, 1 to 16; as many as there are processors, 16 at most, where it is left out",
+                ),
+            ),
+            (
+                "out",
+                (
+                    "FILE",
+                    Kind::Output,
+                    Need::Must,
+                    "The database file, made anew or overwritten",
+                ),
+            ),
+            RULES,
+        ],
+        &[PROGRESS],
+        &[],
+    ),
+    (
+        Subcommand::Probe,
+        "probe",
+        "Prints the value of a position by a database file",
+        &[DB],
+        &[EACH],
+        &[LONE_POSITION],
+    ),
+    (
+        Subcommand::Line,
+        "line",
+        "Prints the best play from a position by a database file",
+        &[DB],
+        &[
+            ("numbered", "Each move on a line, with its number"),
+            EACH,
+            JSON,
+        ],
+        &[LONE_POSITION],
+    ),
+    (
+        Subcommand::Check,
+        "check",
+        "Checks that a database file is right, whoever made it",
+        &[DB],
+        &[PROGRESS],
+        &[],
+    ),
+    (
+        Subcommand::Look,
+        "look",
+        "Prints a position's value, reading only its record; the rest of the file is not checked",
+        &[DB],
+        &[EACH, JSON],
+        &[LONE_POSITION],
+    ),
+    (
+        Subcommand::Show,
+        "show",
+        "Draws the board of a position, with its squares' names and both hands",
+        &[
+            (
+                "db",
+                (
+                    "FILE",
+                    Kind::Any,
+                    Need::May,
+                    "A database file, for the value and the best play",
+                ),
+            ),
+            (
+                "svg",
+                (
+                    "OUT",
+                    Kind::Output,
+                    Need::May,
+                    "A file for the board as a picture, made anew or overwritten",
+                ),
+            ),
+        ],
+        &[],
+        &[POSITION],
+    ),
+    (
+        Subcommand::Moves,
+        "moves",
+        "Prints each move of a position with its value by a database file, best first",
+        &[DB],
+        &[EACH, JSON],
+        &[LONE_POSITION],
+    ),
+    (
+        Subcommand::Best,
+        "best",
+        "Prints the first move of the best play from a position by a database file, with its value",
+        &[DB],
+        &[EACH],
+        &[LONE_POSITION],
+    ),
+    (
+        Subcommand::Stats,
+        "stats",
+        "Prints how many classes of a database file have which value, and the longest ones",
+        &[DB],
+        &[
+            (
+                "csv",
+                "A line for each value, as `win 3,12`, below the line `value,classes`",
+            ),
+            JSON,
+        ],
+        &[],
+    ),
+    (
+        Subcommand::Zugzwangs,
+        "zugzwangs",
+        "Prints how many positions there are in which neither side wants to move, and the deepest",
+        &[
+            DB,
+            (
+                "list",
+                (
+                    "N",
+                    Kind::Number,
+                    Need::May,
+                    "The first N of them, a line each, behind the others",
+                ),
+            ),
+        ],
+        &[],
+        &[],
+    ),
+    (
+        Subcommand::Puzzles,
+        "puzzles",
+        "Prints positions of a database file that just one move wins soonest",
+        &[
+            DB,
+            (
+                "plies",
+                (
+                    "D",
+                    Kind::Number,
+                    Need::Must,
+                    "In how many plies they are won: an odd number of at least 3",
+                ),
+            ),
+            (
+                "count",
+                ("N", Kind::Number, Need::Must, "How many of them at most"),
+            ),
+            (
+                "from",
+                (
+                    "CLASS",
+                    Kind::Number,
+                    Need::May,
+                    "Only those behind the class of this number, which itself isn't printed",
+                ),
+            ),
+            (
+                "random",
+                (
+                    "SEED",
+                    Kind::Number,
+                    Need::May,
+                    "Begins at a class made from this number, and goes on with the first behind the last",
+                ),
+            ),
+        ],
+        &[(
+            "numbered",
+            "The number of its class before each position, for `--from`",
+        )],
+        &[],
+    ),
+    (
+        Subcommand::Migrate,
+        "migrate",
+        "Converts a database file to the current format (2)",
+        &[
+            DB,
+            (
+                "out",
+                (
+                    "OUT",
+                    Kind::Output,
+                    Need::Must,
+                    "The database file to be written, made anew or overwritten; it may be the one that is read",
+                ),
+            ),
+        ],
+        &[],
+        &[],
+    ),
+    (
+        Subcommand::Certify,
+        "certify",
+        "Makes a certificate of a position's value by a database file",
+        &[
+            DB,
+            (
+                "out",
+                (
+                    "CERT",
+                    Kind::Output,
+                    Need::Must,
+                    "The certificate, made anew or overwritten",
+                ),
+            ),
+            (
+                "most",
+                (
+                    "N",
+                    Kind::Number,
+                    Need::May,
+                    "How many entries the certificate has at most; as many as it takes, where it is left out",
+                ),
+            ),
+        ],
+        &[
+            (
+                "exact",
+                "Claims a win or a loss in so many plies and no fewer, not only within so many",
+            ),
+            PROGRESS,
+        ],
+        &[POSITION],
+    ),
+    (
+        Subcommand::Verify,
+        "verify",
+        "Checks that a certificate proves what it claims, and prints that",
+        &[CERT],
+        &[PROGRESS],
+        &[],
+    ),
+    (
+        Subcommand::Reply,
+        "reply",
+        "Prints the winning move that a certificate gives",
+        &[CERT],
+        &[],
+        &[POSITION],
+    ),
+];
+
+/// What the subcommand says of itself.
+pub(crate) fn help_of(subcommand: Subcommand) -> &'static str {
+    match subcommand {
+        Subcommand::Value => VALUE,
+        Subcommand::Count => COUNT,
+        Subcommand::Reach => REACH,
+        Subcommand::Build => BUILD,
+        Subcommand::Probe => PROBE,
+        Subcommand::Line => LINE,
+        Subcommand::Check => CHECK,
+        Subcommand::Look => LOOK,
+        Subcommand::Show => SHOW,
+        Subcommand::Moves => MOVES,
+        Subcommand::Best => BEST,
+        Subcommand::Stats => STATS,
+        Subcommand::Zugzwangs => ZUGZWANGS,
+        Subcommand::Puzzles => PUZZLES,
+        Subcommand::Migrate => MIGRATE,
+        Subcommand::Certify => CERTIFY,
+        Subcommand::Verify => VERIFY,
+        Subcommand::Reply => REPLY,
+    }
+}
+
+// ---- what they say of themselves
+
+pub(crate) const PROGRAM: &str =
+    "`dobutsu value --help` says how a position is written and what the rules A and B are, `dobutsu count --help` how a
+piece set is.
+
+A fault is one line on standard error. The status is 1, and 3 for E12, E14, E23, E24 and E40:
+
+  E1 Shape         the text isn't fifteen bytes with `/` at 3, 7 and 11, then twice a space and a word
+  E2 Letter        a square is none of `.LGECHlgech`
+  E3 Hand          a hand is neither `-` nor letters of C, E, G in that order, in the case of its side
+  E4 Lions         a side hasn't just one lion
+  E5 Count         there are more than two pieces of a kind, hens counted as chicks
+  E6 FarLion       the lion of the side to move stands on row 4
+  E7 OtherSet      the position's piece set isn't the file's
+  E9 Nodes         there aren't 1 to 16 nodes
+  E12 TooDeep      of `value`: a distance would be above 65534 plies
+  E14 Stopped node N: CAUSE
+                   node N of a build has stopped. The cause: `E12 TooDeep`, `E23 Memory`, `Counts`, or
+                   `E13 Contradiction class C`, an update for class C contradicts what the node knows
+  E15 Truncated    the file ends too early
+  E16 Magic        the file doesn't begin as database files do
+  E17 SetByte      the file names no piece set
+  E18 ClassCount   the file counts other classes than its piece set has
+  E19 Trailing     the file goes on after its end
+  E20 Digest       the file's digest isn't that of its bytes
+  E21 Inconsistent class N
+                   the value of class N doesn't follow from those one ply later
+  E23 Memory       no memory is left
+  E24 Io           standard output, standard input or the file failed
+  E25 SetText      the piece set isn't three digits, each 0, 1 or 2
+  E26 FarChick     by rules B, or of a file of rules B: a chick stands on its own far row. So
+                   `dobutsu value --rules B \"C.l/.../.../L.. - -\"` is refused
+  E27 ProfileByte  byte 12 of the file says other rules than A and B
+  E30 to E41       of `certify`, `verify` and `reply`: `dobutsu verify --help` has them
+
+A usage error ends with status 2.";
+
+const VALUE: &str =
+    "A position: four rows of three letters, row 4 (the far row of the side to move) first, joined
+by `/`, then a space and the hand of the side to move, a space and the hand of the other side.
+
+Letters: L lion, G giraffe, E elephant, C chick, H hen, upper case for the side to move and
+lower case for the other side; `.` is an empty square. A hand is `-`, or letters of C, E, G in
+that order with repeats, upper case for the side to move and lower case for the other side.
+
+Rules: both follow those that the Japanese women professionals published, and differ in one choice that these leave
+open. By A, the default, a chick may be dropped on its far row, where it has no move; by B it may not, and a position
+with a chick on its own far row, row 4 for the side to move and row 1 for the other side, is none (E26).
+
+It goes over all positions with the same pieces, in one thread: at once with up to two pieces besides the lions, in a third
+of a second and 24 MB with three, and in much longer and more than 16 GB with six. Of such a set `dobutsu build` makes
+a file once, which `dobutsu look` asks at once.
+
+Answers: `win D`, `loss D` or `draw`, where D is the distance in plies.
+
+Example: dobutsu value \"..l/.../L../... - -\" prints `win 3`.
+dobutsu value --rules B \"C.l/.../.../L.. - -\" is refused with `E26 FarChick`: its chick stands on row 4. By rules A it is a `draw`.";
+
+const COUNT: &str =
+    "A piece set: three digits CEG, each 0, 1 or 2: how many chicks (hens counted with them), elephants
+and giraffes there are besides the lions, on the board and in the hands together. `222` is the whole
+game.
+
+Answers: `positions N` and `classes N`, where a class is a position with its mirror image. `dobutsu value --help` says what
+the rules A and B are; by B a set with chicks has fewer positions.
+
+Example: dobutsu count --set 100 prints `positions 4158` and `classes 2124`, and with `--rules B` 3648 and 1864.";
+
+const REACH: &str =
+    "What a game that begins with POSITION can come to. A class is a position with its mirror image, seen by the side to move; it goes
+on from open classes alone, and counts those that have ended too: where the lion can be caught, has arrived, or no move is left.
+That each of the two positions of a class is reached isn't said.
+
+Answers: `classes N`, how many classes are reached, that of POSITION among them; `open N`, how many of them are open; `depth D`,
+in how many plies the furthest is reached. With `--db FILE` also `win N`, `loss N` and `draw N`, how many of them have which value for
+the side to move: the rules are those of the file, and POSITION has to be of its piece set (E7). With `--levels` then a line
+`PLY N` for each distance from POSITION, how many classes are reached in so many plies and in no fewer.
+
+It takes a bit of memory for each class of the piece set, and some 8 bytes for each of the classes of two distances that follow
+each other: 0.5 GB for the whole game, where it runs for minutes.
+
+With `--progress` it says on standard error, before each distance, how many classes it has, as `ply 2: 17 classes`.
+
+Example: dobutsu reach \"gl./.c./.../E.L - -\" prints `classes 443086`, `open 201898` and `depth 26`. `dobutsu value --help`
+says how a position is written and what the rules A and B are.";
+
+const BUILD: &str =
+    "A piece set: three digits CEG, as `dobutsu count --help` says. Nodes: 1 to 16. Each works in a thread of
+its own and owns a part of the positions; with more nodes than processors it works too, only slower.
+Without `--nodes` there are as many as processors, 16 at most. The file is the same whatever their number.
+
+The file has 2 bytes a class and 53 more, and its build takes some 9 bytes of memory a class.
+`dobutsu count --set 111` gives the classes of a set: 765360 of three pieces, which take a second or two.
+The whole game, `222`, has 588021930, which take a quarter of an hour, 5 to 8 GB of memory and 1.2 GB of disk.
+
+The table is written to FILE with `.part` behind it, and takes the place of FILE when it is whole and on
+the disk: until then FILE is as it was, whatever happens. Another run that is to write FILE meanwhile is refused.
+A pipe, a device or a link is written where it is.
+
+The file says by which rules its values are, so that `dobutsu probe` and the others need no `--rules`. They read a position
+by rules A; where the file is one of rules B they refuse a chick on its own far row (E26). `dobutsu value --help` says what
+the rules are.
+
+With `--progress` it says on standard error what memory it takes, before it takes it, and then, a line a second at most,
+how far it is, as `12 s, 34 %, 23 s left`: the seconds since it began, what part is done, and the seconds that are left by the
+speed so far. On a terminal the lines take each other's place.
+
+Answers: `classes N`, `win N`, `loss N` and `draw N`, where a class is a position with its mirror image.
+
+Example: dobutsu build --set 000 --out 000.db prints `classes 54`, `win 38`, `loss 12` and
+`draw 4`. `dobutsu check --db 000.db` then says that the file is right.";
+
+const PROBE: &str =
+    "A file: what `dobutsu check --db FILE` calls consistent holds the values by definition; of any other
+file the answer is just what the file says.
+
+With `--each` in place of POSITION the positions come from standard input, one on each line, and each line is
+answered by a line, in the same order. One that is refused is answered by its fault, as `E2 Letter`, and the
+next by its own answer. The file is read once, so that this is the way to ask for many positions.
+
+Answers: `win D`, `loss D` or `draw`, where D is the distance in plies. With `--each` the status is 0 where
+all lines were answered, and 1 where one was refused.
+
+Example: dobutsu probe --db 000.db \"..l/.../L../... - -\" prints `win 3`. `dobutsu value --help` says
+how a position is written. Two positions, the second with a malformed hand:
+
+  printf '%s\\n' \"..l/.../L../... - -\" \"..l/.../L../... - x\" | dobutsu probe --db 000.db --each
+
+prints `win 3` and `E3 Hand`, with status 1.";
+
+const LINE: &str =
+    "The moves of both sides, where the winner takes the shortest way and the loser the longest, each the
+first such move: a piece's letter, its square, `-` or `x` for a catch, the square where it goes, and
+`+` where a chick becomes a hen; or the letter of a piece in hand, `*` and a square. The moves of the
+side that isn't to move first are in lower case.
+
+Of the file only its first 21 bytes are read, the 2 bytes of the position, and for each move those of the positions that can
+follow, so that a file of any size is asked at once. Its digest isn't read, and damage isn't found: `dobutsu check` tests it all.
+
+With `--each` in place of POSITION the positions come from standard input, one on each line, and each line is answered in the
+same order, as `dobutsu look --help` says. With `--numbered` too an empty line stands behind each answer.
+
+Answers: the moves, `draw` where neither side can force an end, or `end` where the side to move has
+lost already. With `--numbered` each move stands on a line of its own behind its number, as `1. La2-a3`. With `--each` the status
+is 0 where all lines were answered, and 1 where one was refused.
+
+With `--json`: an object on a line, with `position`, `value`, `plies` and `moves`, whose objects are as `dobutsu moves --help` says, without
+`value` and `plies`. `--numbered` changes nothing then.
+
+Example: dobutsu line --db 000.db \"..l/.../L../... - -\" prints `La2-a3 lc4-b4 La3xb4`.";
+
+const CHECK: &str =
+    "Each value of the file is compared with what follows from those one ply later, so that a file that is
+passed holds the values by definition, whoever made it.
+
+With `--progress` it says on standard error, a line a second at most, how far it is, as `12 s, 34 %, 23 s left`: the seconds
+since the file is read, what part is done, and the seconds that are left by the speed so far. On a terminal the lines take each
+other's place.
+
+Answers: `consistent`; or `E21 Inconsistent class N` with the first class whose value doesn't follow.
+
+Example: dobutsu check --db 000.db prints `consistent`.";
+
+const LOOK: &str =
+    "Of the file only its first 21 bytes and the 2 bytes of the position are read, each by its place, so that
+a file of any size is asked at once. Its digest isn't read: damage isn't found, nor whether the file is
+too long or too short. `dobutsu probe` reads and tests it all.
+
+With `--each` in place of POSITION the positions come from standard input, one on each line, and each line is answered by a
+line, in the same order, as `dobutsu probe --help` says. The file is opened once, and of each position only its 2 bytes are read.
+
+Answers: `win D`, `loss D` or `draw`, where D is the distance in plies. With `--each` the status is 0 where
+all lines were answered, and 1 where one was refused.
+
+With `--json`: an object on a line, `{\"position\":\"..l/.../L../... - -\",\"value\":\"win\",\"plies\":3}`, where the `plies` of a draw are `null`;
+and `{\"fault\":\"E2 Letter\"}` for a line of `--each` that is refused.
+
+Example: dobutsu look --db 000.db \"..l/.../L../... - -\" prints `win 3`. `dobutsu value --help` says
+how a position is written.";
+
+const SHOW: &str =
+    "The board as the side to move sees it: rows 4 to 1 from top to bottom, columns a to c from left to right,
+so that `b2` names the square where column b meets row 2. Capital letters are the pieces of the side to
+move, which go up; small letters are those of the other side, which go down. A hand holds the pieces
+that were caught and can be dropped again.
+
+With `--db FILE` an empty line follows, then the position's value and its best play, as `dobutsu look` and
+`dobutsu line --numbered` print them; the digest of the file isn't read. With `--svg OUT` the board is drawn as a picture
+too, for a browser: the file OUT is made anew or overwritten, as `dobutsu build --help` says of its own.
+
+Example: dobutsu show \"gle/.c./.C./ELG - -\" draws the board that a game begins with.
+`dobutsu value --help` says how a position is written.";
+
+const MOVES: &str =
+    "A line for each move of the side to move, with what it comes to for that side: a win in so many plies from
+here, a loss, or a draw. Wins come first, the soonest first; then draws; then losses, the latest first;
+equal ones by the squares that they leave and reach. `dobutsu line --help` says how a move is written.
+
+Of the file only its first 21 bytes are read, and 2 bytes for each move, so that a file of any size is asked at once. Its digest
+isn't read, and damage isn't found: `dobutsu check` tests it all.
+
+With `--each` in place of POSITION the positions come from standard input, one on each line, and each line is answered in the
+same order by its moves, or by its fault as `E2 Letter`, with an empty line behind them. The file is opened once.
+
+Answers: `MOVE win D`, `MOVE loss D` or `MOVE draw`; where the other side's lion can be caught, just that
+catch, `MOVE win 1`; and `end` where the side to move has lost already. With `--each` the status is 0 where all lines were
+answered, and 1 where one was refused.
+
+With `--json`: an object on a line, with `position` and `moves`, a list of objects with `move`, `kind` (`chick`, `hen`, `elephant`, `giraffe` or
+`lion`, as it was before the move), `from` (`null` for a drop), `to`, `catch` (`true` or `false`), `value` and `plies`. The fault of a line
+is an object too, as `dobutsu look --help` says, and no empty line stands behind them.
+
+Example: dobutsu moves --db 000.db \"..l/.../L../... - -\" prints `La2-a3 win 3` first.";
+
+const BEST: &str =
+    "The first of the lines that `dobutsu moves` prints: a move that the best play begins with, and what it comes to for the side
+to move. Of the file the same bytes are read.
+
+With `--each` in place of POSITION the positions come from standard input, one on each line, and each line is answered by a
+line, in the same order, as `dobutsu look --help` says.
+
+Answers: `MOVE win D`, `MOVE loss D` or `MOVE draw`; and `end` where the side to move has lost already. With `--each` the status
+is 0 where all lines were answered, and 1 where one was refused.
+
+Example: dobutsu best --db 000.db \"..l/.../L../... - -\" prints `La2-a3 win 3`.";
+
+const STATS: &str =
+    "How hard a piece set is: so many of its classes are won and lost at each distance. A class is a position with its mirror
+image; a file that `dobutsu check` calls consistent holds the values by definition.
+
+Answers: the lines of `dobutsu build`, `classes N`, `win N`, `loss N` and `draw N`; then `win D N` or `loss D N`
+for each distance D in plies that occurs, the least first; then `longest win D POSITION` and `longest loss D POSITION`,
+each with the first class of that distance, where there are wins and losses.
+
+With `--csv`, for scripts: the line `value,classes`, and then a line for each value that occurs, `draw,N` first, where there are
+draws, and then `win D,N` or `loss D,N`, the least distance first.
+
+With `--json`: an object on a line for each value that occurs, `{\"value\":\"win\",\"plies\":3,\"classes\":12}`, in the order of `--csv`; where both are
+given, `--json` counts.
+
+Example: dobutsu stats --db 000.db prints `classes 54` first, and with `--csv` `draw,4` below `value,classes`.";
+
+const ZUGZWANGS: &str =
+    "Positions in which neither side wants to move. The turn of a position is the same board with the other side to move. A win is worth 1,
+a draw 0 and a loss -1: where both can go on, and together are worth less than 0, whoever has to move would rather not. So they come
+in pairs, a position and its turn, each with its mirror images counted once. A file that `dobutsu check` calls consistent holds the
+values by definition.
+
+Answers: `lost by both N`, the pairs in which whoever has to move loses; `loss and draw N`, those in which one side loses where it has to
+move, and the other draws; and `deepest POSITION  loss D  loss D`, where there are pairs lost by both: the one whose shorter loss is
+the longest, of such ones that whose longer loss is, and of these the first in the file. The values are that of POSITION for the side
+to move, and that of its turn for the other side. With `--list N` then a line `POSITION  VALUE  VALUE` for each of the first N pairs in the
+order of the file, of either kind; POSITION is the one of the two that stands first there.
+
+Example: dobutsu zugzwangs --db 010.db, of one elephant, prints `lost by both 1`, `loss and draw 11` and
+`deepest .../.l./.../LE. - -  loss 4  loss 8`.";
+
+const PUZZLES: &str =
+    "Exercises for a class: positions in which the side to move wins, and just one move wins soonest. All other moves are
+slower, or don't win. D counts the plies of both sides up to the catch of the lion or the lion's safe arrival, so `3` is: move,
+answer, win. A file that `dobutsu check` calls consistent holds the values by definition.
+
+Answers: a line for each position, `POSITION  MOVE`, its text, two spaces and that move, in the order of the file, the first N of
+them; or `none`. Of a position and its mirror image only the one that stands first is printed. `dobutsu show POSITION` draws it,
+and `dobutsu line --numbered --db FILE POSITION` plays it to its end. A D that is even or below 3 is a usage error (status 2).
+
+With `--numbered` the number of its class and two spaces stand before each. With `--from CLASS` only those behind the class of this
+number are printed, never its own: with the number of the last one it goes on where the last call ended, so that no position comes
+twice. Behind a number that no class has there is none.
+
+With `--random SEED` the order begins at a class that the number SEED makes, the same on each machine, and goes on with the first
+class of the file behind the last one. No two of the positions that one call prints then have as many pieces of each kind on the board
+and the lions on the same squares: of such ones the first is printed, and fewer than N where there are no more. `--from` goes on in this
+order too, where both are given.
+
+Example: dobutsu puzzles --db 000.db --plies 3 --count 1 prints `.../..l/L../... - -  La2-a3`.";
+
+const MIGRATE: &str =
+    "Reads the whole file FILE, in either format, and tests it as `dobutsu probe` does. Only then is OUT written, with the same
+values, in the second format: its title is `DOBUTSU2`, its byte 12 says the rules, and it has 2 bytes a class and 53
+more. A file of the first format is one of rules A. A damaged file is refused, and OUT stays as it was.
+
+OUT may be FILE itself: it is written to OUT with `.part` behind it, which takes the place of OUT when it is whole and on
+the disk, as `dobutsu build --help` says.
+
+Answers: `classes N`, where a class is a position with its mirror image.
+
+Example: dobutsu migrate --db old.db --out new.db prints `classes 54` for lions alone.";
+
+const CERTIFY: &str =
+    "A certificate is a small file that proves a position's value without the database file: `dobutsu verify` checks it, and trusts no one who made
+it. It lists classes that are lost, each within so many plies: every move of a listed class is answered by one to a class that is listed with two
+plies less, or has lost. What is made has passed that check before it is written, so that it is right even where FILE isn't.
+
+Without `--exact` it claims a win or a loss within so many plies. With `--exact` it claims so many and no fewer, by a second list, of classes that
+aren't lost sooner: for a long win or loss of a set with six pieces that has tens of millions of entries, and takes minutes and a gigabyte. A draw
+is always exact.
+
+With `--most N` it gives up with E39 as soon as there would be more than N entries. With `--progress` it says on standard error, a line a second at
+most, how far it is, as `dobutsu build --help` says.
+
+CERT is written with `.part` behind its name first, as `dobutsu build --help` says of its file.
+
+Answers: the line of `dobutsu verify`, for the position as it is given, then `lost N` and `held N`, the entries of the two lists.
+
+Example: dobutsu certify --db 000.db --out 000.cert \"..l/.../L../... - -\" prints `..l/.../L../... - - win within 3`, `lost 1` and `held 0`.";
+
+const VERIFY: &str =
+    "What it prints is proved by the file alone and the rules of the game, whoever made it: each entry is tested by its moves, and then what is claimed
+of the position by the entries. No database file is read. A position is printed as the first of itself and its mirror image.
+
+With `--progress` it says on standard error, a line a second at most, how far it is, as `dobutsu check --help` says.
+
+Answers: `POSITION loss within D` or `POSITION win within D`, where an exact certificate has no `within`, or `POSITION draw`.
+
+A file that proves nothing is refused, with status 1, by the first fault that it has: E15 to E20 and E27 as `dobutsu --help` says of database files, or
+
+  E30 Unsupported class N   the entry of class N isn't shown by the moves of its class
+  E31 Claim                 the entries don't show what is claimed of the position
+  E32 Version               the file is of another version
+  E33 RootClass             its piece set has no class of the position's number
+  E34 ClaimByte             its claim is none
+  E35 EntryCount            it counts more entries than there are classes
+  E36 EntryNumber           an entry's number isn't in its fewest bytes
+  E37 EntryOrder            an entry's class isn't above the one before it
+  E38 EntryClass            its piece set has no class of an entry's number
+
+`dobutsu certify` may end with E39 TooMany, where there would be more entries than `--most` allows, or E40 Unfit, where a distance is above 254
+plies; and `dobutsu reply` with E41 Unlisted, where the certificate says nothing of the position.
+
+Example: dobutsu verify --cert testdata/222_A.cert prints `gle/.c./.C./ELG - - loss within 78`: the second player wins.";
+
+const REPLY: &str =
+    "A certificate is a book for the winner: for each position that can come up while the loser plays anything, it has a winning move. The lost
+list of CERT is checked first, as `dobutsu verify` checks it; so the move is a winning one, whoever made the file.
+
+Answers: `MOVE win within D`, the move and in how many plies it wins at most; `loss within D` where the side to move is the one that is lost. Where
+the other side's lion can be caught that catch, `MOVE win within 1`. Of a position of which the certificate says nothing it says E41 Unlisted, with
+status 1. `dobutsu line --help` says how a move is written.
+
+Example: dobutsu reply --cert 000.cert \"..l/.../L../... - -\" prints `La2-a3 win within 3`.";
