@@ -196,6 +196,49 @@ for turn in $(seq 20); do
 done
 note "two builds to one name at once, 20 times" "$same"
 
+# A build has its part from its start: another one to the same name is refused at once, by what is being written, and so is a name that is too
+# long with `.part` behind it. What a killed build leaves is nobody's.
+rm -f "$work/kept.db"
+"$top/crates/dobutsu/out/dobutsu" build --set 211 --nodes 2 --out "$work/kept.db" >"$work/out" 2>&1 &
+first=$!
+for turn in $(seq 200); do
+    [ ! -e "$work/kept.db.part" ] || break
+    sleep 0.02
+done
+at_once() {
+    local status=0 good=no name="$1"
+    shift
+    timeout 10 "$program" "$@" --out "$work/$name" >"$work/later" 2>"$work/later_err" || status=$?
+    if [ "$status" = 3 ] && [ ! -s "$work/later" ] && holds "$work/later_err" "$(failed_at "$work/$name" "$reason")"; then good=yes; fi
+    note "$* --out $(head -c 20 <<<"$name"), refused at once: status $status, $(head -c 80 "$work/later_err")" "$good"
+}
+reason='another run is writing it'
+at_once kept.db build --set 222 --nodes 2
+at_once kept.db build --set 222 --nodes 2 --progress
+at_once kept.db migrate --db "$lions"
+at_once kept.db certify --db "$lions" "$position"
+if [ -e "$work/kept.db.part" ] && [ ! -e "$work/kept.db" ] && kill -0 "$first" 2>/dev/null; then good=yes; else good=no; fi
+note "a build goes on while others are refused its name" "$good"
+kill -KILL "$first"
+wait "$first" 2>/dev/null
+if [ -e "$work/kept.db.part" ]; then good=yes; else good=no; fi
+note "a killed build leaves its part" "$good"
+expect 0 "$of_chick" '' build --set 100 --nodes 2 --out "$work/kept.db"
+if [ ! -e "$work/kept.db.part" ] && cmp -s "$work/kept.db" testdata/one_chick_2.db; then good=yes; else good=no; fi
+note "the next build takes the part of a killed one" "$good"
+reason='File name too long (os error 36)'
+at_once "$(printf 'a%.0s' $(seq 252))" build --set 222 --nodes 2
+at_once "$(printf 'a%.0s' $(seq 252))" certify --db "$lions" "$position"
+reason="$gone"
+at_once none/kept.db build --set 222 --nodes 2
+expect 1 '' 'dobutsu: E9 Nodes' build --set 222 --nodes 0 --out "$work/none/kept.db"
+# nor does a build that is refused take anything from what a link leads to
+cp testdata/lions_alone.db "$work/behind.db"
+expect 1 '' 'dobutsu: E9 Nodes' build --set 100 --nodes 17 --out "$work/link.db"
+(timeout -s KILL 0.3 "$program" build --set 211 --nodes 2 --out "$work/link.db" || true) >"$work/out" 2>&1
+if [ -L "$work/link.db" ] && cmp -s "$work/behind.db" testdata/lions_alone.db; then good=yes; else good=no; fi
+note "a build that is refused or killed leaves what a link leads to" "$good"
+
 # Builds end, and give one file whatever the number of nodes; 200 of them in a row too.
 for set in 000 100 010 001 200; do
     same=yes

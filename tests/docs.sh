@@ -36,5 +36,5 @@ good=no
 if tools/calls dob_moves apply >"$work/out" && grep -q 'HasOutcome' "$work/out" && grep -q 'The position that a move leads to' "$work/out"; then good=yes; fi
 note "tools/calls dob_moves apply: $(head -1 "$work/out")" "$good"
 good=no
-if tools/planted --list dob_link >"$work/out" && grep -q 'last batch first' "$work/out" && grep -q -e ' -- ' "$work/out"; then good=yes; fi
-note "tools/planted --list dob_link: $(head -1 "$work/out")" "$good"
+if tools/planted --list dob_world >"$work/out" && grep -q 'last batch first' "$work/out" && grep -q -e ' -- ' "$work/out"; then good=yes; fi
+note "tools/planted --list dob_world: $(head -1 "$work/out")" "$good"

@@ -135,6 +135,87 @@ for word in moves best line; do
     expect 1 '' 'dobutsu: E15 Truncated' "$word" --each --db /dev/null
     expect 3 '' "$(failed_at 'standard input' "$folder")" "$word" --each --db "$lions" <"$work"
 done
+# as JSON: a value, moves, a line, statistics; of each line of standard input an object, also for its fault
+expect 0 '{"position":"..l/.../L../... - -","value":"win","plies":3}' '' look --json --db "$lions" "$position"
+expect 0 '{"position":".l./.../.L./... - -","value":"draw","plies":null}' '' look '.l./.../.L./... - -' --db "$lions" --json
+expect 0 '{"position":".../.l./.L./... - -","moves":[{"move":"Lb2xb3","kind":"lion","from":"b2","to":"b3","catch":true,"value":"win","plies":1}]}' '' \
+    moves --json --db "$lions" '.../.l./.L./... - -'
+expect 0 '{"position":".../L../.../..l - -","moves":[]}' '' moves --json --db "$lions" '.../L../.../..l - -'
+expect 0 '{"position":".../.../..l/L.. - -","value":"loss","plies":2,"moves":[{"move":"La1-b1","kind":"lion","from":"a1","to":"b1","catch":false},'\
+'{"move":"lc2xb1","kind":"lion","from":"c2","to":"b1","catch":true}]}' '' line --json --numbered --db "$lions" '.../.../..l/L.. - -'
+expect 0 '{"value":"draw","plies":null,"classes":4}
+{"value":"loss","plies":0,"classes":7}
+{"value":"win","plies":1,"classes":29}
+{"value":"loss","plies":2,"classes":2}
+{"value":"win","plies":3,"classes":3}
+{"value":"loss","plies":4,"classes":1}
+{"value":"win","plies":5,"classes":3}
+{"value":"loss","plies":6,"classes":2}
+{"value":"win","plies":7,"classes":3}' '' stats --json --csv --db "$lions"
+expect 1 '' 'dobutsu: E1 Shape' look --json --db "$lions" ''
+misused "'--json'" best --json --db "$lions" "$position"
+answers_of look 1 "$position"'\n\n\377"\n..l/.../.../L.. C -\n' \
+    '{"position":"..l/.../L../... - -","value":"win","plies":3}\n{"fault":"E1 Shape"}\n{"fault":"E1 Shape"}\n{"fault":"E7 OtherSet"}\n' --db "$lions" --json
+# each object is read by another program, and says what the lines say; here of all positions of a set, one in seven of them spoiled
+sed 's/ = .*//' testdata/one_chick.txt | awk 'NR % 7 == 0 { sub("/", "\"") } 1' >"$work/asked"
+good=yes
+for word in look moves line; do
+    ./dobutsu "$word" --each --db "$chick" <"$work/asked" >"$work/$word.txt"
+    ./dobutsu "$word" --each --json --db "$chick" <"$work/asked" >"$work/$word.json"
+done
+python3 - "$work" >"$work/out" 2>&1 <<'END' || good=no
+import json, pathlib, sys
+work = pathlib.Path(sys.argv[1])
+def objects(word): return [json.loads(line) for line in (work / f"{word}.json").read_text().splitlines()]
+def worth(o): return o["value"] if o["plies"] is None else f"{o['value']} {o['plies']}"
+def of_text(text):
+    if "*" in text: return None, text[2:4]
+    return text[1:3], text[4:6]
+NAMES = {"l": "lion", "g": "giraffe", "e": "elephant", "c": "chick", "h": "hen"}
+asked = (work / "asked").read_text().splitlines()
+looked = (work / "look.txt").read_text().splitlines()
+moved = (work / "moves.txt").read_text().split("\n\n")[:-1]
+lined = (work / "line.txt").read_text().splitlines()
+rows = list(zip(asked, looked, moved, lined, objects("look"), objects("moves"), objects("line"), strict=True))
+assert len(rows) == 500 and sum("fault" in row[4] for row in rows) == len(asked) // 7
+for position, value, moves, line, look_object, moves_object, line_object in rows:
+    if value.startswith("E"):
+        assert look_object == moves_object == line_object == {"fault": value} and moves == line == value, position
+        continue
+    assert look_object["position"] == moves_object["position"] == line_object["position"] == position
+    assert worth(look_object) == worth(line_object) == value, position
+    assert [f"{o['move']} {worth(o)}" for o in moves_object["moves"]] == [move for move in moves.splitlines() if move != "end"], position
+    assert [o["move"] for o in line_object["moves"]] == [move for move in line.split() if move not in ("end", "draw")], position
+    for o in moves_object["moves"] + line_object["moves"]:
+        assert (o["from"], o["to"]) == of_text(o["move"]) and o["kind"] == NAMES[o["move"][0].lower()] and o["catch"] == ("x" in o["move"]), o
+END
+note "objects of look, moves and line: $(tail -1 "$work/out")" "$good"
+# a program can talk with each of them over two pipes: a line is answered before the next one is whole, a refused one too, whatever was written of it
+talks() {
+    local word="$1" answer="$2" status=0 good=yes said into from one
+    coproc talk { exec "$program" "$word" --each --db "$lions" 2>"$work/err"; }
+    into="${talk[1]}" from="${talk[0]}" one="$talk_PID"
+    hears() {
+        IFS= read -r -t 20 said <&"$from" && [ "$said" = "$1" ] || good=no
+        while [ "$word" = moves ] && [ -n "$said" ]; do IFS= read -r -t 20 said <&"$from" || break; done
+    }
+    printf '%s\n' "$position" >&"$into"
+    hears "$answer"
+    printf 'x\n..l/...' >&"$into"
+    hears 'E1 Shape'
+    printf '/L../... - -\n' >&"$into"
+    hears "$answer"
+    exec {into}>&-
+    IFS= read -r -t 20 said <&"$from" && good=no
+    wait "$one" || status=$?
+    [ "$status" = 1 ] && [ ! -s "$work/err" ] || good=no
+    note "a program talks with ./dobutsu $word --each: status $status, $said" "$good"
+}
+talks probe 'win 3'
+talks look 'win 3'
+talks best 'La2-a3 win 3'
+talks line 'La2-a3 lc4-b4 La3xb4'
+talks moves 'La2-a3 win 3'
 # positions that one move alone wins soonest; a length that no puzzle has is refused before the file is looked for
 expect 0 '.../..l/L../... - -  La2-a3
 ..l/.../L../... - -  La2-a3

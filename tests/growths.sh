@@ -17,7 +17,9 @@ for words in "value|$position" "probe|--db|$lions|$position" "line|--db|$lions|$
 done
 printf '%s\n' "$position" "$long" x '.../.../..l/L.. - -' >"$work/lines"
 refuse --input "$work/lines" probe --db "$lions" --each
-refuse --input "$work/lines" look --db "$lions" --each
+for word in look moves best line; do
+    refuse --input "$work/lines" "$word" --db "$lions" --each
+done
 # a build and a picture report out of memory too where they make their file, and leave the file that was there
 cp testdata/one_chick.db "$work/kept.db"
 ./dobutsu show --svg "$work/first.svg" "$position" >"$work/out"

@@ -1,8 +1,10 @@
 # Help, the manual page and completions, the version, and words that it does not know.
 
-# Help, each text whole, and the version.
+# Help, each text whole, and the version. The program's names the subcommands.
 for words in '--help' '-h' 'help'; do helps dobutsu "$words"; done
-for form in value count reach build probe line check look show moves best stats zugzwangs puzzles migrate certify verify reply; do
+forms="$(sed -n '/^Commands:/,/^$/s/^  \([a-z]*\) .*/\1/p' testdata/texts/dobutsu.txt)"
+for form in $forms; do
+    [ "$form" != help ] || continue
     helps "$form" "$form" --help
     helps "$form" "$form" -h
     helps "$form" help "$form"
@@ -15,7 +17,12 @@ expect 0 '~^Usage: dobutsu help' '' help help
 expect 0 'dobutsu 0.1.0' '' --version
 
 # Words that it doesn't know.
-expect 2 '' "$(cat testdata/texts/no_words.txt)"
+expect 2 '' "error: 'dobutsu' requires a subcommand but one was not provided
+  [subcommands: $(paste -s -d, <<<"$forms" | sed 's/,/, /g')]
+
+Usage: dobutsu <COMMAND>
+
+For more information, try '--help'."
 misused 'requires a subcommand'
 misused "'solve'" solve
 misused "'solve'" help solve
@@ -120,13 +127,29 @@ misused '<POSITION>' reply --cert x
 misused "'--progress'" reply --cert x --progress "$position"
 misused "'b'" check --db a b
 
-# Words that aren't UTF-8.
+# A file that is to be written to a stream of the program.
+for stream in - /dev/stdin /dev/stdout /dev/stderr /dev/fd/1 /proc/self/fd/2; do
+    misused "'$stream' for '--out <FILE>'" build --set 000 --nodes 2 --out "$stream"
+    misused "'$stream' for '--out <OUT>'" migrate --db "$lions" --out="$stream"
+    misused "'$stream' for '--out <CERT>'" certify --db "$lions" "$position" --out "$stream"
+    misused "'$stream' for '--svg <OUT>'" show --svg "$stream" "$position"
+done
+expect 2 '' "error: invalid value '-' for '--out <FILE>': it names a stream, not a file
+
+For more information, try '--help'." build --set 000 --out -
+misused "'-' for '--out <FILE>'" build --set 3 --nodes 0 --out -
+helps build build --out - --set 000 --help
+if [ -e ./- ]; then good=no; else good=yes; fi
+note "no file is written by the name of a stream" "$good"
+
+# Words that aren't UTF-8, the name of a file among them.
 expect 2 '' '~UTF-8' value $'\xff'
 expect 2 '' '~UTF-8' $'\xff'
 expect 2 '' '~UTF-8' value "$position" $'\xc3'
+expect 2 '' '~UTF-8' build --set 000 --out $'\xff.db'
+expect 2 '' '~UTF-8' check --db $'\xff.db'
 
 # The manual page and the completions (tools/manual) name each subcommand and each option that the help does, and a shell that is here reads them.
-forms="$(sed -n '/^Commands:/,/^$/s/^  \([a-z]*\) .*/\1/p' testdata/texts/dobutsu.txt)"
 options_of() { sed -n '/^Options:/,/^$/s/^ *\(-h, \)\{0,1\}\(--[a-z]*\).*/\2/p' "testdata/texts/$1.txt" | sort; }
 good=no
 if tools/manual "$work" >"$work/out" 2>&1 && [ -n "$forms" ]; then good=yes; fi

@@ -189,7 +189,7 @@ fn agrees_with_walk(rt: &impl Abort, alloc: Global, text: &str, step: u64) -> Re
     Ok(())
 }
 
-/// How far a walk over a set has come: the last key, how many positions were passed and how many of them represent a class.
+// How far a walk over a set has come: the last key, how many positions were passed and how many of them represent a class.
 #[derive(Drop)]
 struct Walk {
     last: Vec<u8>,

@@ -186,19 +186,19 @@ const BEFORE_FAR_CHICK: [(&str, TextFault); 4] = [
     ("L../.../.../l.c - -", TextFault::FarLion),
 ];
 
-/// The text is refused so.
+// The text is refused so.
 fn refuses(rt: &impl Abort, text: &str, fault: TextFault) {
     assert!(rt; read_position(Profile::A, text) == Err(fault), "{text}");
 }
 
-/// Each of the texts is refused so.
+// Each of the texts is refused so.
 fn refuses_all(rt: &impl Abort, texts: &[&str], fault: &TextFault) {
     for text in texts {
         refuses(rt, *text, *fault);
     }
 }
 
-/// A text with that many of a letter in a hand.
+// A text with that many of a letter in a hand.
 fn long_hand(
     alloc: Global,
     front: &str,
@@ -215,7 +215,7 @@ fn long_hand(
     Ok(text)
 }
 
-/// The text with that many of a letter in a hand is refused so.
+// The text with that many of a letter in a hand is refused so.
 fn refuses_long_hand(
     rt: &impl Abort,
     alloc: Global,
@@ -229,7 +229,7 @@ fn refuses_long_hand(
     refuses(rt, text.as_str(), fault);
 }
 
-/// The text of the start with another byte in its board is refused so.
+// The text of the start with another byte in its board is refused so.
 fn refuses_spoilt(rt: &impl Abort, place: usize, byte: u8, fault: TextFault)
     requires { place < 15 }
 {
@@ -239,7 +239,7 @@ fn refuses_spoilt(rt: &impl Abort, place: usize, byte: u8, fault: TextFault)
     refuses(rt, text, fault);
 }
 
-/// The text is read, and written back as it was.
+// The text is read, and written back as it was.
 fn is_written_back(rt: &impl Abort, alloc: Global, text: &str) {
     let position = read_position(Profile::A, text).expect(rt, "a position's text");
     let written = write_position(alloc, &position).expect(rt, "memory");
@@ -252,7 +252,7 @@ pub(crate) fn writes(rt: &impl Abort, alloc: Global, the_move: Move, second: boo
     assert!(rt; written.as_str() == text, "{text}");
 }
 
-/// A step: the piece, its squares, whether it catches and whether it grows, and the text.
+// A step: the piece, its squares, whether it catches and whether it grows, and the text.
 type Step = (Kind, (usize, usize), (bool, bool), &'static str);
 
 const FIRST_STEPS: &[Step] = &[
@@ -272,7 +272,7 @@ const SECOND_STEPS: &[Step] = &[
     (Kind::Elephant, (0, 4), (true, false), "ec4xb3"),
 ];
 
-/// The steps of the first or the second player are written so.
+// The steps of the first or the second player are written so.
 fn writes_steps(rt: &impl Abort, alloc: Global, second: bool, steps: &[Step]) {
     for (kind, (from, to), (catch, grows), text) in steps {
         let the_move = Move::Step {
@@ -286,7 +286,7 @@ fn writes_steps(rt: &impl Abort, alloc: Global, second: bool, steps: &[Step]) {
     }
 }
 
-/// Drops of the first or the second player: the piece, its square, and the text.
+// Drops of the first or the second player: the piece, its square, and the text.
 const DROPS: &[(HandKind, usize, bool, &str)] = &[
     (HandKind::Chick, 4, false, "C*b2"),
     (HandKind::Chick, 4, true, "c*b3"),

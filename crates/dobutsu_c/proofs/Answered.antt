@@ -1,20 +1,9 @@
 -- An answer of many is that of one call, and those that are written stay.
-use Rattle.std.proofs.Common.{◌≡◌, ◌≢◌, ◌∙◌, ◌+◌, ◌<◌, ◌≤◌, ◌⊎◌, ℕ, zero, suc, List, Result, Ok, Err, MatchResult, refl, sym, subst, ap, arith, inl, inr, length, get_or, slice_set}
+use Rattle.dobutsu_c.proofs.Common.{◌+◌, ◌<◌, ◌∙◌, ◌≡◌, ◌≢◌, ◌≤◌, ◌⊎◌, Err, List, MatchResult, Ok, Result, ap, arith, get_or, inl, inr, length, refl, slice_set}
+use Rattle.dobutsu_c.proofs.Common.{subst, suc, sym, zero, ℕ, get_or-set_other, get_or-set_same, get_or_default, Family, Setup, RepresentsClass, Value}
+use Rattle.dobutsu_c.proofs.Common.{HasByFault, IsToldBy, number_by, IsAnswer, start_at, IsShown, shown, ByFault, DobutsuAnswer, Numbering, DobutsuPosition}
 use Rattle.std.proofs.lemmas.Bool.{cases_lt}
 use Rattle.std.proofs.lemmas.Grind.{get_or-set_at}
-use Rattle.std.proofs.lemmas.List.{get_or_default, get_or-set_same, get_or-set_other}
-use Rattle.dob_pieces.specs.declared.profile.Family.{Family}
-use Rattle.dob_pieces.specs.declared.setup.Setup.{Setup}
-use Rattle.dob_rank.specs.Families.{RepresentsClass}
-use Rattle.dob_value.specs.declared.value.Value.{Value}
-use Rattle.dobutsu_c.specs.declared.by_index.ByFault.{ByFault}
-use Rattle.dobutsu_c.specs.declared.many.DobutsuAnswer.{DobutsuAnswer}
-use Rattle.dobutsu_c.specs.declared.positions.DobutsuPosition.{DobutsuPosition}
-use Rattle.dobutsu_c.specs.declared.numbering.Numbering.{Numbering}
-use Rattle.dobutsu_c.specs.ByIndex.{IsToldBy, HasByFault, number_by}
-use Rattle.dobutsu_c.specs.Many.{IsAnswer, start_at}
-use Rattle.dobutsu_c.specs.Positions.{IsShown}
-use Rattle.dobutsu_c.specs.Probes.{shown}
 use Rattle.dobutsu_c.proofs.Exact.{no_fault, one_told, told_right}
 use Rattle.dobutsu_c.proofs.Indexed.{told_by_right, no_fault_by, one_fault_by}
 

@@ -1,25 +1,10 @@
 -- By the file of a value table the moves that are answered have the values that they have by definition.
-use Rattle.std.proofs.Common.{◌≡◌, ◌∙◌, ◌<◌, ℕ, List, inl, inr, sym, subst}
-use Rattle.dob_pieces.specs.declared.profile.Family.{Family}
-use Rattle.dob_pieces.specs.declared.setup.Setup.{Setup}
-use Rattle.dob_rank.specs.Families.{IsPositionOf, IsInClass, class_number, classes_of}
-use Rattle.dob_classes.proofs.OfFamilies.FamilyNumbers.{class_number-below, IsInClass-class_number}
-use Rattle.dob_classes.proofs.OfFamilies.FamilyRepresentatives.{one_class}
-use Rattle.dob_text.proofs.Whole.{same_spelled}
-use Rattle.dob_value.specs.declared.value.Value.{Value}
-use Rattle.dob_value.specs.Follows.{ClassTable, IsValueTable}
-use Rattle.dob_value.specs.Values.{HasValue}
-use Rattle.dob_value.proofs.Successors.{moves_keep_the_family}
-use Rattle.dob_dbfile.specs.declared.header.Format.{Format}
-use Rattle.dob_dbfile.specs.Faults.{CountsClasses}
-use Rattle.dob_dbfile.specs.Format.{IsFile}
+use Rattle.dobutsu_c.proofs.Common.{◌<◌, ◌∙◌, ◌≡◌, List, inl, inr, subst, sym, ℕ, Family, Setup, same_spelled, IsInClass, IsPositionOf, class_number}
+use Rattle.dobutsu_c.proofs.Common.{classes_of, IsInClass-class_number, class_number-below, one_class, moves_keep_the_family, ClassTable, IsValueTable}
+use Rattle.dobutsu_c.proofs.Common.{HasValue, Value, CountsClasses, IsFile, Format, AreValuedMoves, HasMoveValue, ValuedMove, AreToldMoves, IsGiven, IsTextOf}
 use Rattle.dob_dbfile.proofs.Looked.{table_family, table_has_record, table_record}
-use Rattle.dob_probe.specs.declared.by_value.ValuedMove.{ValuedMove}
-use Rattle.dob_probe.specs.ValuedMoves.{AreValuedMoves, HasMoveValue}
 use Rattle.dob_probe.specs.Lines.{GivenBy}
 use Rattle.dob_probe.proofs.Best.{of_value}
-use Rattle.dobutsu_c.specs.Moves.{AreToldMoves}
-use Rattle.dobutsu_c.specs.Probes.{IsGiven, IsTextOf}
 
 module _ (file : List ℕ) (table : ClassTable) (is : IsFile file table) (right : IsValueTable table.family table.values) (format : Format)
     (counts : CountsClasses format table.family file) where

@@ -1,14 +1,9 @@
 -- A certificate's file whose claim isn't proved.
-use Rattle.std.proofs.Common.{◌≡◌, ◌⊎◌, ℕ, List, Result, Err, refl, inl, inr}
+use Rattle.dobutsu_c.proofs.Common.{◌≡◌, ◌⊎◌, Err, List, Result, inl, inr, refl, ℕ, Setup, IsRefusal, Refusal, Content, bytes_of, IsVerifyFault}
 use Rattle.std.specs.Result.{IfErr}
 use Rattle.std.proofs.lemmas.Result.{IfErr-at_err}
-use Rattle.dob_pieces.specs.declared.setup.Setup.{Setup}
-use Rattle.dob_certificate.specs.declared.refusal.Refusal.{Refusal}
 use Rattle.dob_certificate.specs.declared.refusal.Refusal.TheVariants as refusal
-use Rattle.dob_certificate.specs.Refusals.{IsRefusal}
-use Rattle.dob_certfile.specs.Format.{Content, bytes_of}
 use Rattle.dob_certfile.specs.Roots.{IsRoot}
-use Rattle.dobutsu_c.specs.Certificates.{IsVerifyFault}
 
 -- why what a file says is refused
 abbrev IsRefusalOf : Content → Refusal → Type 0

@@ -1,32 +1,17 @@
 -- At most one fault holds, none where the position is one of the file's family, and a position is given one value.
-use Rattle.std.proofs.Common.{◌≡◌, ◌≢◌, ◌∙◌, ◌<◌, ℕ, List, refl, sym, subst, ap}
-use Rattle.dob_pieces.specs.declared.profile.Family.{Family}
-use Rattle.dob_pieces.specs.declared.profile.Profile.TheVariants.{A}
-use Rattle.dob_pieces.specs.declared.setup.Setup.{Setup}
-use Rattle.dob_text.specs.declared.fault.TextFault.{TextFault}
+use Rattle.dobutsu_c.proofs.Common.{◌<◌, ◌∙◌, ◌≡◌, ◌≢◌, List, ap, refl, subst, sym, ℕ, Family, A, Setup, same_spelled, TextFault, IsInClass, IsPositionOf}
+use Rattle.dobutsu_c.proofs.Common.{class_number, classes_of, IsInClass-class_number, class_number-below, one_class, ClassTable, IsValueTable, HasValue, Value}
+use Rattle.dobutsu_c.proofs.Common.{whole, HasReadFault, IsNoLonger, IsFile, Format, AreRead, HasProbeFault, IsAsked, IsGiven, IsTextOf, IsTold, Fault}
 use Rattle.dob_text.specs.Faults.{HasTextFault}
 use Rattle.dob_text.proofs.Verdicts as texts
-use Rattle.dob_text.proofs.Whole.{same_spelled}
 use Rattle.dob_pieces.specs.Profiles.{IsAllowed}
-use Rattle.dob_rank.specs.Families.{IsPositionOf, IsInClass, classes_of, class_number}
 use Rattle.dob_rank.specs.Order.{IsPositionOfSet}
-use Rattle.dob_classes.proofs.OfFamilies.FamilyNumbers.{class_number-below, IsInClass-class_number}
-use Rattle.dob_classes.proofs.OfFamilies.FamilyRepresentatives.{one_class}
-use Rattle.dob_value.specs.Follows.{ClassTable, IsValueTable}
-use Rattle.dob_value.specs.Values.{HasValue}
-use Rattle.dob_dbfile.specs.Format.{IsFile}
-use Rattle.dob_value.specs.declared.value.Value.{Value}
 use Rattle.dob_dbfile.specs.declared.fault.Fault.{Fault as FileFault}
 use Rattle.dob_dbfile.specs.declared.fault.Fault.TheVariants as file_fault
-use Rattle.dob_dbfile.specs.declared.header.Format.{Format}
-use Rattle.dob_dbfile.specs.Devices.{whole}
-use Rattle.dob_dbfile.specs.Faults.{HasReadFault, IsNoLonger}
 use Rattle.dob_dbfile.specs.Looking.{HasRecord}
 use Rattle.dob_dbfile.proofs.Looked.{one_record, table_family, table_record}
 use Rattle.dob_dbfile.proofs.Places as files
-use Rattle.dobutsu_c.specs.declared.fault.Fault.{Fault}
 use Rattle.dobutsu_c.specs.declared.fault.Fault.TheVariants.{Text, File, FarChick, OtherSet}
-use Rattle.dobutsu_c.specs.Probes.{IsTextOf, AreRead, IsAsked, IsGiven, IsTold, HasProbeFault}
 
 -- ---- one position, one format, one family
 

@@ -1,32 +1,18 @@
 -- What is held and asked by an index of the file's family is what is held and asked without it.
-use Rattle.std.proofs.Common.{◌≡◌, ◌∙◌, ◌≤◌, ◌+◌, ◌-◌, ◌*◌, ◌/◌, ◌^◌, ℕ, List, Option, Some, None, refl, sym, inl, inr, subst, ap, arith, length, take, drop, get_or}
-use Rattle.dob_pieces.specs.declared.profile.Family.{Family}
-use Rattle.dob_pieces.specs.declared.profile.Profile.{Profile}
-use Rattle.dob_pieces.specs.declared.profile.Profile.TheVariants.{A, B}
+use Rattle.dobutsu_c.proofs.Common.{◌*◌, ◌+◌, ◌-◌, ◌/◌, ◌^◌, ◌∙◌, ◌≡◌, ◌≤◌, List, None, Option, Some, ap, arith, drop, get_or, inl, inr, length, refl, subst}
+use Rattle.dobutsu_c.proofs.Common.{sym, take, ℕ, Family, Profile, A, B, Setup, classes_of-below, classes_of, family_of, Value, IsIndex, whole, IsNoLonger}
+use Rattle.dobutsu_c.proofs.Common.{NamesFamily, count_place, header_len, count_bytes, Format, HasByFault, IsGivenBy, IsIndexFor, IsMarkedBy, IsRight, IsToldBy}
+use Rattle.dobutsu_c.proofs.Common.{number_by, fault_number, AreRead, HasProbeFault, IsAsked, IsGiven, IsTextOf, IsTold, ByFault, Fault, Numbering}
 use Rattle.dob_pieces.specs.declared.piece_set.PieceSet.{PieceSet}
-use Rattle.dob_pieces.specs.declared.setup.Setup.{Setup}
-use Rattle.dob_rank.specs.Families.{family_of, classes_of}
-use Rattle.dob_rank.proofs.OfFamilies.ClassBounds.{classes_of-below}
 use Rattle.dob_rank.proofs.Positions.Sets.{same_numbers}
-use Rattle.dob_value.specs.declared.value.Value.{Value}
-use Rattle.dob_index.specs.Index.{IsIndex}
-use Rattle.dob_dbfile.specs.declared.header.Format.{Format}
 use Rattle.dob_dbfile.specs.declared.header.Format.TheVariants.{First, Second}
-use Rattle.dob_dbfile.specs.Devices.{whole}
-use Rattle.dob_dbfile.specs.Format.{count_bytes}
-use Rattle.dob_dbfile.specs.Faults.{NamesFamily, IsNoLonger, count_place, header_len}
 use Rattle.dob_dbfile.proofs.Places.{same_head}
 use Rattle.dobutsu_c.specs.declared.fault.Fault.TheVariants.{Text, File, FarChick, OtherSet}
-use Rattle.dobutsu_c.specs.declared.numbering.Numbering.{Numbering}
 use Rattle.dobutsu_c.specs.declared.numbering.Numbering.TheVariants as numbering
-use Rattle.dobutsu_c.specs.declared.by_index.ByFault.{ByFault}
 use Rattle.dobutsu_c.specs.declared.by_index.ByFault.TheVariants.{Asked, Index}
-use Rattle.dob_numbers.specs.Profiles.{profile_number}
+use Rattle.dob_foreign.specs.Profiles.{profile_number}
 use Rattle.dobutsu_c.specs.Counts.{IsFamily}
-use Rattle.dobutsu_c.specs.declared.fault.Fault.{Fault}
-use Rattle.dobutsu_c.specs.Faults.{fault_number}
-use Rattle.dobutsu_c.specs.Probes.{IsTextOf, AreRead, IsAsked, IsGiven, IsTold, HasProbeFault}
-use Rattle.dobutsu_c.specs.ByIndex.{IsRight, IsMarkedBy, IsIndexFor, IsLongFor, IsHeldBy, IsAskedBy, IsGivenBy, AreNoIndex, IsToldBy, HasByFault, HasFileFault, HasHeldFault, number_by}
+use Rattle.dobutsu_c.specs.ByIndex.{IsLongFor, IsHeldBy, IsAskedBy, AreNoIndex, HasFileFault, HasHeldFault}
 use Rattle.dobutsu_c.proofs.Exact.{no_text_fault, no_file_fault, no_fault, one_fault}
 
 -- ---- one family has those numbers

@@ -1,63 +1,12 @@
--- The moves that are listed by an index stand in the move order, whatever their values.
-use Rattle.std.proofs.Common.{◌≡◌, ℕ, ◌+◌, ◌≤◌, ◌<◌, ◌⊎◌, ◌↔◌, refl, sym, subst, ap, ◌∙◌, inl, inr, arith, List, [], length, get_or}
-use Rattle.std.proofs.Common.{Option, None, Some, MatchOption, AllPairs, Contains, slice_get}
-use Rattle.std.proofs.lemmas.Bool.{cases_lt}
-use Rattle.std.proofs.lemmas.Option.{slice_get-get_or, same_Some}
-use Rattle.dob_pieces.specs.declared.profile.Family.{Family}
-use Rattle.dob_pieces.specs.declared.profile.Profile.{Profile}
-use Rattle.dob_pieces.specs.declared.setup.Setup.{Setup}
-use Rattle.dob_moves.specs.declared.game_move.Move.{Move}
-use Rattle.dob_moves.specs.declared.position_status.Status.TheVariants.{Open}
-use Rattle.dob_moves.specs.Moves.{Goes, CanGo, place}
+-- The moves that are listed by an index, with their values.
+use Rattle.dobutsu_c.proofs.Common.{◌+◌, ◌<◌, ◌↔◌, ◌∙◌, ◌≡◌, ◌≤◌, ◌⊎◌, AllPairs, Contains, List, MatchOption, None, Option, Some, [], ap, arith, inl, inr}
+use Rattle.dobutsu_c.proofs.Common.{length, refl, slice_get, subst, sym, ℕ, Family, Profile, Setup, goes, HasOutcome-is, CanGo, Goes, place, Move, Open}
+use Rattle.dobutsu_c.proofs.Common.{IsPositionOf, Value, Format, same_valued, AreValuedMoves, ComesBefore, HasMoveValue, seen_from_before, ValuedMove}
+use Rattle.dobutsu_c.proofs.Common.{IsGivenBy, IsRight, AreMovesBy, IsGiven, Numbering}
+use Rattle.dob_pieces.proofs.Elements.{before_or_here, standing}
 use Rattle.dob_moves.specs.Statuses.{AreMoves, CanCatch, HasStatus}
-use Rattle.dob_moves.proofs.ByProfile.{goes}
-use Rattle.dob_moves.proofs.Outcomes.{HasOutcome-is}
-use Rattle.dob_rank.specs.Families.{IsPositionOf}
-use Rattle.dob_value.specs.declared.value.Value.{Value}
-use Rattle.dob_dbfile.specs.declared.header.Format.{Format}
-use Rattle.dob_probe.specs.declared.by_value.ValuedMove.{ValuedMove}
-use Rattle.dob_probe.specs.ValuedMoves.{AreValuedMoves, ComesBefore, HasMoveValue, seen_from_before}
-use Rattle.dobutsu_c.specs.declared.numbering.Numbering.{Numbering}
-use Rattle.dobutsu_c.specs.ByIndex.{IsRight, IsGivenBy}
-use Rattle.dobutsu_c.specs.Moves.{AreMovesBy}
-use Rattle.dobutsu_c.specs.Probes.{IsGiven}
 use Rattle.dobutsu_c.proofs.Exact.{one_given}
 use Rattle.dobutsu_c.proofs.Indexed.{given_by}
-
--- each listed move is one of the first the_moves
-abbrev pub AreOfFirst : List Move → ℕ → List ValuedMove → Type 0
-AreOfFirst the_moves upto list = (valued : ValuedMove) → Contains list valued
-    → (index : ℕ) × (index < upto) × (slice_get the_moves index ≡ Some valued.the_move)
-
--- and stands before the next
-pub before_next : (profile : Profile) (p : Setup) (the_moves : List Move) (upto : ℕ) (list : List ValuedMove) (the_move : Move) → AreMoves profile p the_moves
-    → upto < length the_moves → slice_get the_moves upto ≡ Some the_move → AreOfFirst the_moves upto list
-    → (valued : ValuedMove) → Contains list valued → place valued.the_move < place the_move
-before_next profile p the_moves upto list the_move are within here first valued there =
-    let earlier = first valued there in
-    let index : ℕ = earlier.0 in
-    let below : index < upto = earlier.1 in
-    let low = ap place (read index valued.the_move (omega arith) earlier.2 the_move) in
-    let high = ap place (read upto the_move within here the_move) in
-    let rising : place (get_or the_moves index the_move) < place (get_or the_moves upto the_move) = are.ordered index upto the_move below within in
-    omega (arith, low, high, rising)
-  where
-    read : (k : ℕ) (m : Move) → k < length the_moves → slice_get the_moves k ≡ Some m → (d : Move) → get_or the_moves k d ≡ m
-    read k m below stands d = same_Some (get_or the_moves k d) m (sym (slice_get-get_or the_moves k d below) ∙ stands)
-
-pub one_more : (the_moves : List Move) (upto : ℕ) (list new : List ValuedMove) (more : ValuedMove) → slice_get the_moves upto ≡ Some more.the_move
-    → ((x : ValuedMove) → Contains new x ↔ (Contains list x ⊎ (x ≡ more))) → AreOfFirst the_moves upto list → AreOfFirst the_moves (upto + 1) new
-one_more the_moves upto list new more here has first valued there = elim ((has valued).0 there) [
-  | inl earlier ↦ let known = first valued earlier in let below : known.0 < upto = known.1 in (known.0, omega (arith, below), known.2)
-  | inr same ↦ (upto, omega arith, subst (λ (x : ValuedMove). slice_get the_moves upto ≡ Some x.the_move) (sym same) here)
-]
-
--- before the first there are none
-pub none_first : (the_moves : List Move) → AreOfFirst the_moves 0 []
-none_first the_moves valued there = absurd (omega (arith, there.1))
-
-pub none_ordered : AllPairs ComesBefore []
-none_ordered i j d lt within = absurd (omega (arith, within))
 
 -- ---- the moves of the first the_moves, with their values
 
@@ -92,12 +41,9 @@ more_listed profile Has p the_moves upto list new more value here goes_on can_go
       seen = seen;
     })
   ];
-  whole = λ index the_move below there. elim (cases_lt index upto) [
+  whole = λ index the_move below there. elim (before_or_here the_moves upto index more.the_move the_move here there below) [
     | inl earlier ↦ let known = before.whole index the_move earlier there in (known.0, (has known.0).1 (inl known.1), known.2)
-    | inr from ↦
-        let same : upto ≡ index = omega (arith, from, below) in
-        let also : slice_get the_moves index ≡ Some more.the_move = subst (λ (k : ℕ). slice_get the_moves k ≡ Some more.the_move) same here in
-        (more, (has more).1 (inr refl), same_Some more.the_move the_move (sym also ∙ there))
+    | inr same ↦ (more, (has more).1 (inr refl), sym same)
   ];
   once = λ a b there also same. elim ((has a).0 there) [
     | inl early ↦ elim ((has b).0 also) [
@@ -125,11 +71,9 @@ module _ (file : List ℕ) (by : Numbering) (format : Format) (family : Family) 
     sound = λ valued there. inr (listed.sound valued there);
     caught = λ catch. absurd (free catch);
     whole = λ the_move goes_on can_go.
-        let there = are.whole the_move goes_on can_go in
-        let read : slice_get the_moves there.0 ≡ Some the_move = slice_get-get_or the_moves there.0 the_move there.1
-        ∙ ap (λ (m : Move). let o : Option Move = Some m in o) there.2 in
+        let there = standing the_moves the_move (are.whole the_move goes_on can_go) in
         let within : there.0 < length the_moves = there.1 in
-        listed.whole there.0 the_move (omega (arith, within, all)) read;
+        listed.whole there.0 the_move (omega (arith, within, all)) there.2;
     once = listed.once;
     ordered = ordered;
   }
@@ -173,9 +117,6 @@ module _ (file : List ℕ) (by : Numbering) (format : Format) (family : Family) 
 
       one_outcome : (m : Move) (q r : Setup) → Goes family.profile setup m q → Goes family.profile setup m r → q ≡ r
       one_outcome m q r to_q to_r = HasOutcome-is setup m q (goes family.profile setup m q to_q) ∙ sym (HasOutcome-is setup m r (goes family.profile setup m r to_r))
-
-      same_valued : (a b : ValuedMove) → a.the_move ≡ b.the_move → a.value ≡ b.value → a ≡ b
-      same_valued a b the_move value = λ i. record { the_move = the_move i; value = value i }
 
 -- what follows of what is there
 pub onward : {X : Type 0} (found : Option X) (N : Type 0) (P Q : X → Type 0) → ((x : X) → P x → Q x) → MatchOption found N P → MatchOption found N Q

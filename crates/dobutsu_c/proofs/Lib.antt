@@ -1,4 +1,5 @@
 -- The lemmas, in the order in which they are read.
+mod Common  -- names of other crates and of this one's definitions, for the proofs
 mod Refused  -- why a board and hands are no position
 mod Exact  -- one fault holds at most, and none where a value is answered
 mod ByFile  -- by the file of a value table the moves answered are right

@@ -1,6 +1,5 @@
 -- The names are those that the faults have elsewhere.
-use Rattle.std.proofs.Common.{◌≡◌, ◌∙◌, ℕ, List, refl, sym, subst, ap}
-use Rattle.dob_text.specs.declared.fault.TextFault.{TextFault}
+use Rattle.dobutsu_c.proofs.Common.{◌∙◌, ◌≡◌, List, ap, refl, subst, sym, ℕ, TextFault, file_number, text_number, IsText, defect_number, name_of}
 use Rattle.dob_text.specs.declared.fault.TextFault.TheVariants as text
 use Rattle.dob_text.specs.Faults as texts
 use Rattle.dob_dbfile.specs.declared.fault.Fault.{Fault}
@@ -9,11 +8,7 @@ use Rattle.dob_dbfile.specs.FaultTexts as files
 use Rattle.dob_certfile.specs.declared.defect.Defect.{Defect}
 use Rattle.dob_certfile.specs.declared.defect.Defect.TheVariants as defect
 use Rattle.dob_certfile.specs.Faults.{defect_text}
-use Rattle.dob_numbers.specs.declared.texts.DobutsuText.{DobutsuText}
-use Rattle.dob_numbers.specs.Faults.{file_number, text_number}
-use Rattle.dob_numbers.specs.Texts.{IsText}
-use Rattle.dobutsu_c.specs.Certificates.{defect_number}
-use Rattle.dobutsu_c.specs.FaultNames.{name_of}
+use Rattle.dob_foreign.specs.declared.texts.DobutsuText.{DobutsuText}
 
 of_text : (given : TextFault) → name_of (text_number given) ≡ texts.fault_text given
 of_text text.Shape = refl

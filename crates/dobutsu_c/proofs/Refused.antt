@@ -1,9 +1,6 @@
 -- Why a board and hands are no position.
-use Rattle.std.proofs.Common.{◌≡◌, ◌↔◌, List, Result, Err, Some, IsErrOf}
-use Rattle.dob_pieces.specs.declared.fault.PositionFault.{PositionFault}
+use Rattle.dobutsu_c.proofs.Common.{◌↔◌, ◌≡◌, Err, IsErrOf, List, Result, Some, PositionFault, Hands, Position}
 use Rattle.dob_pieces.specs.declared.fault.PositionFault.TheVariants.{Lions, Count, FarLion}
-use Rattle.dob_pieces.specs.declared.hand.Hands.{Hands}
-use Rattle.dob_pieces.specs.declared.position.Position.{Position}
 use Rattle.dob_pieces.specs.Faults.{HasPositionFault}
 use Rattle.dob_pieces.specs.Setups.{Cell, HasLions, HasFewPieces, HasLionOffFarRow, setup_of}
 

@@ -1,16 +1,11 @@
 -- What a certificate says of a position is what its bytes say of the position's text.
-use Rattle.std.proofs.Common.{◌≡◌, ℕ, List, Result, Ok, Err, MatchResult, Some, subst}
-use Rattle.dob_pieces.specs.declared.profile.Family.{Family}
-use Rattle.dob_pieces.specs.declared.setup.Setup.{Setup}
+use Rattle.dobutsu_c.proofs.Common.{◌≡◌, Err, List, MatchResult, Ok, Result, Some, subst, ℕ, Family, Setup, IsListVerdict, Refusal, Content}
 use Rattle.dob_certificate.specs.declared.entry.Entry.{Entry}
 use Rattle.dob_certificate.specs.declared.list_kind.ListKind.TheVariants.{Lost}
-use Rattle.dob_certificate.specs.declared.refusal.Refusal.{Refusal}
 use Rattle.dob_certificate.specs.declared.refusal.Refusal.TheVariants as refusal
 use Rattle.dob_certificate.specs.Lists.{Supports}
 use Rattle.dob_certificate.specs.Lost.{SupportsLost, SupportsAllLost}
-use Rattle.dob_certificate.specs.Refusals.{IsListVerdict}
 use Rattle.dob_certificate.proofs.Firsts.{not_all}
-use Rattle.dob_certfile.specs.Format.{Content}
 use Rattle.dob_certify.specs.declared.replies.Reply.{Reply}
 use Rattle.dobutsu_c.specs.declared.replies.ReplyFault.{ReplyFault}
 use Rattle.dobutsu_c.specs.declared.replies.ReplyFault.TheVariants.{Text, Bytes, FarChick, OtherSet, Unsupported, Unlisted, Memory}

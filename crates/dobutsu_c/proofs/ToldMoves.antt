@@ -1,16 +1,6 @@
 -- What is told of moves by the index of the family, or by a count, is what the file says of them.
-use Rattle.std.proofs.Common.{◌≡◌, ◌≢◌, ◌∙◌, ◌⊎◌, ℕ, List, inl, inr}
-use Rattle.dob_pieces.specs.declared.profile.Family.{Family}
-use Rattle.dob_pieces.specs.declared.setup.Setup.{Setup}
-use Rattle.dob_dbfile.specs.declared.header.Format.{Format}
-use Rattle.dob_probe.specs.declared.by_value.ValuedMove.{ValuedMove}
-use Rattle.dobutsu_c.specs.declared.by_index.ByFault.{ByFault}
-use Rattle.dobutsu_c.specs.declared.fault.Fault.{Fault}
-use Rattle.dobutsu_c.specs.declared.numbering.Numbering.{Numbering}
-use Rattle.dobutsu_c.specs.ByIndex.{IsMarkedBy, IsIndexFor, HasByFault, number_by}
-use Rattle.dobutsu_c.specs.Faults.{fault_number}
-use Rattle.dobutsu_c.specs.Moves.{AreToldMoves, AreToldMovesBy, IsMovesFault}
-use Rattle.dobutsu_c.specs.Probes.{AreRead, HasProbeFault}
+use Rattle.dobutsu_c.proofs.Common.{◌∙◌, ◌≡◌, ◌≢◌, ◌⊎◌, List, inl, inr, ℕ, Family, Setup, Format, ValuedMove, HasByFault, IsIndexFor, IsMarkedBy, number_by}
+use Rattle.dobutsu_c.proofs.Common.{fault_number, AreToldMoves, AreToldMovesBy, IsMovesFault, AreRead, HasProbeFault, ByFault, Fault, Numbering}
 use Rattle.dobutsu_c.proofs.Exact.{no_fault}
 use Rattle.dobutsu_c.proofs.Indexed.{asked_by, not_unmarked, one_fault_by, some_fault_by, unmarked_fault}
 use Rattle.dobutsu_c.proofs.IndexedMoves.{right_moves}

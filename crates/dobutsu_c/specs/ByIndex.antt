@@ -22,7 +22,7 @@ use Rattle.dobutsu_c.specs.declared.numbering.Numbering.TheVariants as numbering
 use Rattle.dobutsu_c.specs.declared.by_index.ByFault.{ByFault}
 use Rattle.dobutsu_c.specs.declared.by_index.ByFault.TheVariants.{Asked, Index}
 use Rattle.dobutsu_c.specs.Counts.{IsFamily, count_fault}
-use Rattle.dob_numbers.specs.Faults.{text_number}
+use Rattle.dob_foreign.specs.Faults.{text_number}
 use Rattle.dobutsu_c.specs.Faults.{fault_number}
 use Rattle.dobutsu_c.specs.Probes.{IsTextOf}
 

@@ -1,7 +1,7 @@
 -- Families by numbers, and which fault numbers that name none are.
 use Rattle.std.specs.Prelude.{◌≡◌, ℕ, ◌&&◌, nat_le, if◌then◌else◌}
 use Rattle.dob_pieces.specs.declared.profile.Family.{Family}
-use Rattle.dob_numbers.specs.Profiles.{profile_number}
+use Rattle.dob_foreign.specs.Profiles.{profile_number}
 
 -- the family of so many pieces by the profile of that number
 pub record IsFamily (chicks elephants giraffes profile : ℕ) (family : Family) : Type 0 where

@@ -1,6 +1,6 @@
 -- The numbers of faults.
 use Rattle.std.specs.Prelude.{ℕ}
-use Rattle.dob_numbers.specs.Faults.{file_number, text_number}
+use Rattle.dob_foreign.specs.Faults.{file_number, text_number}
 use Rattle.dobutsu_c.specs.declared.fault.Fault.{Fault}
 use Rattle.dobutsu_c.specs.declared.fault.Fault.TheVariants.{Text, File, FarChick, OtherSet}
 

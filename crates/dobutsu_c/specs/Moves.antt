@@ -8,8 +8,8 @@ use Rattle.dob_moves.specs.Moves.{CanGo}
 use Rattle.dob_moves.specs.Statuses.{CanCatch, HasStatus}
 use Rattle.dob_value.specs.declared.value.Value.{Value}
 use Rattle.dob_dbfile.specs.declared.header.Format.{Format}
-use Rattle.dob_numbers.specs.declared.moves.MoveNumbers.{MoveNumbers}
-use Rattle.dob_numbers.specs.Moves.{move_numbers}
+use Rattle.dob_foreign.specs.declared.moves.MoveNumbers.{MoveNumbers}
+use Rattle.dob_foreign.specs.Moves.{move_numbers}
 use Rattle.dob_probe.specs.declared.by_value.ValuedMove.{ValuedMove}
 use Rattle.dob_probe.specs.ValuedMoves.{AreValuedMoves, ComesBefore, HasMoveValue, IsWinningCatch}
 use Rattle.dobutsu_c.specs.declared.moves.DobutsuMove.{DobutsuMove}

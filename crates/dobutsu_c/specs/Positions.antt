@@ -8,9 +8,9 @@ use Rattle.dob_pieces.specs.Faults.{HasPositionFault}
 use Rattle.dob_pieces.specs.Profiles.{IsAllowed}
 use Rattle.dob_pieces.specs.Setups.{Cell, IsLegal}
 use Rattle.dob_rank.specs.Families.{IsPositionOf, RepresentsClass}
-use Rattle.dob_numbers.specs.Cells.{cell_number}
-use Rattle.dob_numbers.specs.Faults.{position_number}
-use Rattle.dob_numbers.specs.Profiles.{profile_number}
+use Rattle.dob_foreign.specs.Cells.{cell_number}
+use Rattle.dob_foreign.specs.Faults.{position_number}
+use Rattle.dob_foreign.specs.Profiles.{profile_number}
 use Rattle.dobutsu_c.specs.declared.positions.DobutsuHand.{DobutsuHand}
 use Rattle.dobutsu_c.specs.declared.positions.DobutsuPosition.{DobutsuPosition}
 use Rattle.dobutsu_c.specs.declared.positions.NumbersFault.{NumbersFault}

@@ -6,7 +6,7 @@ use Rattle.dob_pieces.specs.Profiles.{IsAllowed}
 use Rattle.dob_text.specs.Faults.{HasTextFault}
 use Rattle.dob_rank.specs.Order.{IsPositionOfSet}
 use Rattle.dob_rank.specs.Families.{IsPositionOf}
-use Rattle.dob_numbers.specs.Faults.{text_number}
+use Rattle.dob_foreign.specs.Faults.{text_number}
 use Rattle.dob_certificate.specs.Lost.{SupportsAllLost}
 use Rattle.dob_certfile.specs.Format.{Content, bytes_of}
 use Rattle.dob_certfile.specs.Reading.{HasCertFault}

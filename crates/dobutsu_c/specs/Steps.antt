@@ -4,8 +4,8 @@ use Rattle.dob_pieces.specs.declared.profile.Profile.{Profile}
 use Rattle.dob_pieces.specs.declared.setup.Setup.{Setup}
 use Rattle.dob_moves.specs.declared.game_move.Move.{Move}
 use Rattle.dob_moves.specs.Statuses.{AreMoves, CanCatch, IsFirstCatch}
-use Rattle.dob_numbers.specs.declared.moves.MoveNumbers.{MoveNumbers}
-use Rattle.dob_numbers.specs.Moves.{move_numbers}
+use Rattle.dob_foreign.specs.declared.moves.MoveNumbers.{MoveNumbers}
+use Rattle.dob_foreign.specs.Moves.{move_numbers}
 use Rattle.dobutsu_c.specs.declared.steps.DobutsuStep.{DobutsuStep}
 
 -- the numbers of a move, one by one

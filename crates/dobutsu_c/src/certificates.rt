@@ -8,7 +8,7 @@ ghost use Rattle.dobutsu_c.specs.Certificates.{IsProvedBy, IsToldOf, IsVerifyFau
 use crate::numbers::{CLAIM, MEMORY, UNSUPPORTED};
 use dob_certfile::{CertificateFile, Defect, ReadFault, read_certificate, verify_file};
 use dob_certificate::{Claim, Refusal};
-use dob_numbers::profile_number;
+use dob_foreign::profile_number;
 use dob_value::Value;
 use std::alloc::Global;
 

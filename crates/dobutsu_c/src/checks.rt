@@ -6,11 +6,11 @@ ghost use Rattle.dob_dbfile.specs.Devices.{whole};
 ghost use Rattle.dob_dbfile.specs.Faults.{HasReadFault};
 ghost use Rattle.dob_dbfile.specs.Format.{IsFile};
 ghost use Rattle.dob_probe.specs.Checks.{IsFirstBroken};
-ghost use Rattle.dob_numbers.specs.Faults.{file_number};
+ghost use Rattle.dob_foreign.specs.Faults.{file_number};
 
 use crate::numbers::{INCONSISTENT, MEMORY};
 use dob_dbfile::{HeldSource, read_table};
-use dob_numbers::file_number;
+use dob_foreign::file_number;
 use dob_probe::{Fault, check};
 use std::alloc::Global;
 

@@ -6,7 +6,7 @@ ghost use Rattle.dobutsu_c.specs.Counts.{IsFamily, count_fault};
 
 use crate::numbers::{PROFILE_BYTE, SET_TEXT};
 use dob_classes::count_classes;
-use dob_numbers::profile_of;
+use dob_foreign::profile_of;
 use dob_pieces::{Family, PieceSet};
 use dob_rank::size;
 

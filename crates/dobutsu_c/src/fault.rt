@@ -3,7 +3,7 @@ ghost use Rattle.std.specs.Prelude.{◌≡◌, ◌≢◌};
 ghost use Rattle.dobutsu_c.specs.Faults.{fault_number};
 
 use dob_dbfile::Fault as FileFault;
-use dob_numbers::{file_number, text_number};
+use dob_foreign::{file_number, text_number};
 use dob_text::TextFault;
 
 /// A fault of a text, of a file, or of the position in the file.

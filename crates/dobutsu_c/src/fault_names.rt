@@ -6,12 +6,12 @@ ghost use Rattle.dob_dbfile.specs.declared.fault.Fault.{Fault as AnyFileFault};
 ghost use Rattle.dob_dbfile.specs.FaultTexts as files;
 ghost use Rattle.dob_certfile.specs.declared.defect.Defect.{Defect as AnyDefect};
 ghost use Rattle.dob_certfile.specs.Faults.{defect_text};
-ghost use Rattle.dob_numbers.specs.Faults.{file_number, text_number};
-ghost use Rattle.dob_numbers.specs.Texts.{IsText};
+ghost use Rattle.dob_foreign.specs.Faults.{file_number, text_number};
+ghost use Rattle.dob_foreign.specs.Texts.{IsText};
 ghost use Rattle.dobutsu_c.specs.Certificates.{defect_number};
 ghost use Rattle.dobutsu_c.specs.FaultNames.{name_of};
 
-use dob_numbers::DobutsuText;
+use dob_foreign::DobutsuText;
 
 /// The text of a fault by its number, as the program prints it: `E7 OtherSet`. The class that it prints behind 21 and 30 isn't there. A number that is no fault
 /// of these calls has an empty text. It answers how many bytes the text has.

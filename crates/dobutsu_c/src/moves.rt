@@ -14,8 +14,8 @@ ghost use Rattle.dobutsu_c.specs.Probes.{HasProbeFault, IsTextOf};
 use crate::moves_by::told_moves;
 use crate::numbering::Numbering;
 use crate::value::{DobutsuValue, shown};
+use dob_foreign::{MoveNumbers, move_numbers};
 use dob_moves::Move;
-use dob_numbers::{MoveNumbers, move_numbers};
 use dob_probe::ValuedMove;
 use std::alloc::Global;
 

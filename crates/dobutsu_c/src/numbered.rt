@@ -4,7 +4,7 @@ ghost use Rattle.dobutsu_c.specs.Positions.{IsNumbersAsked, HasRefusal};
 
 use crate::numbers::PROFILE_BYTE;
 use crate::positions::{DobutsuPosition, NumbersFault, position_of};
-use dob_numbers::profile_of;
+use dob_foreign::profile_of;
 use dob_pieces::{Family, Position};
 
 /// A position, and the family of its pieces by a profile.

@@ -3,7 +3,7 @@ ghost use Rattle.std.specs.Prelude.{◌≡◌, ◌≢◌, MatchOption, MatchResu
 ghost use Rattle.dob_pieces.specs.declared.setup.Setup.{Setup as AnySetup};
 ghost use Rattle.dobutsu_c.specs.Positions.{IsShownBoard, IsShown, HasNumbersFault, hand_numbers};
 
-use dob_numbers::{DobutsuText, cell_number, cell_of, position_number, position_text, text_number};
+use dob_foreign::{DobutsuText, cell_number, cell_of, position_number, position_text, text_number};
 use dob_pieces::{Hand, Hands, Piece, Position, PositionFault, Profile, Square};
 use dob_text::read_position_bytes;
 

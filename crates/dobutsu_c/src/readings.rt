@@ -6,14 +6,14 @@ ghost use Rattle.dob_pieces.specs.Setups.{IsLegal};
 ghost use Rattle.dob_text.specs.declared.fault.TextFault.{TextFault as AnyTextFault};
 ghost use Rattle.dob_text.specs.Faults.{HasTextFault};
 ghost use Rattle.dob_text.specs.PositionText.{text_of};
-ghost use Rattle.dob_numbers.specs.Faults.{text_number};
-ghost use Rattle.dob_numbers.specs.Texts.{IsText};
+ghost use Rattle.dob_foreign.specs.Faults.{text_number};
+ghost use Rattle.dob_foreign.specs.Texts.{IsText};
 ghost use Rattle.dobutsu_c.specs.declared.positions.NumbersFault.{NumbersFault as AnyNumbersFault};
 ghost use Rattle.dobutsu_c.specs.Positions.{IsShown, HasNumbersFault, numbers_fault};
 ghost use Rattle.dobutsu_c.specs.Probes.{IsTextOf};
 
 use crate::positions::{DobutsuPosition, position_of, shown_position};
-use dob_numbers::{DobutsuText, position_text, text_number};
+use dob_foreign::{DobutsuText, position_text, text_number};
 use dob_pieces::Profile;
 use dob_text::read_position_bytes;
 

@@ -15,7 +15,7 @@ use dob_certfile::{CertificateFile, Defect, ReadFault, read_certificate};
 use dob_certificate::{ListKind, Refusal, Room, check_list};
 use dob_certify::{Reply, reply_to};
 use dob_classes::Classes;
-use dob_numbers::text_number;
+use dob_foreign::text_number;
 use dob_pieces::{Position, Profile};
 use dob_text::{TextFault, read_position_bytes};
 use std::alloc::Global;

@@ -7,15 +7,15 @@ ghost use Rattle.dob_moves.specs.declared.position_status.Status.{Status as AnyS
 ghost use Rattle.dob_moves.specs.declared.position_status.Status.TheVariants.{Open};
 ghost use Rattle.dob_moves.specs.Moves.{CanGo, Goes};
 ghost use Rattle.dob_moves.specs.Statuses.{HasStatus};
-ghost use Rattle.dob_numbers.specs.Statuses.{status_number};
+ghost use Rattle.dob_foreign.specs.Statuses.{status_number};
 ghost use Rattle.dobutsu_c.specs.Positions.{IsNumbersAsked, IsRefused, IsShown};
 ghost use Rattle.dobutsu_c.specs.Steps.{AreSteps, AreWrittenSteps, shown_step};
 
 use crate::numbered::{Numbered, ask_numbers};
 use crate::numbers::{MEMORY, NO_MOVE};
 use crate::positions::{DobutsuPosition, shown_position};
+use dob_foreign::{MoveNumbers, move_numbers, status_number};
 use dob_moves::{Move, apply, first_catch, moves, status};
-use dob_numbers::{MoveNumbers, move_numbers, status_number};
 use dob_pieces::Memory;
 use std::alloc::Global;
 

@@ -2,7 +2,7 @@
 ghost use Rattle.std.specs.Prelude.{◌≡◌};
 ghost use Rattle.dobutsu_c.specs.Probes.{shown};
 
-use dob_numbers::{outcome_number, plies_of};
+use dob_foreign::{outcome_number, plies_of};
 use dob_value::Value;
 
 /// A value: its kind, 0 for a draw, 1 for a win and 2 for a loss of the side to move, and the least number of plies in which

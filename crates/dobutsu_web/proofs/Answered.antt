@@ -1,13 +1,7 @@
 -- What the two lists of a certificate show of a position.
-use Rattle.std.proofs.Common.{List}
-use Rattle.dob_pieces.specs.declared.profile.Family.{Family}
-use Rattle.dob_pieces.specs.declared.setup.Setup.{Setup}
-use Rattle.dob_certificate.specs.declared.claim.Claim.{Claim}
-use Rattle.dob_certificate.specs.declared.entry.Entry.{Entry}
+use Rattle.dobutsu_web.proofs.Common.{List, Family, Setup, Prove, Show, Claim, Entry, AreProof, SupportsAll}
 use Rattle.dob_certificate.specs.declared.list_kind.ListKind.TheVariants.{Lost, Held}
-use Rattle.dob_certificate.specs.Claims.{Prove, Show}
 use Rattle.dob_certificate.proofs.Exact.{proved_claim}
-use Rattle.dobutsu_web.specs.Certified.{AreProof, SupportsAll}
 
 pub proof_of : (family : Family) (lost held : List Entry) (p : Setup) (claim : Claim) → SupportsAll Lost family lost → SupportsAll Held family held →
     Show family lost held p claim → AreProof family lost held p claim

@@ -1,26 +1,22 @@
 -- Moves by their places: none stands where the square's piece or the hand has none, and each place has one at most.
-use Rattle.std.proofs.Common.{◌≡◌, ℕ, ◌+◌, ◌*◌, ◌<◌, ◌&&◌, ◌↔◌, nat_lt, Bool, true, false, IsTrue, Some, None, length, inl, inr, refl, sym, subst, ap, ◌∙◌, arith}
+use Rattle.dobutsu_web.proofs.Common.{◌&&◌, ◌*◌, ◌+◌, ◌<◌, ◌↔◌, ◌∙◌, ◌≡◌, Bool, IsTrue, None, Some, ap, arith, false, inl, inr, length, nat_lt, refl, subst}
+use Rattle.dobutsu_web.proofs.Common.{sym, true, ℕ, cases_lt, lt-ltb, Setup, can_go, goes, CanGo, Goes, HasOutcome, first_drop, hand_place, place, Open, EachAt}
+use Rattle.dobutsu_web.proofs.Common.{NoneStands, SomeAt, leads_from}
 use Rattle.std.specs.Option.{is_none}
-use Rattle.std.proofs.lemmas.Bool.{cases_lt, lt-ltb}
 use Rattle.dob_pieces.specs.declared.kind.Kind.{Kind}
 use Rattle.dob_pieces.specs.declared.kind.HandKind.{HandKind}
 use Rattle.dob_pieces.specs.declared.kind.HandKind.TheVariants as hand
 use Rattle.dob_pieces.specs.declared.kind.Side.TheVariants.{Mover}
 use Rattle.dob_pieces.specs.declared.profile.Profile.{Profile}
-use Rattle.dob_pieces.specs.declared.setup.Setup.{Setup}
 use Rattle.dob_pieces.specs.Pieces.{leads}
 use Rattle.dob_pieces.specs.Setups.{at, held, piece_of}
 use Rattle.dob_pieces.proofs.Boards.{within-from_piece, leads-to_board}
 use Rattle.dob_moves.specs.declared.game_move.Move.{Move}
 use Rattle.dob_moves.specs.declared.game_move.Move.TheVariants.{Step, Put}
-use Rattle.dob_moves.specs.declared.position_status.Status.TheVariants.{Open}
 use Rattle.dob_moves.specs.AtPlaces.{IsMoveAt}
-use Rattle.dob_moves.specs.Moves.{CanGo, Goes, HasOutcome, hand_place, place, first_drop}
 use Rattle.dob_moves.specs.Statuses.{HasStatus}
-use Rattle.dob_moves.proofs.ByPlace.{none_behind}
-use Rattle.dob_moves.proofs.ByProfile.{can_go, goes}
+use Rattle.dob_moves.proofs.ByPlace.{none_behind, one_kind, step_before}
 use Rattle.dob_moves.proofs.Cases.{one_step}
-use Rattle.dobutsu_web.specs.Places.{NoneStands, SomeAt, EachAt, leads_from}
 
 -- the piece that makes a step stands on its first square and leads to its last
 record Made (p : Setup) (kind : Kind) (from to : ℕ) : Type 0 where
@@ -32,17 +28,6 @@ made p kind from to false false q is = record { own = is.2.own; lead = is.2.lead
 made p kind from to true false q is = record { own = is.3.own; lead = is.3.leads }
 made p kind from to false true q is = record { own = is.2.own; lead = is.2.leads }
 made p kind from to true true q is = record { own = is.3.own; lead = is.3.leads }
-
-one_kind : (a b : HandKind) → hand_place a ≡ hand_place b → a ≡ b
-one_kind hand.Chick hand.Chick e = refl
-one_kind hand.Chick hand.Elephant e = absurd (omega (arith, e))
-one_kind hand.Chick hand.Giraffe e = absurd (omega (arith, e))
-one_kind hand.Elephant hand.Chick e = absurd (omega (arith, e))
-one_kind hand.Elephant hand.Elephant e = refl
-one_kind hand.Elephant hand.Giraffe e = absurd (omega (arith, e))
-one_kind hand.Giraffe hand.Chick e = absurd (omega (arith, e))
-one_kind hand.Giraffe hand.Elephant e = absurd (omega (arith, e))
-one_kind hand.Giraffe hand.Giraffe e = refl
 
 pub no_step : (p : Setup) (from to : ℕ) → length p.board ≡ 12 → from < 12 → to < 12 → leads_from (at p from) from to ≡ false → NoneStands p (12 * from + to)
 no_step p from to len low high none profile (Step kind f t catch grows) can there =
@@ -76,14 +61,6 @@ no_drop p kind to len high none profile (Put k t) can there =
 
 -- ---- the one move of a place
 
-step_first : (profile : Profile) (p : Setup) (kind : Kind) (from to : ℕ) (catch grows : Bool) → length p.board ≡ 12 → CanGo profile p (Step kind from to catch grows) →
-    12 * from + to < first_drop
-step_first profile p kind from to catch grows len can =
-    let is = made p kind from to catch grows can.0 (goes profile p (Step kind from to catch grows) can.0 can.1) in
-    let near = leads-to_board kind from to is.lead in
-    let within = within-from_piece p from (piece_of Mover kind) is.own in
-    omega (arith, near, within, len)
-
 pub one_move : (profile : Profile) (p : Setup) (a b : Move) → length p.board ≡ 12 → CanGo profile p a → CanGo profile p b → place a ≡ place b → a ≡ b
 one_move profile p (Step k f t c g) (Step l u v d h) len one two same =
     let near_a = leads-to_board k f t (made p k f t c g one.0 (goes profile p (Step k f t c g) one.0 one.1)).lead in
@@ -95,9 +72,9 @@ one_move profile p (Step k f t c g) (Step l u v d h) len one two same =
     let alike = one_step p k l f t c d g h (can_go profile p (Step k f t c g) one) (can_go profile p (Step l f t d h) moved) in
     ap (λ x. Step x f t c g) alike.0 ∙ ap (λ x. Step l x t c g) from ∙ ap (λ x. Step l u x c g) to ∙ ap (λ x. Step l u v x g) alike.1 ∙ ap (λ x. Step l u v d x) alike.2
 one_move profile p (Step k f t c g) (Put l v) len one two same =
-    let first = step_first profile p k f t c g len one in absurd (omega (arith, first, same))
+    let first = step_before profile p k f t c g len one in absurd (omega (arith, first, same))
 one_move profile p (Put k t) (Step l u v d h) len one two same =
-    let first = step_first profile p l u v d h len two in absurd (omega (arith, first, same))
+    let first = step_before profile p l u v d h len two in absurd (omega (arith, first, same))
 one_move profile p (Put k t) (Put l v) len one two same =
     let near_a = (goes profile p (Put k t) one.0 one.1).on_board in
     let near_b = (goes profile p (Put l v) two.0 two.1).on_board in

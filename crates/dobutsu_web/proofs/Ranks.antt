@@ -1,16 +1,13 @@
 -- What ranks stand for: the position of each, and the entries of the list.
-use Rattle.std.proofs.Common.{◌≡◌, ◌≢◌, ℕ, zero, suc, ◌+◌, ◌-◌, ◌<◌, ◌≤◌, ◌↔◌, IsTrue, nat_eq, refl, inl, inr, sym, subst, ap, ◌∙◌, arith, List, length, slice_index, Contains, Result, Ok, Err, IfOk, IfErr}
+use Rattle.dobutsu_web.proofs.Common.{◌+◌, ◌-◌, ◌<◌, ◌↔◌, ◌∙◌, ◌≡◌, ◌≢◌, ◌≤◌, Contains, Err, IfErr, IfOk, IsTrue, List, Ok, Result, ap, arith, inl, inr, length}
+use Rattle.dobutsu_web.proofs.Common.{nat_eq, refl, slice_index, subst, suc, sym, zero, ℕ, cases_lt, nat_tests, IsNonDecreasingBy-from_default, Family, Setup}
+use Rattle.dobutsu_web.proofs.Common.{HasClass, IsPositionOf, IsRepresentative, Entry, AreRanks, entries_by, entry_by, ranked_setup}
 use Rattle.std.specs.List.Sorted.{IsSearchInRange, IsBinarySearchResult, IsNonDecreasingBy, IsStrictlyIncreasing}
 use Rattle.std.specs.Ordering.{nat_cmp, ordering_index}
-use Rattle.std.proofs.lemmas.Bool.{cases_lt}
-use Rattle.std.proofs.lemmas.Bool.Decides.{nat_tests}
 use Rattle.std.proofs.lemmas.Cmp.{ranked}
 use Rattle.std.proofs.lemmas.List.FromFn.{length-map-range_with_len, get_or-map-range_with_len}
-use Rattle.std.proofs.lemmas.List.Sorted.{IsNonDecreasingBy-from_default}
-use Rattle.dob_pieces.specs.declared.profile.Family.{Family}
-use Rattle.dob_pieces.specs.declared.setup.Setup.{Setup}
 use Rattle.dob_rank.specs.ClassRows.{marked_place}
-use Rattle.dob_rank.specs.Families.{IsPositionOf, IsRepresentative, HasClass, IsInClass, is_present, class_number, size_of, rank_of}
+use Rattle.dob_rank.specs.Families.{IsInClass, is_present, class_number, size_of, rank_of}
 use Rattle.dob_rank.specs.Marks.{marks_below}
 use Rattle.dob_rank.specs.Numbers.{nth, rank_of_set, size_of_set}
 use Rattle.dob_rank.specs.Order.{IsFirstOfTwo, RepresentativeOf}
@@ -20,9 +17,7 @@ use Rattle.dob_rank.proofs.OfFamilies.FamilyOrder.{rank_of-same}
 use Rattle.dob_rank.proofs.OfFamilies.Present.{allowed, HasClass-marked}
 use Rattle.dob_classes.proofs.OfFamilies.FamilyNumbers.{IsInClass-class_number, class_number-mirrored, class_number-representative}
 use Rattle.dob_classes.proofs.OfFamilies.FamilyRepresentatives.{one_class, one_of_class, same_representative}
-use Rattle.dob_certificate.specs.declared.entry.Entry.{Entry}
 use Rattle.dob_certificate.specs.Listed.{IsEntryFor}
-use Rattle.dobutsu_web.specs.Ranked.{ranked_setup, entry_by, entries_by, AreRanks}
 
 -- ---- the position of a rank
 

@@ -5,8 +5,8 @@ use Rattle.dob_pieces.specs.declared.profile.Profile.{Profile as AnyProfile}
 use Rattle.dob_pieces.specs.declared.setup.Setup.{Setup}
 use Rattle.dob_rank.specs.Families.{IsPositionOf}
 use Rattle.dob_rank.specs.Numbers.{block_of}
-use Rattle.dob_numbers.specs.Faults.{text_number}
-use Rattle.dob_numbers.specs.Profiles.{profile_number}
+use Rattle.dob_foreign.specs.Faults.{text_number}
+use Rattle.dob_foreign.specs.Profiles.{profile_number}
 use Rattle.dob_text.specs.Faults.{HasTextFault}
 use Rattle.dob_text.specs.PositionText.{Spells}
 use Rattle.dobutsu_web.specs.declared.asked.Refusal.{Refusal}

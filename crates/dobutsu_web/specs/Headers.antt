@@ -7,8 +7,8 @@ use Rattle.dob_dbfile.specs.declared.header.Format.{Format}
 use Rattle.dob_dbfile.specs.Devices.{whole}
 use Rattle.dob_dbfile.specs.Faults.{HasReadFault, IsNoLonger, header_len}
 use Rattle.dob_dbfile.specs.Fronts.{IsFrontOf}
-use Rattle.dob_numbers.specs.Faults.{file_number}
-use Rattle.dob_numbers.specs.Profiles.{profile_number}
+use Rattle.dob_foreign.specs.Faults.{file_number}
+use Rattle.dob_foreign.specs.Profiles.{profile_number}
 use Rattle.dobutsu_web.specs.declared.headers.DobutsuHeader.{DobutsuHeader}
 
 abbrev pub shown_header : Format → Family → DobutsuHeader

@@ -7,8 +7,8 @@ use Rattle.dob_pieces.specs.declared.profile.Profile.{Profile}
 use Rattle.dob_moves.specs.AtPlaces.{IsMoveAt, IsCatchAt}
 use Rattle.dob_moves.specs.Moves.{Goes}
 use Rattle.dob_rank.specs.Numbers.{block_of}
-use Rattle.dob_numbers.specs.declared.moves.MoveNumbers.{MoveNumbers}
-use Rattle.dob_numbers.specs.Moves.{move_numbers}
+use Rattle.dob_foreign.specs.declared.moves.MoveNumbers.{MoveNumbers}
+use Rattle.dob_foreign.specs.Moves.{move_numbers}
 use Rattle.dobutsu_web.specs.declared.steps.DobutsuStep.{DobutsuStep}
 use Rattle.dobutsu_web.specs.Asked.{IsTextAsked}
 use Rattle.dobutsu_web.specs.Rows.{IsClassBy}

@@ -5,8 +5,8 @@ use Rattle.dob_pieces.specs.declared.setup.Setup.{Setup}
 use Rattle.dob_moves.specs.declared.game_move.Move.{Move}
 use Rattle.dob_text.specs.MoveText.{move_text}
 use Rattle.dob_text.specs.PositionText.{text_of}
-use Rattle.dob_numbers.specs.declared.texts.DobutsuText.{DobutsuText}
-use Rattle.dob_numbers.specs.Texts.{IsText}
+use Rattle.dob_foreign.specs.declared.texts.DobutsuText.{DobutsuText}
+use Rattle.dob_foreign.specs.Texts.{IsText}
 use Rattle.dobutsu_web.specs.Asked.{IsTextAsked}
 use Rattle.dobutsu_web.specs.Steps.{IsMoveAtPlace, IsOutcomeAt}
 

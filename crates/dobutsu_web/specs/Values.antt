@@ -5,7 +5,7 @@ use Rattle.dob_value.specs.declared.value.Value.{Value}
 use Rattle.dob_value.specs.Bounds.{plies_of}
 use Rattle.dob_value.specs.Codes.{code_of_value}
 use Rattle.dob_value.specs.Follows.{IsEntry}
-use Rattle.dob_numbers.specs.Values.{outcome_number}
+use Rattle.dob_foreign.specs.Values.{outcome_number}
 use Rattle.dobutsu_web.specs.declared.values.DobutsuValue.{DobutsuValue}
 
 -- the record of the value

@@ -4,7 +4,7 @@ ghost use Rattle.dobutsu_web.specs.Headers.{IsToldHeader, IsNoFile, shown_header
 
 use dob_classes::count_classes;
 use dob_dbfile::{Format, front_family, header_len};
-use dob_numbers::{file_number, profile_number};
+use dob_foreign::{file_number, profile_number};
 use dob_pieces::Family;
 
 /// What the header of a file says: how many classes its family has, how many bytes stand before the first class's record (each has two), the numbers

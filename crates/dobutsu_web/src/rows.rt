@@ -9,11 +9,8 @@ ghost use Rattle.dobutsu_web.specs.Rows.{IsClassBy, HasNoRow, IsRightRow, IsTold
 
 use crate::asked::ask;
 use crate::numbers::NO_ROW;
-use dob_classes::{block_number, class_number_by_any, count_blocks, write_row};
+use dob_classes::{ROW_LEN, block_number, class_number_by_any, count_blocks, write_row};
 use dob_pieces::{Family, Position};
-
-/// How many numbers a row has.
-const ROW_LEN: usize = 101;
 
 /// The number of the block of the position of that text. It answers 0 and writes it, or a fault as `dobutsu_class` does.
 #[unsafe(no_mangle)]

@@ -5,12 +5,12 @@ ghost use Rattle.dob_pieces.specs.declared.setup.Setup.{Setup as AnySetup};
 ghost use Rattle.dob_moves.specs.declared.position_status.Status.{Status as AnyStatus};
 ghost use Rattle.dob_moves.specs.MoveLists.{moves_of};
 ghost use Rattle.dob_moves.specs.Statuses.{HasStatus};
-ghost use Rattle.dob_numbers.specs.Statuses.{status_number};
+ghost use Rattle.dob_foreign.specs.Statuses.{status_number};
 ghost use Rattle.dobutsu_web.specs.Asked.{IsTextAsked, IsRefused};
 
 use crate::asked::ask;
+use dob_foreign::status_number;
 use dob_moves::status_and_count;
-use dob_numbers::status_number;
 
 /// The status of the position, 0 if it is open, 1 if the enemy lion can be caught, 2 if it has tried, 3 if there is no move, and
 /// how many moves it has, 0 if it isn't open. It answers 0 and writes both, or a fault as `dobutsu_class` does.

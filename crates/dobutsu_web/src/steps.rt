@@ -1,5 +1,5 @@
 // The moves of a position, one by one by their places in the move order.
-ghost use Rattle.std.specs.Prelude.{◌≡◌, ◌≢◌, ◌<◌, ◌⊎◌, MatchOption};
+ghost use Rattle.std.specs.Prelude.{◌≡◌, ◌≢◌, ◌<◌, ◌⊎◌, ℕ, MatchOption};
 ghost use Rattle.dob_pieces.specs.declared.profile.Family.{Family as AnyFamily};
 ghost use Rattle.dob_pieces.specs.declared.setup.Setup.{Setup as AnySetup};
 ghost use Rattle.dob_moves.specs.declared.game_move.Move.{Move as AnyMove};
@@ -14,8 +14,8 @@ use crate::asked::{Asked, ask};
 use crate::numbers::{NO_MOVE, NO_ROW};
 use crate::rows::class_below;
 use dob_classes::block_number;
+use dob_foreign::{MoveNumbers, move_numbers};
 use dob_moves::{Move, apply, catch_at, move_at};
-use dob_numbers::{MoveNumbers, move_numbers};
 use dob_pieces::Position;
 
 /// A move: a step of a piece of that kind from one square to another, or where it comes from 12 a drop. Chick 0, elephant 1, giraffe 2, hen 3,
@@ -77,7 +77,7 @@ pub extern "C" fn dobutsu_class_after(
     match ask(text, profile) {
         Ok(asked) => match move_at(asked.family.profile, &asked.position, place as usize) {
             Some(the_move) => {
-                let outcome = outcome_of(&asked, place as usize, &the_move);
+                let outcome = outcome_of(&asked, &the_move);
                 match class_below(asked.family, row, classes, &outcome) {
                     Some(found) => {
                         *class = found;
@@ -112,7 +112,7 @@ fn step_at(asked: &Asked, place: usize) -> Option<DobutsuStep>
         (IsStepShown asked.now.family asked.now.position.setup place) }
 {
     match move_at(asked.family.profile, &asked.position, place) {
-        Some(the_move) => Some(step_of_move(asked, place, &the_move)),
+        Some(the_move) => Some(step_of_move(asked, &the_move)),
         None => match catch_at(&asked.position, place) {
             Some(the_move) => Some(shown_step(&the_move, 0)),
             None => None,
@@ -121,23 +121,23 @@ fn step_at(asked: &Asked, place: usize) -> Option<DobutsuStep>
 }
 
 // A move with the block of what it leads to.
-fn step_of_move(asked: &Asked, place: usize, the_move: &Move) -> DobutsuStep
+fn step_of_move(asked: &Asked, the_move: &Move) -> DobutsuStep
     requires member { IsPositionOf asked.now.family asked.now.position.setup }
-    requires the_move { IsMoveAt asked.now.family.profile asked.now.position.setup place the_move.now }
-    ensures { IsShownMove asked.now.family asked.now.position.setup place result }
+    requires the_move { (place : ℕ) × IsMoveAt asked.now.family.profile asked.now.position.setup place the_move.now }
+    ensures { (place : ℕ) → IsMoveAt asked.now.family.profile asked.now.position.setup place the_move.now
+        → IsShownMove asked.now.family asked.now.position.setup place result }
 {
-    let outcome = outcome_of(asked, place, the_move);
+    let outcome = outcome_of(asked, the_move);
     shown_step(the_move, block_number(asked.family, &outcome))
 }
 
-/// What the move at that place leads to.
-pub(crate) fn outcome_of(asked: &Asked, place: usize, the_move: &Move) -> Position
+/// What a move leads to that stands at some place.
+pub(crate) fn outcome_of(asked: &Asked, the_move: &Move) -> Position
     requires member { IsPositionOf asked.now.family asked.now.position.setup }
-    requires the_move { IsMoveAt asked.now.family.profile asked.now.position.setup place the_move.now }
+    requires the_move { (place : ℕ) × IsMoveAt asked.now.family.profile asked.now.position.setup place the_move.now }
     ensures goes { Goes asked.now.family.profile asked.now.position.setup the_move.now result.setup }
     ensures member { IsPositionOf asked.now.family result.setup }
 {
-    let _ = place;
     apply(&asked.position, *the_move)
 }
 

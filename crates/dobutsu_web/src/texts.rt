@@ -2,7 +2,7 @@
 ghost use Rattle.std.specs.Prelude.{◌≡◌, ◌≢◌, ◌≤◌, ◌+◌, ◌++◌};
 ghost use Rattle.arrayvec.specs.ArrayVec.{array_vec_len};
 ghost use Rattle.dob_text.specs.MoveText.{side_of, seen, square_text, move_text};
-ghost use Rattle.dob_numbers.specs.Texts.{IsText};
+ghost use Rattle.dob_foreign.specs.Texts.{IsText};
 ghost use Rattle.dobutsu_web.specs.Asked.{IsRefused};
 ghost use Rattle.dobutsu_web.specs.Steps.{HasNone, HasNoMove};
 ghost use Rattle.dobutsu_web.specs.Texts.{IsToldMoveText, IsToldOutcome};
@@ -11,8 +11,8 @@ use crate::asked::ask;
 use crate::numbers::NO_MOVE;
 use crate::steps::{move_by_place, outcome_of};
 use arrayvec::ArrayVec;
+use dob_foreign::{DobutsuText, position_text, written};
 use dob_moves::{Move, move_at};
-use dob_numbers::{DobutsuText, position_text, written};
 use dob_pieces::{Side, Square};
 use dob_text::piece_letter;
 
@@ -60,7 +60,7 @@ pub extern "C" fn dobutsu_after(
     match ask(text, profile) {
         Ok(asked) => match move_at(asked.family.profile, &asked.position, place as usize) {
             Some(the_move) => {
-                *written = position_text(&outcome_of(&asked, place as usize, &the_move));
+                *written = position_text(&outcome_of(&asked, &the_move));
                 0
             }
             None => NO_MOVE,

@@ -6,7 +6,7 @@ ghost use Rattle.dobutsu_web.specs.Values.{IsRecordOf, shown_value};
 
 use crate::numbers::TRUNCATED;
 use dob_dbfile::value_in;
-use dob_numbers::{outcome_number, plies_of};
+use dob_foreign::{outcome_number, plies_of};
 use dob_probe::value_seen;
 use dob_value::Value;
 

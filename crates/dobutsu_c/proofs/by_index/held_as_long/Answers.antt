@@ -1,6 +1,5 @@
 -- A file of a family is as long as its classes need.
-use Rattle.std.proofs.Common.{arith}
-use Rattle.dob_rank.proofs.OfFamilies.ClassBounds.{classes_of-below}
+use Rattle.dobutsu_c.proofs.Common.{arith, classes_of-below}
 use Rattle.dobutsu_c.proofs.Indexed.{long_classes, both}
 use Rattle.dobutsu_c.proofs.by_index.held_as_long.Goals as goal
 

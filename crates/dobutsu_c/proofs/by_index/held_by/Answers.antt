@@ -1,7 +1,6 @@
 -- What is held by an index's numbers.
-use Rattle.std.proofs.Common.{sym, subst, MatchResult}
+use Rattle.dobutsu_c.proofs.Common.{MatchResult, subst, sym, Numbering}
 use Rattle.dobutsu_c.specs.declared.by_index.HeldBy.{HeldBy}
-use Rattle.dobutsu_c.specs.declared.numbering.Numbering.{Numbering}
 use Rattle.dobutsu_c.specs.ByIndex.{IsHeldBy, HasHeldFault}
 use Rattle.dobutsu_c.proofs.by_index.held_by.Goals as goal
 

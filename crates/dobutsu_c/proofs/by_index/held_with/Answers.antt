@@ -1,11 +1,8 @@
 -- The numbers are marked as an index of the file's family and count as many classes, or they are none.
-use Rattle.std.proofs.Common.{◌∙◌, sym, arith}
-use Rattle.std.proofs.lemmas.Bool.{both_ways}
-use Rattle.dob_rank.proofs.OfFamilies.ClassBounds.{classes_of-below}
+use Rattle.dobutsu_c.proofs.Common.{◌∙◌, arith, inl, sym, both_ways, classes_of-below}
 use Rattle.dobutsu_c.specs.declared.numbering.Numbering.TheVariants as numbering
 use Rattle.dobutsu_c.proofs.Indexed.{by_file_fault, counted, held_right, same_classes}
 use Rattle.dobutsu_c.proofs.by_index.held_with.Goals as goal
-use Rattle.std.proofs.Common.{inl}
 
 pub returns-in_default : goal.returns-in_default
 returns-in_default c =

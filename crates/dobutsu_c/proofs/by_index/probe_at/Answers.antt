@@ -1,6 +1,5 @@
 -- The numbers lead to a record of the file, or outside of it.
-use Rattle.std.proofs.Common.{refl, inr}
-use Rattle.dob_text.specs.PositionText.{text_of}
+use Rattle.dobutsu_c.proofs.Common.{inr, refl, text_of}
 use Rattle.dobutsu_c.proofs.by_index.probe_at.Goals as goal
 
 pub value_by-requires-clause-held : goal.value_by-requires-clause-held

@@ -1,7 +1,5 @@
 -- The index leads to the position's class, which is one of the file's.
-use Rattle.std.proofs.Common.{sym, subst, arith}
-use Rattle.dob_rank.specs.Families.{IsInClass}
-use Rattle.dob_classes.proofs.OfFamilies.FamilyNumbers.{class_number-below, IsInClass-class_number}
+use Rattle.dobutsu_c.proofs.Common.{arith, subst, sym, IsInClass, IsInClass-class_number, class_number-below}
 use Rattle.dobutsu_c.proofs.by_index.value_by.Goals as goal
 
 pub returns-then-class-held : goal.returns-then-class-held

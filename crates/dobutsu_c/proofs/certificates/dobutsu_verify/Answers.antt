@@ -1,7 +1,6 @@
 -- What the file says is proved of its root, or refused.
-use Rattle.std.proofs.Common.{rules, ◌≡◌, Err}
+use Rattle.dobutsu_c.proofs.Common.{◌≡◌, Err, rules, content}
 use Rattle.dob_certificate.specs.declared.refusal.Refusal.TheVariants as refusal
-use Rattle.dob_certfile.specs.Format.{content}
 use Rattle.dobutsu_c.proofs.Certified.{by_entry, by_claim}
 use Rattle.dobutsu_c.proofs.certificates.dobutsu_verify.Goals as goal
 

@@ -1,10 +1,7 @@
 -- What reading and checking give.
-use Rattle.std.proofs.Common.{◌≡◌, ◌∙◌, inl, inr, sym, ap, subst}
-use Rattle.dob_value.specs.Follows.{ClassTable, IsConsistent}
-use Rattle.dob_dbfile.specs.Devices.{whole}
+use Rattle.dobutsu_c.proofs.Common.{◌∙◌, ◌≡◌, ap, inl, inr, subst, sym, ClassTable, IsConsistent, whole, file_number}
 use Rattle.dob_probe.specs.Faults.{IsFaultOfCheck}
 use Rattle.dob_probe.proofs.Following.{consistent_has_no_break}
-use Rattle.dob_numbers.specs.Faults.{file_number}
 use Rattle.dobutsu_c.proofs.checks.dobutsu_check.Goals as goal
 
 pub returns-in-Err-clause-passed : goal.returns-in-Err-clause-passed

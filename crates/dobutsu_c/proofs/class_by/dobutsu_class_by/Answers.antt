@@ -1,12 +1,6 @@
 -- The text is of one position, and one family has those numbers; each refusal comes where its own test fails and those before it pass.
-use Rattle.std.proofs.Common.{◌≢◌, ℕ, refl, sym, subst, inl, inr}
-use Rattle.std.proofs.lemmas.Bool.{both_ways}
-use Rattle.dob_pieces.specs.declared.profile.Family.{Family}
-use Rattle.dob_pieces.specs.declared.setup.Setup.{Setup}
-use Rattle.dob_rank.specs.Families.{IsInClass, IsPositionOf}
-use Rattle.dob_index.specs.Index.{IsIndex}
-use Rattle.dob_classes.proofs.OfFamilies.FamilyNumbers.{IsInClass-class_number}
-use Rattle.dob_text.proofs.Whole.{same_spelled}
+use Rattle.dobutsu_c.proofs.Common.{◌≢◌, inl, inr, refl, subst, sym, ℕ, both_ways, Family, Setup, same_spelled, IsInClass, IsPositionOf, IsInClass-class_number}
+use Rattle.dobutsu_c.proofs.Common.{IsIndex}
 use Rattle.dobutsu_c.proofs.Indexed.{one_family}
 use Rattle.dobutsu_c.proofs.class_by.dobutsu_class_by.Goals as goal
 

@@ -1,8 +1,5 @@
 -- The classes that were opened are the family's.
-use Rattle.std.proofs.Common.{◌≡◌, ◌∙◌, subst, ap, arith}
-use Rattle.dob_pieces.specs.declared.profile.Family.{Family}
-use Rattle.dob_rank.specs.Families.{classes_of}
-use Rattle.dobutsu_c.specs.Positions.{AreClassesFrom}
+use Rattle.dobutsu_c.proofs.Common.{◌∙◌, ◌≡◌, ap, arith, subst, Family, classes_of, AreClassesFrom}
 use Rattle.dobutsu_c.proofs.classes.dobutsu_class_at.Goals as goal
 
 pub returns-then-class_count-saturating_add-clause-none : goal.returns-then-class_count-saturating_add-clause-none

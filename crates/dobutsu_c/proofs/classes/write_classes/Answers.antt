@@ -1,7 +1,5 @@
 -- The numbers of classes are far below the type's end, and what is written stays.
-use Rattle.std.proofs.Common.{◌∙◌, ◌<◌, length, arith}
-use Rattle.std.proofs.lemmas.List.{length-set}
-use Rattle.dob_rank.proofs.OfFamilies.ClassBounds.{classes_of-below}
+use Rattle.dobutsu_c.proofs.Common.{◌<◌, ◌∙◌, arith, length, length-set, classes_of-below}
 use Rattle.dobutsu_c.proofs.Answered.{one_more_class}
 use Rattle.dobutsu_c.proofs.classes.write_classes.Goals as goal
 

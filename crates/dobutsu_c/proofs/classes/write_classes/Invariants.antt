@@ -1,9 +1,5 @@
 -- The places below the index hold the positions of their classes.
-use Rattle.std.proofs.Common.{◌≡◌, ℕ, ◌+◌, ◌<◌, length, get_or}
-use Rattle.dob_pieces.specs.declared.setup.Setup.{Setup}
-use Rattle.dob_rank.specs.Families.{RepresentsClass}
-use Rattle.dobutsu_c.specs.declared.positions.DobutsuPosition.{DobutsuPosition}
-use Rattle.dobutsu_c.specs.Positions.{IsShown}
+use Rattle.dobutsu_c.proofs.Common.{◌+◌, ◌<◌, ◌≡◌, get_or, length, ℕ, Setup, RepresentsClass, IsShown, DobutsuPosition}
 use Rattle.dobutsu_c.proofs.classes.write_classes.Given as goal
 
 abbrev pub invariant-loop-place : goal.invariant-loop-place

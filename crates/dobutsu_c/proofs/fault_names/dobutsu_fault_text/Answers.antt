@@ -1,6 +1,5 @@
 -- The name is the one that the fault has elsewhere.
-use Rattle.std.proofs.Common.{subst, List, ℕ}
-use Rattle.dob_numbers.specs.Texts.{IsText}
+use Rattle.dobutsu_c.proofs.Common.{List, subst, ℕ, IsText}
 use Rattle.dobutsu_c.proofs.Named.{text_name, file_name, defect_name}
 use Rattle.dobutsu_c.proofs.fault_names.dobutsu_fault_text.Goals as goal
 

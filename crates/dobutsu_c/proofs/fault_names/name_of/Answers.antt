@@ -1,7 +1,6 @@
 -- Behind the last name there is none.
-use Rattle.std.proofs.Common.{◌≤◌, ℕ, [], sym, arith}
+use Rattle.dobutsu_c.proofs.Common.{◌≤◌, [], arith, sym, ℕ, names}
 use Rattle.std.proofs.Math.ListN.{get_or-eq_default}
-use Rattle.dobutsu_c.specs.FaultNames.{names}
 use Rattle.dobutsu_c.proofs.fault_names.name_of.Goals as goal
 
 pub returns-in-39-to-4294967295-clause-name : goal.returns-in-39-to-4294967295-clause-name

@@ -1,8 +1,5 @@
 -- One family has those numbers.
-use Rattle.std.proofs.Common.{refl, ap, subst, arith}
-use Rattle.dob_pieces.specs.declared.profile.Family.{Family}
-use Rattle.dob_index.specs.Layout.{words_of}
-use Rattle.dob_index.specs.Index.{IsIndex}
+use Rattle.dobutsu_c.proofs.Common.{ap, arith, refl, subst, Family, IsIndex, words_of}
 use Rattle.dobutsu_c.proofs.Indexed.{one_family}
 use Rattle.dobutsu_c.proofs.index.dobutsu_index.Goals as goal
 

@@ -1,7 +1,5 @@
 -- One family has those numbers.
-use Rattle.std.proofs.Common.{ap, ◌∙◌}
-use Rattle.dob_pieces.specs.declared.profile.Family.{Family}
-use Rattle.dob_index.specs.Layout.{words_of}
+use Rattle.dobutsu_c.proofs.Common.{◌∙◌, ap, Family, words_of}
 use Rattle.dobutsu_c.proofs.Indexed.{one_family}
 use Rattle.dobutsu_c.proofs.index.dobutsu_index_words.Goals as goal
 

@@ -1,6 +1,5 @@
 -- A position's answer is that of its text.
-use Rattle.std.proofs.Common.{refl, inl}
-use Rattle.dob_text.specs.PositionText.{text_of}
+use Rattle.dobutsu_c.proofs.Common.{inl, refl, text_of}
 use Rattle.dobutsu_c.proofs.Answered.{answered}
 use Rattle.dobutsu_c.proofs.many.answer_at.Goals as goal
 

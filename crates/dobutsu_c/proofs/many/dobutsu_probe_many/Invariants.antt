@@ -1,7 +1,5 @@
 -- The texts below the index have their answers, the others are left, and the next begins where the last ended.
-use Rattle.std.proofs.Common.{◌≡◌, ℕ, ◌<◌, ◌≤◌, length, get_or}
-use Rattle.dobutsu_c.specs.declared.many.DobutsuAnswer.{DobutsuAnswer}
-use Rattle.dobutsu_c.specs.Many.{IsAnswer, start_at, text_at}
+use Rattle.dobutsu_c.proofs.Common.{◌<◌, ◌≡◌, ◌≤◌, get_or, length, ℕ, IsAnswer, start_at, text_at, DobutsuAnswer}
 use Rattle.dobutsu_c.proofs.many.dobutsu_probe_many.Given as goal
 
 abbrev pub invariant-loop-place : goal.invariant-loop-place

@@ -1,11 +1,7 @@
 -- Each position's answer stays.
-use Rattle.std.proofs.Common.{◌≡◌, ◌∙◌, ℕ, List, subst, arith, get_or, ◌<◌, ◌≤◌, length}
-use Rattle.std.proofs.lemmas.List.{length-set}
-use Rattle.dobutsu_c.specs.declared.numbering.Numbering.{Numbering}
+use Rattle.dobutsu_c.proofs.Common.{◌<◌, ◌∙◌, ◌≡◌, ◌≤◌, List, arith, get_or, length, subst, ℕ, length-set, IsAnswerAt, DobutsuAnswer, Numbering}
+use Rattle.dobutsu_c.proofs.Common.{DobutsuPosition}
 use Rattle.dobutsu_c.specs.declared.numbering.Numbering.TheVariants as numbering
-use Rattle.dobutsu_c.specs.declared.many.DobutsuAnswer.{DobutsuAnswer}
-use Rattle.dobutsu_c.specs.declared.positions.DobutsuPosition.{DobutsuPosition}
-use Rattle.dobutsu_c.specs.Many.{IsAnswerAt}
 use Rattle.dobutsu_c.proofs.Answered.{one_written, others_left, read_there}
 use Rattle.dobutsu_c.proofs.many.dobutsu_probe_positions.Goals as goal
 

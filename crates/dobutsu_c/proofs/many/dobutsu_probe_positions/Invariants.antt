@@ -1,8 +1,5 @@
 -- The positions below the index have their answers, and the others are left.
-use Rattle.std.proofs.Common.{◌≡◌, ℕ, ◌<◌, ◌≤◌, length, get_or}
-use Rattle.dobutsu_c.specs.declared.many.DobutsuAnswer.{DobutsuAnswer}
-use Rattle.dobutsu_c.specs.declared.positions.DobutsuPosition.{DobutsuPosition}
-use Rattle.dobutsu_c.specs.Many.{IsAnswerAt}
+use Rattle.dobutsu_c.proofs.Common.{◌<◌, ◌≡◌, ◌≤◌, get_or, length, ℕ, IsAnswerAt, DobutsuAnswer, DobutsuPosition}
 use Rattle.dobutsu_c.proofs.many.dobutsu_probe_positions.Given as goal
 
 abbrev pub invariant-loop-place : goal.invariant-loop-place

@@ -1,8 +1,6 @@
 -- The places below the index hold the moves, and those past the list what they held.
-use Rattle.std.proofs.Common.{◌≡◌, ℕ, ◌<◌, ◌≤◌, length, get_or}
-use Rattle.dob_probe.specs.declared.by_value.ValuedMove.{ValuedMove}
+use Rattle.dobutsu_c.proofs.Common.{◌<◌, ◌≡◌, ◌≤◌, get_or, length, ℕ, ValuedMove, shown_valued}
 use Rattle.dobutsu_c.specs.declared.moves.DobutsuMove.{DobutsuMove}
-use Rattle.dobutsu_c.specs.Moves.{shown_valued}
 use Rattle.dobutsu_c.proofs.moves.write_moves.Given as goal
 
 abbrev pub invariant-loop-place : goal.invariant-loop-place

@@ -1,9 +1,6 @@
 -- By the right index the answer is the moves that were listed, or the one fault.
-use Rattle.std.proofs.Common.{rules, subst, List}
-use Rattle.dob_probe.specs.declared.by_value.ValuedMove.{ValuedMove}
-use Rattle.dobutsu_c.specs.declared.numbering.Numbering.{Numbering}
+use Rattle.dobutsu_c.proofs.Common.{List, rules, subst, ValuedMove, AreWritten, Numbering}
 use Rattle.dobutsu_c.specs.declared.numbering.Numbering.TheVariants as numbering
-use Rattle.dobutsu_c.specs.Moves.{AreWritten}
 use Rattle.dobutsu_c.proofs.ByFile.{moves_right}
 use Rattle.dobutsu_c.proofs.ToldMoves.{moves_told, no_fault_told, fault_told, refused_told, refused_by_told, marked_told, unmarked_told}
 use Rattle.dobutsu_c.proofs.moves_by.dobutsu_moves_by.Goals as goal

@@ -1,11 +1,8 @@
 -- Each move is later than those listed, and its value is given to the position that it leads to.
-use Rattle.std.proofs.Common.{AllPairs, refl, sym, subst, List}
+use Rattle.dobutsu_c.proofs.Common.{AllPairs, List, refl, subst, sym, move_goes, AreOfFirst, before_next, none_first, none_ordered, one_more, ComesBefore}
+use Rattle.dobutsu_c.proofs.Common.{ValuedMove, IsGivenBy}
 use Rattle.std.proofs.lemmas.Option.{slice_get_read}
-use Rattle.dob_value.proofs.Successors.{move_goes}
-use Rattle.dob_probe.specs.declared.by_value.ValuedMove.{ValuedMove}
-use Rattle.dob_probe.specs.ValuedMoves.{ComesBefore}
-use Rattle.dobutsu_c.specs.ByIndex.{IsGivenBy}
-use Rattle.dobutsu_c.proofs.IndexedMoves.{AreListedBy, AreOfFirst, all_listed, before_next, more_listed, none_first, none_listed, none_ordered, one_more}
+use Rattle.dobutsu_c.proofs.IndexedMoves.{AreListedBy, all_listed, more_listed, none_listed}
 use Rattle.dobutsu_c.proofs.moves_by.moves_in_order.Goals as goal
 
 pub value_after-requires-clause-open : goal.value_after-requires-clause-open

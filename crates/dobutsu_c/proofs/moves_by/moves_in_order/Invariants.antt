@@ -1,8 +1,6 @@
 -- The moves so far are listed, each with a value that the file gives.
-use Rattle.std.proofs.Common.{AllPairs}
-use Rattle.dob_probe.specs.ValuedMoves.{ComesBefore}
-use Rattle.dobutsu_c.specs.ByIndex.{IsGivenBy}
-use Rattle.dobutsu_c.proofs.IndexedMoves.{AreListedBy, AreOfFirst}
+use Rattle.dobutsu_c.proofs.Common.{AllPairs, AreOfFirst, ComesBefore, IsGivenBy}
+use Rattle.dobutsu_c.proofs.IndexedMoves.{AreListedBy}
 use Rattle.dobutsu_c.proofs.moves_by.moves_in_order.Given as goal
 
 abbrev pub invariant-loop-the_move : goal.invariant-loop-the_move

@@ -1,15 +1,6 @@
 -- The position that a move of an open position leads to is of the file's family.
-use Rattle.std.proofs.Common.{sym, subst, ◌∙◌}
-use Rattle.dob_moves.specs.declared.position_status.Status.TheVariants.{Open}
-use Rattle.dob_moves.proofs.ByProfile.{can_go, goes}
-use Rattle.dob_moves.proofs.Outcomes.{HasOutcome-is}
+use Rattle.dobutsu_c.proofs.Common.{◌∙◌, subst, sym, Setup, can_go, goes, HasOutcome-is, Goes, Open, moves_keep_the_family, IsEntry, Value, IsGivenBy, IsRight}
 use Rattle.dob_moves.proofs.ProfileMoves.{goes_there, status_there}
-use Rattle.dob_value.proofs.Successors.{moves_keep_the_family}
-use Rattle.dob_pieces.specs.declared.setup.Setup.{Setup}
-use Rattle.dob_moves.specs.Moves.{Goes}
-use Rattle.dob_value.specs.Follows.{IsEntry}
-use Rattle.dob_value.specs.declared.value.Value.{Value}
-use Rattle.dobutsu_c.specs.ByIndex.{IsRight, IsGivenBy}
 use Rattle.dobutsu_c.proofs.IndexedMoves.{onward}
 use Rattle.dobutsu_c.proofs.moves_by.value_after.Goals as goal
 

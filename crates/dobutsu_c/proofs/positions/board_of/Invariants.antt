@@ -1,6 +1,5 @@
 -- The squares filled so far have the cells of their numbers.
-use Rattle.std.proofs.Common.{◌≡◌, ◌<◌, ℕ, length, get_or, None}
-use Rattle.dob_numbers.specs.Cells.{cell_number}
+use Rattle.dobutsu_c.proofs.Common.{◌<◌, ◌≡◌, None, get_or, length, ℕ, cell_number}
 use Rattle.dobutsu_c.proofs.positions.board_of.Given as goal
 
 abbrev pub invariant-loop-square : goal.invariant-loop-square

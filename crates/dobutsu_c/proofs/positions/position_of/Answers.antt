@@ -1,8 +1,5 @@
 -- What the numbers show is no position for that reason.
-use Rattle.std.proofs.Common.{Result, Err, refl, sym}
-use Rattle.dob_pieces.specs.declared.fault.PositionFault.{PositionFault}
-use Rattle.dob_pieces.specs.declared.hand.Hands.{Hands}
-use Rattle.dob_pieces.specs.declared.position.Position.{Position}
+use Rattle.dobutsu_c.proofs.Common.{Err, Result, refl, sym, PositionFault, Hands, Position}
 use Rattle.dob_pieces.specs.Setups.{setup_of}
 use Rattle.dobutsu_c.proofs.Refused.{fault_holds}
 use Rattle.dobutsu_c.proofs.positions.position_of.Goals as goal

@@ -1,7 +1,6 @@
 -- By the right index the answer is the one value, or the one fault.
-use Rattle.std.proofs.Common.{refl, ap, ◌∙◌}
+use Rattle.dobutsu_c.proofs.Common.{◌∙◌, ap, refl, shown}
 use Rattle.dobutsu_c.specs.declared.numbering.Numbering.TheVariants as numbering
-use Rattle.dobutsu_c.specs.Probes.{shown}
 use Rattle.dobutsu_c.proofs.Exact.{no_fault, one_told, told_right}
 use Rattle.dobutsu_c.proofs.Indexed.{told_by_right, not_unmarked, no_fault_by, one_fault_by, some_fault_by, unmarked_fault}
 use Rattle.dobutsu_c.proofs.probe_by.dobutsu_probe_by.Goals as goal

@@ -1,7 +1,6 @@
 -- The answer is the one value, or the one fault.
-use Rattle.std.proofs.Common.{refl, ap, ◌∙◌}
+use Rattle.dobutsu_c.proofs.Common.{◌∙◌, ap, refl, shown}
 use Rattle.dobutsu_c.specs.declared.numbering.Numbering.TheVariants as numbering
-use Rattle.dobutsu_c.specs.Probes.{shown}
 use Rattle.dobutsu_c.proofs.Exact.{no_fault, one_told, told_right}
 use Rattle.dobutsu_c.proofs.Indexed.{all_counted, told_by_right, no_fault_by, one_fault_by, some_fault_by}
 use Rattle.dobutsu_c.proofs.probes.dobutsu_probe.Goals as goal

@@ -1,6 +1,5 @@
 -- What the certificate says of the position is what the bytes say of the text, and which of the tests of the position failed.
-use Rattle.std.proofs.lemmas.Bool.{both_ways}
-use Rattle.dob_certfile.specs.Format.{content}
+use Rattle.dobutsu_c.proofs.Common.{both_ways, content}
 use Rattle.dobutsu_c.proofs.Replied.{asked_replied}
 use Rattle.dobutsu_c.proofs.replies.replied_by.Goals as goal
 

@@ -1,9 +1,7 @@
 -- The classes are those of the certificate's family.
-use Rattle.std.proofs.Common.{◌≡◌, Err, Some, None, rules, subst}
-use Rattle.dob_pieces.specs.declared.profile.Family.{Family}
+use Rattle.dobutsu_c.proofs.Common.{◌≡◌, Err, None, Some, rules, subst, Family, content}
 use Rattle.dob_certificate.specs.declared.refusal.Refusal.TheVariants as refusal
 use Rattle.dob_certificate.specs.Lost.{SupportsAllLost}
-use Rattle.dob_certfile.specs.Format.{content}
 use Rattle.dob_certify.specs.Replies.{IsReply, IsRight}
 use Rattle.dobutsu_c.proofs.Replied.{unsupported_by, no_claim}
 use Rattle.dobutsu_c.proofs.replies.reply_of.Goals as goal

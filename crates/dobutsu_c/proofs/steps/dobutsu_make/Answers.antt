@@ -1,8 +1,5 @@
 -- The move is one of the list of all.
-use Rattle.std.proofs.Common.{List, Contains, subst, sym}
-use Rattle.dob_moves.specs.declared.game_move.Move.{Move}
-use Rattle.dob_moves.specs.declared.position_status.Status.TheVariants.{Open}
-use Rattle.dob_moves.proofs.ByProfile.{can_go}
+use Rattle.dobutsu_c.proofs.Common.{Contains, List, subst, sym, can_go, Move, Open}
 use Rattle.dob_moves.proofs.ProfileMoves.{goes_there, status_there}
 use Rattle.dobutsu_c.proofs.steps.dobutsu_make.Goals as goal
 

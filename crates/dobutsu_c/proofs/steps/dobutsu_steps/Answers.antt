@@ -1,7 +1,5 @@
 -- The list that is written is the one that was made.
-use Rattle.std.proofs.Common.{rules, List, subst}
-use Rattle.dob_moves.specs.declared.game_move.Move.{Move}
-use Rattle.dobutsu_c.specs.Steps.{AreWrittenSteps}
+use Rattle.dobutsu_c.proofs.Common.{List, rules, subst, Move, AreWrittenSteps}
 use Rattle.dobutsu_c.proofs.steps.dobutsu_steps.Goals as goal
 
 pub returns-in-Ok-steps_of-clause-told : goal.returns-in-Ok-steps_of-clause-told

@@ -1,7 +1,5 @@
 -- None of the moves so far has those numbers.
-use Rattle.std.proofs.Common.{ℕ, ◌<◌, ◌≢◌, get_or}
-use Rattle.dob_moves.specs.declared.game_move.Move.{Move}
-use Rattle.dobutsu_c.specs.Steps.{shown_step}
+use Rattle.dobutsu_c.proofs.Common.{◌<◌, ◌≢◌, get_or, ℕ, Move, shown_step}
 use Rattle.dobutsu_c.proofs.steps.step_among.Given as goal
 
 abbrev pub invariant-loop-the_move : goal.invariant-loop-the_move

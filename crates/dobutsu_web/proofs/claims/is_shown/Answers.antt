@@ -1,8 +1,5 @@
 -- By the claim.
-use Rattle.std.proofs.Common.{◌↔◌, IsTrue, sym, subst}
-use Rattle.dob_certificate.specs.declared.claim.Claim.{Claim}
-use Rattle.dob_certificate.specs.Claims.{Show}
-use Rattle.dobutsu_web.specs.Ranked.{entries_in}
+use Rattle.dobutsu_web.proofs.Common.{◌↔◌, IsTrue, subst, sym, Show, Claim, entries_in}
 use Rattle.dobutsu_web.proofs.claims.is_shown.Goals as goal
 
 pub returns-in-Exactly : goal.returns-in-Exactly

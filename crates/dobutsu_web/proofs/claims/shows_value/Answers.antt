@@ -1,10 +1,6 @@
 -- By the value; the lists are of one family.
-use Rattle.std.proofs.Common.{◌↔◌, IsTrue, sym, subst}
-use Rattle.dob_pieces.specs.declared.profile.Family.{Family}
+use Rattle.dobutsu_web.proofs.Common.{◌↔◌, IsTrue, subst, sym, Family, IsPositionOf, ShowsDraw, ShowsValue, entries_in}
 use Rattle.dob_value.specs.declared.value.Value.{Value}
-use Rattle.dob_rank.specs.Families.{IsPositionOf}
-use Rattle.dob_certificate.specs.Claims.{ShowsDraw, ShowsValue}
-use Rattle.dobutsu_web.specs.Ranked.{entries_in}
 use Rattle.dobutsu_web.proofs.claims.shows_value.Goals as goal
 
 pub shows_draw-requires-clause-member : goal.shows_draw-requires-clause-member

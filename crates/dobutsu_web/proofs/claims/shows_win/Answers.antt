@@ -1,11 +1,5 @@
 -- The upper bound by the one list, the lower by the other, which is of the same family.
-use Rattle.std.proofs.Common.{◌↔◌, ◌-◌, IsTrue, sym, subst, rules, arith}
-use Rattle.std.proofs.lemmas.Bool.Decides.{nat_tests}
-use Rattle.dob_pieces.specs.declared.profile.Family.{Family}
-use Rattle.dob_rank.specs.Families.{IsPositionOf}
-use Rattle.dob_certificate.specs.Held.{IsSafe}
-use Rattle.dob_certificate.proofs.Cases.{said_no, not_so}
-use Rattle.dobutsu_web.specs.Ranked.{entries_in}
+use Rattle.dobutsu_web.proofs.Common.{◌-◌, ◌↔◌, IsTrue, arith, rules, subst, sym, nat_tests, Family, IsPositionOf, not_so, said_no, IsSafe, entries_in}
 use Rattle.dobutsu_web.proofs.claims.shows_win.Goals as goal
 
 pub is_safe-requires-clause-member : goal.is_safe-requires-clause-member

@@ -1,8 +1,5 @@
 -- The moves of the places so far lead to what is held.
-use Rattle.std.proofs.Common.{ℕ, ◌<◌}
-use Rattle.dob_certificate.specs.Held.{IsSaidHeld}
-use Rattle.dobutsu_web.specs.Places.{EachAt}
-use Rattle.dobutsu_web.specs.Ranked.{entries_in}
+use Rattle.dobutsu_web.proofs.Common.{◌<◌, ℕ, IsSaidHeld, EachAt, entries_in}
 use Rattle.dobutsu_web.proofs.held.are_all_held.Given as goal
 
 abbrev pub invariant-loop-place : goal.invariant-loop-place

@@ -1,10 +1,5 @@
 -- The escape that was found is a move, and where no place has one none is.
-use Rattle.std.proofs.Common.{ℕ, refl, rules, arith}
-use Rattle.dob_moves.specs.Moves.{place}
-use Rattle.dob_certificate.specs.Held.{IsSafe}
-use Rattle.dob_certificate.proofs.Cases.{said_no, said_yes, not_so}
-use Rattle.dobutsu_web.specs.Places.{SomeAt}
-use Rattle.dobutsu_web.specs.Ranked.{entries_in}
+use Rattle.dobutsu_web.proofs.Common.{arith, refl, rules, ℕ, place, not_so, said_no, said_yes, IsSafe, SomeAt, entries_in}
 use Rattle.dobutsu_web.proofs.NoMoves.{one_more, place_below}
 use Rattle.dobutsu_web.proofs.held.has_escape.Goals as goal
 

@@ -1,8 +1,5 @@
 -- None of the places so far has an escape.
-use Rattle.std.proofs.Common.{ℕ, ◌<◌}
-use Rattle.dob_certificate.specs.Held.{IsSafe}
-use Rattle.dobutsu_web.specs.Places.{SomeAt}
-use Rattle.dobutsu_web.specs.Ranked.{entries_in}
+use Rattle.dobutsu_web.proofs.Common.{◌<◌, ℕ, IsSafe, SomeAt, entries_in}
 use Rattle.dobutsu_web.proofs.held.has_escape.Given as goal
 
 abbrev pub invariant-loop-place : goal.invariant-loop-place

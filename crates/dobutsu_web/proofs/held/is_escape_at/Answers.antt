@@ -1,7 +1,5 @@
 -- The one move of the place decides.
-use Rattle.dob_certificate.specs.Held.{IsSafe}
-use Rattle.dob_certificate.proofs.Cases.{said_no}
-use Rattle.dobutsu_web.specs.Ranked.{entries_in}
+use Rattle.dobutsu_web.proofs.Common.{said_no, IsSafe, entries_in}
 use Rattle.dobutsu_web.proofs.NoMoves.{some_at, none_some}
 use Rattle.dobutsu_web.proofs.held.is_escape_at.Goals as goal
 

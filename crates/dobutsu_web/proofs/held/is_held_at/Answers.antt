@@ -1,7 +1,5 @@
 -- The one move of the place decides.
-use Rattle.dob_certificate.specs.Held.{IsSaidHeld}
-use Rattle.dob_certificate.proofs.Cases.{said_yes}
-use Rattle.dobutsu_web.specs.Ranked.{entries_in}
+use Rattle.dobutsu_web.proofs.Common.{said_yes, IsSaidHeld, entries_in}
 use Rattle.dobutsu_web.proofs.NoMoves.{each_at, none_each}
 use Rattle.dobutsu_web.proofs.held.is_held_at.Goals as goal
 

@@ -1,8 +1,5 @@
 -- The one entry of the position's class decides.
-use Rattle.std.proofs.Common.{◌≤◌, ◌↔◌, ℕ, IsTrue, leb, sym, subst}
-use Rattle.dob_certificate.specs.declared.entry.Entry.{Entry}
-use Rattle.dob_certificate.proofs.Cases.{said_no, at_most, listed_by}
-use Rattle.dobutsu_web.specs.Ranked.{entries_in}
+use Rattle.dobutsu_web.proofs.Common.{◌↔◌, ◌≤◌, IsTrue, leb, subst, sym, ℕ, at_most, listed_by, said_no, Entry, entries_in}
 use Rattle.dobutsu_web.proofs.held.is_listed_beyond.Goals as goal
 
 pub returns-in-Some : goal.returns-in-Some

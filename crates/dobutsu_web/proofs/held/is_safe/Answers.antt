@@ -1,7 +1,5 @@
 -- By the status: where the game goes on, by each move.
-use Rattle.dob_moves.specs.declared.position_status.Status.TheVariants.{Caught, Open}
-use Rattle.dob_certificate.proofs.Cases.{said_no, said_yes, of_status, over_by, safe_caught, safe_over, safe_open}
-use Rattle.dobutsu_web.specs.Ranked.{entries_in}
+use Rattle.dobutsu_web.proofs.Common.{Caught, Open, of_status, over_by, safe_caught, safe_open, safe_over, said_no, said_yes, entries_in}
 use Rattle.dobutsu_web.proofs.held.is_safe.Goals as goal
 
 pub returns-in-Caught : goal.returns-in-Caught

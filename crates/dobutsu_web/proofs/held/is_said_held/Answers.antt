@@ -1,8 +1,5 @@
 -- By the status: where the game goes on, the list says it.
-use Rattle.std.proofs.Common.{inl}
-use Rattle.dob_moves.specs.declared.position_status.Status.TheVariants.{Caught}
-use Rattle.dob_certificate.proofs.Cases.{said_no, said_yes, of_status, over_by, said_held_over}
-use Rattle.dobutsu_web.specs.Ranked.{entries_in}
+use Rattle.dobutsu_web.proofs.Common.{inl, Caught, of_status, over_by, said_held_over, said_no, said_yes, entries_in}
 use Rattle.dobutsu_web.proofs.held.is_said_held.Goals as goal
 
 pub returns-in-Caught : goal.returns-in-Caught

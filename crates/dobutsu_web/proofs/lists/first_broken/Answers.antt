@@ -1,8 +1,5 @@
 -- Each entry is one more, or the first that isn't supported.
-use Rattle.std.proofs.Common.{ℕ, ◌<◌, length, subst, rules, arith}
-use Rattle.dob_certificate.specs.Lists.{Supports}
-use Rattle.dob_certificate.proofs.Cases.{not_so}
-use Rattle.dobutsu_web.specs.Ranked.{entries_in, entry_in}
+use Rattle.dobutsu_web.proofs.Common.{◌<◌, arith, length, rules, subst, ℕ, not_so, Supports, entries_in, entry_in}
 use Rattle.dobutsu_web.proofs.NoMoves.{one_more}
 use Rattle.dobutsu_web.proofs.Ranks.{entry_from}
 use Rattle.dobutsu_web.proofs.lists.first_broken.Goals as goal

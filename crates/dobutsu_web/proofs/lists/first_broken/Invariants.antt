@@ -1,7 +1,5 @@
 -- The entries so far are supported.
-use Rattle.std.proofs.Common.{ℕ, ◌<◌}
-use Rattle.dob_certificate.specs.Lists.{Supports}
-use Rattle.dobutsu_web.specs.Ranked.{entries_in, entry_in}
+use Rattle.dobutsu_web.proofs.Common.{◌<◌, ℕ, Supports, entries_in, entry_in}
 use Rattle.dobutsu_web.proofs.lists.first_broken.Given as goal
 
 abbrev pub invariant-loop-place : goal.invariant-loop-place

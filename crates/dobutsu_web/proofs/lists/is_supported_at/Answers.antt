@@ -1,8 +1,6 @@
 -- Each kind in its way.
-use Rattle.std.proofs.Common.{sym, subst, ◌↔◌, IsTrue}
+use Rattle.dobutsu_web.proofs.Common.{◌↔◌, IsTrue, subst, sym, Supports, entries_in, entry_in}
 use Rattle.dob_certificate.specs.declared.list_kind.ListKind.{ListKind}
-use Rattle.dob_certificate.specs.Lists.{Supports}
-use Rattle.dobutsu_web.specs.Ranked.{entries_in, entry_in}
 use Rattle.dobutsu_web.proofs.lists.is_supported_at.Goals as goal
 
 pub returns-in-Lost : goal.returns-in-Lost

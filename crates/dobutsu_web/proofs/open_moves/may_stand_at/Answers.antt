@@ -1,7 +1,5 @@
 -- Steps stand at the places of their two squares, drops behind them.
-use Rattle.std.proofs.Common.{◌≡◌, ◌+◌, ◌*◌, ◌∙◌, false, sym, subst, arith}
-use Rattle.dob_moves.specs.Moves.{hand_place, first_drop}
-use Rattle.dobutsu_web.specs.Places.{NoneStands, leads_from}
+use Rattle.dobutsu_web.proofs.Common.{◌*◌, ◌+◌, ◌∙◌, ◌≡◌, arith, false, subst, sym, first_drop, hand_place, NoneStands, leads_from}
 use Rattle.dobutsu_web.proofs.NoMoves.{no_step, no_drop}
 use Rattle.dobutsu_web.proofs.open_moves.may_stand_at.Goals as goal
 

@@ -1,6 +1,5 @@
 -- The ranks so far are as they should be.
-use Rattle.std.proofs.Common.{ℕ, ◌<◌}
-use Rattle.dobutsu_web.specs.Ranked.{IsRankAt}
+use Rattle.dobutsu_web.proofs.Common.{◌<◌, ℕ, IsRankAt}
 use Rattle.dobutsu_web.proofs.ranked.are_ranks.Given as goal
 
 abbrev pub invariant-loop-place : goal.invariant-loop-place

@@ -1,6 +1,5 @@
 -- The search ends at the rank, or no place has it.
-use Rattle.std.proofs.Common.{ℕ, Ok, Err, rules}
-use Rattle.std.proofs.lemmas.List.Sorted.{answers_always}
+use Rattle.dobutsu_web.proofs.Common.{Err, Ok, rules, ℕ, answers_always}
 use Rattle.dobutsu_web.proofs.Ranks.{searched}
 use Rattle.dobutsu_web.proofs.ranked.place_of.Goals as goal
 

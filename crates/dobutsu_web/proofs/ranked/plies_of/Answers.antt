@@ -1,6 +1,5 @@
 -- Its class is listed where the rank of its representative is.
-use Rattle.std.proofs.Common.{refl, sym, ◌∙◌}
-use Rattle.dobutsu_web.specs.Ranked.{entry_in}
+use Rattle.dobutsu_web.proofs.Common.{◌∙◌, refl, sym, entry_in}
 use Rattle.dobutsu_web.proofs.Ranks.{none_for, entry_for, alone_for}
 use Rattle.dobutsu_web.proofs.ranked.plies_of.Goals as goal
 

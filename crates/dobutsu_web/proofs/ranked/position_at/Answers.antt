@@ -1,8 +1,5 @@
 -- The position of that rank.
-use Rattle.std.proofs.Common.{◌≡◌, ◌∙◌, sym, subst, slice_index}
-use Rattle.dob_pieces.specs.declared.setup.Setup.{Setup}
-use Rattle.dob_rank.specs.Families.{IsRepresentative, HasClass}
-use Rattle.dobutsu_web.specs.Ranked.{entry_in, ranked_setup}
+use Rattle.dobutsu_web.proofs.Common.{◌∙◌, ◌≡◌, slice_index, subst, sym, Setup, HasClass, IsRepresentative, entry_in, ranked_setup}
 use Rattle.dobutsu_web.proofs.Ranks.{ranked_only, representative_at, has_class}
 use Rattle.dobutsu_web.proofs.ranked.position_at.Goals as goal
 

@@ -1,7 +1,5 @@
 -- Both ranks are of one family, so that the lower one is the earlier position's.
-use Rattle.std.proofs.Common.{sym, subst}
-use Rattle.dob_rank.specs.Families.{IsPositionOf}
-use Rattle.dob_classes.proofs.OfFamilies.FamilyNumbers.{IsPositionOf-mirrored}
+use Rattle.dobutsu_web.proofs.Common.{subst, sym, IsPositionOf, IsPositionOf-mirrored}
 use Rattle.dob_classes.proofs.OfFamilies.FamilyRepresentatives.{image_first, itself_first}
 use Rattle.dobutsu_web.proofs.ranked.rank_of_earlier.Goals as goal
 

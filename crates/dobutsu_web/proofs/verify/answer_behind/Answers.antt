@@ -1,12 +1,6 @@
 -- The held list's family is the lost one's.
-use Rattle.std.proofs.Common.{◌↔◌, IsTrue, inl, inr, refl, subst}
-use Rattle.std.proofs.lemmas.Bool.{cases_Bool}
-use Rattle.dob_pieces.specs.declared.profile.Family.{Family}
+use Rattle.dobutsu_web.proofs.Common.{◌↔◌, IsTrue, inl, inr, refl, subst, cases_Bool, Family, not_so, Show, IsFirstBroken, SupportsAll, entries_by, entries_in}
 use Rattle.dob_certificate.specs.declared.list_kind.ListKind.TheVariants.{Held}
-use Rattle.dob_certificate.specs.Claims.{Show}
-use Rattle.dob_certificate.proofs.Cases.{not_so}
-use Rattle.dobutsu_web.specs.Certified.{IsFirstBroken, SupportsAll}
-use Rattle.dobutsu_web.specs.Ranked.{entries_by, entries_in}
 use Rattle.dobutsu_web.proofs.Answered.{proof_of}
 use Rattle.dobutsu_web.proofs.verify.answer_behind.Goals as goal
 

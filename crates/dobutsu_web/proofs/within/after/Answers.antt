@@ -1,10 +1,6 @@
 -- What stands after a move is a position of the same family, and the only one to which the move goes.
-use Rattle.std.proofs.Common.{sym, ◌∙◌}
-use Rattle.dob_moves.specs.declared.position_status.Status.TheVariants.{Open}
-use Rattle.dob_moves.proofs.ByProfile.{can_go, goes}
+use Rattle.dobutsu_web.proofs.Common.{◌∙◌, sym, can_go, goes, goes_there, status_there, Open, moves_keep_the_family}
 use Rattle.dob_moves.proofs.Outcomes.{HasOutcome-is}
-use Rattle.dob_moves.proofs.ProfileMoves.{goes_there, status_there}
-use Rattle.dob_value.proofs.Successors.{moves_keep_the_family}
 use Rattle.dobutsu_web.proofs.within.after.Goals as goal
 
 pub apply-requires-clause-open : goal.apply-requires-clause-open

@@ -1,10 +1,5 @@
 -- Each place's move is one more.
-use Rattle.std.proofs.Common.{ℕ, refl, rules, arith}
-use Rattle.dob_moves.specs.Moves.{place}
-use Rattle.dob_certificate.specs.Lost.{IsAnswered}
-use Rattle.dob_certificate.proofs.Cases.{said_no, said_yes, not_so}
-use Rattle.dobutsu_web.specs.Places.{EachAt}
-use Rattle.dobutsu_web.specs.Ranked.{entries_in}
+use Rattle.dobutsu_web.proofs.Common.{arith, refl, rules, ℕ, place, not_so, said_no, said_yes, IsAnswered, EachAt, entries_in}
 use Rattle.dobutsu_web.proofs.NoMoves.{one_more, place_below}
 use Rattle.dobutsu_web.proofs.within.are_all_answered.Goals as goal
 

@@ -1,8 +1,5 @@
 -- The moves of the places so far are answered.
-use Rattle.std.proofs.Common.{ℕ, ◌<◌}
-use Rattle.dob_certificate.specs.Lost.{IsAnswered}
-use Rattle.dobutsu_web.specs.Places.{EachAt}
-use Rattle.dobutsu_web.specs.Ranked.{entries_in}
+use Rattle.dobutsu_web.proofs.Common.{◌<◌, ℕ, IsAnswered, EachAt, entries_in}
 use Rattle.dobutsu_web.proofs.within.are_all_answered.Given as goal
 
 abbrev pub invariant-loop-place : goal.invariant-loop-place

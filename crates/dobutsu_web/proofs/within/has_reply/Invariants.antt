@@ -1,8 +1,5 @@
 -- None of the places so far has a reply.
-use Rattle.std.proofs.Common.{ℕ, ◌<◌}
-use Rattle.dob_certificate.specs.Lost.{IsSaidLost}
-use Rattle.dobutsu_web.specs.Places.{SomeAt}
-use Rattle.dobutsu_web.specs.Ranked.{entries_in}
+use Rattle.dobutsu_web.proofs.Common.{◌<◌, ℕ, IsSaidLost, SomeAt, entries_in}
 use Rattle.dobutsu_web.proofs.within.has_reply.Given as goal
 
 abbrev pub invariant-loop-place : goal.invariant-loop-place

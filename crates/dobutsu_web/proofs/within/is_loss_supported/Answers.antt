@@ -1,9 +1,6 @@
 -- By the status: where the game goes on, by each move.
-use Rattle.std.proofs.Common.{◌<◌, inl, arith}
-use Rattle.std.proofs.lemmas.Bool.Decides.{nat_tests}
-use Rattle.dob_moves.specs.declared.position_status.Status.TheVariants.{Caught, Open}
-use Rattle.dob_certificate.proofs.Cases.{said_no, said_yes, of_status, over_by, loss_caught, loss_soon, loss_open}
-use Rattle.dobutsu_web.specs.Ranked.{entries_in}
+use Rattle.dobutsu_web.proofs.Common.{◌<◌, arith, inl, nat_tests, Caught, Open, of_status, over_by, said_no, said_yes, entries_in}
+use Rattle.dob_certificate.proofs.Cases.{loss_caught, loss_soon, loss_open}
 use Rattle.dobutsu_web.proofs.within.is_loss_supported.Goals as goal
 
 pub returns-in-Caught : goal.returns-in-Caught

@@ -1,8 +1,5 @@
 -- The class's representative stands for it.
-use Rattle.dob_classes.proofs.OfFamilies.FamilyNumbers.{class_number-below}
-use Rattle.std.proofs.Common.{slice_index}
-use Rattle.dob_certificate.proofs.Cases.{supports_lost_by}
-use Rattle.dobutsu_web.specs.Ranked.{entries_in, entry_in, ranked_setup}
+use Rattle.dobutsu_web.proofs.Common.{slice_index, class_number-below, supports_lost_by, entries_in, entry_in, ranked_setup}
 use Rattle.dobutsu_web.proofs.Ranks.{representative_at}
 use Rattle.dobutsu_web.proofs.within.is_loss_supported_at.Goals as goal
 

@@ -1,8 +1,5 @@
 -- By the status: where the game goes on, the list says it.
-use Rattle.std.proofs.Common.{inl}
-use Rattle.dob_moves.specs.declared.position_status.Status.TheVariants.{Caught, Open}
-use Rattle.dob_certificate.proofs.Cases.{said_no, said_yes, of_status, over_by, said_lost_caught, said_lost_open}
-use Rattle.dobutsu_web.specs.Ranked.{entries_in}
+use Rattle.dobutsu_web.proofs.Common.{inl, Caught, Open, of_status, over_by, said_lost_caught, said_lost_open, said_no, said_yes, entries_in}
 use Rattle.dobutsu_web.proofs.within.is_said_lost.Goals as goal
 
 pub returns-in-Caught : goal.returns-in-Caught

@@ -1,0 +1,27 @@
+-- The names that the proofs here use most, from other crates and the definitions of this one.
+pub use Rattle.std.proofs.Common.{◌&&◌, ◌*◌, ◌+◌, ◌-◌, ◌<◌, ◌↔◌, ◌∙◌, ◌≡◌, ◌≢◌, ◌≤◌, Bool, Contains, Err, IfErr, IfOk, IsTrue, List, None, Ok, Result, Some, ap}
+pub use Rattle.std.proofs.Common.{arith, false, inl, inr, leb, length, nat_eq, nat_lt, refl, rules, slice_index, subst, suc, sym, true, zero, ℕ}
+pub use Rattle.std.proofs.lemmas.Bool.{cases_Bool, cases_lt, lt-ltb}
+pub use Rattle.std.proofs.lemmas.Bool.Decides.{nat_tests}
+pub use Rattle.std.proofs.lemmas.List.Sorted.{IsNonDecreasingBy-from_default, answers_always}
+pub use Rattle.dob_pieces.specs.declared.profile.Family.{Family}
+pub use Rattle.dob_pieces.specs.declared.setup.Setup.{Setup}
+pub use Rattle.dob_moves.proofs.ByProfile.{can_go, goes}
+pub use Rattle.dob_moves.proofs.ProfileMoves.{goes_there, status_there}
+pub use Rattle.dob_moves.specs.Moves.{CanGo, Goes, HasOutcome, first_drop, hand_place, place}
+pub use Rattle.dob_moves.specs.declared.position_status.Status.TheVariants.{Caught, Open}
+pub use Rattle.dob_rank.specs.Families.{HasClass, IsPositionOf, IsRepresentative}
+pub use Rattle.dob_classes.proofs.OfFamilies.FamilyNumbers.{IsPositionOf-mirrored, class_number-below}
+pub use Rattle.dob_value.proofs.Successors.{moves_keep_the_family}
+pub use Rattle.dob_certificate.proofs.Cases.{answered_open, answered_over, at_most, hold_over, listed_by, not_so, of_status, over_by, safe_caught, safe_open}
+pub use Rattle.dob_certificate.proofs.Cases.{safe_over, said_held_over, said_lost_caught, said_lost_open, said_no, said_yes, supports_held_by, supports_lost_by}
+pub use Rattle.dob_certificate.specs.Claims.{Prove, Show, ShowsDraw, ShowsValue}
+pub use Rattle.dob_certificate.specs.Held.{IsSafe, IsSaidHeld}
+pub use Rattle.dob_certificate.specs.Lists.{Supports}
+pub use Rattle.dob_certificate.specs.Lost.{IsAnswered, IsSaidLost}
+pub use Rattle.dob_certificate.specs.declared.claim.Claim.{Claim}
+pub use Rattle.dob_certificate.specs.declared.entry.Entry.{Entry}
+pub use Rattle.dobutsu_web.specs.Certified.{AreProof, IsFirstBroken, SupportsAll}
+pub use Rattle.dobutsu_web.specs.Places.{EachAt, NoneStands, SomeAt, leads_from}
+pub use Rattle.dobutsu_web.specs.Ranked.{AreRanks, IsRankAt, entries_by, entries_in, entry_by, entry_in}
+unfoldable pub use Rattle.dobutsu_web.specs.Ranked.{ranked_setup}
