@@ -59,9 +59,9 @@ fn tell_moves(alloc: Global, profile: Profile, position: &Position) -> Result<St
         Status::Open => "open",
     };
     let mut text = format!(in alloc; "status {name} moves")?;
-    let the_moves = moves(alloc, profile, position)?;
-    for the_move in &the_moves {
-        let word = write_move(alloc, *the_move, false)?;
+    let legal = moves(alloc, profile, position)?;
+    for played in &legal {
+        let word = write_move(alloc, *played, false)?;
         write!(text, " {word}")?;
     }
     Ok(text)
@@ -74,11 +74,11 @@ fn tell_after(
     profile: Profile,
     position: &Position,
 ) -> Result<String, Memory> {
-    let the_moves = moves(alloc, profile, position)?;
-    if number >= the_moves.len() {
+    let legal = moves(alloc, profile, position)?;
+    if number >= legal.len() {
         return Ok("none".to_string(alloc)?);
     }
-    let after = apply(position, the_moves[number]);
+    let after = apply(position, legal[number]);
     write_position(alloc, &after)
 }
 
@@ -86,7 +86,7 @@ fn tell_after(
 fn tell_catch(alloc: Global, position: &Position) -> Result<String, Memory> {
     match first_catch(position) {
         None => Ok("none".to_string(alloc)?),
-        Some(the_move) => write_move(alloc, the_move, false),
+        Some(played) => write_move(alloc, played, false),
     }
 }
 

@@ -7,32 +7,32 @@ use Rattle.dob_moves.specs.Moves.{Goes}
 
 -- it holds of what the moves below an index lead to
 abbrev pub AllBelow : Profile → (Setup → Type 0) → Setup → List Move → ℕ → Type 0
-AllBelow profile Fits p the_moves upto = (index : ℕ) (move : Move) (q : Setup) → index < upto → slice_get the_moves index ≡ Some move →
+AllBelow profile Fits p legal upto = (index : ℕ) (move : Move) (q : Setup) → index < upto → slice_get legal index ≡ Some move →
     Goes profile p move q → Fits q
 
-module _ (profile : Profile) (Fits : Setup → Type 0) (p : Setup) (the_moves : List Move) where
-  pub all_none : AllBelow profile Fits p the_moves 0
+module _ (profile : Profile) (Fits : Setup → Type 0) (p : Setup) (legal : List Move) where
+  pub all_none : AllBelow profile Fits p legal 0
   all_none index move q below there goes = absurd (omega arith)
 
-  pub all_more : (upto : ℕ) (the_move : Move) (outcome : Setup) → slice_get the_moves upto ≡ Some the_move →
-      ((q : Setup) → Goes profile p the_move q → outcome ≡ q) → Fits outcome →
-      AllBelow profile Fits p the_moves upto → AllBelow profile Fits p the_moves (upto + 1)
-  all_more upto the_move outcome here alone fits before index move q below there goes = elim (cases_lt index upto) [
+  pub all_more : (upto : ℕ) (played : Move) (outcome : Setup) → slice_get legal upto ≡ Some played →
+      ((q : Setup) → Goes profile p played q → outcome ≡ q) → Fits outcome →
+      AllBelow profile Fits p legal upto → AllBelow profile Fits p legal (upto + 1)
+  all_more upto played outcome here alone fits before index move q below there goes = elim (cases_lt index upto) [
     | inl earlier ↦ before index move q earlier there goes
     | inr later ↦
         let same : upto ≡ index = omega arith in
-        let here_too : slice_get the_moves index ≡ Some the_move = subst (λ k. slice_get the_moves k ≡ Some the_move) same here in
-        let is_the_move : move ≡ the_move = same_Some move the_move (sym there ∙ here_too) in
-        subst Fits (alone q (subst (λ m. Goes profile p m q) is_the_move goes)) fits
+        let here_too : slice_get legal index ≡ Some played = subst (λ k. slice_get legal k ≡ Some played) same here in
+        let is_played : move ≡ played = same_Some move played (sym there ∙ here_too) in
+        subst Fits (alone q (subst (λ m. Goes profile p m q) is_played goes)) fits
   ]
 
-  pub all_done : (upto : ℕ) → length the_moves ≤ upto → AreMoves profile p the_moves → AllBelow profile Fits p the_moves upto →
+  pub all_done : (upto : ℕ) → length legal ≤ upto → AreMoves profile p legal → AllBelow profile Fits p legal upto →
       HasStatus profile p Open → (move : Move) (q : Setup) → Goes profile p move q → Fits q
   all_done upto all are_moves below goes_on move q goes =
       let there = are_moves.whole move goes_on (q, goes) in
-      let read : slice_get the_moves there.0 ≡ Some move = slice_get-get_or the_moves there.0 move there.1
+      let read : slice_get legal there.0 ≡ Some move = slice_get-get_or legal there.0 move there.1
       ∙ ap (λ m. let o : Option Move = Some m in o) there.2 in
-      let within : there.0 < length the_moves = there.1 in
+      let within : there.0 < length legal = there.1 in
       below there.0 move q (omega arith) read goes
 
 -- what was found of a class's representative holds of what stands at its number

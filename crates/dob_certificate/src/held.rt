@@ -98,15 +98,15 @@ fn has_escape(
     held: &Entries,
     plies: u16,
     position: &Position,
-    the_moves: &[Move],
+    legal: &[Move],
 ) -> Result<bool, Memory>
     requires member { IsPositionOf classes.now.family position.now.setup }
     requires goes_on { HasStatus classes.now.family.profile position.now.setup Status.Open }
-    requires the_moves { AreMoves classes.now.family.profile position.now.setup the_moves.now }
+    requires legal { AreMoves classes.now.family.profile position.now.setup legal.now }
     ensures { IfOk result (λ yes. IsTrue yes ↔ HasEscape classes.now.family held.now plies position.now.setup) }
 {
-    for the_move in the_moves {
-        let outcome = after(classes, position, *the_move);
+    for played in legal {
+        let outcome = after(classes, position, *played);
         let safe = is_safe(replies, classes, held, plies, &outcome)?;
         if safe {
             return Ok(true);
@@ -127,7 +127,7 @@ fn plies_asked(plies: u16) -> u16
 //
 // Error: `Memory`.
 fn is_hold_supported(
-    the_moves: &mut Vec<Move>,
+    legal: &mut Vec<Move>,
     replies: &mut Vec<Move>,
     classes: &Classes,
     held: &Entries,
@@ -137,7 +137,7 @@ fn is_hold_supported(
     requires { IsPositionOf classes.now.family position.now.setup }
     ensures { IfOk result (λ yes. IsTrue yes ↔ IsHoldSupported classes.now.family held.now plies position.now.setup) }
 {
-    match moves_into(classes.family.profile, the_moves, position)? {
+    match moves_into(classes.family.profile, legal, position)? {
         Status::Caught => Ok(true),
         Status::Tried | Status::Stuck => Ok(false),
         Status::Open => {
@@ -145,7 +145,7 @@ fn is_hold_supported(
                 Ok(true)
             } else {
                 let asked = plies_asked(plies);
-                has_escape(replies, classes, held, asked, position, the_moves)
+                has_escape(replies, classes, held, asked, position, legal)
             }
         }
     }

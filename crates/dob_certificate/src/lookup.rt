@@ -24,12 +24,12 @@ pub fn entry_for(classes: &Classes, entries: &Entries, position: &Position) -> O
 }
 
 /// The position of the family to which the move leads.
-pub(crate) fn after(classes: &Classes, position: &Position, the_move: Move) -> Position
+pub(crate) fn after(classes: &Classes, position: &Position, played: Move) -> Position
     requires member { IsPositionOf classes.now.family position.now.setup }
-    requires the_move { HasStatus classes.now.family.profile position.now.setup Status.Open × CanGo classes.now.family.profile position.now.setup the_move }
+    requires played { HasStatus classes.now.family.profile position.now.setup Status.Open × CanGo classes.now.family.profile position.now.setup played }
     ensures member { IsPositionOf classes.now.family result.setup }
-    ensures goes { Goes classes.now.family.profile position.now.setup the_move result.setup }
-    ensures alone { (q : Setup) → Goes classes.now.family.profile position.now.setup the_move q → result.setup ≡ q }
+    ensures goes { Goes classes.now.family.profile position.now.setup played result.setup }
+    ensures alone { (q : Setup) → Goes classes.now.family.profile position.now.setup played q → result.setup ≡ q }
 {
-    apply(position, the_move)
+    apply(position, played)
 }

@@ -94,15 +94,15 @@ fn are_all_answered(
     lost: &Entries,
     plies: u16,
     position: &Position,
-    the_moves: &[Move],
+    legal: &[Move],
 ) -> Result<bool, Memory>
     requires member { IsPositionOf classes.now.family position.now.setup }
     requires goes_on { HasStatus classes.now.family.profile position.now.setup Status.Open }
-    requires the_moves { AreMoves classes.now.family.profile position.now.setup the_moves.now }
+    requires legal { AreMoves classes.now.family.profile position.now.setup legal.now }
     ensures { IfOk result (λ yes. IsTrue yes ↔ AreAllAnswered classes.now.family lost.now plies position.now.setup) }
 {
-    for the_move in the_moves {
-        let outcome = after(classes, position, *the_move);
+    for played in legal {
+        let outcome = after(classes, position, *played);
         let answered = is_answered(replies, classes, lost, plies, &outcome)?;
         if !answered {
             return Ok(false);
@@ -115,7 +115,7 @@ fn are_all_answered(
 //
 // Error: `Memory`.
 fn is_loss_supported(
-    the_moves: &mut Vec<Move>,
+    legal: &mut Vec<Move>,
     replies: &mut Vec<Move>,
     classes: &Classes,
     lost: &Entries,
@@ -125,14 +125,14 @@ fn is_loss_supported(
     requires { IsPositionOf classes.now.family position.now.setup }
     ensures { IfOk result (λ yes. IsTrue yes ↔ IsLossSupported classes.now.family lost.now plies position.now.setup) }
 {
-    match moves_into(classes.family.profile, the_moves, position)? {
+    match moves_into(classes.family.profile, legal, position)? {
         Status::Caught => Ok(false),
         Status::Tried | Status::Stuck => Ok(true),
         Status::Open => {
             if plies < 2 {
                 Ok(false)
             } else {
-                are_all_answered(replies, classes, lost, plies - 2, position, the_moves)
+                are_all_answered(replies, classes, lost, plies - 2, position, legal)
             }
         }
     }

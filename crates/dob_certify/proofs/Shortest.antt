@@ -17,26 +17,26 @@ use Rattle.dob_certify.specs.declared.replies.Reply.{Reply}
 use Rattle.dob_certify.specs.declared.replies.Reply.TheVariants.{Win, Loss}
 use Rattle.dob_certify.specs.Replies.{IsReply, IsRight, IsShortest, Leads, NoneLeads, SaysLost, loss, shorter}
 
-module _ (family : Family) (lost : List Entry) (p : Setup) (the_moves : List Move) where
+module _ (family : Family) (lost : List Entry) (p : Setup) (legal : List Move) where
   -- the same of the moves below an index
   abbrev pub IsShortestBelow : ℕ → Option Lead → Type 0
-  IsShortestBelow upto None = AllBelow family.profile (λ (q : Setup). (n : ℕ) → ¬ IsSaidLost family lost n q) p the_moves upto
-  IsShortestBelow upto (Some lead) = Leads family lost p lead.the_move lead.plies
-      × AllBelow family.profile (λ (q : Setup). (n : ℕ) → IsSaidLost family lost n q → lead.plies ≤ n) p the_moves upto
+  IsShortestBelow upto None = AllBelow family.profile (λ (q : Setup). (n : ℕ) → ¬ IsSaidLost family lost n q) p legal upto
+  IsShortestBelow upto (Some lead) = Leads family lost p lead.played lead.plies
+      × AllBelow family.profile (λ (q : Setup). (n : ℕ) → IsSaidLost family lost n q → lead.plies ≤ n) p legal upto
 
   pub shortest_none : IsShortestBelow 0 None
-  shortest_none = all_none family.profile (λ (q : Setup). (n : ℕ) → ¬ IsSaidLost family lost n q) p the_moves
+  shortest_none = all_none family.profile (λ (q : Setup). (n : ℕ) → ¬ IsSaidLost family lost n q) p legal
 
-  module _ (upto : ℕ) (move : Move) (outcome : Setup) (here : slice_get the_moves upto ≡ Some move) (goes_on : HasStatus family.profile p Open)
+  module _ (upto : ℕ) (move : Move) (outcome : Setup) (here : slice_get legal upto ≡ Some move) (goes_on : HasStatus family.profile p Open)
       (goes : Goes family.profile p move outcome) (alone : (q : Setup) → Goes family.profile p move q → outcome ≡ q) where
     none_more : SaysLost family lost outcome None → IsShortestBelow upto None → IsShortestBelow (upto + 1) None
-    none_more says below = all_more family.profile (λ (q : Setup). (n : ℕ) → ¬ IsSaidLost family lost n q) p the_moves upto move outcome here alone says below
+    none_more says below = all_more family.profile (λ (q : Setup). (n : ℕ) → ¬ IsSaidLost family lost n q) p legal upto move outcome here alone says below
 
     least_more : (least : ℕ) → ((n : ℕ) → IsSaidLost family lost n outcome → least ≤ n)
-        → AllBelow family.profile (λ (q : Setup). (n : ℕ) → IsSaidLost family lost n q → least ≤ n) p the_moves upto
-        → AllBelow family.profile (λ (q : Setup). (n : ℕ) → IsSaidLost family lost n q → least ≤ n) p the_moves (upto + 1)
+        → AllBelow family.profile (λ (q : Setup). (n : ℕ) → IsSaidLost family lost n q → least ≤ n) p legal upto
+        → AllBelow family.profile (λ (q : Setup). (n : ℕ) → IsSaidLost family lost n q → least ≤ n) p legal (upto + 1)
     least_more least says below =
-        all_more family.profile (λ (q : Setup). (n : ℕ) → IsSaidLost family lost n q → least ≤ n) p the_moves upto move outcome here alone says below
+        all_more family.profile (λ (q : Setup). (n : ℕ) → IsSaidLost family lost n q → least ≤ n) p legal upto move outcome here alone says below
 
     lead_here : (plies : ℕ) → IsSaidLost family lost plies outcome → Leads family lost p move plies
     lead_here plies said = record { goes_on = goes_on; outcome = outcome; goes = goes; said = said }
@@ -52,7 +52,7 @@ module _ (family : Family) (lost : List Entry) (p : Setup) (the_moves : List Mov
     shortest_more (Some lead) (Some plies) says below = elim (cases_Bool (nat_lt plies lead.plies)) [
       | inl is ↦
           let less : plies < lead.plies = grind (arith, nat_tests, is) in
-          subst (λ (b : Bool). IsShortestBelow (upto + 1) (cond b (Some (record { the_move = move; plies = plies })) (Some lead))) (sym is) (
+          subst (λ (b : Bool). IsShortestBelow (upto + 1) (cond b (Some (record { played = move; plies = plies })) (Some lead))) (sym is) (
             lead_here plies says.0,
             least_more plies says.1 (λ index other q within there goes n said.
                 let least = below.1 index other q within there goes n said in
@@ -60,19 +60,19 @@ module _ (family : Family) (lost : List Entry) (p : Setup) (the_moves : List Mov
           )
       | inr isnt ↦
           let more : lead.plies ≤ plies = grind (arith, nat_tests, isnt) in
-          subst (λ (b : Bool). IsShortestBelow (upto + 1) (cond b (Some (record { the_move = move; plies = plies })) (Some lead))) (sym isnt) (
+          subst (λ (b : Bool). IsShortestBelow (upto + 1) (cond b (Some (record { played = move; plies = plies })) (Some lead))) (sym isnt) (
             below.0,
             least_more lead.plies (λ n said. let least = says.1 n said in omega (arith, more, least)) below.1,
           )
     ]
 
-  pub shortest_done : (upto : ℕ) → length the_moves ≤ upto → AreMoves family.profile p the_moves → (best : Option Lead) → IsShortestBelow upto best
+  pub shortest_done : (upto : ℕ) → length legal ≤ upto → AreMoves family.profile p legal → (best : Option Lead) → IsShortestBelow upto best
       → IsShortest family lost p best
   shortest_done upto all are_moves None below =
-      λ goes_on move q goes. all_done family.profile (λ (r : Setup). (n : ℕ) → ¬ IsSaidLost family lost n r) p the_moves upto all are_moves below goes_on move q goes
+      λ goes_on move q goes. all_done family.profile (λ (r : Setup). (n : ℕ) → ¬ IsSaidLost family lost n r) p legal upto all are_moves below goes_on move q goes
   shortest_done upto all are_moves (Some lead) below = (
     below.0,
-    λ goes_on move q goes. all_done family.profile (λ (r : Setup). (n : ℕ) → IsSaidLost family lost n r → lead.plies ≤ n) p the_moves upto all are_moves
+    λ goes_on move q goes. all_done family.profile (λ (r : Setup). (n : ℕ) → IsSaidLost family lost n r → lead.plies ≤ n) p legal upto all are_moves
         below.1 goes_on move q goes,
   )
 

@@ -38,13 +38,13 @@ NoneLeads family lost p =
 
 abbrev pub IsShortest : Family → List Entry → Setup → Option Lead → Type 0
 IsShortest family lost p None = NoneLeads family lost p
-IsShortest family lost p (Some lead) = Leads family lost p lead.the_move lead.plies × IsLeast family lost p lead.plies
+IsShortest family lost p (Some lead) = Leads family lost p lead.played lead.plies × IsLeast family lost p lead.plies
 
 -- the better one of a lead and of a move to a position that is said to be lost within so many plies
 abbrev pub shorter : Option Lead → Move → Option ℕ → Option Lead
 shorter best move None = best
-shorter None move (Some plies) = Some (record { the_move = move; plies = plies })
-shorter (Some lead) move (Some plies) = if nat_lt plies lead.plies then Some (record { the_move = move; plies = plies }) else Some lead
+shorter None move (Some plies) = Some (record { played = move; plies = plies })
+shorter (Some lead) move (Some plies) = if nat_lt plies lead.plies then Some (record { played = move; plies = plies }) else Some lead
 
 -- that the position is lost, where it is said to be
 abbrev pub loss : Option ℕ → Option Reply

@@ -25,7 +25,7 @@ pub(crate) enum Listed {
 #[derive(Drop)]
 pub(crate) struct Outcomes<'a> {
     table: &'a Table,
-    the_moves: Vec<Move>,
+    legal: Vec<Move>,
 }
 
 impl<'a> Outcomes<'a> {
@@ -33,7 +33,7 @@ impl<'a> Outcomes<'a> {
     pub(crate) fn new(alloc: Global, table: &'a Table) -> Outcomes<'a> {
         Outcomes {
             table,
-            the_moves: Vec::new(alloc),
+            legal: Vec::new(alloc),
         }
     }
 
@@ -64,8 +64,8 @@ impl<'a> Outcomes<'a> {
         let class = class as u64;
         if class < classes.class_count() {
             let position = classes.class_at(class);
-            moves_into(classes.family.profile, &mut self.the_moves, &position)?;
-            push_outcomes(classes, &position, &self.the_moves, listed, outcomes)?;
+            moves_into(classes.family.profile, &mut self.legal, &position)?;
+            push_outcomes(classes, &position, &self.legal, listed, outcomes)?;
         }
         outcomes.sort_unstable();
         outcomes.dedup();
@@ -79,15 +79,15 @@ impl<'a> Outcomes<'a> {
 fn push_outcomes(
     classes: &Classes,
     position: &Position,
-    the_moves: &[Move],
+    legal: &[Move],
     listed: Listed,
     outcomes: &mut Vec<u32>,
 ) -> Result<(), Memory>
     requires member { IsPositionOf classes.now.family position.now.setup }
-    requires the_moves { AreMoves classes.now.family.profile position.now.setup the_moves.now }
+    requires legal { AreMoves classes.now.family.profile position.now.setup legal.now }
 {
-    for the_move in the_moves {
-        let outcome = outcome_of(classes, position, *the_move);
+    for played in legal {
+        let outcome = outcome_of(classes, position, *played);
         if matches!(listed, Listed::All) || first_catch(&outcome).is_none() {
             outcomes.push(number_of(classes, &outcome))?;
         }
@@ -96,14 +96,14 @@ fn push_outcomes(
 }
 
 /// The position of the family to which the move leads.
-pub(crate) fn outcome_of(classes: &Classes, position: &Position, the_move: Move) -> Position
+pub(crate) fn outcome_of(classes: &Classes, position: &Position, played: Move) -> Position
     requires member { IsPositionOf classes.now.family position.now.setup }
-    requires the_move { HasStatus classes.now.family.profile position.now.setup Status.Open × CanGo classes.now.family.profile position.now.setup the_move }
+    requires played { HasStatus classes.now.family.profile position.now.setup Status.Open × CanGo classes.now.family.profile position.now.setup played }
     ensures member { IsPositionOf classes.now.family result.setup }
-    ensures goes { Goes classes.now.family.profile position.now.setup the_move result.setup }
-    ensures alone { (q : Setup) → Goes classes.now.family.profile position.now.setup the_move q → result.setup ≡ q }
+    ensures goes { Goes classes.now.family.profile position.now.setup played result.setup }
+    ensures alone { (q : Setup) → Goes classes.now.family.profile position.now.setup played q → result.setup ≡ q }
 {
-    apply(position, the_move)
+    apply(position, played)
 }
 
 /// The number of the position's class.

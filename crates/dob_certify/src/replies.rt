@@ -17,7 +17,7 @@ use std::alloc::Global;
 #[derive(Clone, Copy, Debug, PartialEq, Eq)]
 pub enum Reply {
     /// The side to move wins by this move: it catches the lion, with 0 plies, or after it the other side is lost within `plies`.
-    Win { the_move: Move, plies: u16 },
+    Win { played: Move, plies: u16 },
     /// The side to move is lost within `plies`.
     Loss { plies: u16 },
 }
@@ -25,7 +25,7 @@ pub enum Reply {
 // A move after which the other side is lost within `plies`.
 #[derive(Clone, Copy)]
 pub(crate) struct Lead {
-    the_move: Move,
+    played: Move,
     plies: u16,
 }
 
@@ -60,13 +60,13 @@ fn found_reply(
     requires { IsPositionOf classes.now.family position.now.setup }
     ensures { IfOk result (IsReply classes.now.family lost.now position.now.setup) }
 {
-    if let Some(the_move) = first_catch(position) {
-        return Ok(Some(Reply::Win { the_move, plies: 0 }));
+    if let Some(played) = first_catch(position) {
+        return Ok(Some(Reply::Win { played, plies: 0 }));
     }
-    let mut the_moves = Vec::new(alloc);
-    moves_into(classes.family.profile, &mut the_moves, position)?;
-    match shortest(classes, lost, position, &the_moves) {
-        Some(Lead { the_move, plies }) => Ok(Some(Reply::Win { the_move, plies })),
+    let mut legal = Vec::new(alloc);
+    moves_into(classes.family.profile, &mut legal, position)?;
+    match shortest(classes, lost, position, &legal) {
+        Some(Lead { played, plies }) => Ok(Some(Reply::Win { played, plies })),
         None => Ok(loss(said_lost(classes, lost, position))),
     }
 }
@@ -86,31 +86,31 @@ fn shortest(
     classes: &Classes,
     lost: &Entries,
     position: &Position,
-    the_moves: &[Move],
+    legal: &[Move],
 ) -> Option<Lead>
     requires member { IsPositionOf classes.now.family position.now.setup }
-    requires the_moves { AreMoves classes.now.family.profile position.now.setup the_moves.now }
+    requires legal { AreMoves classes.now.family.profile position.now.setup legal.now }
     ensures { IsShortest classes.now.family lost.now position.now.setup result }
 {
     let mut best = None;
-    for the_move in the_moves {
-        let outcome = outcome_of(classes, position, *the_move);
+    for played in legal {
+        let outcome = outcome_of(classes, position, *played);
         let found = said_lost(classes, lost, &outcome);
-        best = shorter(best, *the_move, found);
+        best = shorter(best, *played, found);
     }
     best
 }
 
 // The better one of a lead and of a move to a position that is said to be lost within `found` plies.
-fn shorter(best: Option<Lead>, the_move: Move, found: Option<u16>) -> Option<Lead>
-    ensures { result ≡ shorter best the_move found }
+fn shorter(best: Option<Lead>, played: Move, found: Option<u16>) -> Option<Lead>
+    ensures { result ≡ shorter best played found }
 {
     match (best, found) {
         (_, None) => best,
-        (None, Some(plies)) => Some(Lead { the_move, plies }),
+        (None, Some(plies)) => Some(Lead { played, plies }),
         (Some(lead), Some(plies)) => {
             if plies < lead.plies {
-                Some(Lead { the_move, plies })
+                Some(Lead { played, plies })
             } else {
                 best
             }

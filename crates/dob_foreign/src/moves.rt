@@ -18,10 +18,10 @@ pub struct MoveNumbers {
 }
 
 /// The numbers of the move.
-pub fn move_numbers(the_move: Move) -> MoveNumbers
-    ensures { result ≡ move_numbers the_move }
+pub fn move_numbers(played: Move) -> MoveNumbers
+    ensures { result ≡ move_numbers played }
 {
-    match the_move {
+    match played {
         Move::Step {
             kind,
             from,

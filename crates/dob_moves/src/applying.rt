@@ -12,20 +12,20 @@ use dob_pieces::{Hand, HandKind, Hands, Kind, Piece, Position, Setup, Side, Squa
 
 /// The position that a move leads to, seen from the side that moves next. The position must be open and the move
 /// one of its moves; nothing of it is tested when this runs.
-pub fn apply(position: &Position, the_move: Move) -> Position
+pub fn apply(position: &Position, played: Move) -> Position
     requires open { HasStatus A position.now.setup Status.Open }
-    requires can_go { CanGo A position.now.setup the_move }
-    ensures { HasOutcome position.now.setup the_move result.setup }
+    requires can_go { CanGo A position.now.setup played }
+    ensures { HasOutcome position.now.setup played result.setup }
 {
-    Position::new(moved(position, the_move).turned())
+    Position::new(moved(position, played).turned())
 }
 
 // What stands after a move, before the board is turned.
-fn moved(position: &Position, the_move: Move) -> Setup
-    requires { CanGo A position.now.setup the_move }
-    ensures { result ≡ moved position.now.setup the_move }
+fn moved(position: &Position, played: Move) -> Setup
+    requires { CanGo A position.now.setup played }
+    ensures { result ≡ moved position.now.setup played }
 {
-    match the_move {
+    match played {
         Move::Step {
             kind,
             from,

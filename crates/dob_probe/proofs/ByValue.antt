@@ -64,7 +64,7 @@ compare (Loss a) (Loss b) = elim (cases_order a b) [
   ]
 ]
 
-comes_before : (x y : ValuedMove) → (¬ IsBetter y.value x.value) → place x.the_move < place y.the_move → ComesBefore x y
+comes_before : (x y : ValuedMove) → (¬ IsBetter y.value x.value) → place x.played < place y.played → ComesBefore x y
 comes_before x y no_better earlier = elim (compare x.value y.value) [
   | inl better ↦ inl better
   | inr others ↦ elim others [
@@ -107,7 +107,7 @@ module _ (xs : List ValuedMove) (i : ℕ) (y : ValuedMove) (within : i ≤ lengt
     ],
   )
 
-  pub insert_sorted : AllPairs ComesBefore xs → ((x : ValuedMove) → Contains xs x → place x.the_move < place y.the_move) →
+  pub insert_sorted : AllPairs ComesBefore xs → ((x : ValuedMove) → Contains xs x → place x.played < place y.played) →
       ((k : ℕ) (d : ValuedMove) → k < i → ¬ IsBetter y.value (get_or xs k d).value) →
       ((d : ValuedMove) → i < length xs → IsBetter y.value (get_or xs i d).value) → AllPairs ComesBefore (insert xs i y)
   insert_sorted ordered later before first a b d lt inside =
@@ -161,17 +161,17 @@ module _ (xs : List ValuedMove) (i : ℕ) (y : ValuedMove) (within : i ≤ lengt
             subst (λ n. IsBetter y.value (get_or xs n d).value) same (first d (omega arith))
       ]
 
--- ---- the moves of the first the_moves
+-- ---- the moves of the first legal
 
-pub record AreListed (profile : Profile) (Has : Setup → Value → Type 0) (p : Setup) (the_moves : List Move) (upto : ℕ) (list : List ValuedMove) : Type 0 where
+pub record AreListed (profile : Profile) (Has : Setup → Value → Type 0) (p : Setup) (legal : List Move) (upto : ℕ) (list : List ValuedMove) : Type 0 where
   pub sound : (valued : ValuedMove) → Contains list valued →
-      HasMoveValue profile Has p valued × ((index : ℕ) × (index < upto) × (slice_get the_moves index ≡ Some valued.the_move))
-  pub whole : (index : ℕ) (valued : ValuedMove) → index < upto → slice_get the_moves index ≡ Some valued.the_move → HasMoveValue profile Has p valued →
+      HasMoveValue profile Has p valued × ((index : ℕ) × (index < upto) × (slice_get legal index ≡ Some valued.played))
+  pub whole : (index : ℕ) (valued : ValuedMove) → index < upto → slice_get legal index ≡ Some valued.played → HasMoveValue profile Has p valued →
       Contains list valued
   pub ordered : AllPairs ComesBefore list
 
-pub listed_none : (profile : Profile) (Has : Setup → Value → Type 0) (p : Setup) (the_moves : List Move) → AreListed profile Has p the_moves 0 []
-listed_none profile Has p the_moves = record {
+pub listed_none : (profile : Profile) (Has : Setup → Value → Type 0) (p : Setup) (legal : List Move) → AreListed profile Has p legal 0 []
+listed_none profile Has p legal = record {
   sound = λ valued there. absurd (omega (arith, there.1));
   whole = λ index valued below there has. absurd (omega arith);
   ordered = λ i j d lt within. absurd (omega (arith, within));
@@ -179,11 +179,11 @@ listed_none profile Has p the_moves = record {
 
 -- where a position of the family has one value at most
 module _ (family : Family) (Has : Setup → Value → Type 0) (one : (q : Setup) (v w : Value) → IsPositionOf family q → Has q v → Has q w → v ≡ w)
-    (p : Setup) (member : IsPositionOf family p) (the_moves : List Move) where
-  pub listed_more : (upto : ℕ) (list new : List ValuedMove) (more : ValuedMove) (value : Value) → slice_get the_moves upto ≡ Some more.the_move →
-      HasStatus family.profile p Open → CanGo family.profile p more.the_move → ((q : Setup) → Goes family.profile p more.the_move q → Has q value) →
+    (p : Setup) (member : IsPositionOf family p) (legal : List Move) where
+  pub listed_more : (upto : ℕ) (list new : List ValuedMove) (more : ValuedMove) (value : Value) → slice_get legal upto ≡ Some more.played →
+      HasStatus family.profile p Open → CanGo family.profile p more.played → ((q : Setup) → Goes family.profile p more.played q → Has q value) →
       more.value ≡ seen_from_before value → ((x : ValuedMove) → Contains new x ↔ (Contains list x ⊎ (x ≡ more))) → AllPairs ComesBefore new →
-      AreListed family.profile Has p the_moves upto list → AreListed family.profile Has p the_moves (upto + 1) new
+      AreListed family.profile Has p legal upto list → AreListed family.profile Has p legal (upto + 1) new
   listed_more upto list new more value here goes_on can_go given seen has ordered before = record {
     sound = λ valued there. elim ((has valued).0 there) [
       | inl earlier ↦
@@ -199,28 +199,28 @@ module _ (family : Family) (Has : Setup → Value → Type 0) (one : (q : Setup)
             has = given can_go.0 can_go.1;
             seen = seen;
           } in
-          subst (λ x. HasMoveValue family.profile Has p x × ((index : ℕ) × (index < upto + 1) × (slice_get the_moves index ≡ Some x.the_move)))
+          subst (λ x. HasMoveValue family.profile Has p x × ((index : ℕ) × (index < upto + 1) × (slice_get legal index ≡ Some x.played)))
           (sym same) (this, (upto, omega arith, here))
     ];
-    whole = λ index valued below there known. elim (before_or_here the_moves upto index more.the_move valued.the_move here there below) [
+    whole = λ index valued below there known. elim (before_or_here legal upto index more.played valued.played here there below) [
       | inl earlier ↦ (has valued).1 (inl (before.whole index valued earlier there known))
-      | inr the_move ↦
-          let goes : Goes family.profile p more.the_move known.outcome = subst (λ m. Goes family.profile p m known.outcome) the_move known.goes in
-          let inside = moves_keep_the_family family p valued.the_move known.outcome member goes_on known.goes in
+      | inr played ↦
+          let goes : Goes family.profile p more.played known.outcome = subst (λ m. Goes family.profile p m known.outcome) played known.goes in
+          let inside = moves_keep_the_family family p valued.played known.outcome member goes_on known.goes in
           let one : known.value ≡ value = one known.outcome known.value value inside known.has (given known.outcome goes) in
-          (has valued).1 (inr (same_valued valued more the_move (known.seen ∙ ap seen_from_before one ∙ sym seen)))
+          (has valued).1 (inr (same_valued valued more played (known.seen ∙ ap seen_from_before one ∙ sym seen)))
     ];
     ordered = ordered;
   }
 
-pub listed_all : (profile : Profile) (Has : Setup → Value → Type 0) (p : Setup) (the_moves : List Move) (upto : ℕ) (list : List ValuedMove) → (¬ CanCatch p) →
-    AreMoves profile p the_moves → length the_moves ≤ upto → AreListed profile Has p the_moves upto list → AreValuedMoves profile Has p list
-listed_all profile Has p the_moves upto list free are all listed = record {
+pub listed_all : (profile : Profile) (Has : Setup → Value → Type 0) (p : Setup) (legal : List Move) (upto : ℕ) (list : List ValuedMove) → (¬ CanCatch p) →
+    AreMoves profile p legal → length legal ≤ upto → AreListed profile Has p legal upto list → AreValuedMoves profile Has p list
+listed_all profile Has p legal upto list free are all listed = record {
   sound = λ valued there. inr (listed.sound valued there).0;
   caught = λ catch. absurd (free catch);
   whole = λ valued has.
-      let there = standing the_moves valued.the_move (are.whole valued.the_move has.goes_on (has.outcome, has.goes)) in
-      let within : there.0 < length the_moves = there.1 in
+      let there = standing legal valued.played (are.whole valued.played has.goes_on (has.outcome, has.goes)) in
+      let within : there.0 < length legal = there.1 in
       listed.whole there.0 valued (omega arith) there.2 has;
   ordered = listed.ordered;
 }
@@ -258,12 +258,12 @@ module _ (table : ClassTable) (right : IsValueTable table.family table.values) (
   by_value : (valued : ValuedMove) → HasMoveValue table.family.profile (GivenBy table) p valued → HasMoveValue table.family.profile (HasValue table.family.profile) p valued
   by_value valued has =
       valued_by table.family.profile (GivenBy table) (HasValue table.family.profile) p valued has
-      (to_value table right has.outcome has.value (moves_keep_the_family table.family p valued.the_move has.outcome is has.goes_on has.goes))
+      (to_value table right has.outcome has.value (moves_keep_the_family table.family p valued.played has.outcome is has.goes_on has.goes))
 
   by_table : (valued : ValuedMove) → HasMoveValue table.family.profile (HasValue table.family.profile) p valued → HasMoveValue table.family.profile (GivenBy table) p valued
   by_table valued has =
       valued_by table.family.profile (HasValue table.family.profile) (GivenBy table) p valued has
-      (of_value table right has.outcome has.value (moves_keep_the_family table.family p valued.the_move has.outcome is has.goes_on has.goes))
+      (of_value table right has.outcome has.value (moves_keep_the_family table.family p valued.played has.outcome is has.goes_on has.goes))
 
   pub valued_rightly : (list : List ValuedMove) → AreValuedMoves table.family.profile (GivenBy table) p list → AreValuedMoves table.family.profile (HasValue table.family.profile) p list
   valued_rightly list are = moves_by table.family.profile (GivenBy table) (HasValue table.family.profile) p by_value by_table list are

@@ -16,82 +16,82 @@ use Rattle.dob_probe.proofs.Ways.{NoneBelow, none_below_more, none_leads}
 -- ---- the only move to a value
 
 -- of the moves below an index this one leads to the value, and no other one
-pub record IsOnlyBelow (profile : Profile) (Has : Setup → Value → Type 0) (p : Setup) (wanted : Value) (the_moves : List Move) (upto : ℕ) (single : Move) : Type 0 where
+pub record IsOnlyBelow (profile : Profile) (Has : Setup → Value → Type 0) (p : Setup) (wanted : Value) (legal : List Move) (upto : ℕ) (single : Move) : Type 0 where
   pub index : ℕ
   pub below : index < upto
-  pub there : slice_get the_moves index ≡ Some single
+  pub there : slice_get legal index ≡ Some single
   pub outcome : Setup
   pub leads : LeadsTo profile Has p wanted single outcome
-  pub only : (other : ℕ) (move : Move) (q : Setup) → other < upto → slice_get the_moves other ≡ Some move → LeadsTo profile Has p wanted move q → single ≡ move
+  pub only : (other : ℕ) (move : Move) (q : Setup) → other < upto → slice_get legal other ≡ Some move → LeadsTo profile Has p wanted move q → single ≡ move
 
 abbrev pub IsSingleBelow : Profile → (Setup → Value → Type 0) → Setup → Value → List Move → ℕ → Option Move → Type 0
-IsSingleBelow profile Has p wanted the_moves upto None = NoneBelow profile Has p wanted the_moves upto
-IsSingleBelow profile Has p wanted the_moves upto (Some single) = IsOnlyBelow profile Has p wanted the_moves upto single
+IsSingleBelow profile Has p wanted legal upto None = NoneBelow profile Has p wanted legal upto
+IsSingleBelow profile Has p wanted legal upto (Some single) = IsOnlyBelow profile Has p wanted legal upto single
 
-module _ (profile : Profile) (Has : Setup → Value → Type 0) (p : Setup) (wanted : Value) (the_moves : List Move) where
+module _ (profile : Profile) (Has : Setup → Value → Type 0) (p : Setup) (wanted : Value) (legal : List Move) where
   -- a move that leads elsewhere changes nothing
-  pub single_skipped : (upto : ℕ) (the_move : Move) (single : Option Move) → slice_get the_moves upto ≡ Some the_move →
-      ((q : Setup) → ¬ LeadsTo profile Has p wanted the_move q) → IsSingleBelow profile Has p wanted the_moves upto single →
-      IsSingleBelow profile Has p wanted the_moves (upto + 1) single
-  single_skipped upto the_move None here elsewhere before = none_below_more profile Has p wanted the_moves upto the_move here elsewhere before
-  single_skipped upto the_move (Some single) here elsewhere before =
+  pub single_skipped : (upto : ℕ) (played : Move) (single : Option Move) → slice_get legal upto ≡ Some played →
+      ((q : Setup) → ¬ LeadsTo profile Has p wanted played q) → IsSingleBelow profile Has p wanted legal upto single →
+      IsSingleBelow profile Has p wanted legal (upto + 1) single
+  single_skipped upto played None here elsewhere before = none_below_more profile Has p wanted legal upto played here elsewhere before
+  single_skipped upto played (Some single) here elsewhere before =
       let below : before.index < upto = before.below in record {
         index = before.index;
         below = omega (arith, below);
         there = before.there;
         outcome = before.outcome;
         leads = before.leads;
-        only = λ other move q within there leads. elim (before_or_here the_moves upto other the_move move here there within) [
+        only = λ other move q within there leads. elim (before_or_here legal upto other played move here there within) [
           | inl earlier ↦ before.only other move q earlier there leads
           | inr same ↦ absurd (elsewhere q (subst (λ m. LeadsTo profile Has p wanted m q) same leads))
         ];
       }
 
   -- the first one that leads there
-  pub single_found : (upto : ℕ) (the_move : Move) (q : Setup) → slice_get the_moves upto ≡ Some the_move → LeadsTo profile Has p wanted the_move q →
-      NoneBelow profile Has p wanted the_moves upto → IsSingleBelow profile Has p wanted the_moves (upto + 1) (Some the_move)
-  single_found upto the_move q here leads none = record {
+  pub single_found : (upto : ℕ) (played : Move) (q : Setup) → slice_get legal upto ≡ Some played → LeadsTo profile Has p wanted played q →
+      NoneBelow profile Has p wanted legal upto → IsSingleBelow profile Has p wanted legal (upto + 1) (Some played)
+  single_found upto played q here leads none = record {
     index = upto;
     below = omega arith;
     there = here;
     outcome = q;
     leads = leads;
-    only = λ other move r within there leads_too. elim (before_or_here the_moves upto other the_move move here there within) [
+    only = λ other move r within there leads_too. elim (before_or_here legal upto other played move here there within) [
       | inl earlier ↦ absurd (none other move r earlier there leads_too)
       | inr same ↦ sym same
     ];
   }
 
   -- where a second one leads there too, none is the only one
-  pub single_doubled : (upto : ℕ) (the_move single : Move) (q : Setup) → AreMoves profile p the_moves → upto < length the_moves → slice_get the_moves upto ≡ Some the_move →
-      LeadsTo profile Has p wanted the_move q → IsOnlyBelow profile Has p wanted the_moves upto single → IsSingleMove profile Has p wanted None
-  single_doubled upto the_move single q are within here leads before = λ move only.
+  pub single_doubled : (upto : ℕ) (played single : Move) (q : Setup) → AreMoves profile p legal → upto < length legal → slice_get legal upto ≡ Some played →
+      LeadsTo profile Has p wanted played q → IsOnlyBelow profile Has p wanted legal upto single → IsSingleMove profile Has p wanted None
+  single_doubled upto played single q are within here leads before = λ move only.
       let one : move ≡ single = only.only single before.outcome before.leads in
-      let other : move ≡ the_move = only.only the_move q leads in
-      let rising = in_order profile p the_moves before.index upto single the_move are before.below within before.there here in
-      let same : place single ≡ place the_move = ap place (sym one ∙ other) in
+      let other : move ≡ played = only.only played q leads in
+      let rising = in_order profile p legal before.index upto single played are before.below within before.there here in
+      let same : place single ≡ place played = ap place (sym one ∙ other) in
       absurd (omega (arith, rising, same))
 
-  pub single_twice : (upto : ℕ) (the_move : Move) (single : Option Move) (q : Setup) → is_some single ≡ true → AreMoves profile p the_moves → upto < length the_moves →
-      slice_get the_moves upto ≡ Some the_move → LeadsTo profile Has p wanted the_move q → IsSingleBelow profile Has p wanted the_moves upto single →
+  pub single_twice : (upto : ℕ) (played : Move) (single : Option Move) (q : Setup) → is_some single ≡ true → AreMoves profile p legal → upto < length legal →
+      slice_get legal upto ≡ Some played → LeadsTo profile Has p wanted played q → IsSingleBelow profile Has p wanted legal upto single →
       IsSingleMove profile Has p wanted None
-  single_twice upto the_move None q some are within here leads before = absurd (true≢false (sym some))
-  single_twice upto the_move (Some single) q some are within here leads before = single_doubled upto the_move single q are within here leads before
+  single_twice upto played None q some are within here leads before = absurd (true≢false (sym some))
+  single_twice upto played (Some single) q some are within here leads before = single_doubled upto played single q are within here leads before
 
-  pub single_taken : (upto : ℕ) (the_move : Move) (single : Option Move) (q : Setup) → is_some single ≡ false → slice_get the_moves upto ≡ Some the_move →
-      LeadsTo profile Has p wanted the_move q → IsSingleBelow profile Has p wanted the_moves upto single → IsSingleBelow profile Has p wanted the_moves (upto + 1) (Some the_move)
-  single_taken upto the_move None q none here leads before = single_found upto the_move q here leads before
-  single_taken upto the_move (Some single) q none here leads before = absurd (true≢false none)
+  pub single_taken : (upto : ℕ) (played : Move) (single : Option Move) (q : Setup) → is_some single ≡ false → slice_get legal upto ≡ Some played →
+      LeadsTo profile Has p wanted played q → IsSingleBelow profile Has p wanted legal upto single → IsSingleBelow profile Has p wanted legal (upto + 1) (Some played)
+  single_taken upto played None q none here leads before = single_found upto played q here leads before
+  single_taken upto played (Some single) q none here leads before = absurd (true≢false none)
 
-  pub single_all : (upto : ℕ) (single : Option Move) → AreMoves profile p the_moves → length the_moves ≤ upto → IsSingleBelow profile Has p wanted the_moves upto single →
+  pub single_all : (upto : ℕ) (single : Option Move) → AreMoves profile p legal → length legal ≤ upto → IsSingleBelow profile Has p wanted legal upto single →
       IsSingleMove profile Has p wanted single
-  single_all upto None are all none = λ move only. none_leads profile Has p wanted the_moves upto are all none move only.outcome only.leads
+  single_all upto None are all none = λ move only. none_leads profile Has p wanted legal upto are all none move only.outcome only.leads
   single_all upto (Some single) are all before = record {
     outcome = before.outcome;
     leads = before.leads;
     only = λ other r leads.
-        let there = standing the_moves other (are.whole other leads.goes_on (r, leads.goes)) in
-        let within : there.0 < length the_moves = there.1 in
+        let there = standing legal other (are.whole other leads.goes_on (r, leads.goes)) in
+        let within : there.0 < length legal = there.1 in
         before.only there.0 other r (omega (arith, within, all)) there.2 leads;
   }
 
@@ -104,8 +104,8 @@ module _ (table : ClassTable) (plies : ℕ) where
   puzzle_missing class representative has none = λ puzzle is given.
       let won = subst (λ k. HasEntry table k given.representative (Win plies)) is given.won in
       let same = one_of_class table.family given.representative representative class won.represents has.represents won.number has.number in
-      none puzzle.the_move
-      (subst (λ p. IsOnlyTo table.family.profile (GivenBy table) p (Loss (plies - 1)) puzzle.the_move) same given.solved)
+      none puzzle.played
+      (subst (λ p. IsOnlyTo table.family.profile (GivenBy table) p (Loss (plies - 1)) puzzle.played) same given.solved)
 
   -- of a class with another entry there is none
   pub not_won : (class : ℕ) (value : Value) → slice_get table.values class ≡ Some value → ¬ (value ≡ Win plies) → IsPuzzleOf table plies class None
@@ -117,9 +117,9 @@ module _ (table : ClassTable) (plies : ℕ) where
   one_puzzle a b is of_a of_b =
       let won = subst (λ k. HasEntry table k of_a.representative (Win plies)) is of_a.won in
       let same = one_of_class table.family of_b.representative of_a.representative b.class of_b.won.represents won.represents of_b.won.number won.number in
-      let solved = subst (λ p. IsOnlyTo table.family.profile (GivenBy table) p (Loss (plies - 1)) b.the_move) same of_b.solved in
-      let the_move = of_a.solved.only b.the_move solved.outcome solved.leads in
-      ap₂ (λ (k : ℕ) (m : Move). let x : Puzzle = record { class = k; the_move = m } in x) is the_move
+      let solved = subst (λ p. IsOnlyTo table.family.profile (GivenBy table) p (Loss (plies - 1)) b.played) same of_b.solved in
+      let played = of_a.solved.only b.played solved.outcome solved.leads in
+      ap₂ (λ (k : ℕ) (m : Move). let x : Puzzle = record { class = k; played = m } in x) is played
 
 module _ (table : ClassTable) (plies : ℕ) (walk : Walk) where
   -- the first place of the walk

@@ -2,7 +2,7 @@
 use Rattle.dob_probe.proofs.Common.{◌+◌, ◌-◌, ◌<◌, ◌≡◌, ◌≤◌, ◌⊎◌, Bool, None, Option, Some, ap, arith, cond, inl, inr, nat_lt, subst, sym, ℕ, cases_lt, le-ltb}
 use Rattle.dob_probe.proofs.Common.{lt-ltb, IsBehind, begin_at, class_on, first_class, place_from}
 
--- a the_move by a comparison
+-- a played by a comparison
 if_less : (a b x y : ℕ) → a < b → cond (nat_lt a b) x y ≡ x
 if_less a b x y less = ap (λ (t : Bool). cond {A = ℕ} t x y) (lt-ltb a b less)
 

@@ -25,40 +25,40 @@ module _ (profile : Profile) (Has : Setup → Value → Type 0) where
 
 -- no move below an index leads to the value
 abbrev pub NoneBelow : Profile → (Setup → Value → Type 0) → Setup → Value → List Move → ℕ → Type 0
-NoneBelow profile Has p wanted the_moves upto = (index : ℕ) (move : Move) (q : Setup) → index < upto → slice_get the_moves index ≡ Some move →
+NoneBelow profile Has p wanted legal upto = (index : ℕ) (move : Move) (q : Setup) → index < upto → slice_get legal index ≡ Some move →
     ¬ LeadsTo profile Has p wanted move q
 
-module _ (profile : Profile) (Has : Setup → Value → Type 0) (p : Setup) (wanted : Value) (the_moves : List Move) where
-  pub none_below_more : (upto : ℕ) (the_move : Move) → slice_get the_moves upto ≡ Some the_move →
-      ((q : Setup) → ¬ LeadsTo profile Has p wanted the_move q) → NoneBelow profile Has p wanted the_moves upto → NoneBelow profile Has p wanted the_moves (upto + 1)
-  none_below_more upto the_move here other before = λ index move q below there leads. elim (before_or_here the_moves upto index the_move move here there below) [
+module _ (profile : Profile) (Has : Setup → Value → Type 0) (p : Setup) (wanted : Value) (legal : List Move) where
+  pub none_below_more : (upto : ℕ) (played : Move) → slice_get legal upto ≡ Some played →
+      ((q : Setup) → ¬ LeadsTo profile Has p wanted played q) → NoneBelow profile Has p wanted legal upto → NoneBelow profile Has p wanted legal (upto + 1)
+  none_below_more upto played here other before = λ index move q below there leads. elim (before_or_here legal upto index played move here there below) [
     | inl earlier ↦ before index move q earlier there leads
     | inr same ↦ other q (subst (λ m. LeadsTo profile Has p wanted m q) same leads)
   ]
 
-  pub first_found : (index : ℕ) (the_move : Move) (q : Setup) → AreMoves profile p the_moves → index < length the_moves →
-      slice_get the_moves index ≡ Some the_move → NoneBelow profile Has p wanted the_moves index → LeadsTo profile Has p wanted the_move q →
-      IsFirstTo profile Has p wanted the_move q
-  first_found index the_move q are within here none leads = record {
+  pub first_found : (index : ℕ) (played : Move) (q : Setup) → AreMoves profile p legal → index < length legal →
+      slice_get legal index ≡ Some played → NoneBelow profile Has p wanted legal index → LeadsTo profile Has p wanted played q →
+      IsFirstTo profile Has p wanted played q
+  first_found index played q are within here none leads = record {
     leads = leads;
     first = λ other r leads_too.
-        let there = standing the_moves other (are.whole other leads_too.goes_on (r, leads_too.goes)) in
+        let there = standing legal other (are.whole other leads_too.goes_on (r, leads_too.goes)) in
         elim (cases_order there.0 index) [
           | inl same ↦
-              let here_too : slice_get the_moves there.0 ≡ Some the_move = subst (λ k. slice_get the_moves k ≡ Some the_move) (sym same) here in
-              inl (same_Some the_move other (sym here_too ∙ there.2))
+              let here_too : slice_get legal there.0 ≡ Some played = subst (λ k. slice_get legal k ≡ Some played) (sym same) here in
+              inl (same_Some played other (sym here_too ∙ there.2))
           | inr order ↦ elim order [
             | inl before ↦ absurd (none there.0 other r before there.2 leads_too)
-            | inr after ↦ inr (in_order profile p the_moves index there.0 the_move other are after there.1 here there.2)
+            | inr after ↦ inr (in_order profile p legal index there.0 played other are after there.1 here there.2)
           ]
         ];
   }
 
-  pub none_leads : (upto : ℕ) → AreMoves profile p the_moves → length the_moves ≤ upto → NoneBelow profile Has p wanted the_moves upto →
+  pub none_leads : (upto : ℕ) → AreMoves profile p legal → length legal ≤ upto → NoneBelow profile Has p wanted legal upto →
       (move : Move) (q : Setup) → ¬ LeadsTo profile Has p wanted move q
   none_leads upto are all none move q leads =
-      let there = standing the_moves move (are.whole move leads.goes_on (q, leads.goes)) in
-      let below : there.0 < length the_moves = there.1 in
+      let there = standing legal move (are.whole move leads.goes_on (q, leads.goes)) in
+      let below : there.0 < length legal = there.1 in
       none there.0 move q (omega arith) there.2 leads
 
 -- ---- lines and breaks exclude each other

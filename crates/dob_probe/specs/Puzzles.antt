@@ -24,7 +24,7 @@ pub record IsOnlyTo (profile : Profile) (Has : Setup → Value → Type 0) (p : 
 pub record IsPuzzle (table : ClassTable) (plies : ℕ) (puzzle : Puzzle) : Type 0 where
   pub representative : Setup
   pub won : HasEntry table puzzle.class representative (Win plies)
-  pub solved : IsOnlyTo table.family.profile (GivenBy table) representative (Loss (plies - 1)) puzzle.the_move
+  pub solved : IsOnlyTo table.family.profile (GivenBy table) representative (Loss (plies - 1)) puzzle.played
 
 -- the place of a class in the walk's order
 abbrev pub walk_place : ClassTable → Walk → ℕ → ℕ
@@ -44,7 +44,7 @@ IsPassed table walk list puzzle = IsSpread walk
     × ((listed : Puzzle) × Contains list listed × AreLike table listed puzzle × (walk_place table walk listed.class < walk_place table walk puzzle.class))
 
 abbrev pub puzzle_of : ℕ → Move → Puzzle
-puzzle_of class the_move = record { class = class; the_move = the_move }
+puzzle_of class played = record { class = class; played = played }
 
 -- the puzzle comes behind those that are listed, where none of them has to be unlike it and isn't; else the list stays
 abbrev pub IsListedNext : ClassTable → Bool → Puzzle → List Puzzle → List Puzzle → Type 0

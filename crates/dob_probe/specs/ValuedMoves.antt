@@ -29,18 +29,18 @@ IsBetter (Loss plies) (Loss others) = others < plies
 
 -- the first stands before the second: it is better, or as good and earlier in the move order
 abbrev pub ComesBefore : ValuedMove → ValuedMove → Type 0
-ComesBefore a b = IsBetter a.value b.value ⊎ ((a.value ≡ b.value) × (place a.the_move < place b.the_move))
+ComesBefore a b = IsBetter a.value b.value ⊎ ((a.value ≡ b.value) × (place a.played < place b.played))
 
 -- the first catch of the lion wins at once
 pub record IsWinningCatch (p : Setup) (valued : ValuedMove) : Type 0 where
-  pub catch : IsFirstCatch p valued.the_move
+  pub catch : IsFirstCatch p valued.played
   pub wins : valued.value ≡ Win 1
 
 -- the move of an open position has the value of the position that it leads to, seen from before it
 pub record HasMoveValue (profile : Profile) (Has : Setup → Value → Type 0) (p : Setup) (valued : ValuedMove) : Type 0 where
   pub goes_on : HasStatus profile p Open
   pub outcome : Setup
-  pub goes : Goes profile p valued.the_move outcome
+  pub goes : Goes profile p valued.played outcome
   pub value : Value
   pub has : Has outcome value
   pub seen : valued.value ≡ seen_from_before value

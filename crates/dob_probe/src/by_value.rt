@@ -23,7 +23,7 @@ use std::alloc::Global;
 /// A move with the value that the side that makes it then has.
 #[derive(Clone, Copy, Debug, PartialEq, Eq)]
 pub struct ValuedMove {
-    pub the_move: Move,
+    pub played: Move,
     pub value: Value,
 }
 
@@ -66,14 +66,14 @@ fn moves_of_set(
     requires member { IsPositionOf table.now.family position.now.setup }
     ensures { IfOk result (λ list. AreValuedMoves table.now.family.profile (GivenBy table.now) position.now.setup list.items) }
 {
-    if let Some(the_move) = first_catch(position) {
+    if let Some(played) = first_catch(position) {
         let mut list = Vec::new(alloc);
         let value = Value::Win(1);
-        list.push(ValuedMove { the_move, value })?;
+        list.push(ValuedMove { played, value })?;
         return Ok(list);
     }
-    let the_moves = moves(alloc, table.family().profile, position)?;
-    moves_by_value(alloc, table, position, &the_moves)
+    let legal = moves(alloc, table.family().profile, position)?;
+    moves_by_value(alloc, table, position, &legal)
 }
 
 // Those moves of the position with their values, best first.
@@ -83,19 +83,19 @@ fn moves_by_value(
     alloc: Global,
     table: &Table,
     position: &Position,
-    the_moves: &[Move],
+    legal: &[Move],
 ) -> Result<Vec<ValuedMove>, Memory>
     requires whole { IsTable table.now.family table.now.values }
     requires member { IsPositionOf table.now.family position.now.setup }
-    requires the_moves { AreMoves table.now.family.profile position.now.setup the_moves.now }
+    requires legal { AreMoves table.now.family.profile position.now.setup legal.now }
     requires free { ¬ CanCatch position.now.setup }
     ensures { IfOk result (λ list. AreValuedMoves table.now.family.profile (GivenBy table.now) position.now.setup list.items) }
 {
     let mut list = Vec::new(alloc);
-    for the_move in the_moves {
-        let value = value_seen(value_to(table, position, *the_move));
+    for played in legal {
+        let value = value_seen(value_to(table, position, *played));
         let valued = ValuedMove {
-            the_move: *the_move,
+            played: *played,
             value,
         };
         insert_by_value(&mut list, valued)?;
@@ -121,7 +121,7 @@ pub fn value_seen(value: Value) -> Value
 ///
 /// `Memory`.
 pub fn insert_by_value(list: &mut Vec<ValuedMove>, more: ValuedMove) -> Result<(), Memory>
-    requires later { (other : ValuedMove) → Contains list.old.items other → place other.the_move < place more.the_move }
+    requires later { (other : ValuedMove) → Contains list.old.items other → place other.played < place more.played }
     requires ordered { AllPairs ComesBefore list.old.items }
     ensures ordered { OnOk result (AllPairs ComesBefore list.new.items) }
     ensures items { OnOk result ((other : ValuedMove) → Contains list.new.items other ↔ (Contains list.old.items other ⊎ (other ≡ more))) }

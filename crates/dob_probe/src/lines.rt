@@ -63,18 +63,18 @@ fn line_from(
         let Some(wanted) = value_wanted(value) else {
             return Ok(line);
         };
-        let (the_move, next) = first_to(alloc, table, &position, wanted)?;
-        push_move(&mut line, the_move)?;
+        let (played, next) = first_to(alloc, table, &position, wanted)?;
+        push_move(&mut line, played)?;
         position = next;
         value = wanted;
     }
 }
 
 /// Writes the move behind the others.
-pub fn push_move(line: &mut Vec<Move>, the_move: Move) -> Result<(), Memory>
-    ensures { OnOk result (line.new.items ≡ line.old.items ++ the_move ∷ []) }
+pub fn push_move(line: &mut Vec<Move>, played: Move) -> Result<(), Memory>
+    ensures { OnOk result (line.new.items ≡ line.old.items ++ played ∷ []) }
 {
-    Ok(line.push(the_move)?)
+    Ok(line.push(played)?)
 }
 
 /// The value to which the line's next move leads from a position with that value, if there is such a move.
@@ -102,11 +102,11 @@ fn first_to(
     ensures found { IfOk result (λ found. IsFirstTo table.now.family.profile (GivenBy table.now) position.now.setup wanted found.0 found.1.setup) }
     ensures missing { IfErr result (IsGap table.now position.now.setup wanted) }
 {
-    let the_moves = moves(alloc, table.family().profile, position)?;
-    for the_move in &the_moves {
-        let next = apply(position, *the_move);
+    let legal = moves(alloc, table.family().profile, position)?;
+    for played in &legal {
+        let next = apply(position, *played);
         if table.value_of(&next) == wanted {
-            return Ok((*the_move, next));
+            return Ok((*played, next));
         }
     }
     Err(Fault::Inconsistent(table.classes().class_of(position)))

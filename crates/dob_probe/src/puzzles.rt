@@ -23,7 +23,7 @@ use std::alloc::Global;
 #[derive(Clone, Copy, Debug, PartialEq, Eq)]
 pub struct Puzzle {
     pub class: u64,
-    pub the_move: Move,
+    pub played: Move,
 }
 
 /// The first classes of the walk, at most `count`, that the table says are won in `plies` plies and of whose representative just one
@@ -66,8 +66,8 @@ pub fn first_puzzles(
             plies as u16,
             class_on(first, classes, place),
         )? {
-            let Puzzle { class, the_move } = puzzle;
-            list_puzzle(table, &mut list, &mut outlines, is_spread, class, the_move)?;
+            let Puzzle { class, played } = puzzle;
+            list_puzzle(table, &mut list, &mut outlines, is_spread, class, played)?;
         }
     }
     Ok(list)
@@ -82,18 +82,18 @@ fn list_puzzle(
     outlines: &mut Vec<Outline>,
     is_spread: bool,
     class: u64,
-    the_move: Move,
+    played: Move,
 ) -> Result<(), Memory>
     requires within { class < length table.now.values }
     requires outlines { AreOutlines table.now list.old.items outlines.old.items }
     ensures outlines { OnOk result (AreOutlines table.now list.new.items outlines.new.items) }
-    ensures listed { OnOk result (IsListedNext table.now is_spread (puzzle_of class the_move) list.old.items list.new.items) }
+    ensures listed { OnOk result (IsListedNext table.now is_spread (puzzle_of class played) list.old.items list.new.items) }
 {
     let outline = outline_at(table, class);
     if is_passed(outlines, is_spread, outline) {
         return Ok(());
     }
-    list.push(Puzzle { class, the_move })?;
+    list.push(Puzzle { class, played })?;
     outlines.push(outline)?;
     Ok(())
 }
@@ -101,7 +101,7 @@ fn list_puzzle(
 // The outline of the class's representative.
 fn outline_at(table: &Table, class: u64) -> Outline
     requires { class < length table.now.values }
-    ensures { (the_move : Moved) → IsOutlineOf table.now (puzzle_of class the_move) result }
+    ensures { (played : Moved) → IsOutlineOf table.now (puzzle_of class played) result }
 {
     outline_of(&table.classes().class_at(class))
 }
@@ -136,7 +136,7 @@ fn puzzle_of(
     let position = table.classes().class_at(class);
     list_moves(room, table, &position)?;
     match single_move(table, &position, room, Value::Loss(plies - 1)) {
-        Some(the_move) => Ok(Some(Puzzle { class, the_move })),
+        Some(played) => Ok(Some(Puzzle { class, played })),
         None => Ok(None),
     }
 }
@@ -146,20 +146,20 @@ fn puzzle_of(
 fn single_move(
     table: &Table,
     position: &Position,
-    the_moves: &[Move],
+    legal: &[Move],
     wanted: Value,
 ) -> Option<Move>
     requires member { IsPositionOf table.now.family position.now.setup }
-    requires the_moves { AreMoves table.now.family.profile position.now.setup the_moves.now }
+    requires legal { AreMoves table.now.family.profile position.now.setup legal.now }
     ensures { IsSingleMove table.now.family.profile (GivenBy table.now) position.now.setup wanted result }
 {
     let mut single = None;
-    for the_move in the_moves {
-        if value_to(table, position, *the_move) == wanted {
+    for played in legal {
+        if value_to(table, position, *played) == wanted {
             if single.is_some() {
                 return None;
             }
-            single = Some(*the_move);
+            single = Some(*played);
         }
     }
     single

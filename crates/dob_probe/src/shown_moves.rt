@@ -20,12 +20,12 @@ const COLUMN_C: u16 = 0b100_100_100_100;
 const COLUMN_B: u16 = 0b010_010_010_010;
 
 /// The sets of squares of what the move leads to, by those that the enemy sees before it: the enemy is the side that moves next.
-pub(crate) fn bits_after(position: &Position, seen: &Bitboards, the_move: Move) -> Bitboards
-    requires can_go { CanGo A position.now.setup the_move }
+pub(crate) fn bits_after(position: &Position, seen: &Bitboards, played: Move) -> Bitboards
+    requires can_go { CanGo A position.now.setup played }
     requires seen { AreBitboards (turned position.now.setup) seen.now }
-    ensures { (q : Setup) → HasOutcome position.now.setup the_move q → AreBitboards q result }
+    ensures { (q : Setup) → HasOutcome position.now.setup played q → AreBitboards q result }
 {
-    match the_move {
+    match played {
         Move::Step {
             kind,
             from,

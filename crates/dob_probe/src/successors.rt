@@ -133,37 +133,37 @@ pub(crate) fn list_moves(
 }
 
 // The values of the positions to which the moves lead.
-fn successors_of(table: &Table, position: &Position, the_moves: &[Move]) -> Successors
+fn successors_of(table: &Table, position: &Position, legal: &[Move]) -> Successors
     requires member { IsPositionOf table.now.family position.now.setup }
-    requires the_moves { AreMoves table.now.family.profile position.now.setup the_moves.now }
+    requires legal { AreMoves table.now.family.profile position.now.setup legal.now }
     ensures { (values : List Valued) × AreSuccessors table.now.family.profile (λ v q. GivenBy table.now q v) position.now.setup values × AreSummed values result }
 {
     let seen = Bitboards::turned(&position.setup);
     let mut kept = Successors::none();
-    for the_move in the_moves {
-        let value = value_shown(table, position, &seen, *the_move);
+    for played in legal {
+        let value = value_shown(table, position, &seen, *played);
         kept = kept.with(value);
     }
     kept
 }
 
 // The value of the position to which the move leads, by the sets of squares that the enemy sees before it.
-fn value_shown(table: &Table, position: &Position, seen: &Bitboards, the_move: Move) -> Value
+fn value_shown(table: &Table, position: &Position, seen: &Bitboards, played: Move) -> Value
     requires member { IsPositionOf table.now.family position.now.setup }
-    requires the_move { HasStatus table.now.family.profile position.now.setup Status.Open × CanGo table.now.family.profile position.now.setup the_move }
+    requires played { HasStatus table.now.family.profile position.now.setup Status.Open × CanGo table.now.family.profile position.now.setup played }
     requires seen { AreBitboards (turned position.now.setup) seen.now }
-    ensures { (q : Setup) → Goes table.now.family.profile position.now.setup the_move q → GivenBy table.now q result }
+    ensures { (q : Setup) → Goes table.now.family.profile position.now.setup played q → GivenBy table.now q result }
 {
-    let bits = bits_after(position, seen, the_move);
+    let bits = bits_after(position, seen, played);
     let class = class_shown(table.classes(), &bits);
     table.value(class)
 }
 
 // The value of the position to which the move leads.
-pub(crate) fn value_to(table: &Table, position: &Position, the_move: Move) -> Value
+pub(crate) fn value_to(table: &Table, position: &Position, played: Move) -> Value
     requires member { IsPositionOf table.now.family position.now.setup }
-    requires the_move { HasStatus table.now.family.profile position.now.setup Status.Open × CanGo table.now.family.profile position.now.setup the_move }
-    ensures { (q : Setup) → Goes table.now.family.profile position.now.setup the_move q → GivenBy table.now q result }
+    requires played { HasStatus table.now.family.profile position.now.setup Status.Open × CanGo table.now.family.profile position.now.setup played }
+    ensures { (q : Setup) → Goes table.now.family.profile position.now.setup played q → GivenBy table.now q result }
 {
-    table.value_of(&apply(position, the_move))
+    table.value_of(&apply(position, played))
 }

@@ -67,7 +67,7 @@ move_fields (Put kind to) second = put_fields (move_text (Put kind to) second) k
 -- ---- objects
 
 abbrev pub valued_object : ValuedMove → List ℕ
-valued_object valued = codes "{" ++ (move_fields valued.the_move false ++ (codes "," ++ (value_fields valued.value ++ codes "}")))
+valued_object valued = codes "{" ++ (move_fields valued.played false ++ (codes "," ++ (value_fields valued.value ++ codes "}")))
 
 abbrev pub valued_objects : List ValuedMove → List ℕ
 valued_objects [] = []

@@ -25,12 +25,12 @@ IsPuzzleLength plies = (plies % 2 ≡ 1) × (3 ≤ plies)
 
 -- the text of the position, two spaces, and the move, as `..l/.../L../... - -  La2-a3`
 abbrev pub puzzle_line : Setup → Move → List ℕ
-puzzle_line position the_move = text_of position ++ (codes "  " ++ (move_text the_move false ++ line_feed ∷ []))
+puzzle_line position played = text_of position ++ (codes "  " ++ (move_text played false ++ line_feed ∷ []))
 
 -- the same behind the number of the class and two spaces, where it is numbered, as `25  ..l/.../L../... - -  La2-a3`
 abbrev pub puzzle_text : Bool → Setup → Puzzle → List ℕ
 puzzle_text is_numbered position puzzle =
-    if is_numbered then decimal puzzle.class ++ (codes "  " ++ puzzle_line position puzzle.the_move) else puzzle_line position puzzle.the_move
+    if is_numbered then decimal puzzle.class ++ (codes "  " ++ puzzle_line position puzzle.played) else puzzle_line position puzzle.played
 
 -- the line of a puzzle: the representative of its class, and the one move
 abbrev pub line_of_puzzle : Family → Bool → Puzzle → List ℕ

@@ -43,7 +43,7 @@ TellsValue tell Has p lines = (value : Value) × Has p value × (lines ≡ tell 
 
 -- the lines tell the moves of the position with their values
 abbrev pub TellsMoves : (List ValuedMove → List ℕ) → Profile → (Setup → Value → Type 0) → Setup → List ℕ → Type 0
-TellsMoves tell profile Has p lines = (the_moves : List ValuedMove) × AreValuedMoves profile Has p the_moves × (lines ≡ tell the_moves)
+TellsMoves tell profile Has p lines = (legal : List ValuedMove) × AreValuedMoves profile Has p legal × (lines ≡ tell legal)
 
 -- the lines tell the position's value and its line
 abbrev pub TellsPlay : (Value → List GameMove → List ℕ) → Profile → (Setup → Value → Type 0) → Setup → List ℕ → Type 0

@@ -7,12 +7,12 @@ use Rattle.dob_query.specs.Program.{value_line}
 
 -- a move and its value, as `La2-a3 win 3`
 abbrev pub valued_move_line : ValuedMove → List ℕ
-valued_move_line valued = move_text valued.the_move false ++ (space ∷ value_line valued.value)
+valued_move_line valued = move_text valued.played false ++ (space ∷ value_line valued.value)
 
 -- a line for each move, or that there is none
 abbrev pub move_lines : List ValuedMove → List ℕ
 move_lines [] = codes "end" ++ line_feed ∷ []
-move_lines the_moves = flat_map valued_move_line the_moves
+move_lines legal = flat_map valued_move_line legal
 
 -- the line of the first move, or that there is none
 abbrev pub best_move_line : List ValuedMove → List ℕ

@@ -85,7 +85,7 @@ fn valued_objects(alloc: Global, moves: &[ValuedMove]) -> Result<String, Memory>
 fn valued_object(alloc: Global, valued: ValuedMove) -> Result<String, Memory>
     ensures { IfOk result (λ text. string_bytes text ≡ valued_object valued) }
 {
-    let fields = move_fields(alloc, valued.the_move, false)?;
+    let fields = move_fields(alloc, valued.played, false)?;
     let worth = value_fields(alloc, valued.value)?;
     Ok(format!(in alloc; "{{{fields},{worth}}}")?)
 }
@@ -147,11 +147,11 @@ fn value_fields(alloc: Global, value: Value) -> Result<String, Memory>
 }
 
 // The fields of a move; it is one of the side that is second in its line, or of the first.
-fn move_fields(alloc: Global, the_move: Move, second: bool) -> Result<String, Memory>
-    ensures { IfOk result (λ text. string_bytes text ≡ move_fields the_move second) }
+fn move_fields(alloc: Global, played: Move, second: bool) -> Result<String, Memory>
+    ensures { IfOk result (λ text. string_bytes text ≡ move_fields played second) }
 {
-    let text = write_move(alloc, the_move, second)?;
-    match &the_move {
+    let text = write_move(alloc, played, second)?;
+    match &played {
         Move::Step {
             kind,
             from,

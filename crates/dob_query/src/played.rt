@@ -77,13 +77,13 @@ fn push_moves(alloc: Global, line: &mut String, moves: &[Move]) -> Result<(), Me
 fn push_move(
     alloc: Global,
     line: &mut String,
-    the_move: Move,
+    played: Move,
     second: bool,
     rest: &[Move],
 ) -> Result<(), Memory>
-    ensures { OnOk result (string_bytes line.new ≡ string_bytes line.old ++ (move_text the_move second ++ space_before rest.now)) }
+    ensures { OnOk result (string_bytes line.new ≡ string_bytes line.old ++ (move_text played second ++ space_before rest.now)) }
 {
-    let text = write_move(alloc, the_move, second)?;
+    let text = write_move(alloc, played, second)?;
     line.push_str(text.as_str())?;
     line.push_str(space_before(rest))?;
     Ok(())

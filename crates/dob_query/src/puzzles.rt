@@ -112,7 +112,7 @@ fn puzzle_text(
 ) -> Result<String, Memory>
     ensures { IfOk result (λ line. string_bytes line ≡ puzzle_text is_numbered position.now.setup puzzle) }
 {
-    let line = puzzle_line(alloc, position, puzzle.the_move)?;
+    let line = puzzle_line(alloc, position, puzzle.played)?;
     if is_numbered {
         Ok(numbered_line(alloc, puzzle.class, line.as_str())?)
     } else {
@@ -128,17 +128,17 @@ fn numbered_line(alloc: Global, number: u64, line: &str) -> Result<String, Memor
 }
 
 // The line of that position and that move.
-fn puzzle_line(alloc: Global, position: &Position, the_move: Move) -> Result<String, Memory>
-    ensures { IfOk result (λ line. string_bytes line ≡ puzzle_line position.now.setup the_move) }
+fn puzzle_line(alloc: Global, position: &Position, played: Move) -> Result<String, Memory>
+    ensures { IfOk result (λ line. string_bytes line ≡ puzzle_line position.now.setup played) }
 {
     let text = write_position(alloc, position)?;
-    let told = write_move(alloc, the_move, false)?;
+    let told = write_move(alloc, played, false)?;
     joined_line(alloc, text.as_str(), told.as_str())
 }
 
 // Both texts on a line, with two spaces between them.
-fn joined_line(alloc: Global, text: &str, the_move: &str) -> Result<String, Memory>
-    ensures { IfOk result (λ line. string_bytes line ≡ text.now ++ (codes "  " ++ (the_move.now ++ line_feed ∷ []))) }
+fn joined_line(alloc: Global, text: &str, played: &str) -> Result<String, Memory>
+    ensures { IfOk result (λ line. string_bytes line ≡ text.now ++ (codes "  " ++ (played.now ++ line_feed ∷ []))) }
 {
-    Ok(format!(in alloc; "{text}  {the_move}\n")?)
+    Ok(format!(in alloc; "{text}  {played}\n")?)
 }

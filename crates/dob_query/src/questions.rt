@@ -165,8 +165,8 @@ fn told_moves<R: PlacedSource>(
     ensures shown { (stream : Stream) → R.shows source.old stream → R.shows source.new stream }
     ensures failed { R.has_failed source.new ≡ (R.has_failed source.old || is_io_error result) }
 {
-    let the_moves = moves_by_records(alloc, source, format, classes, position)?;
-    Ok(move_lines(alloc, &the_moves)?)
+    let legal = moves_by_records(alloc, source, format, classes, position)?;
+    Ok(move_lines(alloc, &legal)?)
 }
 
 // The first of them.
@@ -184,8 +184,8 @@ fn told_best<R: PlacedSource>(
     ensures shown { (stream : Stream) → R.shows source.old stream → R.shows source.new stream }
     ensures failed { R.has_failed source.new ≡ (R.has_failed source.old || is_io_error result) }
 {
-    let the_moves = moves_by_records(alloc, source, format, classes, position)?;
-    Ok(best_move_line(alloc, &the_moves)?)
+    let legal = moves_by_records(alloc, source, format, classes, position)?;
+    Ok(best_move_line(alloc, &legal)?)
 }
 
 // The line.
@@ -261,8 +261,8 @@ fn told_moves_object<R: PlacedSource>(
     ensures shown { (stream : Stream) → R.shows source.old stream → R.shows source.new stream }
     ensures failed { R.has_failed source.new ≡ (R.has_failed source.old || is_io_error result) }
 {
-    let the_moves = moves_by_records(alloc, source, format, classes, position)?;
-    Ok(moves_object(alloc, position, &the_moves)?)
+    let legal = moves_by_records(alloc, source, format, classes, position)?;
+    Ok(moves_object(alloc, position, &legal)?)
 }
 
 // The value and the line, as an object.

@@ -37,7 +37,7 @@ fn told_reply(alloc: Global, certificate: &CertificateFile, position: &Position)
     ensures err { IfErr result (IsReplyFault (content certificate.now) position.now.setup) }
 {
     match proved_reply(alloc, certificate, position)? {
-        Some(Reply::Win { the_move, plies }) => Ok(win_line(alloc, the_move, plies as u64 + 1)?),
+        Some(Reply::Win { played, plies }) => Ok(win_line(alloc, played, plies as u64 + 1)?),
         Some(Reply::Loss { plies }) => Ok(loss_line(alloc, plies)?),
         None => Err(Fault::Certificate(CertificateFault::Unlisted)),
     }
@@ -67,10 +67,10 @@ fn loss_line(alloc: Global, plies: u16) -> Result<String, Memory>
 }
 
 // The line of a move that wins within `plies` plies.
-fn win_line(alloc: Global, the_move: Move, plies: u64) -> Result<String, Memory>
-    ensures { IfOk result (λ line. string_bytes line ≡ win_line the_move plies) }
+fn win_line(alloc: Global, played: Move, plies: u64) -> Result<String, Memory>
+    ensures { IfOk result (λ line. string_bytes line ≡ win_line played plies) }
 {
-    let text = write_move(alloc, the_move, false)?;
+    let text = write_move(alloc, played, false)?;
     within_line(alloc, text.as_str(), plies)
 }
 

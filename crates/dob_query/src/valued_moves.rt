@@ -9,32 +9,32 @@ use dob_text::write_move;
 use std::alloc::Global;
 
 /// The lines of the moves, or that there is none.
-pub(crate) fn move_lines(alloc: Global, the_moves: &[ValuedMove]) -> Result<String, Memory>
-    ensures { IfOk result (λ lines. string_bytes lines ≡ move_lines the_moves.now) }
+pub(crate) fn move_lines(alloc: Global, legal: &[ValuedMove]) -> Result<String, Memory>
+    ensures { IfOk result (λ lines. string_bytes lines ≡ move_lines legal.now) }
 {
-    if the_moves.is_empty() {
+    if legal.is_empty() {
         Ok("end\n".to_string(alloc)?)
     } else {
-        some_lines(alloc, the_moves)
+        some_lines(alloc, legal)
     }
 }
 
 /// The line of the first move, or that there is none.
-pub(crate) fn best_move_line(alloc: Global, the_moves: &[ValuedMove]) -> Result<String, Memory>
-    ensures { IfOk result (λ line. string_bytes line ≡ best_move_line the_moves.now) }
+pub(crate) fn best_move_line(alloc: Global, legal: &[ValuedMove]) -> Result<String, Memory>
+    ensures { IfOk result (λ line. string_bytes line ≡ best_move_line legal.now) }
 {
-    match the_moves {
+    match legal {
         [] => Ok("end\n".to_string(alloc)?),
         [first, ..] => valued_move_line(alloc, *first),
     }
 }
 
 // A line for each move.
-fn some_lines(alloc: Global, the_moves: &[ValuedMove]) -> Result<String, Memory>
-    ensures { IfOk result (λ lines. string_bytes lines ≡ flat_map valued_move_line the_moves.now) }
+fn some_lines(alloc: Global, legal: &[ValuedMove]) -> Result<String, Memory>
+    ensures { IfOk result (λ lines. string_bytes lines ≡ flat_map valued_move_line legal.now) }
 {
     let mut lines = String::new(alloc);
-    for valued in the_moves {
+    for valued in legal {
         push_valued_move(alloc, &mut lines, *valued)?;
     }
     Ok(lines)
@@ -53,7 +53,7 @@ fn push_valued_move(alloc: Global, lines: &mut String, valued: ValuedMove) -> Re
 fn valued_move_line(alloc: Global, valued: ValuedMove) -> Result<String, Memory>
     ensures { IfOk result (λ line. string_bytes line ≡ valued_move_line valued) }
 {
-    let mut line = write_move(alloc, valued.the_move, false)?;
+    let mut line = write_move(alloc, valued.played, false)?;
     let value = line_of(alloc, valued.value)?;
     line.push_str(" ")?;
     line.push_str(value.as_str())?;

@@ -129,8 +129,8 @@ fn push_outcomes(
 {
     let position = classes.class_at(class as u64);
     let status = moves_into(classes.family.profile, room, &position)?;
-    for the_move in room.iter() {
-        let outcome = class_after(classes, &position, *the_move);
+    for played in room.iter() {
+        let outcome = class_after(classes, &position, *played);
         push_unmarked(marks, outcomes, outcome)?;
     }
     Ok(is_open(status))
@@ -157,13 +157,13 @@ fn push_unmarked(marks: &Marks, numbers: &mut Vec<u32>, number: u32) -> Result<(
 }
 
 // The number of the class to which the move leads.
-fn class_after(classes: &Classes, position: &Position, the_move: Move) -> u32
+fn class_after(classes: &Classes, position: &Position, played: Move) -> u32
     requires member { IsPositionOf classes.now.family position.now.setup }
     requires is_open { HasStatus classes.now.family.profile position.now.setup Status.Open }
-    requires can_go { CanGo classes.now.family.profile position.now.setup the_move }
-    ensures class { (q : Setup) → Goes classes.now.family.profile position.now.setup the_move q → IsInClass classes.now.family q result }
+    requires can_go { CanGo classes.now.family.profile position.now.setup played }
+    ensures class { (q : Setup) → Goes classes.now.family.profile position.now.setup played q → IsInClass classes.now.family q result }
     ensures within { result < classes_of classes.now.family }
 {
     let _few = classes.class_count();
-    classes.class_of(&apply(position, the_move)) as u32
+    classes.class_of(&apply(position, played)) as u32
 }

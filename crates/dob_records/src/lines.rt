@@ -75,8 +75,8 @@ fn line_from<R: PlacedSource>(
         let Some(wanted) = value_wanted(value) else {
             return Ok(line);
         };
-        let (the_move, next) = first_to(alloc, source, format, classes, &position, wanted)?;
-        push_move(&mut line, the_move)?;
+        let (played, next) = first_to(alloc, source, format, classes, &position, wanted)?;
+        push_move(&mut line, played)?;
         position = next;
         value = wanted;
     }
@@ -103,10 +103,10 @@ fn first_to<R: PlacedSource>(
     ensures shown { (stream : Stream) → R.shows source.old stream → R.shows source.new stream }
     ensures failed { R.has_failed source.new ≡ (R.has_failed source.old || is_io_error result) }
 {
-    let the_moves = moves(alloc, classes.family.profile, position)?;
-    for the_move in &the_moves {
-        if value_after(source, format, classes, position, *the_move)? == wanted {
-            return Ok((*the_move, apply(position, *the_move)));
+    let legal = moves(alloc, classes.family.profile, position)?;
+    for played in &legal {
+        if value_after(source, format, classes, position, *played)? == wanted {
+            return Ok((*played, apply(position, *played)));
         }
     }
     Err(Fault::Inconsistent(classes.class_of(position)))

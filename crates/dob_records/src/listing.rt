@@ -38,20 +38,20 @@ pub fn moves_by_records<R: PlacedSource>(
     ensures shown { (stream : Stream) → R.shows source.old stream → R.shows source.new stream }
     ensures failed { R.has_failed source.new ≡ (R.has_failed source.old || is_io_error result) }
 {
-    if let Some(the_move) = first_catch(position) {
-        return Ok(one_catch(alloc, the_move)?);
+    if let Some(played) = first_catch(position) {
+        return Ok(one_catch(alloc, played)?);
     }
-    let the_moves = moves(alloc, classes.family.profile, position)?;
-    moves_in_order(alloc, source, format, classes, position, &the_moves)
+    let legal = moves(alloc, classes.family.profile, position)?;
+    moves_in_order(alloc, source, format, classes, position, &legal)
 }
 
 // The catch of the lion alone.
-fn one_catch(alloc: Global, the_move: Move) -> Result<Vec<ValuedMove>, Memory>
-    ensures { IfOk result (λ list. list.items ≡ record { the_move = the_move; value = Win 1 } ∷ []) }
+fn one_catch(alloc: Global, played: Move) -> Result<Vec<ValuedMove>, Memory>
+    ensures { IfOk result (λ list. list.items ≡ record { played = played; value = Win 1 } ∷ []) }
 {
     let mut list = Vec::new(alloc);
     let value = Value::Win(1);
-    list.push(ValuedMove { the_move, value })?;
+    list.push(ValuedMove { played, value })?;
     Ok(list)
 }
 
@@ -64,10 +64,10 @@ fn moves_in_order<R: PlacedSource>(
     format: Format,
     classes: &Classes,
     position: &Position,
-    the_moves: &[Move],
+    legal: &[Move],
 ) -> Result<Vec<ValuedMove>, Fault>
     requires member { IsPositionOf classes.now.family position.now.setup }
-    requires the_moves { AreMoves classes.now.family.profile position.now.setup the_moves.now }
+    requires legal { AreMoves classes.now.family.profile position.now.setup legal.now }
     requires free { ¬ CanCatch position.now.setup }
     ensures moves { (stream : Stream) → R.shows source.old stream → IfOk result (λ list.
         AreValuedMoves classes.now.family.profile (IsRecorded stream format classes.now.family) position.now.setup list.items) }
@@ -76,10 +76,10 @@ fn moves_in_order<R: PlacedSource>(
     ensures failed { R.has_failed source.new ≡ (R.has_failed source.old || is_io_error result) }
 {
     let mut list = Vec::new(alloc);
-    for the_move in the_moves {
-        let value = value_seen(value_after(source, format, classes, position, *the_move)?);
+    for played in legal {
+        let value = value_seen(value_after(source, format, classes, position, *played)?);
         let valued = ValuedMove {
-            the_move: *the_move,
+            played: *played,
             value,
         };
         insert_by_value(&mut list, valued)?;

@@ -47,18 +47,18 @@ pub(crate) fn value_after<R: PlacedSource>(
     format: Format,
     classes: &Classes,
     position: &Position,
-    the_move: Move,
+    played: Move,
 ) -> Result<Value, Fault>
     requires member { IsPositionOf classes.now.family position.now.setup }
     requires goes_on { HasStatus classes.now.family.profile position.now.setup Open }
-    requires can_go { CanGo classes.now.family.profile position.now.setup the_move }
+    requires can_go { CanGo classes.now.family.profile position.now.setup played }
     ensures said { (stream : Stream) → R.shows source.old stream → IfOk result (λ value. (q : Setup)
-        → Goes classes.now.family.profile position.now.setup the_move q → IsRecorded stream format classes.now.family q value) }
+        → Goes classes.now.family.profile position.now.setup played q → IsRecorded stream format classes.now.family q value) }
     ensures entry { IfOk result IsEntry }
     ensures fault { (stream : Stream) → R.shows source.old stream → IfErr result (LacksNext stream format classes.now.family position.now.setup) }
     ensures shown { (stream : Stream) → R.shows source.old stream → R.shows source.new stream }
     ensures failed { R.has_failed source.new ≡ (R.has_failed source.old || is_io_error result) }
 {
-    let next = apply(position, the_move);
+    let next = apply(position, played);
     value_at(source, format, classes, &next)
 }

@@ -71,7 +71,7 @@ fn moves_told(rt: &impl Abort, alloc: Global, table: &Table, text: &str) -> Resu
     let position = position_of(rt, text);
     let mut told = String::new(alloc);
     for valued in &valued_moves(alloc, table, &position)? {
-        told.push_str(&write_move(alloc, valued.the_move, false)?)?;
+        told.push_str(&write_move(alloc, valued.played, false)?)?;
         let (word, plies) = match valued.value {
             Value::Win(plies) => (" win ", plies),
             Value::Loss(plies) => (" loss ", plies),

@@ -167,12 +167,12 @@ fn push_made(
     classes: &Classes,
     class: u64,
     position: &Position,
-    the_moves: &[Move],
+    legal: &[Move],
 ) -> Result<(), Memory>
-    requires { AreMoves A position.now.setup the_moves.now }
+    requires { AreMoves A position.now.setup legal.now }
 {
-    for the_move in the_moves {
-        let after = class_in(rt, classes, &apply(position, *the_move));
+    for played in legal {
+        let after = class_in(rt, classes, &apply(position, *played));
         pairs.push((after, class))?;
     }
     Ok(())
@@ -187,8 +187,8 @@ fn pairs_made(
     let mut pairs = Vec::new(alloc);
     for class in 0..classes.class_count() {
         let position = classes.class_at(class);
-        let the_moves = moves(alloc, Profile::A, &position)?;
-        push_made(rt, &mut pairs, classes, class, &position, &the_moves)?;
+        let legal = moves(alloc, Profile::A, &position)?;
+        push_made(rt, &mut pairs, classes, class, &position, &legal)?;
     }
     pairs.sort_unstable();
     Ok(pairs)

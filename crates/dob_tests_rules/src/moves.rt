@@ -71,12 +71,12 @@ const MOVES_OF_B: [(&str, Status, &[&str]); 3] = [
 
 // The position has exactly those moves by the rules of the profile, in their order.
 fn lists(rt: &impl Abort, alloc: Global, profile: Profile, position: &Position, texts: &[&str]) {
-    let the_moves = moves(alloc, profile, position).expect(rt, "memory");
+    let legal = moves(alloc, profile, position).expect(rt, "memory");
     let (_, count) = status_and_count(profile, position);
-    assert!(rt; usize::from(count) == the_moves.len());
-    assert!(rt; the_moves.len() == texts.len());
+    assert!(rt; usize::from(count) == legal.len());
+    assert!(rt; legal.len() == texts.len());
     for place in 0..texts.len() {
-        writes(rt, alloc, the_moves[place], false, texts[place]);
+        writes(rt, alloc, legal[place], false, texts[place]);
     }
 }
 
@@ -113,11 +113,11 @@ fn first_catch_is_by_square(rt: HostRuntime) {
 
 // What the move of that number leads to, seen from the side to move then.
 fn outcome(alloc: Global, number: usize, position: &Position) -> Result<Option<Position>, Memory> {
-    let the_moves = moves(alloc, Profile::A, position)?;
-    if number >= the_moves.len() {
+    let legal = moves(alloc, Profile::A, position)?;
+    if number >= legal.len() {
         return Ok(None);
     }
-    let after = apply(position, the_moves[number]);
+    let after = apply(position, legal[number]);
     Ok(Some(after))
 }
 

@@ -247,8 +247,8 @@ fn is_written_back(rt: &impl Abort, alloc: Global, text: &str) {
 }
 
 /// The move is written so.
-pub(crate) fn writes(rt: &impl Abort, alloc: Global, the_move: Move, second: bool, text: &str) {
-    let written = write_move(alloc, the_move, second).expect(rt, "memory");
+pub(crate) fn writes(rt: &impl Abort, alloc: Global, played: Move, second: bool, text: &str) {
+    let written = write_move(alloc, played, second).expect(rt, "memory");
     assert!(rt; written.as_str() == text, "{text}");
 }
 
@@ -275,14 +275,14 @@ const SECOND_STEPS: &[Step] = &[
 // The steps of the first or the second player are written so.
 fn writes_steps(rt: &impl Abort, alloc: Global, second: bool, steps: &[Step]) {
     for (kind, (from, to), (catch, grows), text) in steps {
-        let the_move = Move::Step {
+        let played = Move::Step {
             kind: *kind,
             from: Square::new(*from % 12),
             to: Square::new(*to % 12),
             catch: *catch,
             grows: *grows,
         };
-        writes(rt, alloc, the_move, second, *text);
+        writes(rt, alloc, played, second, *text);
     }
 }
 

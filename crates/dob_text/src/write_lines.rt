@@ -12,13 +12,13 @@ fn push_numbered(
     alloc: Global,
     text: &mut String,
     before: usize,
-    the_move: Move,
+    played: Move,
     second: bool,
 ) -> Result<(), Memory>
     requires { before + 1 < 2 ^ 64 }
-    ensures { OnOk result (string_bytes text.new ≡ string_bytes text.old ++ numbered_move before second the_move) }
+    ensures { OnOk result (string_bytes text.new ≡ string_bytes text.old ++ numbered_move before second played) }
 {
-    let written = write_move(alloc, the_move, second)?;
+    let written = write_move(alloc, played, second)?;
     let name = written.as_str();
     let number = before + 1;
     let line = format!(in alloc; "{number}. {name}\n")?;

@@ -32,11 +32,11 @@ fn push_square(text: &mut String, square: Square) -> Result<(), AllocError>
 }
 
 // Writes the move at the end.
-fn push_move(text: &mut String, the_move: Move, second: bool) -> Result<(), AllocError>
-    ensures { OnOk result (string_bytes text.new ≡ string_bytes text.old ++ move_text the_move second) }
+fn push_move(text: &mut String, played: Move, second: bool) -> Result<(), AllocError>
+    ensures { OnOk result (string_bytes text.new ≡ string_bytes text.old ++ move_text played second) }
 {
     let side = mover_side(second);
-    match the_move {
+    match played {
         Move::Step {
             kind,
             from,
@@ -66,10 +66,10 @@ fn push_move(text: &mut String, the_move: Move, second: bool) -> Result<(), Allo
 /// # Errors
 ///
 /// `Memory` if no memory is left for the text.
-pub fn write_move(alloc: Global, the_move: Move, second: bool) -> Result<String, Memory>
-    ensures { IfOk result (λ text. string_bytes text ≡ move_text the_move second) }
+pub fn write_move(alloc: Global, played: Move, second: bool) -> Result<String, Memory>
+    ensures { IfOk result (λ text. string_bytes text ≡ move_text played second) }
 {
     let mut text = String::new(alloc);
-    push_move(&mut text, the_move, second)?;
+    push_move(&mut text, played, second)?;
     Ok(text)
 }

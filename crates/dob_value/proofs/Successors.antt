@@ -16,34 +16,34 @@ moves_keep_the_family family p move q is goes_on goes = record {
 }
 
 -- the numbers stand for the outcomes of the moves below an index
-pub record AreSuccessorsBelow (profile : Profile) {X : Type 0} (StandsFor : X → Setup → Type 0) (p : Setup) (the_moves : List Move) (upto : ℕ) (numbers : List X) : Type 0 where
+pub record AreSuccessorsBelow (profile : Profile) {X : Type 0} (StandsFor : X → Setup → Type 0) (p : Setup) (legal : List Move) (upto : ℕ) (numbers : List X) : Type 0 where
   pub sound : (number : X) → Contains numbers number → (move : Move) × (q : Setup) × Goes profile p move q × StandsFor number q
-  pub whole : (index : ℕ) (move : Move) (q : Setup) → index < upto → slice_get the_moves index ≡ Some move → Goes profile p move q →
+  pub whole : (index : ℕ) (move : Move) (q : Setup) → index < upto → slice_get legal index ≡ Some move → Goes profile p move q →
       (number : X) × Contains numbers number × StandsFor number q
 
 -- what the list of moves says of an entry that was read
-pub move_goes : (profile : Profile) (p : Setup) (the_moves : List Move) (index : ℕ) (the_move : Move) → AreMoves profile p the_moves → index < length the_moves →
-    the_move ≡ get_or the_moves index the_move → HasStatus profile p Open × CanGo profile p the_move
-move_goes profile p the_moves index the_move are_moves within read =
-    are_moves.sound the_move (subst (λ m. Contains the_moves m) (sym read) (Contains-get_or the_moves index the_move within))
+pub move_goes : (profile : Profile) (p : Setup) (legal : List Move) (index : ℕ) (played : Move) → AreMoves profile p legal → index < length legal →
+    played ≡ get_or legal index played → HasStatus profile p Open × CanGo profile p played
+move_goes profile p legal index played are_moves within read =
+    are_moves.sound played (subst (λ m. Contains legal m) (sym read) (Contains-get_or legal index played within))
 
-module _ (profile : Profile) {X : Type 0} (StandsFor : X → Setup → Type 0) (p : Setup) (the_moves : List Move) where
-  pub successors_none : AreSuccessorsBelow profile StandsFor p the_moves 0 []
+module _ (profile : Profile) {X : Type 0} (StandsFor : X → Setup → Type 0) (p : Setup) (legal : List Move) where
+  pub successors_none : AreSuccessorsBelow profile StandsFor p legal 0 []
   successors_none = record {
     sound = λ number there. absurd (omega (arith, there.1));
     whole = λ index move q below there goes. absurd (omega arith);
   }
 
-  pub successors_more : (upto : ℕ) (numbers : List X) (the_move : Move) (number : X) → slice_get the_moves upto ≡ Some the_move →
-      CanGo profile p the_move → ((q : Setup) → Goes profile p the_move q → StandsFor number q) →
-      AreSuccessorsBelow profile StandsFor p the_moves upto numbers →
-      AreSuccessorsBelow profile StandsFor p the_moves (upto + 1) (numbers ++ number ∷ [])
-  successors_more upto numbers the_move number here can_go stands before = record {
+  pub successors_more : (upto : ℕ) (numbers : List X) (played : Move) (number : X) → slice_get legal upto ≡ Some played →
+      CanGo profile p played → ((q : Setup) → Goes profile p played q → StandsFor number q) →
+      AreSuccessorsBelow profile StandsFor p legal upto numbers →
+      AreSuccessorsBelow profile StandsFor p legal (upto + 1) (numbers ++ number ∷ [])
+  successors_more upto numbers played number here can_go stands before = record {
     sound = λ other there. elim (Contains-push_cases numbers number other there) [
       | inl earlier ↦ before.sound other earlier
-      | inr same ↦ (the_move, can_go.0, can_go.1, subst (λ k. StandsFor k can_go.0) same (stands can_go.0 can_go.1))
+      | inr same ↦ (played, can_go.0, can_go.1, subst (λ k. StandsFor k can_go.0) same (stands can_go.0 can_go.1))
     ];
-    whole = λ index move q below there goes. elim (before_or_here the_moves upto index the_move move here there below) [
+    whole = λ index move q below there goes. elim (before_or_here legal upto index played move here there below) [
       | inl earlier ↦
           let step = before.whole index move q earlier there goes in
           (step.0, Contains-append_left numbers (number ∷ []) step.0 step.1, step.2)
@@ -51,12 +51,12 @@ module _ (profile : Profile) {X : Type 0} (StandsFor : X → Setup → Type 0) (
     ];
   }
 
-  pub successors_all : (upto : ℕ) (numbers : List X) → length the_moves ≤ upto → AreMoves profile p the_moves →
-      AreSuccessorsBelow profile StandsFor p the_moves upto numbers → AreSuccessors profile StandsFor p numbers
+  pub successors_all : (upto : ℕ) (numbers : List X) → length legal ≤ upto → AreMoves profile p legal →
+      AreSuccessorsBelow profile StandsFor p legal upto numbers → AreSuccessors profile StandsFor p numbers
   successors_all upto numbers all are_moves below = record {
     sound = below.sound;
     whole = λ goes_on move q goes.
-        let there = standing the_moves move (are_moves.whole move goes_on (q, goes)) in
-        let within : there.0 < length the_moves = there.1 in
+        let there = standing legal move (are_moves.whole move goes_on (q, goes)) in
+        let within : there.0 < length legal = there.1 in
         below.whole there.0 move q (omega arith) there.2 goes;
   }

@@ -52,30 +52,30 @@ fn number_of(classes: &Classes, position: &Position) -> usize
 }
 
 // The number of the class to which the move leads.
-fn number_after(classes: &Classes, position: &Position, the_move: Move) -> usize
+fn number_after(classes: &Classes, position: &Position, played: Move) -> usize
     requires member { IsPositionOf classes.now.family position.now.setup }
     requires open { HasStatus classes.now.family.profile position.now.setup Status.Open }
-    requires can_go { CanGo classes.now.family.profile position.now.setup the_move }
-    ensures { (q : Setup) → Goes classes.now.family.profile position.now.setup the_move q → ClassStandsFor classes.now.family result q }
+    requires can_go { CanGo classes.now.family.profile position.now.setup played }
+    ensures { (q : Setup) → Goes classes.now.family.profile position.now.setup played q → ClassStandsFor classes.now.family result q }
 {
-    number_of(classes, &apply(position, the_move))
+    number_of(classes, &apply(position, played))
 }
 
-// Appends the numbers of the classes to which the position's moves lead, and gives its status. The list of the_moves is
+// Appends the numbers of the classes to which the position's moves lead, and gives its status. The list of legal is
 // room for its moves.
 fn push_successors(
     classes: &Classes,
     position: &Position,
-    the_moves: &mut Vec<Move>,
+    legal: &mut Vec<Move>,
     successors: &mut Vec<usize>,
 ) -> Result<Status, Memory>
     requires { IsPositionOf classes.now.family position.now.setup }
     ensures { IfOk result (λ status. (numbers : List ℕ) × (successors.new.items ≡ successors.old.items ++ numbers)
         × IsNode classes.now.family.profile (ClassStandsFor classes.now.family) position.now.setup status numbers) }
 {
-    let status = moves_into(classes.family.profile, the_moves, position)?;
-    for the_move in the_moves.iter() {
-        let number = number_after(classes, position, *the_move);
+    let status = moves_into(classes.family.profile, legal, position)?;
+    for played in legal.iter() {
+        let number = number_after(classes, position, *played);
         successors.push(number)?;
     }
     Ok(status)
@@ -93,11 +93,11 @@ pub(crate) fn graph_of(alloc: Global, classes: &Classes) -> Result<Graph, Memory
     let mut statuses = Vec::new(alloc);
     let mut starts = Vec::new(alloc);
     let mut successors = Vec::new(alloc);
-    let mut the_moves = Vec::new(alloc);
+    let mut legal = Vec::new(alloc);
     starts.push(0)?;
     for number in 0..classes.class_count() {
         let position = classes.class_at(number);
-        let status = push_successors(classes, &position, &mut the_moves, &mut successors)?;
+        let status = push_successors(classes, &position, &mut legal, &mut successors)?;
         statuses.push(status)?;
         starts.push(successors.len())?;
     }

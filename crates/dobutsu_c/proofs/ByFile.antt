@@ -36,7 +36,7 @@ module _ (file : List ℕ) (table : ClassTable) (is : IsFile file table) (right 
       outcome = has.outcome;
       goes = has.goes;
       value = has.value;
-      has = given_right has.outcome has.value (moves_keep_the_family table.family p valued.the_move has.outcome member has.goes_on has.goes) has.has;
+      has = given_right has.outcome has.value (moves_keep_the_family table.family p valued.played has.outcome member has.goes_on has.goes) has.has;
       seen = has.seen;
     }
 
@@ -47,7 +47,7 @@ module _ (file : List ℕ) (table : ClassTable) (is : IsFile file table) (right 
       outcome = has.outcome;
       goes = has.goes;
       value = has.value;
-      has = right_given has.outcome has.value (moves_keep_the_family table.family p valued.the_move has.outcome member has.goes_on has.goes) has.has;
+      has = right_given has.outcome has.value (moves_keep_the_family table.family p valued.played has.outcome member has.goes_on has.goes) has.has;
       seen = has.seen;
     }
 

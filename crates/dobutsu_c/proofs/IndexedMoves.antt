@@ -8,28 +8,28 @@ use Rattle.dob_moves.specs.Statuses.{AreMoves, CanCatch, HasStatus}
 use Rattle.dobutsu_c.proofs.Exact.{one_given}
 use Rattle.dobutsu_c.proofs.Indexed.{given_by}
 
--- ---- the moves of the first the_moves, with their values
+-- ---- the moves of the first legal, with their values
 
-pub record AreListedBy (profile : Profile) (Has : Setup → Value → Type 0) (p : Setup) (the_moves : List Move) (upto : ℕ) (list : List ValuedMove) : Type 0 where
+pub record AreListedBy (profile : Profile) (Has : Setup → Value → Type 0) (p : Setup) (legal : List Move) (upto : ℕ) (list : List ValuedMove) : Type 0 where
   pub sound : (valued : ValuedMove) → Contains list valued → HasMoveValue profile Has p valued
-  pub whole : (index : ℕ) (the_move : Move) → index < upto → slice_get the_moves index ≡ Some the_move
-      → (valued : ValuedMove) × Contains list valued × (valued.the_move ≡ the_move)
-  pub once : (a b : ValuedMove) → Contains list a → Contains list b → a.the_move ≡ b.the_move → a ≡ b
+  pub whole : (index : ℕ) (played : Move) → index < upto → slice_get legal index ≡ Some played
+      → (valued : ValuedMove) × Contains list valued × (valued.played ≡ played)
+  pub once : (a b : ValuedMove) → Contains list a → Contains list b → a.played ≡ b.played → a ≡ b
 
-pub none_listed : (profile : Profile) (Has : Setup → Value → Type 0) (p : Setup) (the_moves : List Move) → AreListedBy profile Has p the_moves 0 []
-none_listed profile Has p the_moves = record {
+pub none_listed : (profile : Profile) (Has : Setup → Value → Type 0) (p : Setup) (legal : List Move) → AreListedBy profile Has p legal 0 []
+none_listed profile Has p legal = record {
   sound = λ valued there. absurd (omega (arith, there.1));
-  whole = λ index the_move below there. absurd (omega (arith, below));
+  whole = λ index played below there. absurd (omega (arith, below));
   once = λ a b there also same. absurd (omega (arith, there.1));
 }
 
-pub more_listed : (profile : Profile) (Has : Setup → Value → Type 0) (p : Setup) (the_moves : List Move) (upto : ℕ) (list new : List ValuedMove) (more : ValuedMove)
-    (value : Value) → slice_get the_moves upto ≡ Some more.the_move → HasStatus profile p Open → CanGo profile p more.the_move
-    → ((q : Setup) → Goes profile p more.the_move q → Has q value) → more.value ≡ seen_from_before value
+pub more_listed : (profile : Profile) (Has : Setup → Value → Type 0) (p : Setup) (legal : List Move) (upto : ℕ) (list new : List ValuedMove) (more : ValuedMove)
+    (value : Value) → slice_get legal upto ≡ Some more.played → HasStatus profile p Open → CanGo profile p more.played
+    → ((q : Setup) → Goes profile p more.played q → Has q value) → more.value ≡ seen_from_before value
     → ((x : ValuedMove) → Contains new x ↔ (Contains list x ⊎ (x ≡ more)))
-    → ((valued : ValuedMove) → Contains list valued → place valued.the_move < place more.the_move)
-    → AreListedBy profile Has p the_moves upto list → AreListedBy profile Has p the_moves (upto + 1) new
-more_listed profile Has p the_moves upto list new more value here goes_on can_go given seen has later before = record {
+    → ((valued : ValuedMove) → Contains list valued → place valued.played < place more.played)
+    → AreListedBy profile Has p legal upto list → AreListedBy profile Has p legal (upto + 1) new
+more_listed profile Has p legal upto list new more value here goes_on can_go given seen has later before = record {
   sound = λ valued there. elim ((has valued).0 there) [
     | inl earlier ↦ before.sound valued earlier
     | inr same ↦ subst (λ (x : ValuedMove). HasMoveValue profile Has p x) (sym same) (record {
@@ -41,8 +41,8 @@ more_listed profile Has p the_moves upto list new more value here goes_on can_go
       seen = seen;
     })
   ];
-  whole = λ index the_move below there. elim (before_or_here the_moves upto index more.the_move the_move here there below) [
-    | inl earlier ↦ let known = before.whole index the_move earlier there in (known.0, (has known.0).1 (inl known.1), known.2)
+  whole = λ index played below there. elim (before_or_here legal upto index more.played played here there below) [
+    | inl earlier ↦ let known = before.whole index played earlier there in (known.0, (has known.0).1 (inl known.1), known.2)
     | inr same ↦ (more, (has more).1 (inr refl), sym same)
   ];
   once = λ a b there also same. elim ((has a).0 there) [
@@ -57,23 +57,23 @@ more_listed profile Has p the_moves upto list new more value here goes_on can_go
   ];
 }
   where
-    apart : (a b : ValuedMove) → Contains list a → b ≡ more → a.the_move ≡ b.the_move → ⊥
+    apart : (a b : ValuedMove) → Contains list a → b ≡ more → a.played ≡ b.played → ⊥
     apart a b early last same =
         let rising = later a early in
-        let one : place a.the_move ≡ place more.the_move = ap place (same ∙ ap (λ (x : ValuedMove). x.the_move) last) in
+        let one : place a.played ≡ place more.played = ap place (same ∙ ap (λ (x : ValuedMove). x.played) last) in
         omega (arith, rising, one)
 
 module _ (file : List ℕ) (by : Numbering) (format : Format) (family : Family) (classes : ℕ) (setup : Setup) where
-  pub all_listed : (the_moves : List Move) (upto : ℕ) (list : List ValuedMove) → (CanCatch setup → ⊥) → AreMoves family.profile setup the_moves
-      → length the_moves ≤ upto → AreListedBy family.profile (IsGivenBy file by format family classes) setup the_moves upto list → AllPairs ComesBefore list
+  pub all_listed : (legal : List Move) (upto : ℕ) (list : List ValuedMove) → (CanCatch setup → ⊥) → AreMoves family.profile setup legal
+      → length legal ≤ upto → AreListedBy family.profile (IsGivenBy file by format family classes) setup legal upto list → AllPairs ComesBefore list
       → AreMovesBy file by format family classes setup list
-  all_listed the_moves upto list free are all listed ordered = record {
+  all_listed legal upto list free are all listed ordered = record {
     sound = λ valued there. inr (listed.sound valued there);
     caught = λ catch. absurd (free catch);
-    whole = λ the_move goes_on can_go.
-        let there = standing the_moves the_move (are.whole the_move goes_on can_go) in
-        let within : there.0 < length the_moves = there.1 in
-        listed.whole there.0 the_move (omega (arith, within, all)) there.2;
+    whole = λ played goes_on can_go.
+        let there = standing legal played (are.whole played goes_on can_go) in
+        let within : there.0 < length legal = there.1 in
+        listed.whole there.0 played (omega (arith, within, all)) there.2;
     once = listed.once;
     ordered = ordered;
   }
@@ -88,13 +88,13 @@ module _ (file : List ℕ) (by : Numbering) (format : Format) (family : Family) 
     ];
     caught = are.caught;
     whole = λ valued has.
-        let known = are.whole valued.the_move has.goes_on (has.outcome, has.goes) in
+        let known = are.whole valued.played has.goes_on (has.outcome, has.goes) in
         elim (are.sound known.0 known.1) [
-          | inl catch ↦ absurd (has.goes_on.0 (known.0.the_move, catch.catch.catches))
+          | inl catch ↦ absurd (has.goes_on.0 (known.0.played, catch.catch.catches))
           | inr found ↦
-              let goes : Goes family.profile setup valued.the_move found.outcome =
+              let goes : Goes family.profile setup valued.played found.outcome =
               subst (λ (m : Move). Goes family.profile setup m found.outcome) known.2 found.goes in
-              let outcome : found.outcome ≡ has.outcome = one_outcome valued.the_move found.outcome has.outcome goes has.goes in
+              let outcome : found.outcome ≡ has.outcome = one_outcome valued.played found.outcome has.outcome goes has.goes in
               let given = given_by file by format family classes found.outcome found.value index_is found.has in
               let value : found.value ≡ has.value = one_given file format family has.outcome found.value has.value
               (subst (λ (q : Setup). IsGiven file format family q found.value) outcome given) has.has in

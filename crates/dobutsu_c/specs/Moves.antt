@@ -28,7 +28,7 @@ abbrev pub shown_move : Move → DobutsuValue → DobutsuMove
 shown_move move value = with_value (move_numbers move) value
 
 abbrev pub shown_valued : ValuedMove → DobutsuMove
-shown_valued valued = shown_move valued.the_move (shown valued.value)
+shown_valued valued = shown_move valued.played (shown valued.value)
 
 -- the moves stand in the first places, as far as there are places, and the others hold what they held
 pub record AreWritten (list : List ValuedMove) (old new : List DobutsuMove) : Type 0 where
@@ -47,8 +47,8 @@ pub record AreMovesBy (file : List ℕ) (by : Numbering) (format : Format) (fami
       → IsWinningCatch setup valued ⊎ HasMoveValue family.profile (IsGivenBy file by format family classes) setup valued
   pub caught : CanCatch setup → length list ≡ 1
   pub whole : (move : Move) → HasStatus family.profile setup Open → CanGo family.profile setup move
-      → (valued : ValuedMove) × Contains list valued × (valued.the_move ≡ move)
-  pub once : (a b : ValuedMove) → Contains list a → Contains list b → a.the_move ≡ b.the_move → a ≡ b
+      → (valued : ValuedMove) × Contains list valued × (valued.played ≡ move)
+  pub once : (a b : ValuedMove) → Contains list a → Contains list b → a.played ≡ b.played → a ≡ b
   pub ordered : AllPairs ComesBefore list
 
 abbrev pub AreToldMovesBy : List ℕ → List ℕ → Numbering → List ValuedMove → Type 0

@@ -74,13 +74,13 @@ pub(crate) fn write_moves(places: &mut [DobutsuMove], list: &[ValuedMove])
     let count = list.len().min(places.len());
     for place in 0..count {
         let valued = list[place];
-        places[place] = shown_move(valued.the_move, shown(valued.value));
+        places[place] = shown_move(valued.played, shown(valued.value));
     }
 }
 
 /// The move with its value, as it is shown.
-pub(crate) fn shown_move(the_move: Move, value: DobutsuValue) -> DobutsuMove
-    ensures { result ≡ shown_move the_move value }
+pub(crate) fn shown_move(played: Move, value: DobutsuValue) -> DobutsuMove
+    ensures { result ≡ shown_move played value }
 {
     let MoveNumbers {
         kind,
@@ -88,7 +88,7 @@ pub(crate) fn shown_move(the_move: Move, value: DobutsuValue) -> DobutsuMove
         to,
         catches,
         grows,
-    } = move_numbers(the_move);
+    } = move_numbers(played);
     DobutsuMove {
         kind,
         from,

@@ -105,14 +105,14 @@ fn valued_moves_by(
     ensures { IfOk result (λ found. MatchOption found (¬ IsRight by.entry asked.held.family)
         (λ list. AreMovesBy file.now by.entry asked.held.format asked.held.family asked.held.classes asked.position.setup list.items)) }
 {
-    if let Some(the_move) = first_catch(&asked.position) {
+    if let Some(played) = first_catch(&asked.position) {
         let mut list = Vec::new(alloc);
         let value = Value::Win(1);
-        list.push(ValuedMove { the_move, value })?;
+        list.push(ValuedMove { played, value })?;
         return Ok(Some(list));
     }
-    let the_moves = moves(alloc, asked.held.family.profile, &asked.position)?;
-    moves_in_order(alloc, file, by, asked, &the_moves)
+    let legal = moves(alloc, asked.held.family.profile, &asked.position)?;
+    moves_in_order(alloc, file, by, asked, &legal)
 }
 
 // Those moves with their values, best first; none if the index leads outside of the file.
@@ -123,22 +123,22 @@ fn moves_in_order(
     file: &[u8],
     by: Numbering,
     asked: AskedBy,
-    the_moves: &[Move],
+    legal: &[Move],
 ) -> Result<Option<Vec<ValuedMove>>, Memory>
     requires held { IsHeldBy file.now by asked.held.format asked.held.family asked.held.classes }
     requires member { IsPositionOf asked.held.family asked.position.setup }
-    requires the_moves { AreMoves asked.held.family.profile asked.position.setup the_moves.now }
+    requires legal { AreMoves asked.held.family.profile asked.position.setup legal.now }
     requires free { ¬ CanCatch asked.position.setup }
     ensures { IfOk result (λ found. MatchOption found (¬ IsRight by.entry asked.held.family)
         (λ list. AreMovesBy file.now by.entry asked.held.format asked.held.family asked.held.classes asked.position.setup list.items)) }
 {
     let mut list = Vec::new(alloc);
-    for the_move in the_moves {
-        let Some(value) = value_after(file, by, &asked, *the_move) else {
+    for played in legal {
+        let Some(value) = value_after(file, by, &asked, *played) else {
             return Ok(None);
         };
         let valued = ValuedMove {
-            the_move: *the_move,
+            played: *played,
             value: value_seen(value),
         };
         insert_by_value(&mut list, valued)?;
@@ -147,15 +147,15 @@ fn moves_in_order(
 }
 
 // The value that the file gives the position to which the move leads; none if the index leads outside of the file.
-fn value_after(file: &[u8], by: Numbering, asked: &AskedBy, the_move: Move) -> Option<Value>
+fn value_after(file: &[u8], by: Numbering, asked: &AskedBy, played: Move) -> Option<Value>
     requires held { IsHeldBy file.now by asked.now.held.format asked.now.held.family asked.now.held.classes }
     requires member { IsPositionOf asked.now.held.family asked.now.position.setup }
     requires open { HasStatus asked.now.held.family.profile asked.now.position.setup Open }
-    requires can_go { CanGo asked.now.held.family.profile asked.now.position.setup the_move }
+    requires can_go { CanGo asked.now.held.family.profile asked.now.position.setup played }
     ensures { MatchOption result (¬ IsRight by.entry asked.now.held.family) (λ value. IsEntry value
-        × ((q : Setup) → Goes asked.now.held.family.profile asked.now.position.setup the_move q
+        × ((q : Setup) → Goes asked.now.held.family.profile asked.now.position.setup played q
         → IsGivenBy file.now by.entry asked.now.held.format asked.now.held.family asked.now.held.classes q value)) }
 {
-    let after = apply(&asked.position, the_move);
+    let after = apply(&asked.position, played);
     value_by(file, by, asked.held, &after)
 }

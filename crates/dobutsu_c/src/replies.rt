@@ -140,9 +140,9 @@ fn shown_reply(found: Reply) -> DobutsuMove
     ensures { result ≡ shown_reply found }
 {
     match found {
-        Reply::Win { the_move, plies } => {
+        Reply::Win { played, plies } => {
             let plies = plies as u32 + 1;
-            shown_move(the_move, DobutsuValue { kind: 1, plies })
+            shown_move(played, DobutsuValue { kind: 1, plies })
         }
         Reply::Loss { plies } => DobutsuMove {
             kind: 0,

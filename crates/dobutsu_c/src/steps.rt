@@ -78,11 +78,11 @@ pub extern "C" fn dobutsu_make(
     step: &DobutsuStep,
     after: &mut DobutsuPosition,
 ) -> u32
-    ensures told { result ≡ 0 → (family : AnyFamily) × (setup : AnySetup) × (the_move : AnyMove) × (outcome : AnySetup)
-        × IsNumbersAsked position.now profile family setup × HasStatus family.profile setup Open × Goes family.profile setup the_move outcome
-        × (shown_step the_move ≡ step.now) × IsShown after.new outcome }
+    ensures told { result ≡ 0 → (family : AnyFamily) × (setup : AnySetup) × (played : AnyMove) × (outcome : AnySetup)
+        × IsNumbersAsked position.now profile family setup × HasStatus family.profile setup Open × Goes family.profile setup played outcome
+        × (shown_step played ≡ step.now) × IsShown after.new outcome }
     ensures none { result ≡ 28 → (family : AnyFamily) × (setup : AnySetup) × IsNumbersAsked position.now profile family setup
-        × ((the_move : AnyMove) → HasStatus family.profile setup Open → CanGo family.profile setup the_move → shown_step the_move ≢ step.now) }
+        × ((played : AnyMove) → HasStatus family.profile setup Open → CanGo family.profile setup played → shown_step played ≢ step.now) }
     ensures refused { result ≢ 0 → result ≢ 28 → (result ≡ 23) ⊎ IsRefused position.now profile result }
     ensures memory { result ≡ 23 → (family : AnyFamily) × (setup : AnySetup) × IsNumbersAsked position.now profile family setup }
     ensures unchanged { result ≢ 0 → after.new ≡ after.old }
@@ -95,8 +95,8 @@ pub extern "C" fn dobutsu_make(
         return MEMORY;
     };
     match step_among(&list, step) {
-        Some(the_move) => {
-            *after = shown_position(&apply(&asked.position, the_move));
+        Some(played) => {
+            *after = shown_position(&apply(&asked.position, played));
             0
         }
         None => NO_MOVE,
@@ -110,9 +110,9 @@ fn steps_of(alloc: Global, asked: &Numbered) -> Result<Vec<Move>, Memory>
     ensures { IfOk result (λ list. AreSteps asked.now.family.profile asked.now.position.setup list.items) }
 {
     match first_catch(&asked.position) {
-        Some(the_move) => {
+        Some(played) => {
             let mut list = Vec::new(alloc);
-            list.push(the_move)?;
+            list.push(played)?;
             Ok(list)
         }
         None => moves(alloc, asked.family.profile, &asked.position),
@@ -135,19 +135,19 @@ fn step_among(list: &[Move], step: &DobutsuStep) -> Option<Move>
         ((m : AnyMove) → Contains list.now m → shown_step m ≢ step.now)
         (λ m. Contains list.now m × (shown_step m ≡ step.now)) }
 {
-    for the_move in list {
-        if is_shown(*the_move, step) {
-            return Some(*the_move);
+    for played in list {
+        if is_shown(*played, step) {
+            return Some(*played);
         }
     }
     None
 }
 
 // Whether the move has those numbers.
-fn is_shown(the_move: Move, step: &DobutsuStep) -> bool
-    ensures { IsTrue result ↔ (shown_step the_move ≡ step.now) }
+fn is_shown(played: Move, step: &DobutsuStep) -> bool
+    ensures { IsTrue result ↔ (shown_step played ≡ step.now) }
 {
-    let shown = shown_step(the_move);
+    let shown = shown_step(played);
     shown.kind == step.kind
         && shown.from == step.from
         && shown.to == step.to
@@ -156,8 +156,8 @@ fn is_shown(the_move: Move, step: &DobutsuStep) -> bool
 }
 
 // The move as it is shown.
-fn shown_step(the_move: Move) -> DobutsuStep
-    ensures { result ≡ shown_step the_move }
+fn shown_step(played: Move) -> DobutsuStep
+    ensures { result ≡ shown_step played }
 {
     let MoveNumbers {
         kind,
@@ -165,7 +165,7 @@ fn shown_step(the_move: Move) -> DobutsuStep
         to,
         catches,
         grows,
-    } = move_numbers(the_move);
+    } = move_numbers(played);
     DobutsuStep {
         kind,
         from,

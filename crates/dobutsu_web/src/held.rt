@@ -91,7 +91,7 @@ fn is_escape_at(listed: &Listed, plies: u16, position: &Position, place: usize) 
     ensures { IsTrue result ↔ SomeAt listed.now.family.profile position.now.setup place (IsSafe listed.now.family (entries_in listed.now) plies) }
 {
     match found_at(listed.family.profile, position, place) {
-        Some(the_move) => is_safe(listed, plies, &after(listed.family, position, the_move)),
+        Some(played) => is_safe(listed, plies, &after(listed.family, position, played)),
         None => false,
     }
 }

@@ -76,8 +76,8 @@ pub extern "C" fn dobutsu_class_after(
 {
     match ask(text, profile) {
         Ok(asked) => match move_at(asked.family.profile, &asked.position, place as usize) {
-            Some(the_move) => {
-                let outcome = outcome_of(&asked, &the_move);
+            Some(played) => {
+                let outcome = outcome_of(&asked, &played);
                 match class_below(asked.family, row, classes, &outcome) {
                     Some(found) => {
                         *class = found;
@@ -99,7 +99,7 @@ pub(crate) fn move_by_place(asked: &Asked, place: usize) -> Option<Move>
         (IsMoveAtPlace asked.now.family.profile asked.now.position.setup place) }
 {
     match move_at(asked.family.profile, &asked.position, place) {
-        Some(the_move) => Some(the_move),
+        Some(played) => Some(played),
         None => catch_at(&asked.position, place),
     }
 }
@@ -112,38 +112,38 @@ fn step_at(asked: &Asked, place: usize) -> Option<DobutsuStep>
         (IsStepShown asked.now.family asked.now.position.setup place) }
 {
     match move_at(asked.family.profile, &asked.position, place) {
-        Some(the_move) => Some(step_of_move(asked, &the_move)),
+        Some(played) => Some(step_of_move(asked, &played)),
         None => match catch_at(&asked.position, place) {
-            Some(the_move) => Some(shown_step(&the_move, 0)),
+            Some(played) => Some(shown_step(&played, 0)),
             None => None,
         },
     }
 }
 
 // A move with the block of what it leads to.
-fn step_of_move(asked: &Asked, the_move: &Move) -> DobutsuStep
+fn step_of_move(asked: &Asked, played: &Move) -> DobutsuStep
     requires member { IsPositionOf asked.now.family asked.now.position.setup }
-    requires the_move { (place : ℕ) × IsMoveAt asked.now.family.profile asked.now.position.setup place the_move.now }
-    ensures { (place : ℕ) → IsMoveAt asked.now.family.profile asked.now.position.setup place the_move.now
+    requires played { (place : ℕ) × IsMoveAt asked.now.family.profile asked.now.position.setup place played.now }
+    ensures { (place : ℕ) → IsMoveAt asked.now.family.profile asked.now.position.setup place played.now
         → IsShownMove asked.now.family asked.now.position.setup place result }
 {
-    let outcome = outcome_of(asked, the_move);
-    shown_step(the_move, block_number(asked.family, &outcome))
+    let outcome = outcome_of(asked, played);
+    shown_step(played, block_number(asked.family, &outcome))
 }
 
 /// What a move leads to that stands at some place.
-pub(crate) fn outcome_of(asked: &Asked, the_move: &Move) -> Position
+pub(crate) fn outcome_of(asked: &Asked, played: &Move) -> Position
     requires member { IsPositionOf asked.now.family asked.now.position.setup }
-    requires the_move { (place : ℕ) × IsMoveAt asked.now.family.profile asked.now.position.setup place the_move.now }
-    ensures goes { Goes asked.now.family.profile asked.now.position.setup the_move.now result.setup }
+    requires played { (place : ℕ) × IsMoveAt asked.now.family.profile asked.now.position.setup place played.now }
+    ensures goes { Goes asked.now.family.profile asked.now.position.setup played.now result.setup }
     ensures member { IsPositionOf asked.now.family result.setup }
 {
-    apply(&asked.position, *the_move)
+    apply(&asked.position, *played)
 }
 
 // The move as it is shown.
-fn shown_step(the_move: &Move, block: u64) -> DobutsuStep
-    ensures { result ≡ shown_step the_move.now block }
+fn shown_step(played: &Move, block: u64) -> DobutsuStep
+    ensures { result ≡ shown_step played.now block }
 {
     let MoveNumbers {
         kind,
@@ -151,7 +151,7 @@ fn shown_step(the_move: &Move, block: u64) -> DobutsuStep
         to,
         catches,
         grows,
-    } = move_numbers(*the_move);
+    } = move_numbers(*played);
     DobutsuStep {
         block,
         kind,

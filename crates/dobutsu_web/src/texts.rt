@@ -33,8 +33,8 @@ pub extern "C" fn dobutsu_move_text(
 {
     match ask(text, profile) {
         Ok(asked) => match move_by_place(&asked, place as usize) {
-            Some(the_move) => {
-                *written = move_text(&the_move, second != 0);
+            Some(played) => {
+                *written = move_text(&played, second != 0);
                 0
             }
             None => NO_MOVE,
@@ -59,8 +59,8 @@ pub extern "C" fn dobutsu_after(
 {
     match ask(text, profile) {
         Ok(asked) => match move_at(asked.family.profile, &asked.position, place as usize) {
-            Some(the_move) => {
-                *written = position_text(&outcome_of(&asked, &the_move));
+            Some(played) => {
+                *written = position_text(&outcome_of(&asked, &played));
                 0
             }
             None => NO_MOVE,
@@ -70,21 +70,21 @@ pub extern "C" fn dobutsu_after(
 }
 
 // The text of a move.
-fn move_text(the_move: &Move, second: bool) -> DobutsuText
-    ensures { IsText result (move_text the_move.now second) }
+fn move_text(played: &Move, second: bool) -> DobutsuText
+    ensures { IsText result (move_text played.now second) }
 {
     let mut letters = ArrayVec::new();
-    push_move(&mut letters, the_move, second);
+    push_move(&mut letters, played, second);
     written(&letters)
 }
 
 // Writes a move.
-fn push_move(letters: &mut ArrayVec<u8, 32>, the_move: &Move, second: bool)
+fn push_move(letters: &mut ArrayVec<u8, 32>, played: &Move, second: bool)
     requires { array_vec_len letters.old ≡ 0 }
-    ensures { letters.new.items ≡ move_text the_move.now second }
+    ensures { letters.new.items ≡ move_text played.now second }
 {
     let side = if second { Side::Enemy } else { Side::Mover };
-    match *the_move {
+    match *played {
         Move::Step {
             kind,
             from,

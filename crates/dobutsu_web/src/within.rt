@@ -42,15 +42,15 @@ fn is_listed_within(listed: &Listed, plies: u16, position: &Position) -> bool
 }
 
 /// The position of the family to which the move leads.
-pub(crate) fn after(family: Family, position: &Position, the_move: Move) -> Position
+pub(crate) fn after(family: Family, position: &Position, played: Move) -> Position
     requires member { IsPositionOf family position.now.setup }
     requires goes_on { HasStatus family.profile position.now.setup Status.Open }
-    requires the_move { CanGo family.profile position.now.setup the_move }
+    requires played { CanGo family.profile position.now.setup played }
     ensures member { IsPositionOf family result.setup }
-    ensures goes { Goes family.profile position.now.setup the_move result.setup }
-    ensures alone { (q : Setup) → Goes family.profile position.now.setup the_move q → result.setup ≡ q }
+    ensures goes { Goes family.profile position.now.setup played result.setup }
+    ensures alone { (q : Setup) → Goes family.profile position.now.setup played q → result.setup ≡ q }
 {
-    apply(position, the_move)
+    apply(position, played)
 }
 
 // Whether an open position's move at that place leads to one that is said to be lost within N plies.
@@ -104,7 +104,7 @@ fn is_answered_at(listed: &Listed, plies: u16, position: &Position, place: usize
     ensures { IsTrue result ↔ EachAt listed.now.family.profile position.now.setup place (IsAnswered listed.now.family (entries_in listed.now) plies) }
 {
     match found_at(listed.family.profile, position, place) {
-        Some(the_move) => is_answered(listed, plies, &after(listed.family, position, the_move)),
+        Some(played) => is_answered(listed, plies, &after(listed.family, position, played)),
         None => true,
     }
 }

@@ -4,8 +4,8 @@ use Rattle.dob_certificate.proofs.Cases.{said_yes}
 use Rattle.dob_certificate.proofs.Replies.{all_more, all_done}
 use Rattle.dob_certificate.proofs.held.are_all_held.Goals as goal
 
-pub after-outcome-requires-clause-the_move : goal.after-outcome-requires-clause-the_move
-after-outcome-requires-clause-the_move c =
+pub after-outcome-requires-clause-played : goal.after-outcome-requires-clause-played
+after-outcome-requires-clause-played c =
     move_goes c.args.classes.now.family.profile c.args.position.now.setup c.args.replies.now c.loop-reply.reply-index c.reply-item.result
     c.requires.replies c.loop-reply-test.true c.reply-item.is
 

@@ -3,5 +3,5 @@ use Rattle.dob_certificate.proofs.Common.{Setup, IsSafe}
 use Rattle.dob_certificate.proofs.Replies.{AllBelow}
 use Rattle.dob_certificate.proofs.held.has_escape.Given as goal
 
-abbrev pub invariant-loop-the_move : goal.invariant-loop-the_move
-invariant-loop-the_move l = AllBelow l.classes.family.profile (λ (q : Setup). ¬ IsSafe l.classes.family l.held l.plies q) l.position.setup l.the_moves l.the_move-index
+abbrev pub invariant-loop-played : goal.invariant-loop-played
+invariant-loop-played l = AllBelow l.classes.family.profile (λ (q : Setup). ¬ IsSafe l.classes.family l.held l.plies q) l.position.setup l.legal l.played-index

@@ -4,8 +4,8 @@ use Rattle.dob_certificate.proofs.Cases.{said_no, said_yes, not_so}
 use Rattle.dob_certificate.proofs.Replies.{all_more, all_done}
 use Rattle.dob_certificate.proofs.lost.has_reply.Goals as goal
 
-pub after-requires-clause-the_move : goal.after-requires-clause-the_move
-after-requires-clause-the_move c =
+pub after-requires-clause-played : goal.after-requires-clause-played
+after-requires-clause-played c =
     move_goes c.args.classes.now.family.profile c.args.position.now.setup c.args.replies.now c.loop-reply.reply-index c.reply-item.result
     c.requires.replies c.loop-reply-test.true c.reply-item.is
 

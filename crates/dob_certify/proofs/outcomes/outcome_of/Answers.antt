@@ -9,25 +9,25 @@ use Rattle.dob_certify.proofs.outcomes.outcome_of.Goals as goal
 
 pub apply-requires-clause-open : goal.apply-requires-clause-open
 apply-requires-clause-open c =
-    status_there c.args.classes.now.family.profile c.args.position.now.setup Open c.args.position.now.legal c.requires.the_move.0
+    status_there c.args.classes.now.family.profile c.args.position.now.setup Open c.args.position.now.legal c.requires.played.0
 
 pub apply-requires-clause-can_go : goal.apply-requires-clause-can_go
-apply-requires-clause-can_go c = can_go c.args.classes.now.family.profile c.args.position.now.setup c.args.the_move c.requires.the_move.1
+apply-requires-clause-can_go c = can_go c.args.classes.now.family.profile c.args.position.now.setup c.args.played c.requires.played.1
 
 pub returns-clause-member : goal.returns-clause-member
 returns-clause-member c =
     let profile = c.args.classes.now.family.profile in
     let setup = c.args.position.now.setup in
-    moves_keep_the_family c.args.classes.now.family setup c.args.the_move c.apply.result.setup c.requires.member c.requires.the_move.0
-    (goes_there profile setup c.args.the_move c.apply.result.setup c.requires.the_move.1 c.apply.ensures)
+    moves_keep_the_family c.args.classes.now.family setup c.args.played c.apply.result.setup c.requires.member c.requires.played.0
+    (goes_there profile setup c.args.played c.apply.result.setup c.requires.played.1 c.apply.ensures)
 
 pub returns-clause-goes : goal.returns-clause-goes
 returns-clause-goes c =
-    goes_there c.args.classes.now.family.profile c.args.position.now.setup c.args.the_move c.apply.result.setup c.requires.the_move.1 c.apply.ensures
+    goes_there c.args.classes.now.family.profile c.args.position.now.setup c.args.played c.apply.result.setup c.requires.played.1 c.apply.ensures
 
 pub returns-clause-alone : goal.returns-clause-alone
 returns-clause-alone c = λ q by.
     let profile = c.args.classes.now.family.profile in
     let setup = c.args.position.now.setup in
-    HasOutcome-is setup c.args.the_move c.apply.result.setup c.apply.ensures
-    ∙ sym (HasOutcome-is setup c.args.the_move q (goes profile setup c.args.the_move q by))
+    HasOutcome-is setup c.args.played c.apply.result.setup c.apply.ensures
+    ∙ sym (HasOutcome-is setup c.args.played q (goes profile setup c.args.played q by))

@@ -6,29 +6,29 @@ use Rattle.dob_certify.specs.declared.replies.Lead.{Lead}
 use Rattle.dob_certify.proofs.Shortest.{IsShortestBelow, shortest_done, shortest_more, shortest_none}
 use Rattle.dob_certify.proofs.replies.shortest.Goals as goal
 
-pub loop-the_move-init : goal.loop-the_move-init
-loop-the_move-init c = shortest_none c.args.classes.now.family c.args.lost.now c.args.position.now.setup c.args.the_moves.now
+pub loop-played-init : goal.loop-played-init
+loop-played-init c = shortest_none c.args.classes.now.family c.args.lost.now c.args.position.now.setup c.args.legal.now
 
-pub outcome_of-outcome-requires-clause-the_move : goal.outcome_of-outcome-requires-clause-the_move
-outcome_of-outcome-requires-clause-the_move c =
-    move_goes c.args.classes.now.family.profile c.args.position.now.setup c.args.the_moves.now c.loop-the_move.the_move-index c.the_move-item.result
-    c.requires.the_moves c.loop-the_move-test.true c.the_move-item.is
+pub outcome_of-outcome-requires-clause-played : goal.outcome_of-outcome-requires-clause-played
+outcome_of-outcome-requires-clause-played c =
+    move_goes c.args.classes.now.family.profile c.args.position.now.setup c.args.legal.now c.loop-played.played-index c.played-item.result
+    c.requires.legal c.loop-played-test.true c.played-item.is
 
-pub loop-the_move-preserved : goal.loop-the_move-preserved
-loop-the_move-preserved c =
+pub loop-played-preserved : goal.loop-played-preserved
+loop-played-preserved c =
     let family = c.args.classes.now.family in
     let setup = c.args.position.now.setup in
-    let the_moves = c.args.the_moves.now in
-    let index = c.loop-the_move.the_move-index in
-    let the_move = c.the_move-item.result in
-    let step = move_goes family.profile setup the_moves index the_move c.requires.the_moves c.loop-the_move-test.true c.the_move-item.is in
-    subst (λ (lead : Option Lead). IsShortestBelow family c.args.lost.now setup the_moves (index + 1) lead) (sym c.shorter-best.ensures)
-    (shortest_more family c.args.lost.now setup the_moves index the_move c.outcome_of-outcome.result.setup
-    (slice_get_read the_moves _ index the_move refl c.loop-the_move-test.true c.the_move-item.is) step.0
-    c.outcome_of-outcome.ensures.goes c.outcome_of-outcome.ensures.alone c.loop-the_move.best c.said_lost-found.result c.said_lost-found.ensures
-    c.loop-the_move.invariant)
+    let legal = c.args.legal.now in
+    let index = c.loop-played.played-index in
+    let played = c.played-item.result in
+    let step = move_goes family.profile setup legal index played c.requires.legal c.loop-played-test.true c.played-item.is in
+    subst (λ (lead : Option Lead). IsShortestBelow family c.args.lost.now setup legal (index + 1) lead) (sym c.shorter-best.ensures)
+    (shortest_more family c.args.lost.now setup legal index played c.outcome_of-outcome.result.setup
+    (slice_get_read legal _ index played refl c.loop-played-test.true c.played-item.is) step.0
+    c.outcome_of-outcome.ensures.goes c.outcome_of-outcome.ensures.alone c.loop-played.best c.said_lost-found.result c.said_lost-found.ensures
+    c.loop-played.invariant)
 
 pub returns : goal.returns
 returns c =
-    shortest_done c.args.classes.now.family c.args.lost.now c.args.position.now.setup c.args.the_moves.now c.loop-the_move.the_move-index
-    c.loop-the_move-test.false c.requires.the_moves c.loop-the_move.best c.loop-the_move.invariant
+    shortest_done c.args.classes.now.family c.args.lost.now c.args.position.now.setup c.args.legal.now c.loop-played.played-index
+    c.loop-played-test.false c.requires.legal c.loop-played.best c.loop-played.invariant

@@ -2,5 +2,5 @@
 use Rattle.dob_certify.proofs.Shortest.{IsShortestBelow}
 use Rattle.dob_certify.proofs.replies.shortest.Given as goal
 
-abbrev pub invariant-loop-the_move : goal.invariant-loop-the_move
-invariant-loop-the_move l = IsShortestBelow l.classes.family l.lost l.position.setup l.the_moves l.the_move-index l.best
+abbrev pub invariant-loop-played : goal.invariant-loop-played
+invariant-loop-played l = IsShortestBelow l.classes.family l.lost l.position.setup l.legal l.played-index l.best

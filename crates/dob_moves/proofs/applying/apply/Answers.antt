@@ -8,11 +8,11 @@ new-requires c =
     let p = c.args.position.now.setup in
     let built = c.turned.ensures ∙ ap turned c.moved.ensures in
     subst (λ (q : Setup). IsLegal q) (sym built)
-    (IsLegal-HasOutcome p c.args.the_move (turned (moved p c.args.the_move)) (HasOutcome-moved p c.args.the_move c.requires.can_go)
+    (IsLegal-HasOutcome p c.args.played (turned (moved p c.args.played)) (HasOutcome-moved p c.args.played c.requires.can_go)
     c.args.position.now.legal c.requires.open.1)
 
 pub returns : goal.returns
 returns c =
     let p = c.args.position.now.setup in
     let built = c.new.ensures ∙ c.turned.ensures ∙ ap turned c.moved.ensures in
-    subst (λ (q : Setup). HasOutcome p c.args.the_move q) (sym built) (HasOutcome-moved p c.args.the_move c.requires.can_go)
+    subst (λ (q : Setup). HasOutcome p c.args.played q) (sym built) (HasOutcome-moved p c.args.played c.requires.can_go)

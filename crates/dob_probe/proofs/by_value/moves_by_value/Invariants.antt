@@ -3,5 +3,5 @@ use Rattle.dob_probe.specs.Lines.{GivenBy}
 use Rattle.dob_probe.proofs.ByValue.{AreListed}
 use Rattle.dob_probe.proofs.by_value.moves_by_value.Given as goal
 
-abbrev pub invariant-loop-the_move : goal.invariant-loop-the_move
-invariant-loop-the_move l = AreListed l.table.family.profile (GivenBy l.table) l.position.setup l.the_moves l.the_move-index l.list.items
+abbrev pub invariant-loop-played : goal.invariant-loop-played
+invariant-loop-played l = AreListed l.table.family.profile (GivenBy l.table) l.position.setup l.legal l.played-index l.list.items

@@ -20,17 +20,17 @@ returns-in_default-value_wanted-clause-line c =
     line_ends c.args.table.now c.args.position.setup c.loop-catch.line.items c.loop-catch.position.setup c.loop-catch.value
     c.loop-catch.invariant c.in_default.ensures (sym c.value_wanted.ensures ∙ c.in_default-value_wanted.is)
 
-pub returns-in_err-the_move-clause-fault : goal.returns-in_err-the_move-clause-fault
-returns-in_err-the_move-clause-fault c =
-    let p = err_from_is_err_and c.from_residual-in_err-the_move.result c.from_residual-in_err-the_move.ensures.1 in
+pub returns-in_err-played-clause-fault : goal.returns-in_err-played-clause-fault
+returns-in_err-played-clause-fault c =
+    let p = err_from_is_err_and c.from_residual-in_err-played.result c.from_residual-in_err-played.ensures.1 in
     rw (p.1, p.2) (gap_breaks c.args.table.now c.args.position.setup c.loop-catch.line.items c.loop-catch.position.setup c.loop-catch.value
-    c.loop-catch.invariant c.in-Some-value_wanted.wanted c.in_err-the_move.field-0.0 c.in_default.ensures
-    (sym c.value_wanted.ensures ∙ c.in-Some-value_wanted.is) c.in_err-the_move.ensures.missing)
+    c.loop-catch.invariant c.in-Some-value_wanted.wanted c.in_err-played.field-0.0 c.in_default.ensures
+    (sym c.value_wanted.ensures ∙ c.in-Some-value_wanted.is) c.in_err-played.ensures.missing)
 
 pub loop-catch-preserved : goal.loop-catch-preserved
 loop-catch-preserved c =
-    subst (λ (ms : List Move). IsOnLine c.args.table.now c.args.position.setup ms c.in_ok-the_move.next.setup c.in-Some-value_wanted.wanted)
+    subst (λ (ms : List Move). IsOnLine c.args.table.now c.args.position.setup ms c.in_ok-played.next.setup c.in-Some-value_wanted.wanted)
     (sym c.in_ok-push_move-2.ensures)
     (on_line_more c.args.table.now c.args.position.setup c.loop-catch.line.items c.loop-catch.position.setup c.loop-catch.value
-    c.loop-catch.invariant c.in-Some-value_wanted.wanted c.in_ok-the_move.the_move c.in_ok-the_move.next.setup
-    c.in_default.ensures (sym c.value_wanted.ensures ∙ c.in-Some-value_wanted.is) c.in_ok-the_move.ensures.found)
+    c.loop-catch.invariant c.in-Some-value_wanted.wanted c.in_ok-played.played c.in_ok-played.next.setup
+    c.in_default.ensures (sym c.value_wanted.ensures ∙ c.in-Some-value_wanted.is) c.in_ok-played.ensures.found)

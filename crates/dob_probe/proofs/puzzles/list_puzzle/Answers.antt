@@ -8,16 +8,16 @@ pub returns-then-is_passed-clause-listed : goal.returns-then-is_passed-clause-li
 returns-then-is_passed-clause-listed c =
     let passed = ap (λ (l : List Outline). c.args.is_spread && list_any (same_outline c.outline_at-outline.result) l) (sym c.deref.ensures.value)
     ∙ (sym c.is_passed.ensures ∙ c.if-is_passed.true) in
-    let found = passed_one c.args.table.now c.args.list.now.items c.args.outlines.now.items (puzzle_of c.args.class c.args.the_move) c.outline_at-outline.result
-    (c.outline_at-outline.ensures c.args.the_move) c.requires.outlines c.args.is_spread passed in
+    let found = passed_one c.args.table.now c.args.list.now.items c.args.outlines.now.items (puzzle_of c.args.class c.args.played) c.outline_at-outline.result
+    (c.outline_at-outline.ensures c.args.played) c.requires.outlines c.args.is_spread passed in
     inr (refl, found.0, found.1)
 
 pub returns-clause-outlines : goal.returns-clause-outlines
 returns-clause-outlines c =
-    let more = outlines_more c.args.table.now c.args.list.now.items c.args.outlines.now.items (puzzle_of c.args.class c.args.the_move) c.outline_at-outline.result
-    (c.outline_at-outline.ensures c.args.the_move) c.requires.outlines in
+    let more = outlines_more c.args.table.now c.args.list.now.items c.args.outlines.now.items (puzzle_of c.args.class c.args.played) c.outline_at-outline.result
+    (c.outline_at-outline.ensures c.args.played) c.requires.outlines in
     subst (λ (l : List Puzzle). AreOutlines c.args.table.now l c.push-2.new.self.items) (sym c.in_ok-push.ensures.items)
-    (subst (λ (l : List Outline). AreOutlines c.args.table.now (c.args.list.now.items ++ puzzle_of c.args.class c.args.the_move ∷ []) l) (sym c.in_ok-push-2.ensures.items) more)
+    (subst (λ (l : List Outline). AreOutlines c.args.table.now (c.args.list.now.items ++ puzzle_of c.args.class c.args.played ∷ []) l) (sym c.in_ok-push-2.ensures.items) more)
 
 pub returns-clause-listed : goal.returns-clause-listed
 returns-clause-listed c =
@@ -25,6 +25,6 @@ returns-clause-listed c =
     ∙ (sym c.is_passed.ensures ∙ c.if-is_passed.false) in
     inl (
       c.in_ok-push.ensures.items,
-      listed_one c.args.table.now c.args.list.now.items c.args.outlines.now.items (puzzle_of c.args.class c.args.the_move) c.outline_at-outline.result
-          (c.outline_at-outline.ensures c.args.the_move) c.requires.outlines c.args.is_spread kept,
+      listed_one c.args.table.now c.args.list.now.items c.args.outlines.now.items (puzzle_of c.args.class c.args.played) c.outline_at-outline.result
+          (c.outline_at-outline.ensures c.args.played) c.requires.outlines c.args.is_spread kept,
     )

@@ -5,7 +5,7 @@ use Rattle.dob_rank.proofs.OfFamilies.Present.{HasClasses-classes_of}
 use Rattle.dob_probe.proofs.puzzles.outline_at.Goals as goal
 
 pub returns : goal.returns
-returns c = λ the_move.
+returns c = λ played.
     let family : Family = c.args.table.now.family in
     let position : Setup = c.class_at.result.setup in
     let class : ℕ = c.args.class in

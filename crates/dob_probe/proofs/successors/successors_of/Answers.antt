@@ -3,37 +3,37 @@ use Rattle.dob_probe.proofs.Common.{◌++◌, ◌∷◌, List, [], refl, slice_g
 use Rattle.dob_value.proofs.Successors.{successors_none, successors_more, successors_all}
 use Rattle.dob_probe.proofs.successors.successors_of.Goals as goal
 
-pub loop-the_move-init : goal.loop-the_move-init
-loop-the_move-init c =
+pub loop-played-init : goal.loop-played-init
+loop-played-init c =
     ([], successors_none c.args.table.now.family.profile (λ (v : Value) q. GivenBy c.args.table.now q v) c.args.position.now.setup _, c.none-kept.ensures)
 
-pub value_shown-value-requires-clause-the_move : goal.value_shown-value-requires-clause-the_move
-value_shown-value-requires-clause-the_move c =
-    move_goes c.args.table.now.family.profile c.args.position.now.setup c.args.the_moves.now c.loop-the_move.the_move-index c.the_move-item.result
-    c.requires.the_moves c.loop-the_move-test.true c.the_move-item.is
+pub value_shown-value-requires-clause-played : goal.value_shown-value-requires-clause-played
+value_shown-value-requires-clause-played c =
+    move_goes c.args.table.now.family.profile c.args.position.now.setup c.args.legal.now c.loop-played.played-index c.played-item.result
+    c.requires.legal c.loop-played-test.true c.played-item.is
 
-pub loop-the_move-preserved : goal.loop-the_move-preserved
-loop-the_move-preserved c =
+pub loop-played-preserved : goal.loop-played-preserved
+loop-played-preserved c =
     let Gives : Value → Setup → Type 0 = λ v q. GivenBy c.args.table.now q v in
     let setup = c.args.position.now.setup in
-    let the_moves = c.args.the_moves.now in
-    let index = c.loop-the_move.the_move-index in
-    let the_move = c.the_move-item.result in
+    let legal = c.args.legal.now in
+    let index = c.loop-played.played-index in
+    let played = c.played-item.result in
     let value = c.value_shown-value.result in
-    let values : List Value = c.loop-the_move.invariant.0 in
-    let here = slice_get_read the_moves _ index the_move refl c.loop-the_move-test.true c.the_move-item.is in
-    let goes = move_goes c.args.table.now.family.profile setup the_moves index the_move c.requires.the_moves
-    c.loop-the_move-test.true c.the_move-item.is in (
+    let values : List Value = c.loop-played.invariant.0 in
+    let here = slice_get_read legal _ index played refl c.loop-played-test.true c.played-item.is in
+    let goes = move_goes c.args.table.now.family.profile setup legal index played c.requires.legal
+    c.loop-played-test.true c.played-item.is in (
       values ++ value ∷ [],
-      successors_more c.args.table.now.family.profile Gives setup the_moves index values the_move value here goes.1 c.value_shown-value.ensures c.loop-the_move.invariant.1,
-      c.with-kept.ensures values c.loop-the_move.invariant.2,
+      successors_more c.args.table.now.family.profile Gives setup legal index values played value here goes.1 c.value_shown-value.ensures c.loop-played.invariant.1,
+      c.with-kept.ensures values c.loop-played.invariant.2,
     )
 
 pub returns : goal.returns
 returns c = (
-  c.loop-the_move.invariant.0,
-  successors_all c.args.table.now.family.profile (λ (v : Value) q. GivenBy c.args.table.now q v) c.args.position.now.setup c.args.the_moves.now
-      c.loop-the_move.the_move-index c.loop-the_move.invariant.0 c.loop-the_move-test.false
-      c.requires.the_moves c.loop-the_move.invariant.1,
-  c.loop-the_move.invariant.2,
+  c.loop-played.invariant.0,
+  successors_all c.args.table.now.family.profile (λ (v : Value) q. GivenBy c.args.table.now q v) c.args.position.now.setup c.args.legal.now
+      c.loop-played.played-index c.loop-played.invariant.0 c.loop-played-test.false
+      c.requires.legal c.loop-played.invariant.1,
+  c.loop-played.invariant.2,
 )

@@ -2,7 +2,7 @@
 use Rattle.dob_probe.proofs.Common.{List, AreSuccessorsBelow, Value, GivenBy, AreSummed}
 use Rattle.dob_probe.proofs.successors.successors_of.Given as goal
 
-abbrev pub invariant-loop-the_move : goal.invariant-loop-the_move
-invariant-loop-the_move l =
-    (values : List Value) × AreSuccessorsBelow l.table.family.profile (λ (v : Value) q. GivenBy l.table q v) l.position.setup l.the_moves l.the_move-index values
+abbrev pub invariant-loop-played : goal.invariant-loop-played
+invariant-loop-played l =
+    (values : List Value) × AreSuccessorsBelow l.table.family.profile (λ (v : Value) q. GivenBy l.table q v) l.position.setup l.legal l.played-index values
     × AreSummed values l.kept

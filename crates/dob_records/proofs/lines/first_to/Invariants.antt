@@ -2,10 +2,10 @@
 use Rattle.dob_records.proofs.Common.{◌≡◌, Stream, NoneBelow, IsRecorded}
 use Rattle.dob_records.proofs.lines.first_to.Given as goal
 
-abbrev pub invariant-loop-the_move : goal.invariant-loop-the_move
-invariant-loop-the_move g l = record {
+abbrev pub invariant-loop-played : goal.invariant-loop-played
+invariant-loop-played g l = record {
   shown : (stream : Stream) → g.R.Source.shows l.fn.source stream → g.R.Source.shows l.source stream;
   none : (stream : Stream) → g.R.Source.shows l.fn.source stream
-      → NoneBelow l.classes.family.profile (IsRecorded stream l.format l.classes.family) l.position.setup l.wanted l.the_move-items l.the_move-index;
+      → NoneBelow l.classes.family.profile (IsRecorded stream l.format l.classes.family) l.position.setup l.wanted l.played-items l.played-index;
   failed : g.R.Source.has_failed l.source ≡ g.R.Source.has_failed l.fn.source;
 }

@@ -17,29 +17,29 @@ returns-in_default-value_wanted-clause-line g c = λ stream shows says.
     line_ends family (IsRecorded stream c.args.format family) c.args.position.setup c.loop-catch.line.items c.loop-catch.position.setup c.loop-catch.value
     (c.loop-catch.invariant.on stream shows says) c.in_default.ensures (sym c.value_wanted.ensures ∙ c.in_default-value_wanted.is)
 
-pub returns-in_err-the_move-clause-fault : goal.returns-in_err-the_move-clause-fault
-returns-in_err-the_move-clause-fault g c =
-    let p = err_from_is_err_and c.from_residual-in_err-the_move.result c.from_residual-in_err-the_move.ensures.1 in
+pub returns-in_err-played-clause-fault : goal.returns-in_err-played-clause-fault
+returns-in_err-played-clause-fault g c =
+    let p = err_from_is_err_and c.from_residual-in_err-played.result c.from_residual-in_err-played.ensures.1 in
     rw (p.1, p.2) (λ stream shows says.
     gap_breaks stream c.args.format c.args.classes.now.family c.args.position.setup c.loop-catch.line.items c.loop-catch.position.setup c.loop-catch.value
-    c.in-Some-value_wanted.wanted c.in_err-the_move.field-0.0 (c.loop-catch.invariant.on stream shows says) c.in_default.ensures
+    c.in-Some-value_wanted.wanted c.in_err-played.field-0.0 (c.loop-catch.invariant.on stream shows says) c.in_default.ensures
     (sym c.value_wanted.ensures ∙ c.in-Some-value_wanted.is)
-    (c.in_err-the_move.ensures.missing stream (c.loop-catch.invariant.shown stream shows)))
+    (c.in_err-played.ensures.missing stream (c.loop-catch.invariant.shown stream shows)))
 
 pub loop-catch-preserved : goal.loop-catch-preserved
 loop-catch-preserved g c =
     let family = c.args.classes.now.family in
     record {
-      member = c.in_ok-the_move.ensures.member;
-      entry = c.in_ok-the_move.ensures.entry;
-      shown = λ stream shows. c.in_ok-the_move.ensures.shown stream (c.loop-catch.invariant.shown stream shows);
+      member = c.in_ok-played.ensures.member;
+      entry = c.in_ok-played.ensures.entry;
+      shown = λ stream shows. c.in_ok-played.ensures.shown stream (c.loop-catch.invariant.shown stream shows);
       on = λ stream shows says.
           let Has = IsRecorded stream c.args.format family in
-          subst (λ (ms : List Move). IsOnLine family Has c.args.position.setup ms c.in_ok-the_move.next.setup c.in-Some-value_wanted.wanted)
+          subst (λ (ms : List Move). IsOnLine family Has c.args.position.setup ms c.in_ok-played.next.setup c.in-Some-value_wanted.wanted)
           (sym c.in_ok-push_move-2.ensures)
           (on_line_more family Has c.args.position.setup c.loop-catch.line.items c.loop-catch.position.setup c.loop-catch.value
-          (c.loop-catch.invariant.on stream shows says) c.in-Some-value_wanted.wanted c.in_ok-the_move.the_move c.in_ok-the_move.next.setup
+          (c.loop-catch.invariant.on stream shows says) c.in-Some-value_wanted.wanted c.in_ok-played.played c.in_ok-played.next.setup
           c.in_default.ensures (sym c.value_wanted.ensures ∙ c.in-Some-value_wanted.is)
-          (c.in_ok-the_move.ensures.found stream (c.loop-catch.invariant.shown stream shows)));
+          (c.in_ok-played.ensures.found stream (c.loop-catch.invariant.shown stream shows)));
       failed = search rules;
     }

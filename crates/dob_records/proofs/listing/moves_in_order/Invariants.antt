@@ -3,12 +3,12 @@ use Rattle.dob_records.proofs.Common.{◌≡◌, AllPairs, Stream, AreListed, Ar
 use Rattle.dob_probe.specs.ValuedMoves.{ComesBefore}
 use Rattle.dob_records.proofs.listing.moves_in_order.Given as goal
 
-abbrev pub invariant-loop-the_move : goal.invariant-loop-the_move
-invariant-loop-the_move g l = record {
+abbrev pub invariant-loop-played : goal.invariant-loop-played
+invariant-loop-played g l = record {
   ordered : AllPairs ComesBefore l.list.items;
-  first : AreOfFirst l.the_moves l.the_move-index l.list.items;
+  first : AreOfFirst l.legal l.played-index l.list.items;
   shown : (stream : Stream) → g.R.Source.shows l.fn.source stream → g.R.Source.shows l.source stream;
   listed : (stream : Stream) → g.R.Source.shows l.fn.source stream
-      → AreListed l.classes.family.profile (IsRecorded stream l.format l.classes.family) l.position.setup l.the_moves l.the_move-index l.list.items;
+      → AreListed l.classes.family.profile (IsRecorded stream l.format l.classes.family) l.position.setup l.legal l.played-index l.list.items;
   failed : g.R.Source.has_failed l.source ≡ g.R.Source.has_failed l.fn.source;
 }

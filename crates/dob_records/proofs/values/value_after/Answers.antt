@@ -10,12 +10,12 @@ apply-next-requires-clause-open g c =
 
 pub apply-next-requires-clause-can_go : goal.apply-next-requires-clause-can_go
 apply-next-requires-clause-can_go g c =
-    can_go c.args.classes.now.family.profile c.args.position.now.setup c.args.the_move c.requires.can_go
+    can_go c.args.classes.now.family.profile c.args.position.now.setup c.args.played c.requires.can_go
 
 pub value_at-requires : goal.value_at-requires
 value_at-requires g c =
-    moves_keep_the_family c.args.classes.now.family c.args.position.now.setup c.args.the_move c.apply-next.result.setup c.requires.member c.requires.goes_on
-    (goes_there c.args.classes.now.family.profile c.args.position.now.setup c.args.the_move c.apply-next.result.setup c.requires.can_go c.apply-next.ensures)
+    moves_keep_the_family c.args.classes.now.family c.args.position.now.setup c.args.played c.apply-next.result.setup c.requires.member c.requires.goes_on
+    (goes_there c.args.classes.now.family.profile c.args.position.now.setup c.args.played c.apply-next.result.setup c.requires.can_go c.apply-next.ensures)
 
 pub returns-clause-said : goal.returns-clause-said
 returns-clause-said g c = λ stream shows.
@@ -23,10 +23,10 @@ returns-clause-said g c = λ stream shows.
     let setup = c.args.position.now.setup in
     let next = c.apply-next.result.setup in
     IfOk-weaker c.value_at.result (IsRecorded stream c.args.format family next)
-    (λ (value : Value). (q : Setup) → Goes family.profile setup c.args.the_move q → IsRecorded stream c.args.format family q value)
+    (λ (value : Value). (q : Setup) → Goes family.profile setup c.args.played q → IsRecorded stream c.args.format family q value)
     (λ value says q by.
-    let same = HasOutcome-is setup c.args.the_move next c.apply-next.ensures
-    ∙ sym (HasOutcome-is setup c.args.the_move q (goes family.profile setup c.args.the_move q by)) in
+    let same = HasOutcome-is setup c.args.played next c.apply-next.ensures
+    ∙ sym (HasOutcome-is setup c.args.played q (goes family.profile setup c.args.played q by)) in
     subst (λ (s : Setup). IsRecorded stream c.args.format family s value) same says)
     (c.value_at.ensures.said stream shows)
 
@@ -38,7 +38,7 @@ returns-clause-fault g c = λ stream shows.
     IfErr-weaker c.value_at.result (LacksRecord stream c.args.format family next) (LacksNext stream c.args.format family setup)
     (λ fault lacks. (
       next,
-      (c.args.the_move, goes_there family.profile setup c.args.the_move next c.requires.can_go c.apply-next.ensures),
+      (c.args.played, goes_there family.profile setup c.args.played next c.requires.can_go c.apply-next.ensures),
       lacks,
     ))
     (c.value_at.ensures.fault stream shows)

@@ -4,8 +4,8 @@ use Rattle.dob_tests_rules.proofs.moves.outcome.Goals as goal
 
 pub apply-after-requires-clause-open : goal.apply-after-requires-clause-open
 apply-after-requires-clause-open c =
-    (c.in_ok-the_moves.ensures.sound c.index.result.now (c.args.number, omega (arith, c.in_ok-the_moves.the_moves.ok.0), sym c.index.ensures)).0
+    (c.in_ok-legal.ensures.sound c.index.result.now (c.args.number, omega (arith, c.in_ok-legal.legal.ok.0), sym c.index.ensures)).0
 
 pub apply-after-requires-clause-can_go : goal.apply-after-requires-clause-can_go
 apply-after-requires-clause-can_go c =
-    (c.in_ok-the_moves.ensures.sound c.index.result.now (c.args.number, omega (arith, c.in_ok-the_moves.the_moves.ok.0), sym c.index.ensures)).1
+    (c.in_ok-legal.ensures.sound c.index.result.now (c.args.number, omega (arith, c.in_ok-legal.legal.ok.0), sym c.index.ensures)).1

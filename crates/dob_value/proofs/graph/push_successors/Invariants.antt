@@ -3,7 +3,7 @@ use Rattle.dob_value.proofs.Common.{◌++◌, ◌≡◌, List, ℕ, ClassStandsF
 use Rattle.dob_value.proofs.Successors.{AreSuccessorsBelow}
 use Rattle.dob_value.proofs.graph.push_successors.Given as goal
 
-abbrev pub invariant-loop-the_move : goal.invariant-loop-the_move
-invariant-loop-the_move l =
+abbrev pub invariant-loop-played : goal.invariant-loop-played
+invariant-loop-played l =
     (numbers : List ℕ) × (l.successors.items ≡ l.initial.successors.items ++ numbers)
-    × AreSuccessorsBelow l.classes.family.profile (ClassStandsFor l.classes.family) l.position.setup l.the_move-items l.the_move-index numbers
+    × AreSuccessorsBelow l.classes.family.profile (ClassStandsFor l.classes.family) l.position.setup l.played-items l.played-index numbers

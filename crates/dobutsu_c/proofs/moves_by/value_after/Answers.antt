@@ -12,13 +12,13 @@ apply-after-requires-clause-open c =
 pub apply-after-requires-clause-can_go : goal.apply-after-requires-clause-can_go
 apply-after-requires-clause-can_go c =
     let asked = c.args.asked.now in
-    can_go asked.held.family.profile asked.position.setup c.args.the_move c.requires.can_go
+    can_go asked.held.family.profile asked.position.setup c.args.played c.requires.can_go
 
 pub value_by-requires-clause-member : goal.value_by-requires-clause-member
 value_by-requires-clause-member c =
     let asked = c.args.asked.now in
-    moves_keep_the_family asked.held.family asked.position.setup c.args.the_move c.apply-after.result.setup c.requires.member c.requires.open
-    (goes_there asked.held.family.profile asked.position.setup c.args.the_move c.apply-after.result.setup c.requires.can_go c.apply-after.ensures)
+    moves_keep_the_family asked.held.family asked.position.setup c.args.played c.apply-after.result.setup c.requires.member c.requires.open
+    (goes_there asked.held.family.profile asked.position.setup c.args.played c.apply-after.result.setup c.requires.can_go c.apply-after.ensures)
 
 pub returns : goal.returns
 returns c =
@@ -26,12 +26,12 @@ returns c =
     let Given = IsGivenBy c.args.file.now c.args.by asked.held.format asked.held.family asked.held.classes in
     onward c.value_by.result (IsRight c.args.by asked.held.family → ⊥)
     (λ (v : Value). IsEntry v × Given c.apply-after.result.setup v)
-    (λ (v : Value). IsEntry v × ((q : Setup) → Goes asked.held.family.profile asked.position.setup c.args.the_move q → Given q v))
+    (λ (v : Value). IsEntry v × ((q : Setup) → Goes asked.held.family.profile asked.position.setup c.args.played q → Given q v))
     (λ v is. (
       is.0,
       λ q by.
-          let same = HasOutcome-is asked.position.setup c.args.the_move c.apply-after.result.setup c.apply-after.ensures
-          ∙ sym (HasOutcome-is asked.position.setup c.args.the_move q (goes asked.held.family.profile asked.position.setup c.args.the_move q by)) in
+          let same = HasOutcome-is asked.position.setup c.args.played c.apply-after.result.setup c.apply-after.ensures
+          ∙ sym (HasOutcome-is asked.position.setup c.args.played q (goes asked.held.family.profile asked.position.setup c.args.played q by)) in
           subst (λ (s : Setup). Given s v) same is.1,
     ))
     c.value_by.ensures

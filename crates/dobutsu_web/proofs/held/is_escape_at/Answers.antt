@@ -7,7 +7,7 @@ pub returns-in-Some : goal.returns-in-Some
 returns-in-Some c =
     let listed = c.args.listed.now in
     let p = c.args.position.now in
-    some_at listed.family.profile p.setup p.legal.squares c.args.place (IsSafe listed.family (entries_in listed) c.args.plies) c.in-Some.the_move
+    some_at listed.family.profile p.setup p.legal.squares c.args.place (IsSafe listed.family (entries_in listed) c.args.plies) c.in-Some.played
     c.after.result.setup c.in-Some.ensures.1 c.in-Some.ensures.2 c.after.ensures.goes c.after.ensures.alone c.is_safe.result c.is_safe.ensures
 
 pub returns-in-None : goal.returns-in-None

@@ -7,21 +7,21 @@ pub apply-requires-clause-open : goal.apply-requires-clause-open
 apply-requires-clause-open c = status_there c.args.family.profile c.args.position.now.setup Open c.args.position.now.legal c.requires.goes_on
 
 pub apply-requires-clause-can_go : goal.apply-requires-clause-can_go
-apply-requires-clause-can_go c = can_go c.args.family.profile c.args.position.now.setup c.args.the_move c.requires.the_move
+apply-requires-clause-can_go c = can_go c.args.family.profile c.args.position.now.setup c.args.played c.requires.played
 
 pub returns-clause-member : goal.returns-clause-member
 returns-clause-member c =
     let profile = c.args.family.profile in
     let setup = c.args.position.now.setup in
-    moves_keep_the_family c.args.family setup c.args.the_move c.apply.result.setup c.requires.member c.requires.goes_on
-    (goes_there profile setup c.args.the_move c.apply.result.setup c.requires.the_move c.apply.ensures)
+    moves_keep_the_family c.args.family setup c.args.played c.apply.result.setup c.requires.member c.requires.goes_on
+    (goes_there profile setup c.args.played c.apply.result.setup c.requires.played c.apply.ensures)
 
 pub returns-clause-goes : goal.returns-clause-goes
-returns-clause-goes c = goes_there c.args.family.profile c.args.position.now.setup c.args.the_move c.apply.result.setup c.requires.the_move c.apply.ensures
+returns-clause-goes c = goes_there c.args.family.profile c.args.position.now.setup c.args.played c.apply.result.setup c.requires.played c.apply.ensures
 
 pub returns-clause-alone : goal.returns-clause-alone
 returns-clause-alone c = λ q by.
     let profile = c.args.family.profile in
     let setup = c.args.position.now.setup in
-    HasOutcome-is setup c.args.the_move c.apply.result.setup c.apply.ensures
-    ∙ sym (HasOutcome-is setup c.args.the_move q (goes profile setup c.args.the_move q by))
+    HasOutcome-is setup c.args.played c.apply.result.setup c.apply.ensures
+    ∙ sym (HasOutcome-is setup c.args.played q (goes profile setup c.args.played q by))

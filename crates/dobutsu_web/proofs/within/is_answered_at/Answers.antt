@@ -7,7 +7,7 @@ pub returns-in-Some : goal.returns-in-Some
 returns-in-Some c =
     let listed = c.args.listed.now in
     let p = c.args.position.now in
-    each_at listed.family.profile p.setup p.legal.squares c.args.place (IsAnswered listed.family (entries_in listed) c.args.plies) c.in-Some.the_move
+    each_at listed.family.profile p.setup p.legal.squares c.args.place (IsAnswered listed.family (entries_in listed) c.args.plies) c.in-Some.played
     c.after.result.setup c.in-Some.ensures.1 c.in-Some.ensures.2 c.after.ensures.goes c.after.ensures.alone c.is_answered.result c.is_answered.ensures
 
 pub returns-in-None : goal.returns-in-None
