@@ -20,12 +20,13 @@ const CLASSES: u64 = 1_707_030;
 // The places round the end of the first segment, which has 2^20 items at most.
 const PLACES: [u64; 3] = [(1 << 20) - 1, 1 << 20, (1 << 20) + 1];
 
-// Whether the nodes have the same settlements.
-fn are_same(own: &Node, listed: &Node) -> bool {
+// Whether the nodes have equally many settlements, and the same ones among the last so many. Each that a node found at its start is found by a walk over
+// the earlier ones.
+fn are_same(own: &Node, listed: &Node, last: u64) -> bool {
     if own.settled() != listed.settled() {
         return false;
     }
-    for number in 0..own.settled() {
+    for number in own.settled().saturating_sub(last)..own.settled() {
         if own.settlement(number) != listed.settlement(number) {
             return false;
         }
@@ -33,7 +34,7 @@ fn are_same(own: &Node, listed: &Node) -> bool {
     true
 }
 
-// The node of that owner, by its own openings and by those that are listed of all classes.
+// The node of that owner, by its own openings and by those that are listed of all classes; its last so many settlements are compared.
 fn opens_alike(
     rt: &impl Abort,
     alloc: Global,
@@ -41,13 +42,14 @@ fn opens_alike(
     openings: &Segments<Opening>,
     id: usize,
     nodes: NodeCount,
+    last: u64,
 )
     requires openings { AreOpenings classes.now.family openings.now }
     requires owner { id < nodes }
 {
     let own = Node::open_own(alloc, classes, id, nodes).expect(rt, "a node");
     let listed = Node::open(alloc, openings, classes.family, id, nodes).expect(rt, "a node");
-    assert!(rt; are_same(&own, &listed), "node {id}");
+    assert!(rt; are_same(&own, &listed, last), "node {id}");
 }
 
 // Each of that many nodes.
@@ -57,12 +59,13 @@ fn all_open_alike(
     classes: &Classes,
     openings: &Segments<Opening>,
     count: usize,
+    last: u64,
 )
     requires { AreOpenings classes.now.family openings.now }
 {
     let nodes = NodeCount::new(count).expect(rt, "a number of nodes");
     for id in 0..nodes.get() {
-        opens_alike(rt, alloc, classes, openings, id, nodes);
+        opens_alike(rt, alloc, classes, openings, id, nodes, last);
     }
 }
 
@@ -77,7 +80,7 @@ fn open_by_segments(
     let openings = opening(alloc, classes, length).expect(rt, "openings");
     assert!(rt; openings.len() == 1116 && openings.segment_length().items() == items);
     for count in [1, 2, 3, 16] {
-        all_open_alike(rt, alloc, classes, &openings, count);
+        all_open_alike(rt, alloc, classes, &openings, count, openings.len());
     }
 }
 
@@ -113,5 +116,5 @@ fn openings_past_a_segment(rt: HostRuntime) {
     }
     assert!(rt; listed.segment_length().items() == 1 << 20);
     assert!(rt; Share::open(rt.alloc(), &listed, 0, NodeCount::one()).is_ok());
-    all_open_alike(&rt, rt.alloc(), &classes, &listed, 1);
+    all_open_alike(&rt, rt.alloc(), &classes, &listed, 1, 16);
 }
