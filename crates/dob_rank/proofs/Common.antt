@@ -1,7 +1,7 @@
 -- The names that the proofs here use most, from other crates and the definitions of this one.
 pub use Rattle.std.proofs.Common.{if◌then◌else◌, ◌%◌, ◌&&◌, ◌*◌, ◌++◌, ◌+◌, ◌-◌, ◌/◌, ◌<◌, ◌^◌, ◌||◌, ◌∙◌, ◌∷◌, ◌≡◌, ◌≢◌, ◌≤◌, ◌⊎◌, Bool, List, None, Some, []}
 pub use Rattle.std.proofs.Common.{ap, arith, bit_and, cond, drop, eqb, false, get_or, inl, inr, leb, length, ltb, map, nat_eq, nat_lt, not, refl, replicate}
-pub use Rattle.std.proofs.Common.{set, slice_index, slice_index_or, subst, suc, sym, take, true, zero, ℕ}
+pub use Rattle.std.proofs.Common.{append-nil, set, slice_index, slice_index_or, subst, suc, sym, take, true, zero, ℕ}
 pub use Rattle.std.proofs.Math.Arith.{mod-mul}
 pub use Rattle.std.proofs.Math.Nat.{add-mul, mod-eq_of_lt, mod-one, mul-le-mul, mul-pos, mul_assoc, mul_comm, pow-le-pow_right, pow-suc, pow-succ', pow-zero}
 pub use Rattle.std.proofs.lemmas.Bool.{and_parts, cases_Bool, cases_eq, cases_lt, cases_order, eq-eqb, eqb-true, le-ltb, lt-ltb, ltb-true, ne_eqb}

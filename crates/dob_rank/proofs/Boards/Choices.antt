@@ -92,8 +92,6 @@ Alike t (x ∷ xs) (y ∷ ys) = AlikeAt t x y × Alike t xs ys
 
 pub count_from-alike : (t : ℕ) (xs ys : List ℕ) → Alike t xs ys → count_from t xs ≡ count_from t ys
 count_from-alike t [] [] h = refl
-count_from-alike t [] (y ∷ ys) h = absurd h
-count_from-alike t (x ∷ xs) [] h = absurd h
 count_from-alike t (x ∷ xs) (y ∷ ys) h =
     let rest : count_from t xs ≡ count_from t ys = count_from-alike t xs ys h.1 in
     elim h.0 [
@@ -101,6 +99,7 @@ count_from-alike t (x ∷ xs) (y ∷ ys) h =
           count_from_lower t x xs low ∙ rest ∙ sym (count_from_lower t y ys (omega arith)))
       | inr q ↦ count_from_later t x xs q.0 ∙ ap suc rest ∙ sym (count_from_later t y ys q.1)
     ]
+count_from-alike t xs ys h = absurd h
 
 -- both begin with a square of the layer
 both_same : (t from x y : ℕ) (xs ys : List ℕ) → x ≡ t → y ≡ t → count t (x ∷ xs) ≡ count t (y ∷ ys)
@@ -155,8 +154,6 @@ first_later t from x y xs ys nx ey e p =
 pub choice-rises : (t from : ℕ) (xs ys : List ℕ) → Alike t xs ys → count t xs ≡ count t ys
     → Precedes (layer_squares t from xs) (layer_squares t from ys) → choice t xs < choice t ys
 choice-rises t from [] [] h e p = absurd p
-choice-rises t from [] (y ∷ ys) h e p = absurd h
-choice-rises t from (x ∷ xs) [] h e p = absurd h
 choice-rises t from (x ∷ xs) (y ∷ ys) h e p = elim h.0 [
   | inl q ↦ (let same : x ≡ y = q.0 in let low : x < t = q.1 in
       let low' : y < t = omega arith in
@@ -183,6 +180,7 @@ choice-rises t from (x ∷ xs) (y ∷ ys) h e p = elim h.0 [
     ]
   ]
 ]
+choice-rises t from xs ys h e p = absurd h
 
 further : (t x y : ℕ) → AlikeAt t x y → (x ≡ t → ⊥) → (y ≡ t → ⊥) → AlikeAt (suc t) x y
 further t x y h nx ny = elim h [
@@ -193,8 +191,6 @@ further t x y h nx ny = elim h [
 -- the same squares: the layers are alike one layer further
 pub Alike-next : (t from : ℕ) (xs ys : List ℕ) → Alike t xs ys → layer_squares t from xs ≡ layer_squares t from ys → Alike (suc t) xs ys
 Alike-next t from [] [] h e = tt
-Alike-next t from [] (y ∷ ys) h e = absurd h
-Alike-next t from (x ∷ xs) [] h e = absurd h
 Alike-next t from (x ∷ xs) (y ∷ ys) h e = elim (cases_eq x t) [
   | inl ex ↦ elim (cases_eq y t) [
     | inl ey ↦ (let sx : layer_squares t from (x ∷ xs) ≡ from ∷ layer_squares t (suc from) xs
@@ -219,3 +215,4 @@ Alike-next t from (x ∷ xs) (y ∷ ys) h e = elim (cases_eq x t) [
         (further t x y h.0 nx ny, Alike-next t (suc from) xs ys h.1 rest))
   ]
 ]
+Alike-next t from xs ys h e = absurd h

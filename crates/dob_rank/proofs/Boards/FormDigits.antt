@@ -1,106 +1,49 @@
 -- Forms as digits: a layer's forms number comes back from the board of it, and so does each board.
-use Rattle.dob_rank.proofs.Common.{◌%◌, ◌*◌, ◌+◌, ◌/◌, ◌<◌, ◌^◌, ◌∙◌, ◌∷◌, ◌≡◌, ◌≤◌, List, None, Some, [], ap, arith, inl, inr, map, refl, subst, suc, sym}
-use Rattle.dob_rank.proofs.Common.{zero, ℕ, mod-mul, mod-one, pow-succ', pow-zero, cases_eq, eq-eqb, ne_eqb, mod_below, same_from_place, Cell, piece_of, Kind}
-use Rattle.dob_rank.proofs.Common.{Chick, Elephant, Giraffe, Hen, Lion, Side, Enemy, Mover, base_of, board_of, cell_of, count, forms_number, layer, layer_of}
-use Rattle.dob_rank.proofs.Common.{order, form, form_of, Empty}
+use Rattle.dob_rank.proofs.Common.{◌%◌, ◌*◌, ◌+◌, ◌/◌, ◌<◌, ◌^◌, ◌∙◌, ◌∷◌, ◌≡◌, ◌≤◌, List, [], ap, arith, inl, inr, map, refl, subst, suc, sym, zero, ℕ}
+use Rattle.dob_rank.proofs.Common.{mod-mul, mod-one, pow-succ', pow-zero, cases_eq, eq-eqb, ne_eqb, mod_below, same_from_place, Cell, base_of, board_of}
+use Rattle.dob_rank.proofs.Common.{cell_of, count, forms_number, layer, order, form, Empty}
 use Rattle.dob_rank.proofs.Arithmetic.MixedRadix.{digit_below}
 use Rattle.dob_rank.proofs.Boards.Choices.{count_same, count_other}
 use Rattle.dob_rank.proofs.Boards.Settled.{AreLayers}
+use Rattle.dob_rank.proofs.Boards.EachCell.{of_cell}
 
 -- ---- the pieces of a layer and their forms
 
-pub form_of-below : (s : Side) (k : Kind) → form_of s k < base_of (order (layer_of s k))
-form_of-below Mover Lion = omega arith
-form_of-below Mover Giraffe = omega arith
-form_of-below Mover Elephant = omega arith
-form_of-below Mover Chick = omega arith
-form_of-below Mover Hen = omega arith
-form_of-below Enemy Lion = omega arith
-form_of-below Enemy Giraffe = omega arith
-form_of-below Enemy Elephant = omega arith
-form_of-below Enemy Chick = omega arith
-form_of-below Enemy Hen = omega arith
-
 pub form-below : (cell : Cell) → form cell < base_of (layer cell)
-form-below None = omega arith
-form-below (Some piece) = form_of-below piece.side piece.kind
-
-pub layer_of-bound : (s : Side) (k : Kind) → order (layer_of s k) < order Empty
-layer_of-bound Mover Lion = omega arith
-layer_of-bound Mover Giraffe = omega arith
-layer_of-bound Mover Elephant = omega arith
-layer_of-bound Mover Chick = omega arith
-layer_of-bound Mover Hen = omega arith
-layer_of-bound Enemy Lion = omega arith
-layer_of-bound Enemy Giraffe = omega arith
-layer_of-bound Enemy Elephant = omega arith
-layer_of-bound Enemy Chick = omega arith
-layer_of-bound Enemy Hen = omega arith
+form-below = of_cell (λ cell. form cell < base_of (layer cell)) (omega arith)
+    (omega arith, omega arith, omega arith, omega arith, omega arith) (omega arith, omega arith, omega arith, omega arith, omega arith)
 
 pub layer-bound : (cell : Cell) → layer cell ≤ order Empty
-layer-bound None = omega arith
-layer-bound (Some piece) = (let low : order (layer_of piece.side piece.kind) < order Empty = layer_of-bound piece.side piece.kind in omega arith)
+layer-bound = of_cell (λ cell. layer cell ≤ order Empty) (omega arith)
+    (omega arith, omega arith, omega arith, omega arith, omega arith) (omega arith, omega arith, omega arith, omega arith, omega arith)
 
 pub AreLayers-map : (cells : List Cell) → AreLayers (map layer cells)
 AreLayers-map [] = tt
 AreLayers-map (cell ∷ cells) = (layer-bound cell, AreLayers-map cells)
 
--- the cell of a piece's layer and form has that piece
-pub cell_of-piece : (s : Side) (k : Kind) → cell_of (order (layer_of s k)) (form_of s k) ≡ Some (piece_of s k)
-cell_of-piece Mover Lion = refl
-cell_of-piece Mover Giraffe = refl
-cell_of-piece Mover Elephant = refl
-cell_of-piece Mover Chick = refl
-cell_of-piece Mover Hen = refl
-cell_of-piece Enemy Lion = refl
-cell_of-piece Enemy Giraffe = refl
-cell_of-piece Enemy Elephant = refl
-cell_of-piece Enemy Chick = refl
-cell_of-piece Enemy Hen = refl
-
+-- the cell of a cell's layer and form is that cell
 pub cell_of-cell : (cell : Cell) → cell_of (layer cell) (form cell) ≡ cell
-cell_of-cell None = refl
-cell_of-cell (Some piece) = cell_of-piece piece.side piece.kind
+cell_of-cell = of_cell (λ cell. cell_of (layer cell) (form cell) ≡ cell) refl (refl, refl, refl, refl, refl) (refl, refl, refl, refl, refl)
 
 -- a cell made has its layer
 pub layer-cell_of : (l f : ℕ) → l ≤ order Empty → layer (cell_of l f) ≡ l
-layer-cell_of zero f h = refl
-layer-cell_of (suc zero) f h = refl
-layer-cell_of (suc (suc zero)) zero h = refl
-layer-cell_of (suc (suc zero)) (suc zero) h = refl
-layer-cell_of (suc (suc zero)) (suc (suc zero)) h = refl
 layer-cell_of (suc (suc zero)) (suc (suc (suc f))) h = refl
-layer-cell_of (suc (suc (suc zero))) zero h = refl
 layer-cell_of (suc (suc (suc zero))) (suc f) h = refl
-layer-cell_of (suc (suc (suc (suc zero)))) zero h = refl
 layer-cell_of (suc (suc (suc (suc zero)))) (suc f) h = refl
-layer-cell_of (suc (suc (suc (suc (suc zero))))) f h = refl
 layer-cell_of (suc (suc (suc (suc (suc (suc l)))))) f h = absurd (omega arith)
+layer-cell_of l f h = refl
 
 -- a cell made has its form
 pub form-cell_of : (l f : ℕ) → l < order Empty → f < base_of l → form (cell_of l f) ≡ f
-form-cell_of zero f h k = omega arith
-form-cell_of (suc zero) f h k = omega arith
-form-cell_of (suc (suc zero)) zero h k = refl
-form-cell_of (suc (suc zero)) (suc zero) h k = refl
-form-cell_of (suc (suc zero)) (suc (suc zero)) h k = refl
-form-cell_of (suc (suc zero)) (suc (suc (suc zero))) h k = refl
-form-cell_of (suc (suc zero)) (suc (suc (suc (suc f)))) h k = absurd (omega arith)
-form-cell_of (suc (suc (suc zero))) zero h k = refl
-form-cell_of (suc (suc (suc zero))) (suc zero) h k = refl
-form-cell_of (suc (suc (suc zero))) (suc (suc f)) h k = absurd (omega arith)
-form-cell_of (suc (suc (suc (suc zero)))) zero h k = refl
-form-cell_of (suc (suc (suc (suc zero)))) (suc zero) h k = refl
-form-cell_of (suc (suc (suc (suc zero)))) (suc (suc f)) h k = absurd (omega arith)
-form-cell_of (suc (suc (suc (suc (suc l))))) f h k = absurd (omega arith)
+form-cell_of (suc (suc zero)) (suc (suc (suc (suc f)))) h k = omega arith
+form-cell_of (suc (suc (suc zero))) (suc (suc f)) h k = omega arith
+form-cell_of (suc (suc (suc (suc zero)))) (suc (suc f)) h k = omega arith
+form-cell_of (suc (suc (suc (suc (suc l))))) f h k = omega arith
+form-cell_of l f h k = omega arith
 
 pub base_of-positive : (t : ℕ) → 0 < base_of t
-base_of-positive zero = omega arith
-base_of-positive (suc zero) = omega arith
-base_of-positive (suc (suc zero)) = omega arith
-base_of-positive (suc (suc (suc zero))) = omega arith
-base_of-positive (suc (suc (suc (suc zero)))) = omega arith
 base_of-positive (suc (suc (suc (suc (suc t))))) = omega arith
+base_of-positive t = omega arith
 
 pub power_positive : (b k : ℕ) → 0 < b → 0 < b ^ k
 power_positive b zero h = omega (arith, pow-zero b)

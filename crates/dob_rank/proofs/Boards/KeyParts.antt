@@ -20,14 +20,11 @@ length-layer_squares t from (l ∷ ls) = elim (cases_eq l t) [
 -- boards of the same length are alike below layer 0
 pub Alike-start : (xs ys : List ℕ) → length xs ≡ length ys → Alike 0 xs ys
 Alike-start [] [] e = tt
-Alike-start [] (y ∷ ys) e = absurd (omega arith)
-Alike-start (x ∷ xs) [] e = absurd (omega arith)
 Alike-start (x ∷ xs) (y ∷ ys) e = (inr ((omega arith), (omega arith)), Alike-start xs ys (omega arith))
+Alike-start xs ys e = absurd (omega arith)
 
 pub count-alike : (t : ℕ) (xs ys : List ℕ) → Alike (suc t) xs ys → count t xs ≡ count t ys
 count-alike t [] [] h = refl
-count-alike t [] (y ∷ ys) h = absurd h
-count-alike t (x ∷ xs) [] h = absurd h
 count-alike t (x ∷ xs) (y ∷ ys) h =
     let rest : count t xs ≡ count t ys = count-alike t xs ys h.1 in
     elim h.0 [
@@ -35,11 +32,10 @@ count-alike t (x ∷ xs) (y ∷ ys) h =
       | inr q ↦ (let a : suc t ≤ x = q.0 in let b : suc t ≤ y = q.1 in let nx : x ≡ t → ⊥ = omega arith in let ny : y ≡ t → ⊥ = omega arith in
           count_other t x xs nx ∙ rest ∙ sym (count_other t y ys ny))
     ]
+count-alike t xs ys h = absurd h
 
 pub count_from-alike-next : (t : ℕ) (xs ys : List ℕ) → Alike (suc t) xs ys → Alike t xs ys
 count_from-alike-next t [] [] h = tt
-count_from-alike-next t [] (y ∷ ys) h = absurd h
-count_from-alike-next t (x ∷ xs) [] h = absurd h
 count_from-alike-next t (x ∷ xs) (y ∷ ys) h = (
   elim h.0 [
     | inl q ↦ (let low : x < suc t = q.1 in elim (cases_lt x t) [
@@ -50,12 +46,11 @@ count_from-alike-next t (x ∷ xs) (y ∷ ys) h = (
   ],
   count_from-alike-next t xs ys h.1,
 )
+count_from-alike-next t xs ys h = absurd h
 
 -- layers that are alike up to t make the same choice
 pub choice-alike : (t : ℕ) (xs ys : List ℕ) → Alike (suc t) xs ys → choice t xs ≡ choice t ys
 choice-alike t [] [] h = refl
-choice-alike t [] (y ∷ ys) h = absurd h
-choice-alike t (x ∷ xs) [] h = absurd h
 choice-alike t (x ∷ xs) (y ∷ ys) h =
     let rest : choice t xs ≡ choice t ys = choice-alike t xs ys h.1 in
     elim h.0 [
@@ -67,6 +62,7 @@ choice-alike t (x ∷ xs) (y ∷ ys) h =
           ∙ ap (λ (n : ℕ). with_first (count_from t ys) n + choice t xs) c ∙ ap (λ (n : ℕ). with_first (count_from t ys) (count t ys) + n) rest
           ∙ sym (choice_later t y ys q.1))
     ]
+choice-alike t xs ys h = absurd h
 
 -- ---- forms
 

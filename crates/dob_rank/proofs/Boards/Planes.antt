@@ -346,11 +346,6 @@ planes-parts : (ls : List ℕ) → planes ls ≡ layer_mask (order OwnLion) ls +
     + first_bit Chicks * layer_mask (order Chicks) ls + first_bit Elephants * layer_mask (order Elephants) ls
     + first_bit Giraffes * layer_mask (order Giraffes) ls
 planes-parts [] = refl
-planes-parts (zero ∷ ls) = omega (arith, planes-parts ls)
-planes-parts (suc zero ∷ ls) = omega (arith, planes-parts ls)
-planes-parts (suc (suc zero) ∷ ls) = omega (arith, planes-parts ls)
-planes-parts (suc (suc (suc zero)) ∷ ls) = omega (arith, planes-parts ls)
-planes-parts (suc (suc (suc (suc zero))) ∷ ls) = omega (arith, planes-parts ls)
 planes-parts (suc (suc (suc (suc (suc l)))) ∷ ls) =
     omega (
       arith,
@@ -361,6 +356,7 @@ planes-parts (suc (suc (suc (suc (suc l)))) ∷ ls) =
       mask_other (order Elephants) (suc (suc (suc (suc (suc l))))) ls (beyond (order Elephants) l (omega arith)),
       mask_other (order Giraffes) (suc (suc (suc (suc (suc l))))) ls (beyond (order Giraffes) l (omega arith)),
     )
+planes-parts (l ∷ ls) = omega (arith, planes-parts ls)
 
 -- five planes
 pub planes-small : (ls : List ℕ) → length ls ≤ 12 → planes ls < 2 ^ (5 * plane_len)

@@ -7,10 +7,10 @@ use Rattle.dob_rank.proofs.Common.{number_of, on_board, order, own_squares, prod
 use Rattle.dob_rank.proofs.Common.{lion_pairs, lions_of, local_bases, local_of, run_bases, run_kind, run_of, run_size, run_start, runs_in, Chicks, Elephants}
 use Rattle.dob_rank.proofs.Common.{EnemyLion, Giraffes, OwnLion}
 use Rattle.dob_rank.specs.declared.runs.RunKind.TheVariants.{First, Later}
-use Rattle.dob_rank.proofs.Positions.Blocks.{AreBases-by, few_in_block, block_size-small, run_bases-few, place_below_size}
+use Rattle.dob_rank.proofs.Positions.Blocks.{AreBases-by, few_in_block, block_size-small, run_bases-few, place_below_size, block_size-product}
 use Rattle.dob_rank.proofs.Arithmetic.MixedRadix.{digit_below, number_of-below, product-append, number_of-append}
 use Rattle.dob_rank.proofs.Positions.Digits.{HasParts-from_position, HasDigits-digits}
-use Rattle.dob_rank.proofs.Positions.Numbering.{HasBlock, place_of, rank_of_set-place, block_of-below, block_size-product, on_board-block, HasBlock-setup_in}
+use Rattle.dob_rank.proofs.Positions.Numbering.{HasBlock, place_of, rank_of_set-place, block_of-below, on_board-block, HasBlock-setup_in}
 use Rattle.dob_rank.proofs.Positions.Numbering.{rank_of_set-block, rank_of_set-below}
 use Rattle.dob_rank.proofs.Positions.Found.{IsPositionOfSet-mirrored}
 use Rattle.dob_rank.proofs.Marked.Marks.{first-marked, marked-first, marked-first_of}

@@ -7,7 +7,10 @@ use Rattle.dob_rank.proofs.Arithmetic.MixedRadix.{HasDigits-digits_of}
 use Rattle.dob_rank.proofs.Boards.Choices.{choose-split}
 use Rattle.dob_rank.proofs.Boards.FormDigits.{power_positive}
 use Rattle.dob_rank.proofs.Positions.Loops.{digit-at}
-use Rattle.dob_rank.proofs.Positions.Numbering.{block_size-product}
+
+pub block_size-product : (set : PieceSet) (block : ℕ) → block_size set block ≡ product (bases_by set (digits_of (block_bases set) block))
+unfolding block_size
+block_size-product set block = refl
 
 -- each number is at most the one beside it
 abbrev pub AreAtMost : List ℕ → List ℕ → Type 0

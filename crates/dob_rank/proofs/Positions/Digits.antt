@@ -138,23 +138,24 @@ hide_all (l ∷ ls) a = (let head : hidden (order Empty) l ≡ l
     ] in
     let rest : hide (order Empty) ls ≡ ls = hide_all ls a.1 in cc)
 
+back : (t p : ℕ) (ls : List ℕ) → t < order Empty → AreLayers ls → count t ls ≡ p → settle t p (choice t ls) (hide t ls) ≡ hide (suc t) ls
+back t p ls h ok e = ap (λ (n : ℕ). settle t n (choice t ls) (hide t ls)) (sym e) ∙ settle-choice t ls h ok
+
+pub lions_back : (ls : List ℕ) → length ls ≡ 12 → AreLayers ls → count (order OwnLion) ls ≡ 1 → count (order EnemyLion) ls ≡ 1
+    → settle (order EnemyLion) 1 (choice (order EnemyLion) ls) (settle (order OwnLion) 1 (choice (order OwnLion) ls) empty_layers) ≡ hide (order Chicks) ls
+lions_back ls long ok own enemy =
+    ap (λ (xs : List ℕ). settle (order EnemyLion) 1 (choice (order EnemyLion) ls) (settle (order OwnLion) 1 (choice (order OwnLion) ls) xs))
+    (sym (hide_zero ls ∙ ap (λ (n : ℕ). replicate n (order Empty)) long))
+    ∙ ap (settle (order EnemyLion) 1 (choice (order EnemyLion) ls)) (back (order OwnLion) 1 ls (omega arith) ok own)
+    ∙ back (order EnemyLion) 1 ls (omega arith) ok enemy
+
 pub layers_by-back : (set : PieceSet) (s : Setup) → HasParts set s → layers_by (on_board s) (digits s) ≡ map layer s.board
 layers_by-back set s h =
     let ok : AreLayers (map layer s.board) = AreLayers-map s.board in
-    let start : empty_layers ≡ hide (order OwnLion) (map layer s.board)
-    = sym (hide_zero (map layer s.board) ∙ ap (λ (n : ℕ). replicate n (order Empty)) h.squares) in
-    let r0 : settle (order OwnLion) 1 (choice (order OwnLion) (map layer s.board)) empty_layers ≡ hide (order EnemyLion) (map layer s.board)
-    = ap (settle (order OwnLion) 1 (choice (order OwnLion) (map layer s.board))) start
-    ∙ ap (λ (n : ℕ). settle (order OwnLion) n (choice (order OwnLion) (map layer s.board)) (hide (order OwnLion) (map layer s.board))) (sym h.own_lion)
-    ∙ settle-choice (order OwnLion) (map layer s.board) (omega arith) ok in
-    let r1 : settle (order EnemyLion) 1 (choice (order EnemyLion) (map layer s.board))
-    (settle (order OwnLion) 1 (choice (order OwnLion) (map layer s.board)) empty_layers) ≡ hide (order Chicks) (map layer s.board)
-    = ap (settle (order EnemyLion) 1 (choice (order EnemyLion) (map layer s.board))) r0
-    ∙ ap (λ (n : ℕ). settle (order EnemyLion) n (choice (order EnemyLion) (map layer s.board)) (hide (order EnemyLion) (map layer s.board))) (sym h.other_lion)
-    ∙ settle-choice (order EnemyLion) (map layer s.board) (omega arith) ok in
     ap (λ (x : List ℕ). settle (order Giraffes) (count (order Giraffes) (map layer s.board)) (choice (order Giraffes) (map layer s.board))
     (settle (order Elephants) (count (order Elephants) (map layer s.board)) (choice (order Elephants) (map layer s.board))
-    (settle (order Chicks) (count (order Chicks) (map layer s.board)) (choice (order Chicks) (map layer s.board)) x))) r1
+    (settle (order Chicks) (count (order Chicks) (map layer s.board)) (choice (order Chicks) (map layer s.board)) x)))
+    (lions_back (map layer s.board) h.squares ok h.own_lion h.other_lion)
     ∙ ap (λ (x : List ℕ). settle (order Giraffes) (count (order Giraffes) (map layer s.board)) (choice (order Giraffes) (map layer s.board))
     (settle (order Elephants) (count (order Elephants) (map layer s.board)) (choice (order Elephants) (map layer s.board)) x))
     (settle-choice (order Chicks) (map layer s.board) (omega arith) ok)

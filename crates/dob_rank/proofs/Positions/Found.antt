@@ -5,8 +5,8 @@ use Rattle.dob_rank.proofs.Common.{setup_in, sum_below, IsPositionOfSet, local_b
 use Rattle.dob_pieces.proofs.Boards.{total-mirrored, IsLegal-mirrored}
 use Rattle.dob_rank.proofs.Arithmetic.MixedRadix.{HasDigits-digits_of, digits_of-number_of, number_of-digits_of, number_of-below, number_of-append, parts-below}
 use Rattle.dob_rank.proofs.Positions.Digits.{HasParts-from_position, HasDigits-on_board, HasDigits-digits}
-use Rattle.dob_rank.proofs.Positions.Numbering.{HasBlock, place_of, HasBlock-setup_in, block_size-product, block_of-below, place_of-below, rank_of_set-place}
-use Rattle.dob_rank.proofs.Positions.Blocks.{block_size-small, run_bases-few}
+use Rattle.dob_rank.proofs.Positions.Numbering.{HasBlock, place_of, HasBlock-setup_in, block_of-below, place_of-below, rank_of_set-place}
+use Rattle.dob_rank.proofs.Positions.Blocks.{block_size-small, run_bases-few, block_size-product}
 
 pub HasDigits-same : (bs cs ds es : List ℕ) → bs ≡ cs → ds ≡ es → HasDigits cs es → HasDigits bs ds
 HasDigits-same bs cs ds es p q h = subst (λ (xs : List ℕ). HasDigits xs ds) (sym p) (subst (HasDigits cs) (sym q) h)

@@ -6,7 +6,8 @@ use Rattle.dob_rank.proofs.Common.{OwnLion}
 use Rattle.std.proofs.Math.Bridge.{le_prop}
 use Rattle.dob_pieces.specs.declared.kind.HandKind.TheVariants as hand
 use Rattle.dob_rank.proofs.Positions.Digits.{HasParts, HasParts-from_position}
-use Rattle.dob_rank.proofs.Positions.Numbering.{place_of, block_size-product, rank_of_set-place}
+use Rattle.dob_rank.proofs.Positions.Numbering.{place_of, rank_of_set-place}
+use Rattle.dob_rank.proofs.Positions.Blocks.{block_size-product}
 
 -- a legal setup with the totals of the set
 pub IsPositionOfSet-totals : (set : PieceSet) (s : Setup) → IsLegal s → set.chicks ≡ total hand.Chick s

@@ -116,7 +116,7 @@ lions_left lions chicks c low few below =
       giraffe_squares = omega arith;
     }) in
     subst (IsLeft lions) (sym (ap (λ (m : ℕ). settle (order EnemyLion) 1 (m % enemy_squares) (settle (order OwnLion) 1 (m / enemy_squares) empty_layers)) same))
-    (record { long = stand.long; place_is = stand.place_is })
+    (record { long = stand.stage.long; place_is = stand.place_is })
 
 empty_rises : (a b : ℕ) (ls : List ℕ) → a < b → b < count (order Empty) ls → empty_place ls a < empty_place ls b
 empty_rises a b [] less low = absurd (omega (arith, low))
@@ -159,7 +159,7 @@ chick_squares_are lions zero c first second low few below a b = record {
 chick_squares_are lions (suc zero) c first second low few below a b =
     let left = lions_left lions 1 c low few below in
     let room : c < free_squares = subst (λ (x : ℕ). c < x) (choose_one free_squares) below in
-    let here : c < count (order Empty) (lions_in lions) = subst (λ (x : ℕ). c < x) (sym (lion_board lions).empty) room in
+    let here : c < count (order Empty) (lions_in lions) = subst (λ (x : ℕ). c < x) (sym (lion_board lions).empty_is) room in
     let is : empty_place (lions_in lions) c ≡ first = left.place_is c room ∙ sym a in
     let inside : first < length (lions_in lions) = subst (λ (x : ℕ). x < length (lions_in lions)) is (empty_place-below (lions_in lions) c here) in
     record {
@@ -178,7 +178,7 @@ chick_squares_are lions (suc zero) c first second low few below a b =
     zero_more x = omega arith
 chick_squares_are lions (suc (suc zero)) c first second low few below a b =
     let left = lions_left lions 2 c low few below in
-    let empty = (lion_board lions).empty in
+    let empty = (lion_board lions).empty_is in
     let two = choice_of free_squares c below in
     let lower_room : lower_of free_squares c < free_squares = between (lower_of free_squares c) (higher_of free_squares c) free_squares two.rising two.below in
     let lower_is : empty_place (lions_in lions) (lower_of free_squares c) ≡ first = left.place_is (lower_of free_squares c) lower_room ∙ sym a in
