@@ -10,6 +10,19 @@ count_same t ls = rw (eq-eqb t t refl) (omega arith)
 pub count_other : (t l : ℕ) (ls : List ℕ) → (l ≡ t → ⊥) → count t (l ∷ ls) ≡ count t ls
 count_other t l ls h = rw (ne_eqb l t h) (omega arith)
 
+pub count_at : (t l : ℕ) (ls : List ℕ) → l ≡ t → count t (l ∷ ls) ≡ suc (count t ls)
+count_at t l ls e = ap (λ (x : ℕ). count t (x ∷ ls)) e ∙ count_same t ls
+
+-- and how many come behind a first cell
+pub count_rest : (t l n : ℕ) (ls : List ℕ) → l ≡ t → count t (l ∷ ls) ≡ suc n → count t ls ≡ n
+count_rest t l n ls e h = (let more = count_at t l ls e in omega (arith, more, h))
+
+pub no_first : (t l : ℕ) (ls : List ℕ) → count t (l ∷ ls) ≡ 0 → (l ≡ t → ⊥) × (count t ls ≡ 0)
+no_first t l ls h = elim (cases_eq l t) [
+  | inl e ↦ (let more = count_at t l ls e in absurd (omega (arith, more, h)))
+  | inr ne ↦ (ne, sym (count_other t l ls ne) ∙ h)
+]
+
 pub count_from_lower : (t l : ℕ) (ls : List ℕ) → l < t → count_from t (l ∷ ls) ≡ count_from t ls
 count_from_lower t l ls h = rw (lt-ltb l t h) (omega arith)
 

@@ -3,7 +3,7 @@ use Rattle.dob_rank.proofs.Common.{◌%◌, ◌*◌, ◌+◌, ◌/◌, ◌<◌, 
 use Rattle.dob_rank.proofs.Common.{mod-mul, mod-one, pow-succ', pow-zero, cases_eq, eq-eqb, ne_eqb, mod_below, same_from_place, Cell, base_of, board_of}
 use Rattle.dob_rank.proofs.Common.{cell_of, count, forms_number, layer, order, form, Empty}
 use Rattle.dob_rank.proofs.Arithmetic.MixedRadix.{digit_below}
-use Rattle.dob_rank.proofs.Boards.Choices.{count_same, count_other}
+use Rattle.dob_rank.proofs.Boards.Choices.{count_same, count_other, count_at}
 use Rattle.dob_rank.proofs.Boards.Settled.{AreLayers}
 use Rattle.dob_rank.proofs.Boards.EachCell.{of_cell}
 
@@ -57,9 +57,6 @@ forms_number_same t cell cells h = rw (eq-eqb (layer cell) t h) refl
 
 pub forms_number_other : (t : ℕ) (cell : Cell) (cells : List Cell) → (layer cell ≡ t → ⊥) → forms_number t (cell ∷ cells) ≡ forms_number t cells
 forms_number_other t cell cells h = rw (ne_eqb (layer cell) t h) (omega arith)
-
-count_at : (t l : ℕ) (ls : List ℕ) → l ≡ t → count t (l ∷ ls) ≡ suc (count t ls)
-count_at t l ls e = ap (λ (x : ℕ). count t (x ∷ ls)) e ∙ count_same t ls
 
 -- the forms number is below the power of the base
 pub forms_number-below : (t : ℕ) (cells : List Cell) → forms_number t cells < base_of t ^ count t (map layer cells)

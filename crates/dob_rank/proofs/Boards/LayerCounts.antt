@@ -6,7 +6,7 @@ use Rattle.dob_rank.proofs.Common.{Empty, EnemyLion, Giraffes, OwnLion}
 use Rattle.std.proofs.lemmas.List.Recursion.{is_count_by}
 use Rattle.dob_pieces.specs.declared.kind.HandKind.TheVariants as hand
 use Rattle.dob_rank.proofs.Boards.EachCell.{of_cell}
-use Rattle.dob_rank.proofs.Boards.Choices.{count_same, count_other, count_from_lower, count_from_later, choice_later, choice_not_later, layer_squares}
+use Rattle.dob_rank.proofs.Boards.Choices.{count_same, count_other, count_from_lower, count_from_later, choice_later, choice_not_later, layer_squares, no_first}
 use Rattle.dob_rank.proofs.Boards.Settled.{AreShown, AreLayers, settle_kept, settle_taken, settle_left}
 
 -- ---- counts of one layer and of all from a layer on
@@ -62,16 +62,13 @@ length-settle t pieces number (l ∷ ls) = elim (cases_eq l (order Empty)) [
 
 pub choice_none : (t : ℕ) (ls : List ℕ) → count t ls ≡ 0 → choice t ls ≡ 0
 choice_none t [] h = refl
-choice_none t (l ∷ ls) h = elim (cases_order l t) [
-  | inl e ↦ absurd (let one : count t (l ∷ ls) ≡ suc (count t ls) = ap (λ (x : ℕ). count t (x ∷ ls)) e ∙ count_same t ls in omega arith)
-  | inr o ↦ (let other : l ≡ t → ⊥ = elim o [ inl lt ↦ omega arith | inr gt ↦ omega arith ] in
-      let none : count t ls ≡ 0 = sym (count_other t l ls other) ∙ h in
-      let rest : choice t ls ≡ 0 = choice_none t ls none in
-      elim o [
-        | inl lt ↦ choice_not_later t l ls (omega arith) ∙ rest
-        | inr gt ↦ choice_later t l ls gt ∙ ap (λ (x : ℕ). with_first (count_from t ls) x + choice t ls) none ∙ ap (λ (x : ℕ). 0 + x) rest
-      ])
-]
+choice_none t (l ∷ ls) h =
+    let rest = no_first t l ls h in
+    let again : choice t ls ≡ 0 = choice_none t ls rest.1 in
+    elim (cases_lt t l) [
+      | inl gt ↦ rw (choice_later t l ls gt, rest.1) (omega (arith, again))
+      | inr le ↦ choice_not_later t l ls le ∙ again
+    ]
 
 pub count_positive : (t : ℕ) (ls : List ℕ) (k : ℕ) → t < order Empty → get_or ls k (order Empty) ≡ t → 0 < count t ls
 count_positive t [] k h e = absurd (let five : order Empty ≡ t = e in omega arith)

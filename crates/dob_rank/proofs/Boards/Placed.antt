@@ -4,7 +4,7 @@ use Rattle.dob_rank.proofs.Common.{set, slice_index, slice_index_or, subst, suc,
 use Rattle.dob_rank.proofs.Common.{base_of, board_of, cell_of, choose, count, empty_layers, enemy_squares, free_squares, layers_by, numbers_by, order}
 use Rattle.dob_rank.proofs.Common.{own_squares, settle, AreChoices, AreFree, first_place, higher_of, lower_of, past, put, second_place, Chicks, Elephants}
 use Rattle.dob_rank.proofs.Common.{Empty, EnemyLion, Giraffes, OwnLion}
-use Rattle.dob_rank.proofs.Boards.Choices.{count_same, count_other, choose-split}
+use Rattle.dob_rank.proofs.Boards.Choices.{count_same, count_other, choose-split, no_first}
 use Rattle.dob_rank.proofs.Boards.EmptySquares.{empty_place, kept, empty_place-below, empty_place-set, past-low, past-upto, settle_none, settle_one, settle_two}
 use Rattle.dob_rank.proofs.Boards.EmptySquares.{choose_one}
 use Rattle.dob_rank.proofs.Boards.Stages.{IsStage, none_shown, next_stage, first_stage}
@@ -54,19 +54,13 @@ board_of-set numbers t (suc s) (l ∷ ls) h o =
 
 -- ---- the squares that choices take are open
 
-no_layer : (t l : ℕ) (ls : List ℕ) → count t (l ∷ ls) ≡ 0 → (l ≡ t → ⊥) × (count t ls ≡ 0)
-no_layer t l ls h = elim (cases_eq l t) [
-  | inl e ↦ (let more : count t (l ∷ ls) ≡ suc (count t ls) = ap (λ (x : ℕ). count t (x ∷ ls)) e ∙ count_same t ls in absurd (omega arith))
-  | inr ne ↦ (ne, sym (count_other t l ls ne) ∙ h)
-]
-
 five_more : (l : ℕ) (ls : List ℕ) → l ≡ order Empty → count (order Empty) (l ∷ ls) ≡ suc (count (order Empty) ls)
 five_more l ls e = ap (λ (x : ℕ). count (order Empty) (x ∷ ls)) e ∙ count_same (order Empty) ls
 
 open_one : (t n : ℕ) (ls : List ℕ) → (order Empty ≡ t → ⊥) → count t ls ≡ 0 → n < count (order Empty) ls → IsOpen (empty_place ls n) t ls
 open_one t n [] h z k = absurd (omega arith)
 open_one t n (l ∷ ls) h z k =
-    let none = no_layer t l ls z in
+    let none = no_first t l ls z in
     elim (cases_eq l (order Empty)) [
       | inl e ↦ subst (λ (x : ℕ). IsOpen (empty_place (x ∷ ls) n) t (x ∷ ls)) (sym e)
           (five n (subst (λ (m : ℕ). n < m) (five_more l ls e) k) (λ j low. open_one t j ls h none.1 low))
@@ -83,7 +77,7 @@ open_two : (t a b : ℕ) (ls : List ℕ) → (order Empty ≡ t → ⊥) → cou
     → IsOpen (empty_place ls a) t (set ls (empty_place ls b) t)
 open_two t a b [] h z k low = absurd (omega arith)
 open_two t a b (l ∷ ls) h z k low =
-    let none = no_layer t l ls z in
+    let none = no_first t l ls z in
     elim (cases_eq l (order Empty)) [
       | inl e ↦ subst (λ (x : ℕ). IsOpen (empty_place (x ∷ ls) a) t (set (x ∷ ls) (empty_place (x ∷ ls) b) t)) (sym e)
           (five a b k (subst (λ (m : ℕ). b < m) (five_more l ls e) low) (λ i j less under. open_two t i j ls h none.1 less under))

@@ -46,8 +46,5 @@ ranked_at family r below on =
     }
 
 -- a position of that rank is the only one
-pub record IsOnly (family : Family) (s : Setup) (number : ℕ) : Type 0 where
-  pub only : (p : Setup) → IsPositionOf family p → rank_of family p ≡ number → p ≡ s
-
-pub only_ranked : (family : Family) (s : Setup) (number : ℕ) → IsRanked family s number → IsOnly family s number
-only_ranked family s number at = record { only = λ p is same. rank_of-same family p s is at.position (same ∙ sym at.rank_is) }
+pub only_ranked : (family : Family) (s : Setup) (number : ℕ) → IsRanked family s number → (p : Setup) → IsPositionOf family p → rank_of family p ≡ number → p ≡ s
+only_ranked family s number at p is same = rank_of-same family p s is at.position (same ∙ sym at.rank_is)

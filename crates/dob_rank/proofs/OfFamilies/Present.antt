@@ -1,7 +1,7 @@
 -- The positions of a family, counted among the setups of its set.
-use Rattle.dob_rank.proofs.Common.{◌&&◌, ◌+◌, ◌<◌, ◌∙◌, ◌≡◌, ◌≤◌, Bool, ap, arith, false, refl, suc, sym, true, zero, ℕ, is_allowed, PieceSet, Family, Profile}
-use Rattle.dob_rank.proofs.Common.{A, Setup, HasRank, HasSize, IsPositionOf, classes_of, family_of, is_marked, is_present, rank_of, size_of, is_first}
-use Rattle.dob_rank.proofs.Common.{marks_below, one_if, block_bases, block_size, nth, product, rank_of_set, size_of_set, start_of, Before, IsPositionOfSet}
+use Rattle.dob_rank.proofs.Common.{◌&&◌, ◌+◌, ◌<◌, ◌∙◌, ◌≡◌, ◌≤◌, Bool, ap, arith, refl, suc, sym, true, zero, ℕ, is_allowed, PieceSet, Family, Profile, A}
+use Rattle.dob_rank.proofs.Common.{Setup, HasRank, HasSize, IsPositionOf, classes_of, family_of, is_marked, is_present, rank_of, size_of, is_first, marks_below}
+use Rattle.dob_rank.proofs.Common.{one_if, block_bases, block_size, nth, product, rank_of_set, size_of_set, start_of, Before, IsPositionOfSet, and_parts, subst}
 use Rattle.dob_rank.specs.Families.{IsRepresentative, HasClasses, HasClass}
 use Rattle.dob_rank.proofs.Positions.Numbering.{nth-rank_of_set, rank_of_set-below, rank_of_set-rises, Before-from_rank}
 use Rattle.dob_rank.proofs.Positions.Blocks.{sum_below_more}
@@ -40,13 +40,8 @@ HasRank-rank_of family s p =
     (HasCount-marked (IsPositionOfSet family.set) (size_of_set family.set) (nth family.set) (rank_of_set family.set) (is_present family) (numbering family.set)
     (rank_of_set family.set s) (omega arith))
 
-and_left : (a b : Bool) → a && b ≡ true → a ≡ true
-and_left true b e = refl
-and_left false b e = e
-
-and_right : (a b : Bool) → a && b ≡ true → b ≡ true
-and_right true b e = e
-and_right false b e = absurd (let e' : false ≡ true = e in cc)
+pub HasRank-of : (family : Family) (s : Setup) (number : ℕ) → IsPositionOf family s → number ≡ rank_of family s → HasRank family s number
+HasRank-of family s number p is = subst (HasRank family s) (sym is) (HasRank-rank_of family s p)
 
 and_both : (a b : Bool) → a ≡ true → b ≡ true → a && b ≡ true
 and_both a b e f = ap (λ (x : Bool). x && b) e ∙ f
@@ -58,10 +53,9 @@ marked family s h = and_both (is_present family (rank_of_set family.set s)) (is_
 
 pub represents : (family : Family) (s : Setup) → IsPositionOfSet family.set s → is_marked family (rank_of_set family.set s) ≡ true → IsRepresentative family s
 unfolding is_marked
-represents family s p on = (
-  allowed family s p (and_left (is_present family (rank_of_set family.set s)) (is_first family.set (rank_of_set family.set s)) on),
-  marked-first family.set s p (and_right (is_present family (rank_of_set family.set s)) (is_first family.set (rank_of_set family.set s)) on),
-)
+represents family s p on =
+    let both = and_parts (is_present family (rank_of_set family.set s)) (is_first family.set (rank_of_set family.set s)) on in
+    (allowed family s p both.0, marked-first family.set s p both.1)
 
 pub HasClasses-classes_of : (family : Family) → HasClasses family (classes_of family)
 unfolding classes_of

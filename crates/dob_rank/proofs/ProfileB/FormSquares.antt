@@ -4,19 +4,13 @@ use Rattle.dob_rank.proofs.Common.{sym, true, zero, ℕ, pow-succ', pow-zero, ca
 use Rattle.dob_rank.proofs.Common.{settle, first_place, higher_of, lower_of, past, second_place, lion_pairs, are_allowed, forms_stand, lions_in, may_have}
 use Rattle.dob_rank.proofs.Common.{Chicks, Empty, EnemyLion, OwnLion}
 use Rattle.std.proofs.Math.ListN.{set}
-use Rattle.dob_rank.proofs.Boards.Choices.{count_same, count_other}
+use Rattle.dob_rank.proofs.Boards.Choices.{count_same, count_other, no_first}
 use Rattle.dob_rank.proofs.ProfileB.Weights.{allowed_other, allowed_same}
 use Rattle.dob_rank.proofs.Boards.EmptySquares.{empty_place, empty_place-below, kept, settle_none, settle_one, settle_two, choose_one}
 use Rattle.dob_rank.proofs.Boards.Placed.{choice_of, lions_stand}
 use Rattle.dob_rank.proofs.ProfileB.LionBoards.{lion_board, no_chicks}
 
 -- ---- pieces of a layer on written-out squares
-
-no_first : (t l : ℕ) (ls : List ℕ) → count t (l ∷ ls) ≡ 0 → (l ≡ t → ⊥) × (count t ls ≡ 0)
-no_first t l ls h = elim (cases_eq l t) [
-  | inl e ↦ absurd (let one : count t (l ∷ ls) ≡ suc (count t ls) = ap (λ (x : ℕ). count t (x ∷ ls)) e ∙ count_same t ls in omega arith)
-  | inr n ↦ (n, sym (count_other t l ls n) ∙ h)
-]
 
 pub allowed_none : (ok : ℕ → ℕ → Bool) (base t n s : ℕ) (ls : List ℕ) → count t ls ≡ 0 → are_allowed ok base t n s ls ≡ true
 allowed_none ok base t n s [] none = refl

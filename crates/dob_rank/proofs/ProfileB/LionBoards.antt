@@ -2,7 +2,7 @@
 use Rattle.dob_rank.proofs.Common.{◌%◌, ◌*◌, ◌-◌, ◌/◌, ◌<◌, ◌∙◌, ◌∷◌, ◌≡◌, ◌≤◌, List, [], ap, arith, inl, inr, length, refl, subst, suc, sym, zero, ℕ, cases_eq}
 use Rattle.dob_rank.proofs.Common.{cases_lt, le-ltb, lt-ltb, ne_eqb, choose, count, empty_layers, enemy_squares, free_squares, order, settle, with_first}
 use Rattle.dob_rank.proofs.Common.{lion_pairs, chosen, free_weights, lions_in, weight, Chicks, Empty}
-use Rattle.dob_rank.proofs.Boards.Choices.{count_same, count_other}
+use Rattle.dob_rank.proofs.Boards.Choices.{count_same, count_other, no_first}
 use Rattle.dob_rank.proofs.Boards.Settled.{settle_kept, settle_taken, settle_left}
 use Rattle.dob_rank.proofs.ProfileB.Weights.{weight_same, weight_other}
 use Rattle.dob_rank.proofs.Boards.Stages.{IsStage, none_shown, next_stage, first_stage, lions_stage}
@@ -57,8 +57,8 @@ pub weight_chosen : (w : ℕ → ℕ) (t s pieces c : ℕ) (ls : List ℕ) → t
 weight_chosen w t s zero c [] low none = refl
 weight_chosen w t s (suc pieces) c [] low none = refl
 weight_chosen w t s pieces c (l ∷ ls) low none =
-    let other : l ≡ t → ⊥ = not_there t l ls none in
-    let rest_none : count t ls ≡ 0 = sym (count_other t l ls other) ∙ none in
+    let other : l ≡ t → ⊥ = (no_first t l ls none).0 in
+    let rest_none : count t ls ≡ 0 = (no_first t l ls none).1 in
     elim (cases_eq l (order Empty)) [
       | inr full ↦ ap (weight w t s) (settle_kept t pieces c l ls full) ∙ weight_other w t s l (settle t pieces c ls) other
           ∙ weight_chosen w t (suc s) pieces c ls low rest_none ∙ ap (chosen pieces c) (sym (free_kept w s l ls full))
@@ -66,9 +66,6 @@ weight_chosen w t s pieces c (l ∷ ls) low none =
           (of_empty pieces (λ p d. weight_chosen w t (suc s) p d ls low rest_none))
     ]
   where
-    not_there : (t l : ℕ) (ls : List ℕ) → count t (l ∷ ls) ≡ 0 → (l ≡ t → ⊥)
-    not_there t l ls h e = (let one : count t (l ∷ ls) ≡ suc (count t ls) = ap (λ (x : ℕ). count t (x ∷ ls)) e ∙ count_same t ls in omega arith)
-
     free : order Empty ≡ t → ⊥
     free q = (let same : order Empty ≡ t = q in omega arith)
 

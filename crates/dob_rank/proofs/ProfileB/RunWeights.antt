@@ -1,10 +1,11 @@
 -- How many of a run's places are of the family, before each of them.
 use Rattle.dob_rank.proofs.Common.{◌%◌, ◌&&◌, ◌*◌, ◌+◌, ◌-◌, ◌/◌, ◌<◌, ◌^◌, ◌∙◌, ◌∷◌, ◌≡◌, ◌≤◌, Bool, List, [], ap, arith, cond, eqb, inl, inr, refl, subst}
-use Rattle.dob_rank.proofs.Common.{suc, sym, true, ℕ, mul_comm, cases_eq, cases_lt, ne_eqb, sum_alike, sum_blocks, sum_same, sum_times, marks_below, one_if}
-use Rattle.dob_rank.proofs.Common.{count, order, settle, sum_below, with_first, are_allowed, Empty}
+use Rattle.dob_rank.proofs.Common.{suc, sym, true, ℕ, mul_comm, cases_eq, cases_lt, sum_alike, sum_blocks, sum_same, sum_times, marks_below, one_if, count}
+use Rattle.dob_rank.proofs.Common.{order, settle, sum_below, with_first, are_allowed, Empty}
 use Rattle.dob_rank.proofs.Arithmetic.MixedRadix.{digit_below}
 use Rattle.dob_rank.proofs.Boards.Choices.{count_other}
 use Rattle.dob_rank.proofs.Boards.Settled.{settle_kept, settle_taken, settle_left}
+use Rattle.dob_rank.proofs.ProfileB.Weights.{allowed_other}
 
 -- ---- marks that a part of the place gives
 
@@ -52,9 +53,6 @@ allowed_kept : (ok : ℕ → ℕ → Bool) (base t n s l : ℕ) (ls rs : List �
 allowed_kept ok base t n s l ls rs e f =
     ap (λ (x : ℕ). cond (eqb l t) (ok s (n / base ^ x % base)) true && are_allowed ok base t n (suc s) rs) e
     ∙ ap (λ (x : Bool). cond (eqb l t) (ok s (n / base ^ count t ls % base)) true && x) f
-
-allowed_other : (ok : ℕ → ℕ → Bool) (base t n s l : ℕ) (ls : List ℕ) → (l ≡ t → ⊥) → are_allowed ok base t n s (l ∷ ls) ≡ are_allowed ok base t n (suc s) ls
-allowed_other ok base t n s l ls h = rw (ne_eqb l t h) refl
 
 -- what a later layer's pieces leave of an earlier one
 pub record LeavesLayer (ok : ℕ → ℕ → Bool) (base t n s : ℕ) (ls rs : List ℕ) : Type 0 where

@@ -15,9 +15,6 @@ weight_same w t s ls = rw (eq-eqb t t refl) refl
 pub weight_other : (w : ℕ → ℕ) (t s l : ℕ) (ls : List ℕ) → (l ≡ t → ⊥) → weight w t s (l ∷ ls) ≡ weight w t (suc s) ls
 weight_other w t s l ls h = rw (ne_eqb l t h) (omega arith)
 
-not_first : (t l : ℕ) (ls : List ℕ) → count t (l ∷ ls) ≡ 0 → (l ≡ t → ⊥)
-not_first t l ls h e = (let one : count t (l ∷ ls) ≡ suc (count t ls) = ap (λ (x : ℕ). count t (x ∷ ls)) e ∙ count_same t ls in omega arith)
-
 -- the sum of the weights of all choices, from square s on
 abbrev pub summed : (ℕ → ℕ) → ℕ → ℕ → ℕ → List ℕ → ℕ
 summed w t s pieces ls = sum_below (λ c. weight w t s (settle t pieces c ls)) (choose (count (order Empty) ls) pieces)
