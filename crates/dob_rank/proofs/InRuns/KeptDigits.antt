@@ -4,7 +4,8 @@ use Rattle.dob_rank.proofs.Common.{HasDigits, bases_by, digits_of, enemy_squares
 use Rattle.dob_rank.proofs.Common.{run_digits, square_bases}
 use Rattle.dob_rank.specs.declared.runs.RunDigits.{RunDigits}
 use Rattle.dob_rank.proofs.Arithmetic.MixedRadix.{product-append, HasDigits-digits_of, digits_of-append, digits_of-parts, digits_of-two}
-use Rattle.dob_rank.proofs.InRuns.DigitParts.{AreBasesFound, hand_bases, digits_same}
+use Rattle.dob_rank.proofs.InRuns.DigitParts.{AreBasesFound, digits_same}
+use Rattle.dob_rank.proofs.Positions.Blocks.{hand_bases}
 
 -- what the code finds of a run: the hands' number and digits, which are small, and the digits of all
 pub record AreRunParts (set : PieceSet) (ob : List ℕ) (run : ℕ) (hands : List ℕ) : Type 0 where

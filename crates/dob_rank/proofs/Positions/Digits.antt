@@ -4,12 +4,15 @@ use Rattle.dob_rank.proofs.Common.{zero, ℕ, mod-eq_of_lt, pow-succ', pow-zero,
 use Rattle.dob_rank.proofs.Common.{total, Hand, HandKind, Enemy, Mover, PieceSet, Setup, HasDigits, base_of, bases_by, block_bases, board_of, choice, choose}
 use Rattle.dob_rank.proofs.Common.{count, count_from, digits, empty_layers, enemy_squares, forms_number, free_squares, layer, layers_by, numbers_by, on_board}
 use Rattle.dob_rank.proofs.Common.{order, own_squares, settle, setup_by, IsPositionOfSet, pieces_of, Chicks, Elephants, Empty, EnemyLion, Giraffes, OwnLion}
+use Rattle.dob_rank.proofs.Common.{form_bases}
+use Rattle.dob_rank.specs.Numbers.{hands_by}
 use Rattle.dob_pieces.specs.declared.kind.HandKind.TheVariants as hand
 use Rattle.dob_rank.proofs.Boards.Choices.{choice-below}
 use Rattle.dob_rank.proofs.Boards.Settled.{hidden, hide, hidden_lower, hidden_later, settle-choice, AreLayers}
 use Rattle.dob_rank.proofs.Boards.FormDigits.{AreLayers-map, forms_number-below, board_of-back}
 use Rattle.dob_rank.proofs.Boards.LayerCounts.{count_from-next, count_from-zero, lion_at, holds_mover_lion, holds_enemy_lion, holds_kind-layer, count-layer}
 use Rattle.dob_rank.proofs.Boards.LayerCounts.{mover_lion, layer-at}
+use Rattle.dob_rank.proofs.Positions.Blocks.{hand_bases}
 
 -- what a position of the set says of its layers and hands
 pub record HasParts (set : PieceSet) (s : Setup) : Type 0 where
@@ -59,67 +62,41 @@ pub record HasRoom (s : Setup) : Type 0 where
 
 HasRoom-from_parts : (set : PieceSet) (s : Setup) → HasParts set s → HasRoom s
 HasRoom-from_parts set s h =
+    let ls : List ℕ = map layer s.board in
     let len : length (map layer s.board) ≡ 12 = h.squares in
     let a : count (order OwnLion) (map layer s.board) ≡ 1 = h.own_lion in
     let b : count (order EnemyLion) (map layer s.board) ≡ 1 = h.other_lion in
-    let c0 : count_from (order OwnLion) (map layer s.board) ≡ length (map layer s.board) = count_from-zero (map layer s.board) in
-    let c1 : count_from (order EnemyLion) (map layer s.board) + count (order OwnLion) (map layer s.board) ≡ count_from (order OwnLion) (map layer s.board)
-    = count_from-next (order OwnLion) (map layer s.board) in
-    let c2 : count_from (order Chicks) (map layer s.board) + count (order EnemyLion) (map layer s.board) ≡ count_from (order EnemyLion) (map layer s.board)
-    = count_from-next (order EnemyLion) (map layer s.board) in
-    let c3 : count_from (order Elephants) (map layer s.board) + count (order Chicks) (map layer s.board) ≡ count_from (order Chicks) (map layer s.board)
-    = count_from-next (order Chicks) (map layer s.board) in
-    let c4 : count_from (order Giraffes) (map layer s.board) + count (order Elephants) (map layer s.board) ≡ count_from (order Elephants) (map layer s.board)
-    = count_from-next (order Elephants) (map layer s.board) in
+    let c0 = count_from-zero (map layer s.board) in
+    let c1 = count_from-next (order OwnLion) (map layer s.board) in
+    let c2 = count_from-next (order EnemyLion) (map layer s.board) in
+    let c3 = count_from-next (order Chicks) (map layer s.board) in
+    let c4 = count_from-next (order Elephants) (map layer s.board) in
     record { one = omega arith; two = omega arith; three = omega arith; four = omega arith }
 
 pub HasDigits-on_board : (set : PieceSet) (s : Setup) → HasParts set s → HasDigits (block_bases set) (on_board s)
-HasDigits-on_board set s h =
-    let a : count (order Chicks) (map layer s.board) + s.hands.mover.chicks + s.hands.enemy.chicks ≡ set.chicks = h.chicks in
-    let b : count (order Elephants) (map layer s.board) + s.hands.mover.elephants + s.hands.enemy.elephants ≡ set.elephants = h.elephants in
-    let c : count (order Giraffes) (map layer s.board) + s.hands.mover.giraffes + s.hands.enemy.giraffes ≡ set.giraffes = h.giraffes in
-    ((omega arith), ((omega arith), ((omega arith), tt)))
+HasDigits-on_board set s h = (omega (arith, h.chicks), (omega (arith, h.elephants), (omega (arith, h.giraffes), tt)))
+
+HasDigits-hands : (set : PieceSet) (s : Setup) → HasParts set s
+    → HasDigits (hand_bases set (on_board s)) (s.hands.mover.chicks ∷ s.hands.mover.elephants ∷ s.hands.mover.giraffes ∷ [])
+HasDigits-hands set s h = (omega (arith, h.chicks), (omega (arith, h.elephants), (omega (arith, h.giraffes), tt)))
+
+choice_below : (t m : ℕ) (ls : List ℕ) → count_from t ls ≡ m → choice t ls < choose m (count t ls)
+choice_below t m ls e = subst (λ (x : ℕ). choice t ls < choose x (count t ls)) e (choice-below t ls)
 
 pub HasDigits-digits : (set : PieceSet) (s : Setup) → HasParts set s → HasDigits (bases_by set (on_board s)) (digits s)
 HasDigits-digits set s h =
+    let ls : List ℕ = map layer s.board in
     let r : HasRoom s = HasRoom-from_parts set s h in
-    let a : count (order Chicks) (map layer s.board) + s.hands.mover.chicks + s.hands.enemy.chicks ≡ set.chicks = h.chicks in
-    let b : count (order Elephants) (map layer s.board) + s.hands.mover.elephants + s.hands.enemy.elephants ≡ set.elephants = h.elephants in
-    let c : count (order Giraffes) (map layer s.board) + s.hands.mover.giraffes + s.hands.enemy.giraffes ≡ set.giraffes = h.giraffes in
-    let n1 : choice (order EnemyLion) (map layer s.board) < choose enemy_squares 1
+    let enemy : choice (order EnemyLion) (map layer s.board) < choose enemy_squares 1
     = subst (λ (x : ℕ). choice (order EnemyLion) (map layer s.board) < choose enemy_squares x) h.other_lion
-    (subst (λ (x : ℕ). choice (order EnemyLion) (map layer s.board) < choose x (count (order EnemyLion) (map layer s.board))) r.one
-    (choice-below (order EnemyLion) (map layer s.board))) in (
-      (omega arith),
-      (
-        (omega arith),
-        (
-          (omega arith),
-          (
-            h.home,
-            (
-              (omega arith),
-              (
-                subst (λ (x : ℕ). choice (order Chicks) (map layer s.board) < choose x (count (order Chicks) (map layer s.board))) r.two
-                    (choice-below (order Chicks) (map layer s.board)),
-                (
-                  subst (λ (x : ℕ). choice (order Elephants) (map layer s.board) < choose x (count (order Elephants) (map layer s.board))) r.three
-                      (choice-below (order Elephants) (map layer s.board)),
-                  (
-                    subst (λ (x : ℕ). choice (order Giraffes) (map layer s.board) < choose x (count (order Giraffes) (map layer s.board))) r.four
-                        (choice-below (order Giraffes) (map layer s.board)),
-                    (
-                      forms_number-below (order Chicks) s.board,
-                      (forms_number-below (order Elephants) s.board, (forms_number-below (order Giraffes) s.board, tt)),
-                    ),
-                  ),
-                ),
-              ),
-            ),
-          ),
-        ),
-      ),
-    )
+    (choice_below (order EnemyLion) enemy_squares (map layer s.board) r.one) in
+    let chicks = choice_below (order Chicks) free_squares ls r.two in
+    let elephants = choice_below (order Elephants) (free_squares - count (order Chicks) (map layer s.board)) (map layer s.board) r.three in
+    let giraffes = choice_below (order Giraffes) _ (map layer s.board) r.four in
+    let forms : HasDigits (form_bases (on_board s)) (forms_number (order Chicks) s.board ∷ forms_number (order Elephants) s.board ∷ forms_number (order Giraffes) s.board ∷ [])
+    = (forms_number-below (order Chicks) s.board, (forms_number-below (order Elephants) s.board, (forms_number-below (order Giraffes) s.board, tt))) in
+    let hands = HasDigits-hands set s h in
+    (hands.0, (hands.1.0, (hands.1.1.0, (h.home, (enemy, (chicks, (elephants, (giraffes, forms))))))))
 
 -- ---- back
 
@@ -196,19 +173,9 @@ make_hand-same a b c d e f p q r = ap (λ (x : ℕ). make_hand x b c) p ∙ ap (
 -- a position is the setup of its numbers on the board and its digits
 pub setup_by-back : (set : PieceSet) (s : Setup) → HasParts set s → setup_by set (on_board s) (digits s) ≡ s
 setup_by-back set s h =
-    let a : count (order Chicks) (map layer s.board) + s.hands.mover.chicks + s.hands.enemy.chicks ≡ set.chicks = h.chicks in
-    let b : count (order Elephants) (map layer s.board) + s.hands.mover.elephants + s.hands.enemy.elephants ≡ set.elephants = h.elephants in
-    let c : count (order Giraffes) (map layer s.board) + s.hands.mover.giraffes + s.hands.enemy.giraffes ≡ set.giraffes = h.giraffes in
     let board : board_of (numbers_by (digits s)) (layers_by (on_board s) (digits s)) ≡ s.board
     = ap (board_of (numbers_by (digits s))) (layers_by-back set s h) ∙ board_of-back (numbers_by (digits s)) s.board (numbers-back s) in
-    let enemy : make_hand (set.chicks - count (order Chicks) (map layer s.board) - s.hands.mover.chicks)
-    (set.elephants - count (order Elephants) (map layer s.board) - s.hands.mover.elephants)
-    (set.giraffes - count (order Giraffes) (map layer s.board) - s.hands.mover.giraffes) ≡ s.hands.enemy
-    = make_hand-same (set.chicks - count (order Chicks) (map layer s.board) - s.hands.mover.chicks)
-    (set.elephants - count (order Elephants) (map layer s.board) - s.hands.mover.elephants)
-    (set.giraffes - count (order Giraffes) (map layer s.board) - s.hands.mover.giraffes) s.hands.enemy.chicks s.hands.enemy.elephants s.hands.enemy.giraffes
-    (omega arith) (omega arith) (omega arith) in
-    ap (λ (x : List Cell). make_setup x s.hands.mover (make_hand (set.chicks - count (order Chicks) (map layer s.board) - s.hands.mover.chicks)
-    (set.elephants - count (order Elephants) (map layer s.board) - s.hands.mover.elephants)
-    (set.giraffes - count (order Giraffes) (map layer s.board) - s.hands.mover.giraffes))) board
+    let enemy : (hands_by set (on_board s) (digits s)).enemy ≡ s.hands.enemy
+    = make_hand-same _ _ _ _ _ _ (omega (arith, h.chicks)) (omega (arith, h.elephants)) (omega (arith, h.giraffes)) in
+    ap (λ (x : List Cell). make_setup x s.hands.mover (hands_by set (on_board s) (digits s)).enemy) board
     ∙ ap (λ (x : Hand). make_setup s.board s.hands.mover x) enemy

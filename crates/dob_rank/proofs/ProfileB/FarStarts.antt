@@ -3,7 +3,7 @@ use Rattle.dob_rank.proofs.Common.{◌*◌, ◌+◌, ◌-◌, ◌<◌, ◌∙◌
 use Rattle.dob_rank.proofs.Common.{sum_same, family_of, is_present, marks_below, block_bases, digits_of, product, start_of, lion_pairs, others_forms}
 use Rattle.dob_rank.proofs.Common.{others_squares}
 use Rattle.dob_rank.proofs.Positions.Blocks.{few_in_block}
-use Rattle.dob_rank.proofs.InRuns.DigitParts.{AreFewOnBoard-digits}
+use Rattle.dob_rank.proofs.Positions.Blocks.{AreFewOnBoard-digits}
 use Rattle.dob_rank.proofs.Positions.BlockStarts.{bases_of, on_all, agrees, start_at, entry_is, start_is}
 use Rattle.dob_rank.proofs.ProfileB.FarTables.{lions_entry, before_lions}
 use Rattle.dob_rank.proofs.OfFamilies.Present.{all_present}

@@ -1,7 +1,7 @@
 -- The runs of a block have the size that the numbers on its board say.
 use Rattle.std.proofs.Common.{◌<◌, ◌≤◌, ℕ, sym, subst, ◌^◌}
 use Rattle.dob_rank.proofs.Positions.Blocks.{HasDigits-numbers}
-use Rattle.dob_rank.proofs.InRuns.DigitParts.{AreFewOnBoard-digits}
+use Rattle.dob_rank.proofs.Positions.Blocks.{AreFewOnBoard-digits}
 use Rattle.dob_rank.proofs.InRuns.RunPlaces.{run_size-found, run_size-some, run_size-small}
 use Rattle.dob_rank.proofs.block.run_size_in.Goals as goal
 

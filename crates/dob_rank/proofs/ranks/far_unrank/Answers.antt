@@ -1,6 +1,6 @@
 -- The spot of the number is one of the block, and the position there has the rank.
 use Rattle.dob_rank.proofs.Positions.Blocks.{HasDigits-numbers}
-use Rattle.dob_rank.proofs.InRuns.DigitParts.{AreFewOnBoard-digits}
+use Rattle.dob_rank.proofs.Positions.Blocks.{AreFewOnBoard-digits}
 use Rattle.dob_rank.proofs.Positions.Found.{run_in_bases, local_in_bases}
 use Rattle.dob_rank.proofs.ProfileB.FarUnranks.{number_small, spot_within, far_ranked}
 use Rattle.dob_rank.proofs.ranks.far_unrank.Goals as goal
