@@ -73,22 +73,16 @@ layer_squares_other t from l ls h = rw (ne_eqb l t h) refl
 pub none_from_later : (t s from : ℕ) (ls ys : List ℕ) → s < from → Precedes (layer_squares t from ls) (s ∷ ys) → count t ls ≡ 0
 none_from_later t s from [] ys h p = refl
 none_from_later t s from (l ∷ ls) ys h p = elim (cases_eq l t) [
-  | inl e ↦ (let first : Precedes (from ∷ layer_squares t (suc from) ls) (s ∷ ys)
-      = subst (λ (xs : List ℕ). Precedes xs (s ∷ ys)) (ap (λ (x : ℕ). layer_squares t from (x ∷ ls)) e ∙ layer_squares_same t from ls) p in
-      elim first [ inl lt ↦ absurd (omega arith) | inr q ↦ (let same : from ≡ s = q.0 in absurd (omega arith)) ])
-  | inr n ↦ (let first : Precedes (layer_squares t (suc from) ls) (s ∷ ys)
-      = subst (λ (xs : List ℕ). Precedes xs (s ∷ ys)) (layer_squares_other t from l ls n) p in
-      count_other t l ls n ∙ none_from_later t s (suc from) ls ys (omega arith) first)
+  | inl e ↦ elim (rw (eq-eqb l t e) at p) [ inl lt ↦ absurd (omega arith) | inr q ↦ (let same : from ≡ s = q.0 in absurd (omega arith)) ]
+  | inr n ↦ count_other t l ls n ∙ none_from_later t s (suc from) ls ys (omega arith) (rw (ne_eqb l t n) at p)
 ]
 
 -- squares that begin later aren't equal
 pub unlike_from_later : (t s from : ℕ) (ls ys : List ℕ) → s < from → layer_squares t from ls ≡ s ∷ ys → ⊥
 unlike_from_later t s from [] ys h e = cc
 unlike_from_later t s from (l ∷ ls) ys h e = elim (cases_eq l t) [
-  | inl i ↦ (let first : from ∷ layer_squares t (suc from) ls ≡ s ∷ ys
-      = sym (ap (λ (x : ℕ). layer_squares t from (x ∷ ls)) i ∙ layer_squares_same t from ls) ∙ e in
-      let same : from ≡ s = cc in absurd (omega arith))
-  | inr n ↦ unlike_from_later t s (suc from) ls ys (omega arith) (sym (layer_squares_other t from l ls n) ∙ e)
+  | inl i ↦ (let first : from ∷ layer_squares t (suc from) ls ≡ s ∷ ys = rw (eq-eqb l t i) at e in let same : from ≡ s = cc in absurd (omega arith))
+  | inr n ↦ unlike_from_later t s (suc from) ls ys (omega arith) (rw (ne_eqb l t n) at e)
 ]
 
 -- ---- the order
@@ -120,47 +114,28 @@ both_same : (t from x y : ℕ) (xs ys : List ℕ) → x ≡ t → y ≡ t → co
     → (count t xs ≡ count t ys → Precedes (layer_squares t (suc from) xs) (layer_squares t (suc from) ys) → choice t xs < choice t ys)
     → choice t (x ∷ xs) < choice t (y ∷ ys)
 both_same t from x y xs ys ex ey e p step =
-    let cx : count t (x ∷ xs) ≡ suc (count t xs) = ap (λ (z : ℕ). count t (z ∷ xs)) ex ∙ count_same t xs in
-    let cy : count t (y ∷ ys) ≡ suc (count t ys) = ap (λ (z : ℕ). count t (z ∷ ys)) ey ∙ count_same t ys in
-    let sx : layer_squares t from (x ∷ xs) ≡ from ∷ layer_squares t (suc from) xs
-    = ap (λ (z : ℕ). layer_squares t from (z ∷ xs)) ex ∙ layer_squares_same t from xs in
-    let sy : layer_squares t from (y ∷ ys) ≡ from ∷ layer_squares t (suc from) ys
-    = ap (λ (z : ℕ). layer_squares t from (z ∷ ys)) ey ∙ layer_squares_same t from ys in
-    let order : Precedes (from ∷ layer_squares t (suc from) xs) (from ∷ layer_squares t (suc from) ys)
-    = subst (λ (zs : List ℕ). Precedes zs (from ∷ layer_squares t (suc from) ys)) sx
-    (subst (λ (zs : List ℕ). Precedes (layer_squares t from (x ∷ xs)) zs) sy p) in
-    let rest : choice t xs < choice t ys
-    = step (omega arith) (elim order [ inl lt ↦ absurd (omega arith) | inr q ↦ q.1 ]) in
-    let dx : choice t (x ∷ xs) ≡ choice t xs = choice_not_later t x xs (omega arith) in
-    let dy : choice t (y ∷ ys) ≡ choice t ys = choice_not_later t y ys (omega arith) in
-    omega arith
+    let order = rw (eq-eqb x t ex, eq-eqb y t ey) at p in
+    let cx = count_at t x xs ex in
+    let cy = count_at t y ys ey in
+    rw (choice_not_later t x xs (omega arith), choice_not_later t y ys (omega arith))
+    (step (omega arith) (elim order [ inl lt ↦ absurd (omega arith) | inr q ↦ q.1 ]))
 
 -- the first begins with a square of the layer, the second doesn't
 first_earlier : (t x y : ℕ) (xs ys : List ℕ) → x ≡ t → t < y → count t (x ∷ xs) ≡ count t (y ∷ ys) → count_from t xs ≡ count_from t ys
     → choice t (x ∷ xs) < choice t (y ∷ ys)
 first_earlier t x y xs ys ex gt e m =
     let ny : y ≡ t → ⊥ = omega arith in
-    let cx : count t (x ∷ xs) ≡ suc (count t xs) = ap (λ (z : ℕ). count t (z ∷ xs)) ex ∙ count_same t xs in
-    let cy : count t ys ≡ suc (count t xs) = sym (count_other t y ys ny) ∙ sym e ∙ cx in
-    let first : with_first (count_from t ys) (count t ys) ≡ choose (count_from t xs) (count t xs)
-    = ap (with_first (count_from t ys)) cy ∙ ap (λ (z : ℕ). choose z (count t xs)) (sym m) in
-    let dx : choice t (x ∷ xs) ≡ choice t xs = choice_not_later t x xs (omega arith) in
-    let dy : choice t (y ∷ ys) ≡ with_first (count_from t ys) (count t ys) + choice t ys = choice_later t y ys gt in
+    let more : count t ys ≡ suc (count t xs) = sym (count_other t y ys ny) ∙ sym e ∙ count_at t x xs ex in
     let low : choice t xs < choose (count_from t xs) (count t xs) = choice-below t xs in
-    omega arith
+    rw (choice_not_later t x xs (omega arith), choice_later t y ys gt, more, ← m) (omega arith)
 
 -- the second begins with a square of the layer, the first doesn't: then the first isn't earlier
 first_later : (t from x y : ℕ) (xs ys : List ℕ) → (x ≡ t → ⊥) → y ≡ t → count t (x ∷ xs) ≡ count t (y ∷ ys)
     → Precedes (layer_squares t from (x ∷ xs)) (layer_squares t from (y ∷ ys)) → ⊥
 first_later t from x y xs ys nx ey e p =
-    let cy : count t (y ∷ ys) ≡ suc (count t ys) = ap (λ (z : ℕ). count t (z ∷ ys)) ey ∙ count_same t ys in
-    let cx : count t (x ∷ xs) ≡ count t xs = count_other t x xs nx in
-    let sy : layer_squares t from (y ∷ ys) ≡ from ∷ layer_squares t (suc from) ys
-    = ap (λ (z : ℕ). layer_squares t from (z ∷ ys)) ey ∙ layer_squares_same t from ys in
-    let order : Precedes (layer_squares t (suc from) xs) (from ∷ layer_squares t (suc from) ys)
-    = subst (λ (zs : List ℕ). Precedes zs (from ∷ layer_squares t (suc from) ys)) (layer_squares_other t from x xs nx)
-    (subst (λ (zs : List ℕ). Precedes (layer_squares t from (x ∷ xs)) zs) sy p) in
-    let none : count t xs ≡ 0 = none_from_later t from (suc from) xs (layer_squares t (suc from) ys) (omega arith) order in
+    let cy = count_at t y ys ey in
+    let cx = count_other t x xs nx in
+    let none : count t xs ≡ 0 = none_from_later t from (suc from) xs (layer_squares t (suc from) ys) (omega arith) (rw (ne_eqb x t nx, eq-eqb y t ey) at p) in
     omega arith
 
 -- an earlier list of squares is an earlier choice
@@ -206,26 +181,14 @@ pub Alike-next : (t from : ℕ) (xs ys : List ℕ) → Alike t xs ys → layer_s
 Alike-next t from [] [] h e = tt
 Alike-next t from (x ∷ xs) (y ∷ ys) h e = elim (cases_eq x t) [
   | inl ex ↦ elim (cases_eq y t) [
-    | inl ey ↦ (let sx : layer_squares t from (x ∷ xs) ≡ from ∷ layer_squares t (suc from) xs
-        = ap (λ (z : ℕ). layer_squares t from (z ∷ xs)) ex ∙ layer_squares_same t from xs in
-        let sy : layer_squares t from (y ∷ ys) ≡ from ∷ layer_squares t (suc from) ys
-        = ap (λ (z : ℕ). layer_squares t from (z ∷ ys)) ey ∙ layer_squares_same t from ys in
-        let whole : from ∷ layer_squares t (suc from) xs ≡ from ∷ layer_squares t (suc from) ys = sym sx ∙ e ∙ sy in
+    | inl ey ↦ (let whole : from ∷ layer_squares t (suc from) xs ≡ from ∷ layer_squares t (suc from) ys = rw (eq-eqb x t ex, eq-eqb y t ey) at e in
         let rest : layer_squares t (suc from) xs ≡ layer_squares t (suc from) ys = cc in
         (inl (ex ∙ sym ey, (omega arith)), Alike-next t (suc from) xs ys h.1 rest))
-    | inr ny ↦ absurd (let sx : layer_squares t from (x ∷ xs) ≡ from ∷ layer_squares t (suc from) xs
-        = ap (λ (z : ℕ). layer_squares t from (z ∷ xs)) ex ∙ layer_squares_same t from xs in
-        unlike_from_later t from (suc from) ys (layer_squares t (suc from) xs) (omega arith)
-        (sym (layer_squares_other t from y ys ny) ∙ sym e ∙ sx))
+    | inr ny ↦ absurd (unlike_from_later t from (suc from) ys (layer_squares t (suc from) xs) (omega arith) (sym (rw (eq-eqb x t ex, ne_eqb y t ny) at e)))
   ]
   | inr nx ↦ elim (cases_eq y t) [
-    | inl ey ↦ absurd (let sy : layer_squares t from (y ∷ ys) ≡ from ∷ layer_squares t (suc from) ys
-        = ap (λ (z : ℕ). layer_squares t from (z ∷ ys)) ey ∙ layer_squares_same t from ys in
-        unlike_from_later t from (suc from) xs (layer_squares t (suc from) ys) (omega arith)
-        (sym (layer_squares_other t from x xs nx) ∙ e ∙ sy))
-    | inr ny ↦ (let rest : layer_squares t (suc from) xs ≡ layer_squares t (suc from) ys
-        = sym (layer_squares_other t from x xs nx) ∙ e ∙ layer_squares_other t from y ys ny in
-        (further t x y h.0 nx ny, Alike-next t (suc from) xs ys h.1 rest))
+    | inl ey ↦ absurd (unlike_from_later t from (suc from) xs (layer_squares t (suc from) ys) (omega arith) (rw (ne_eqb x t nx, eq-eqb y t ey) at e))
+    | inr ny ↦ (further t x y h.0 nx ny, Alike-next t (suc from) xs ys h.1 (rw (ne_eqb x t nx, ne_eqb y t ny) at e))
   ]
 ]
 Alike-next t from xs ys h e = absurd h

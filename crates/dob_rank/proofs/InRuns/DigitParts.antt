@@ -66,10 +66,7 @@ pub form_digits_are : (ob : List ℕ) (n rest giraffes chicks elephants : ℕ) �
     chicks ≡ rest / 2 ^ slice_index ob 1 → elephants ≡ rest % 2 ^ slice_index ob 1 →
     chicks ∷ elephants ∷ giraffes ∷ [] ≡ digits_of (form_bases ob) n
 form_digits_are ob n rest giraffes chicks elephants h r g c e =
-    ap (λ (x : ℕ). x ∷ elephants ∷ giraffes ∷ []) (c ∙ ap (λ (x : ℕ). x / 2 ^ slice_index ob 1) r)
-    ∙ ap (λ (x : ℕ). n / 2 ^ slice_index ob 2 / 2 ^ slice_index ob 1 ∷ x ∷ giraffes ∷ []) (e ∙ ap (λ (x : ℕ). x % 2 ^ slice_index ob 1) r)
-    ∙ ap (λ (x : ℕ). n / 2 ^ slice_index ob 2 / 2 ^ slice_index ob 1 ∷ n / 2 ^ slice_index ob 2 % 2 ^ slice_index ob 1 ∷ x ∷ []) g
-    ∙ sym (digits_of-three (4 ^ slice_index ob 0) (2 ^ slice_index ob 1) (2 ^ slice_index ob 2) n h)
+    rw (c, e, g, r) (sym (digits_of-three (4 ^ slice_index ob 0) (2 ^ slice_index ob 1) (2 ^ slice_index ob 2) n h))
 
 -- ---- the parts as the code finds them
 
@@ -190,10 +187,7 @@ local_found set ob ds bs squares found are e =
     e ∙ ap (λ (xs : List ℕ). number_of xs (get_or ds 5 0 ∷ get_or ds 6 0 ∷ get_or ds 7 0 ∷ [])) found.squares_are in
     subst (IsLocalFound ob ds) (sym same) (record {
       squares_low = number_of-below (square_bases ob) (get_or ds 5 0 ∷ get_or ds 6 0 ∷ get_or ds 7 0 ∷ []) are.squares_have;
-      local_is = λ bits forms b f.
-          ap (λ (n : ℕ). number_of (square_bases ob) (get_or ds 5 0 ∷ get_or ds 6 0 ∷ get_or ds 7 0 ∷ []) * n + forms) b
-          ∙ ap (λ (n : ℕ). number_of (square_bases ob) (get_or ds 5 0 ∷ get_or ds 6 0 ∷ get_or ds 7 0 ∷ []) * product (form_bases ob) + n) f
-          ∙ are.local_is;
+      local_is = λ bits forms b f. rw (b, f) are.local_is;
     })
 
 -- forms joined by shifts

@@ -1,7 +1,7 @@
 -- The parts of a place of profile B as the code finds them, and that they are small.
 use Rattle.dob_rank.proofs.Common.{◌*◌, ◌+◌, ◌-◌, ◌<◌, ◌^◌, ◌∙◌, ◌∷◌, ◌≡◌, ◌≤◌, List, [], ap, arith, get_or, slice_index, subst, sym, ℕ, mul-le-mul, B, choose}
 use Rattle.dob_rank.proofs.Common.{free_squares, number_of, product, AreFewOnBoard, square_bases, choice_weight, forms_before, hand_size, lions_before}
-use Rattle.dob_rank.proofs.Common.{local_in, others_by, others_forms, others_squares, place_behind, place_in, squares_by, drop, form_bases}
+use Rattle.dob_rank.proofs.Common.{local_in, others_by, others_forms, others_squares, place_behind, place_in, squares_by, drop, form_bases, refl}
 use Rattle.dob_rank.proofs.Positions.Blocks.{product-at_most, most_choices, squares_at_most, forms_at_most}
 
 two_digits : (b c x y : ℕ) → x * c + y ≡ number_of (b ∷ c ∷ []) (x ∷ y ∷ [])
@@ -80,7 +80,7 @@ place_in_run ob ds lions chosen forms is = ap (λ (n : ℕ). place_behind B ob d
 
 pub sum_of_three : (h a b c x y z : ℕ) → a ≡ x → b ≡ y → c ≡ z → h * a + b + c ≡ h * x + y + z
 sum_of_three h a b c x y z e f g =
-    ap (λ (n : ℕ). h * n + b + c) e ∙ ap (λ (n : ℕ). h * x + n + c) f ∙ ap (λ (n : ℕ). h * x + y + n) g
+    rw (e, f, g) refl
 
 pub one_step : (now next before more : ℕ) → now ≡ before → next ≡ before + more → next - now ≡ more
 one_step now next before more a b = omega arith
