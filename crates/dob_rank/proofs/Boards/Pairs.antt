@@ -40,9 +40,10 @@ computed = refl
 not_less : (a b : ℕ) → a < b → not (nat_lt a b) ≡ false
 not_less a b h = ap not (lt-ltb a b h)
 
-pub pair_is : (squares number : ℕ) → squares ≤ free_squares → number < choose squares 2 → number < most_choices
+pub pair_is : (squares number : ℕ) → squares ≤ free_squares → number < choose squares 2
     → IsPair squares number (first_at squares number) (second_at squares number)
-pair_is squares number few below small =
+pair_is squares number few below =
+    let small : number < most_choices = (let most = choose-small squares 2 few (omega arith) in omega arith) in
     let row = all_below-at (λ s. all_below (agrees s) most_choices) 11 squares computed (omega arith) in
     let here = all_below-at (agrees squares) most_choices number row small in
     let all = second _ _ here (not_less number (choose squares 2) below) in
@@ -63,9 +64,6 @@ pair_is squares number few below small =
       lower_is = same_number (squares - 1 - first_at squares number) (lower_of squares number) e.0;
       higher_is = same_number (squares - 1 - second_at squares number) (higher_of squares number) e.1;
     }
-
-pub few_pairs : (squares number : ℕ) → squares ≤ free_squares → number < choose squares 2 → number < most_choices
-few_pairs squares number few below = (let most = choose-small squares 2 few (omega arith) in omega arith)
 
 pub few_ones : (squares pieces number : ℕ) → squares ≤ free_squares → pieces ≡ 1 → number < choose squares pieces → number ≤ 12
 few_ones squares pieces number few one below =
