@@ -176,8 +176,7 @@ hand_fault side word c e g other is_c is_e is_g more hand is =
 
 pub one_byte : (xs : List ℕ) (byte : ℕ) → length xs ≡ 1 → get_or xs 0 0 ≡ byte → xs ≡ byte ∷ []
 one_byte (x ∷ []) byte size is = ap (λ n. n ∷ []) is
-one_byte [] byte size is = absurd (omega arith)
-one_byte (x ∷ y ∷ xs) byte size is = absurd (omega arith)
+one_byte xs byte size is = absurd (omega arith)
 
 -- a front that ends where the letter does
 pub front_stops : (letter : ℕ) (xs : List ℕ) (n : ℕ) → n ≤ length xs → ((k : ℕ) → k < n → get_or xs k 0 ≡ letter)
