@@ -64,17 +64,10 @@ forms_number-below t [] = omega (arith, pow-zero (base_of t))
 forms_number-below t (cell ∷ cells) =
     let rest : forms_number t cells < base_of t ^ count t (map layer cells) = forms_number-below t cells in
     elim (cases_eq (layer cell) t) [
-      | inl e ↦ (let more : base_of t ^ count t (layer cell ∷ map layer cells) ≡ base_of t * base_of t ^ count t (map layer cells)
-          = ap (λ (x : ℕ). base_of t ^ x) (count_at t (layer cell) (map layer cells) e) ∙ pow-succ' (base_of t) (count t (map layer cells)) in
-          let f : form cell < base_of t = subst (λ (x : ℕ). form cell < base_of x) e (form-below cell) in
-          let low : form cell * base_of t ^ count t (map layer cells) + forms_number t cells < base_of t * base_of t ^ count t (map layer cells)
-          = digit_below (form cell) (base_of t) (base_of t ^ count t (map layer cells)) (forms_number t cells) f rest in
-          let number : forms_number t (cell ∷ cells) ≡ form cell * base_of t ^ count t (map layer cells) + forms_number t cells
-          = forms_number_same t cell cells e in
-          subst (λ (x : ℕ). forms_number t (cell ∷ cells) < x) (sym more)
-          (subst (λ (x : ℕ). x < base_of t * base_of t ^ count t (map layer cells)) (sym number) low))
-      | inr n ↦ subst (λ (x : ℕ). x < base_of t ^ count t (layer cell ∷ map layer cells)) (sym (forms_number_other t cell cells n))
-          (subst (λ (x : ℕ). forms_number t cells < base_of t ^ x) (sym (count_other t (layer cell) (map layer cells) n)) rest)
+      | inl e ↦ rw (forms_number_same t cell cells e, count_at t (layer cell) (map layer cells) e, pow-succ' (base_of t) (count t (map layer cells)))
+          (digit_below (form cell) (base_of t) (base_of t ^ count t (map layer cells)) (forms_number t cells)
+          (subst (λ (x : ℕ). form cell < base_of x) e (form-below cell)) rest)
+      | inr n ↦ rw (forms_number_other t cell cells n, count_other t (layer cell) (map layer cells) n) rest
     ]
 
 -- ---- back and forth
@@ -88,15 +81,11 @@ pub board_of-back : (numbers : ℕ → ℕ) (cells : List Cell)
     → ((t : ℕ) → numbers t % base_of t ^ count t (map layer cells) ≡ forms_number t cells) → board_of numbers (map layer cells) ≡ cells
 board_of-back numbers [] h = refl
 board_of-back numbers (cell ∷ cells) h =
-    let l : ℕ = layer cell in
-    let w : ℕ = base_of (layer cell) ^ count (layer cell) (map layer cells) in
-    let more : base_of (layer cell) ^ count (layer cell) (layer cell ∷ map layer cells)
-    ≡ base_of (layer cell) * base_of (layer cell) ^ count (layer cell) (map layer cells)
-    = ap (λ (x : ℕ). base_of (layer cell) ^ x) (count_same (layer cell) (map layer cells))
-    ∙ pow-succ' (base_of (layer cell)) (count (layer cell) (map layer cells)) in
-    let here : numbers (layer cell) % (base_of (layer cell) * base_of (layer cell) ^ count (layer cell) (map layer cells))
-    ≡ form cell * base_of (layer cell) ^ count (layer cell) (map layer cells) + forms_number (layer cell) cells
-    = ap (λ (x : ℕ). numbers (layer cell) % x) (sym more) ∙ h (layer cell) ∙ forms_number_same (layer cell) cell cells refl in
+    let here = rw (
+      count_same (layer cell) (map layer cells),
+      pow-succ' (base_of (layer cell)) (count (layer cell) (map layer cells)),
+      forms_number_same (layer cell) cell cells refl,
+    ) at (h (layer cell)) in
     let two = digits_apart (numbers (layer cell)) (base_of (layer cell)) (base_of (layer cell) ^ count (layer cell) (map layer cells))
     (form cell) (forms_number (layer cell) cells)
     (base_of-positive (layer cell)) (power_positive (base_of (layer cell)) (count (layer cell) (map layer cells)) (base_of-positive (layer cell))) here
@@ -124,15 +113,16 @@ at_layer : (numbers : ℕ → ℕ) (t l : ℕ) (ls : List ℕ) → t < order Emp
 at_layer numbers t l ls h e layers rest head =
     let f : form (cell_of t (numbers t / base_of t ^ count t ls % base_of t)) ≡ numbers t / base_of t ^ count t ls % base_of t
     = form-cell_of t (numbers t / base_of t ^ count t ls % base_of t) h (mod_below (numbers t / base_of t ^ count t ls) (base_of t) (base_of-positive t)) in
-    subst (λ (x : ℕ). forms_number t (board_of numbers (x ∷ ls)) ≡ numbers t % base_of t ^ count t (x ∷ ls)) (sym e)
-    (forms_number_same t (cell_of t (numbers t / base_of t ^ count t ls % base_of t)) (board_of numbers ls)
-    (subst (λ (x : ℕ). layer (cell_of x (numbers x / base_of x ^ count x ls % base_of x)) ≡ x) e head)
-    ∙ ap (λ (x : ℕ). x * base_of t ^ count t (map layer (board_of numbers ls)) + forms_number t (board_of numbers ls)) f
-    ∙ ap (λ (xs : List ℕ). numbers t / base_of t ^ count t ls % base_of t * base_of t ^ count t xs + forms_number t (board_of numbers ls)) layers
-    ∙ ap (λ (x : ℕ). numbers t / base_of t ^ count t ls % base_of t * base_of t ^ count t ls + x) rest
-    ∙ sym (mod-mul (numbers t) (base_of-positive t) (power_positive (base_of t) (count t ls) (base_of-positive t)))
-    ∙ ap (λ (x : ℕ). numbers t % x) (sym (pow-succ' (base_of t) (count t ls)))
-    ∙ ap (λ (x : ℕ). numbers t % base_of t ^ x) (sym (count_same t ls)))
+    rw (
+      e,
+      forms_number_same t (cell_of t (numbers t / base_of t ^ count t ls % base_of t)) (board_of numbers ls) (rw e at head),
+      f,
+      layers,
+      rest,
+      count_same t ls,
+      pow-succ' (base_of t) (count t ls),
+      mod-mul (numbers t) (base_of-positive t) (power_positive (base_of t) (count t ls) (base_of-positive t)),
+    ) refl
 
 -- the forms number of the board made is the number that it was made from
 pub forms_number-board_of : (numbers : ℕ → ℕ) (t : ℕ) (ls : List ℕ) → t < order Empty → AreLayers ls

@@ -8,15 +8,15 @@ use Rattle.std.proofs.lemmas.Nat.{ones_cat, and_block}
 use lib.Bits.{and_self}
 use lib.Count.{ones, count_trailing_zeros, under}
 use Rattle.dob_rank.proofs.Boards.FormDigits.{forms_number-below, forms_number_other}
-use Rattle.dob_rank.proofs.Boards.Choices.{count_same, count_other, count_from_lower, count_from_later, choice_later, choice_not_later, count_rest}
+use Rattle.dob_rank.proofs.Boards.Choices.{count_other, count_from_lower, count_from_later, choice_later, choice_not_later, count_rest, count_at}
 use Rattle.dob_rank.proofs.Boards.LayerCounts.{count_from-next, choice_none}
 use Rattle.dob_rank.proofs.Boards.EmptySquares.{choose_one, one_way}
 use Rattle.dob_rank.proofs.Positions.BlockStarts.{same_number, second}
 
 -- ---- one more square in front
 
-mask_same : (t : ℕ) (ls : List ℕ) → layer_mask t (t ∷ ls) ≡ layer_mask t ls * 2 + 1
-mask_same t ls = rw (eq-eqb t t refl) (omega arith)
+mask_at : (t l : ℕ) (ls : List ℕ) → l ≡ t → layer_mask t (l ∷ ls) ≡ layer_mask t ls * 2 + 1
+mask_at t l ls e = rw (eq-eqb l t e) (omega arith)
 
 mask_other : (t l : ℕ) (ls : List ℕ) → (l ≡ t → ⊥) → layer_mask t (l ∷ ls) ≡ layer_mask t ls * 2 + 0
 mask_other t l ls h = rw (ne_eqb l t h) (omega arith)
@@ -46,8 +46,7 @@ ones_odd n = ones_cat 1 n 1 (let h : 1 < 2 = omega arith in h) ∙ ap (λ (x : �
 pub ones-layer_mask : (t : ℕ) (ls : List ℕ) → ones (layer_mask t ls) ≡ count t ls
 ones-layer_mask t [] = ones-zero
 ones-layer_mask t (l ∷ ls) = elim (cases_eq l t) [
-  | inl e ↦ subst (λ (x : ℕ). ones (layer_mask t (x ∷ ls)) ≡ count t (x ∷ ls)) (sym e)
-      (ap ones (mask_same t ls) ∙ ones_odd (layer_mask t ls) ∙ ap suc (ones-layer_mask t ls) ∙ sym (count_same t ls))
+  | inl e ↦ rw (mask_at t l ls e, count_at t l ls e) (ones_odd (layer_mask t ls) ∙ ap suc (ones-layer_mask t ls))
   | inr n ↦ ap ones (mask_other t l ls n) ∙ ones_even (layer_mask t ls) ∙ ones-layer_mask t ls ∙ sym (count_other t l ls n)
 ]
 
@@ -62,7 +61,7 @@ ones-from_mask t (l ∷ ls) = elim (cases_lt l t) [
 mask_some : (t : ℕ) (ls : List ℕ) → 0 < count t ls → 0 < layer_mask t ls
 mask_some t [] h = absurd (omega arith)
 mask_some t (l ∷ ls) h = elim (cases_eq l t) [
-  | inl e ↦ subst (λ (x : ℕ). 0 < layer_mask t (x ∷ ls)) (sym e) (omega (arith, mask_same t ls))
+  | inl e ↦ omega (arith, mask_at t l ls e)
   | inr n ↦ (let rest = mask_some t ls (subst (λ (x : ℕ). 0 < x) (count_other t l ls n) h) in omega (arith, mask_other t l ls n, rest))
 ]
 
@@ -73,9 +72,8 @@ apart t (l ∷ ls) =
     let rest = apart t ls in
     let none : bit_and (layer_mask t ls) (from_mask (suc t) ls) * 2 + 0 ≡ 0 = omega (arith, rest) in
     elim (cases_order l t) [
-      | inl e ↦ subst (λ (x : ℕ). bit_and (layer_mask t (x ∷ ls)) (from_mask (suc t) (x ∷ ls)) ≡ 0) (sym e)
-          (rw (mask_same t ls, from_lower (suc t) t ls (omega arith))
-          (and_block 1 (layer_mask t ls) (from_mask (suc t) ls) 1 0 (omega arith) (omega arith) ∙ none))
+      | inl e ↦ rw (mask_at t l ls e, from_lower (suc t) l ls (omega arith))
+          (and_block 1 (layer_mask t ls) (from_mask (suc t) ls) 1 0 (omega arith) (omega arith) ∙ none)
       | inr o ↦ elim o [
         | inl lt ↦ (let other : l ≡ t → ⊥ = omega arith in
             rw (mask_other t l ls other, from_lower (suc t) l ls (omega arith))
@@ -97,17 +95,11 @@ abbrev pub before_second : ℕ → List ℕ → ℕ
 before_second t [] = 0
 before_second t (l ∷ ls) = cond (nat_eq l t) (before_first t ls) (cond (nat_lt t l) 1 0 + before_second t ls)
 
-first_same : (t : ℕ) (ls : List ℕ) → before_first t (t ∷ ls) ≡ 0
-first_same t ls = rw (eq-eqb t t refl) refl
-
 first_lower : (t l : ℕ) (ls : List ℕ) → l < t → before_first t (l ∷ ls) ≡ before_first t ls
 first_lower t l ls h = rw (ne_eqb l t (λ (e : l ≡ t). absurd (omega arith)), le-ltb t l (let le : l ≤ t = omega arith in le)) (omega arith)
 
 first_later : (t l : ℕ) (ls : List ℕ) → t < l → before_first t (l ∷ ls) ≡ suc (before_first t ls)
 first_later t l ls h = rw (ne_eqb l t (λ (e : l ≡ t). absurd (omega arith)), lt-ltb t l h) (omega arith)
-
-second_same : (t : ℕ) (ls : List ℕ) → before_second t (t ∷ ls) ≡ before_first t ls
-second_same t ls = rw (eq-eqb t t refl) refl
 
 second_lower : (t l : ℕ) (ls : List ℕ) → l < t → before_second t (l ∷ ls) ≡ before_second t ls
 second_lower t l ls h = rw (ne_eqb l t (λ (e : l ≡ t). absurd (omega arith)), le-ltb t l (let le : l ≤ t = omega arith in le)) (omega arith)
@@ -137,12 +129,11 @@ ones_below_one n f h =
 pub first_bits : (t : ℕ) (ls : List ℕ) → 0 < count t ls → ones (bit_and (layer_mask t ls - 1) (from_mask (suc t) ls)) ≡ before_first t ls
 first_bits t [] h = absurd (omega arith)
 first_bits t (l ∷ ls) h = elim (cases_order l t) [
-  | inl e ↦ subst (λ (x : ℕ). ones (bit_and (layer_mask t (x ∷ ls) - 1) (from_mask (suc t) (x ∷ ls))) ≡ before_first t (x ∷ ls)) (sym e)
-      (rw (mask_same t ls, from_lower (suc t) t ls (omega arith), first_same t ls)
+  | inl e ↦ rw (mask_at t l ls e, from_lower (suc t) l ls (omega arith), eq-eqb l t e)
       (ap (λ x. ones (bit_and x (from_mask (suc t) ls * 2 + 0))) (odd_less (layer_mask t ls))
       ∙ ap ones (and_bits (layer_mask t ls) (from_mask (suc t) ls) 0 0 (omega arith) (omega arith))
       ∙ ones_even (bit_and (layer_mask t ls) (from_mask (suc t) ls))
-      ∙ ap ones (apart t ls) ∙ ones-zero))
+      ∙ ap ones (apart t ls) ∙ ones-zero)
   | inr o ↦ elim o [
     | inl lt ↦ (let other : l ≡ t → ⊥ = omega arith in
         let some : 0 < count t ls = subst (λ (x : ℕ). 0 < x) (count_other t l ls other) h in
@@ -165,10 +156,9 @@ rest_other n h = ap (bit_and (n * 2 + 0)) (even_less n h) ∙ and_bits n (n - 1)
 rest_some : (t : ℕ) (ls : List ℕ) → 1 < count t ls → 0 < bit_and (layer_mask t ls) (layer_mask t ls - 1)
 rest_some t [] h = absurd (omega arith)
 rest_some t (l ∷ ls) h = elim (cases_eq l t) [
-  | inl e ↦ subst (λ (x : ℕ). 0 < bit_and (layer_mask t (x ∷ ls)) (layer_mask t (x ∷ ls) - 1)) (sym e)
-      (let more : 1 < suc (count t ls) = subst (λ (x : ℕ). 1 < x) (ap (λ (x : ℕ). count t (x ∷ ls)) e ∙ count_same t ls) h in
+  | inl e ↦ (let more = count_at t l ls e in
       let some : 0 < layer_mask t ls = mask_some t ls (omega arith) in
-      rw (mask_same t ls) (subst (λ (x : ℕ). 0 < x) (sym (rest_same (layer_mask t ls))) (omega arith)))
+      rw (mask_at t l ls e, rest_same (layer_mask t ls)) (omega arith))
   | inr n ↦ (let more : 1 < count t ls = subst (λ (x : ℕ). 1 < x) (count_other t l ls n) h in
       let some : 0 < layer_mask t ls = mask_some t ls (omega arith) in
       let rest : 0 < bit_and (layer_mask t ls) (layer_mask t ls - 1) = rest_some t ls more in
@@ -179,13 +169,10 @@ pub second_bits : (t : ℕ) (ls : List ℕ) → count t ls ≡ 2 →
     ones (bit_and (bit_and (layer_mask t ls) (layer_mask t ls - 1) - 1) (from_mask (suc t) ls)) ≡ before_second t ls
 second_bits t [] h = absurd (omega arith)
 second_bits t (l ∷ ls) h = elim (cases_order l t) [
-  | inl e ↦ subst (λ (x : ℕ). ones (bit_and (bit_and (layer_mask t (x ∷ ls)) (layer_mask t (x ∷ ls) - 1) - 1) (from_mask (suc t) (x ∷ ls)))
-      ≡ before_second t (x ∷ ls)) (sym e)
-      (let one : suc (count t ls) ≡ 2 = sym (ap (λ (x : ℕ). count t (x ∷ ls)) e ∙ count_same t ls) ∙ h in
+  | inl e ↦ (let one = count_rest t l 1 ls e h in
       let some : 0 < count t ls = omega arith in
-      rw (mask_same t ls, from_lower (suc t) t ls (omega arith), second_same t ls)
-      (ap (λ x. ones (bit_and (x - 1) (from_mask (suc t) ls * 2 + 0))) (rest_same (layer_mask t ls))
-      ∙ ones_below (layer_mask t ls) (from_mask (suc t) ls) (mask_some t ls some) ∙ first_bits t ls some))
+      rw (mask_at t l ls e, from_lower (suc t) l ls (omega arith), eq-eqb l t e, rest_same (layer_mask t ls))
+      (ones_below (layer_mask t ls) (from_mask (suc t) ls) (mask_some t ls some) ∙ first_bits t ls some))
   | inr o ↦ elim o [
     | inl lt ↦ (let other : l ≡ t → ⊥ = omega arith in
         let two : count t ls ≡ 2 = sym (count_other t l ls other) ∙ h in
@@ -222,7 +209,7 @@ choice_one t (l ∷ ls) h = elim (cases_order l t) [
 first_upto : (t : ℕ) (ls : List ℕ) → before_first t ls ≤ count_from (suc t) ls
 first_upto t [] = omega arith
 first_upto t (l ∷ ls) = (let rest = first_upto t ls in elim (cases_order l t) [
-  | inl e ↦ subst (λ (x : ℕ). before_first t (x ∷ ls) ≤ count_from (suc t) (x ∷ ls)) (sym e) (omega (arith, first_same t ls))
+  | inl e ↦ rw (eq-eqb l t e) (omega arith)
   | inr o ↦ elim o [
     | inl lt ↦ omega (arith, first_lower t l ls lt, count_from_lower (suc t) l ls (omega arith), rest)
     | inr gt ↦ omega (arith, first_later t l ls gt, count_from_later (suc t) l ls gt, rest)
@@ -302,7 +289,7 @@ two_choice t ls mask later below first rest second_number free factor few m f b 
 mask-small : (t : ℕ) (ls : List ℕ) → layer_mask t ls < 2 ^ length ls
 mask-small t [] = omega (arith, pow-zero 2)
 mask-small t (l ∷ ls) = (let rest = mask-small t ls in elim (cases_eq l t) [
-  | inl e ↦ subst (λ (x : ℕ). layer_mask t (x ∷ ls) < 2 ^ suc (length ls)) (sym e) (omega (arith, mask_same t ls, rest, pow-suc 2 (length ls)))
+  | inl e ↦ omega (arith, mask_at t l ls e, rest, pow-suc 2 (length ls))
   | inr n ↦ omega (arith, mask_other t l ls n, rest, pow-suc 2 (length ls))
 ])
 
@@ -380,8 +367,7 @@ planes_all cells square number h z is =
 from-next : (t : ℕ) (ls : List ℕ) → from_mask (suc t) ls + layer_mask t ls ≡ from_mask t ls
 from-next t [] = refl
 from-next t (l ∷ ls) = (let rest = from-next t ls in elim (cases_order l t) [
-  | inl e ↦ subst (λ (x : ℕ). from_mask (suc t) (x ∷ ls) + layer_mask t (x ∷ ls) ≡ from_mask t (x ∷ ls)) (sym e)
-      (omega (arith, mask_same t ls, from_lower (suc t) t ls (omega arith), from_later t t ls (omega arith), rest))
+  | inl e ↦ omega (arith, mask_at t l ls e, from_lower (suc t) l ls (omega arith), from_later t l ls (omega arith), rest)
   | inr o ↦ elim o [
     | inl lt ↦ omega (arith, mask_other t l ls (λ (e : l ≡ t). absurd (omega arith)), from_lower (suc t) l ls (omega arith), from_lower t l ls lt, rest)
     | inr gt ↦ omega (arith, mask_other t l ls (λ (e : l ≡ t). absurd (omega arith)), from_later (suc t) l ls gt, from_later t l ls (omega arith), rest)
@@ -440,8 +426,7 @@ pub first_zeros : (t k : ℕ) (ls : List ℕ) → length ls ≤ k → 0 < count 
 first_zeros t k [] h some = absurd (omega arith)
 first_zeros t zero (l ∷ ls) h some = absurd (omega arith)
 first_zeros t (suc k) (l ∷ ls) h some = elim (cases_eq l t) [
-  | inl e ↦ subst (λ (x : ℕ). count_trailing_zeros (suc k) (layer_mask t (x ∷ ls)) ≡ first_square t (x ∷ ls)) (sym e)
-      (rw (mask_same t ls, eq-eqb t t refl) (zeros_odd k (layer_mask t ls)))
+  | inl e ↦ rw (mask_at t l ls e, eq-eqb l t e) (zeros_odd k (layer_mask t ls))
   | inr n ↦ rw (mask_other t l ls n, ne_eqb l t n)
       (zeros_even k (layer_mask t ls) ∙ ap suc (first_zeros t k ls (omega arith) (subst (λ (x : ℕ). 0 < x) (count_other t l ls n) some)))
 ]
@@ -451,11 +436,9 @@ pub second_zeros : (t k : ℕ) (ls : List ℕ) → length ls ≤ k → count t l
 second_zeros t k [] h two = absurd (omega arith)
 second_zeros t zero (l ∷ ls) h two = absurd (omega arith)
 second_zeros t (suc k) (l ∷ ls) h two = elim (cases_eq l t) [
-  | inl e ↦ (let more : suc (count t ls) ≡ 2 = sym (ap (λ (x : ℕ). count t (x ∷ ls)) e ∙ count_same t ls) ∙ two in
-      subst (λ (x : ℕ). count_trailing_zeros (suc k) (bit_and (layer_mask t (x ∷ ls)) (layer_mask t (x ∷ ls) - 1)) ≡ second_square t (x ∷ ls)) (sym e)
-      (rw (mask_same t ls, eq-eqb t t refl)
-      (ap (count_trailing_zeros (suc k)) (rest_same (layer_mask t ls)) ∙ zeros_even k (layer_mask t ls)
-      ∙ ap suc (first_zeros t k ls (omega arith) (omega arith)))))
+  | inl e ↦ (let one = count_rest t l 1 ls e two in
+      rw (mask_at t l ls e, eq-eqb l t e, rest_same (layer_mask t ls))
+      (zeros_even k (layer_mask t ls) ∙ ap suc (first_zeros t k ls (omega arith) (omega arith))))
   | inr n ↦ (let fewer : count t ls ≡ 2 = sym (count_other t l ls n) ∙ two in
       let some : 0 < layer_mask t ls = mask_some t ls (omega arith) in
       rw (mask_other t l ls n, ne_eqb l t n)

@@ -1,13 +1,13 @@
 -- How many allowed numbers of forms stand before that of a board's pieces.
 use Rattle.dob_rank.proofs.Common.{◌&&◌, ◌*◌, ◌+◌, ◌-◌, ◌<◌, ◌^◌, ◌∙◌, ◌∷◌, ◌≡◌, Bool, List, None, [], ap, arith, bit_and, get_or, inl, inr, length, map, refl}
-use Rattle.dob_rank.proofs.Common.{subst, suc, sym, true, ℕ, mul_comm, and_parts, cases_eq, eq-eqb, ne_eqb, Cell, sum_blocks, sum_same, sum_times, marks_below}
-use Rattle.dob_rank.proofs.Common.{one_if, layer_mask, base_of, count, forms_number, layer, sum_below, form, allowed_number, are_allowed, weight}
+use Rattle.dob_rank.proofs.Common.{subst, suc, sym, true, ℕ, and_parts, cases_eq, eq-eqb, ne_eqb, Cell, sum_blocks, sum_same, marks_below, one_if, layer_mask}
+use Rattle.dob_rank.proofs.Common.{base_of, count, forms_number, layer, sum_below, form, allowed_number, are_allowed, weight}
 use Rattle.dob_rank.proofs.Marked.Words.{marks_below_none}
 use Rattle.dob_rank.proofs.InRuns.RunMarks.{marks_agree}
 use Rattle.dob_rank.proofs.Boards.Choices.{count_other, count_rest, no_first}
 use Rattle.dob_rank.proofs.Boards.FormDigits.{form-below, forms_number-below, forms_number_same, forms_number_other}
 use Rattle.dob_rank.proofs.Boards.Planes.{lowest, first_square, second_square, first_found, second_found}
-use Rattle.dob_rank.proofs.ProfileB.Weights.{one_more, one_if-and, allowed_other, forms_weigh, weight_other}
+use Rattle.dob_rank.proofs.ProfileB.Weights.{one_more, allowed_other, forms_weigh, weight_other, lower_forms}
 
 -- ---- the allowed numbers before one
 
@@ -19,15 +19,7 @@ unfolding marks_below
 forms_before_one ok base t q r s ls h lq lr on =
     sum_blocks (λ (n : ℕ). one_if (are_allowed ok base t n s (t ∷ ls))) (base ^ count t ls) q r
     ∙ ap (λ (x : ℕ). x + sum_below (λ k. one_if (are_allowed ok base t (q * base ^ count t ls + k) s (t ∷ ls))) r)
-    (sum_same (λ p. sum_below (λ k. one_if (are_allowed ok base t (p * base ^ count t ls + k) s (t ∷ ls))) (base ^ count t ls))
-    (λ p. sum_below (λ (k : ℕ). one_if (are_allowed ok base t k (suc s) ls)) (base ^ count t ls) * one_if (ok s p)) q
-    (λ p lp. sum_same (λ k. one_if (are_allowed ok base t (p * base ^ count t ls + k) s (t ∷ ls)))
-    (λ k. one_if (ok s p) * one_if (are_allowed ok base t k (suc s) ls)) (base ^ count t ls)
-    (λ k lk. ap one_if (one_more ok base t p k s ls h (omega (arith, lp, lq)) lk) ∙ one_if-and (ok s p) (are_allowed ok base t k (suc s) ls))
-    ∙ sum_times (one_if (ok s p)) (λ k. one_if (are_allowed ok base t k (suc s) ls)) (base ^ count t ls)
-    ∙ mul_comm (one_if (ok s p)) (sum_below (λ (k : ℕ). one_if (are_allowed ok base t k (suc s) ls)) (base ^ count t ls)))
-    ∙ sum_times (sum_below (λ (k : ℕ). one_if (are_allowed ok base t k (suc s) ls)) (base ^ count t ls)) (λ p. one_if (ok s p)) q
-    ∙ mul_comm (sum_below (λ (k : ℕ). one_if (are_allowed ok base t k (suc s) ls)) (base ^ count t ls)) (sum_below (λ p. one_if (ok s p)) q)
+    (lower_forms ok base t q s ls h (omega (arith, lq))
     ∙ ap (λ (x : ℕ). sum_below (λ p. one_if (ok s p)) q * x) (forms_weigh ok base t (suc s) ls h))
     ∙ ap (λ (x : ℕ). sum_below (λ p. one_if (ok s p)) q * weight (λ square. sum_below (λ (k : ℕ). one_if (ok square k)) base) t (suc s) ls + x)
     (sum_same (λ k. one_if (are_allowed ok base t (q * base ^ count t ls + k) s (t ∷ ls))) (λ k. one_if (are_allowed ok base t k (suc s) ls)) r
