@@ -164,21 +164,14 @@ number_by_three bs ds e f h = absurd (omega arith)
 whole : (n : ℕ) → n / 1 ≡ n
 whole n = omega arith
 
-pub digits_of-two : (b c n : ℕ) → n < b * (c * 1) → digits_of (b ∷ c ∷ []) n ≡ n / c ∷ n % c ∷ []
-digits_of-two b c n h =
-    digits_of-append (b ∷ []) (c ∷ []) n h
-    ∙ ap (λ (m : ℕ). n / m / 1 ∷ n % m / 1 ∷ []) (once c)
-    ∙ ap (λ (x : ℕ). x ∷ n % c / 1 ∷ []) (whole (n / c))
-    ∙ ap (λ (x : ℕ). n / c ∷ x ∷ []) (whole (n % c))
+pub digits_of-two : (b c n : ℕ) → digits_of (b ∷ c ∷ []) n ≡ n / c ∷ n % c ∷ []
+digits_of-two b c n = rw (once c, whole (n % c)) refl
 
 -- the digits of three bases, the last first
 pub digits_of-three : (a b c n : ℕ) → n < a * (b * (c * 1)) → digits_of (a ∷ b ∷ c ∷ []) n ≡ n / c / b ∷ n / c % b ∷ n % c ∷ []
 digits_of-three a b c n h =
-    let below : n < a * (b * 1) * (c * 1) = subst (λ (m : ℕ). n < m) (product-append (a ∷ b ∷ []) (c ∷ [])) h in
-    let some : 0 < c * 1 = factor_positive n (a * (b * 1)) (c * 1) below in
-    let high : n / (c * 1) < a * (b * 1) = div_below n (c * 1) (a * (b * 1)) some below in
     digits_of-append (a ∷ b ∷ []) (c ∷ []) n h
-    ∙ ap (λ (xs : List ℕ). xs ++ digits_of (c ∷ []) (n % (c * 1))) (digits_of-two a b (n / (c * 1)) high)
+    ∙ ap (λ (xs : List ℕ). xs ++ digits_of (c ∷ []) (n % (c * 1))) (digits_of-two a b (n / (c * 1)))
     ∙ ap (λ (m : ℕ). n / m / b ∷ n / m % b ∷ n % m / 1 ∷ []) (once c)
     ∙ ap (λ (x : ℕ). n / c / b ∷ n / c % b ∷ x ∷ []) (whole (n % c))
 

@@ -4,7 +4,7 @@ use Rattle.dob_rank.proofs.Common.{set, slice_index, slice_index_or, subst, suc,
 use Rattle.dob_rank.proofs.Common.{base_of, board_of, cell_of, choose, count, empty_layers, enemy_squares, free_squares, layers_by, numbers_by, order}
 use Rattle.dob_rank.proofs.Common.{own_squares, settle, AreChoices, AreFree, first_place, higher_of, lower_of, past, put, second_place, Chicks, Elephants}
 use Rattle.dob_rank.proofs.Common.{Empty, EnemyLion, Giraffes, OwnLion}
-use Rattle.dob_rank.proofs.Boards.Choices.{count_same, count_other, choose-split, no_first}
+use Rattle.dob_rank.proofs.Boards.Choices.{count_same, count_other, choose-split, no_first, count_at}
 use Rattle.dob_rank.proofs.Boards.EmptySquares.{empty_place, kept, empty_place-below, empty_place-set, past-low, past-upto, settle_none, settle_one, settle_two}
 use Rattle.dob_rank.proofs.Boards.EmptySquares.{choose_one}
 use Rattle.dob_rank.proofs.Boards.Stages.{IsStage, none_shown, next_stage, first_stage}
@@ -54,18 +54,13 @@ board_of-set numbers t (suc s) (l ∷ ls) h o =
 
 -- ---- the squares that choices take are open
 
-five_more : (l : ℕ) (ls : List ℕ) → l ≡ order Empty → count (order Empty) (l ∷ ls) ≡ suc (count (order Empty) ls)
-five_more l ls e = ap (λ (x : ℕ). count (order Empty) (x ∷ ls)) e ∙ count_same (order Empty) ls
-
 open_one : (t n : ℕ) (ls : List ℕ) → (order Empty ≡ t → ⊥) → count t ls ≡ 0 → n < count (order Empty) ls → IsOpen (empty_place ls n) t ls
 open_one t n [] h z k = absurd (omega arith)
 open_one t n (l ∷ ls) h z k =
     let none = no_first t l ls z in
     elim (cases_eq l (order Empty)) [
-      | inl e ↦ subst (λ (x : ℕ). IsOpen (empty_place (x ∷ ls) n) t (x ∷ ls)) (sym e)
-          (five n (subst (λ (m : ℕ). n < m) (five_more l ls e) k) (λ j low. open_one t j ls h none.1 low))
-      | inr ne ↦ subst (λ (s : ℕ). IsOpen s t (l ∷ ls)) (sym (kept l ls n ne))
-          (none.0, open_one t n ls h none.1 (subst (λ (m : ℕ). n < m) (count_other (order Empty) l ls ne) k))
+      | inl e ↦ rw e (five n (rw (count_at (order Empty) l ls e) at k) (λ j low. open_one t j ls h none.1 low))
+      | inr ne ↦ rw (kept l ls n ne) (none.0, open_one t n ls h none.1 (rw (count_other (order Empty) l ls ne) at k))
     ]
   where
     five : (n : ℕ) → n < suc (count (order Empty) ls) → ((j : ℕ) → j < count (order Empty) ls → IsOpen (empty_place ls j) t ls)
@@ -79,11 +74,8 @@ open_two t a b [] h z k low = absurd (omega arith)
 open_two t a b (l ∷ ls) h z k low =
     let none = no_first t l ls z in
     elim (cases_eq l (order Empty)) [
-      | inl e ↦ subst (λ (x : ℕ). IsOpen (empty_place (x ∷ ls) a) t (set (x ∷ ls) (empty_place (x ∷ ls) b) t)) (sym e)
-          (five a b k (subst (λ (m : ℕ). b < m) (five_more l ls e) low) (λ i j less under. open_two t i j ls h none.1 less under))
-      | inr ne ↦ subst (λ (s : ℕ). IsOpen s t (set (l ∷ ls) (empty_place (l ∷ ls) b) t)) (sym (kept l ls a ne))
-          (subst (λ (s : ℕ). IsOpen (suc (empty_place ls a)) t (set (l ∷ ls) s t)) (sym (kept l ls b ne))
-          (none.0, open_two t a b ls h none.1 k (subst (λ (m : ℕ). b < m) (count_other (order Empty) l ls ne) low)))
+      | inl e ↦ rw e (five a b k (rw (count_at (order Empty) l ls e) at low) (λ i j less under. open_two t i j ls h none.1 less under))
+      | inr ne ↦ rw (kept l ls a ne, kept l ls b ne) (none.0, open_two t a b ls h none.1 k (rw (count_other (order Empty) l ls ne) at low))
     ]
   where
     five : (a b : ℕ) → a < b → b < suc (count (order Empty) ls) →

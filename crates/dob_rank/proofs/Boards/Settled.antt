@@ -1,7 +1,7 @@
 -- Layers settled one after another: each choice comes back, and so does each list of layers.
 use Rattle.dob_rank.proofs.Common.{◌+◌, ◌-◌, ◌<◌, ◌∙◌, ◌∷◌, ◌≡◌, ◌≤◌, ◌⊎◌, List, [], ap, arith, cond, inl, inr, ltb, refl, subst, suc, sym, zero, ℕ, cases_lt}
 use Rattle.dob_rank.proofs.Common.{cases_order, le-ltb, lt-ltb, ne_eqb, choice, choose, count, count_from, order, settle, with_first, Empty}
-use Rattle.dob_rank.proofs.Boards.Choices.{count_same, count_other, count_from_lower, count_from_later, choice_later, choice_not_later, choose-split}
+use Rattle.dob_rank.proofs.Boards.Choices.{count_same, count_other, count_from_lower, count_from_later, choice_later, choice_not_later, choose-split, count_at}
 use Rattle.dob_rank.proofs.Boards.Choices.{choice-below}
 
 -- a layer that is shown only if it is below t
@@ -142,12 +142,10 @@ settle-settles t zero number [] h a n = record { number_is = omega arith; count_
 settle-settles t (suc pieces) number [] h a n = absurd (omega arith)
 settle-settles t pieces number (l ∷ ls) h a n = elim a.0 [
   | inl lt ↦ (let five : l ≡ order Empty → ⊥ = omega arith in
-      let n' : number < choose (count (order Empty) ls) pieces = subst (λ (x : ℕ). number < choose x pieces) (count_other (order Empty) l ls five) n in
-      subst (IsSettled t pieces number (l ∷ ls)) (sym (settle_kept t pieces number l ls five))
-      (kept_step t pieces number l ls (settle t pieces number ls) h lt (settle-settles t pieces number ls h a.1 n')))
-  | inr e ↦ subst (λ (x : ℕ). IsSettled t pieces number (x ∷ ls) (settle t pieces number (x ∷ ls))) (sym e)
-      (let n' : number < choose (suc (count (order Empty) ls)) pieces
-      = subst (λ (x : ℕ). number < choose x pieces) (ap (λ (x : ℕ). count (order Empty) (x ∷ ls)) e ∙ count_same (order Empty) ls) n in
+      rw (settle_kept t pieces number l ls five) (kept_step t pieces number l ls (settle t pieces number ls) h lt
+      (settle-settles t pieces number ls h a.1 (subst (λ (x : ℕ). number < choose x pieces) (count_other (order Empty) l ls five) n))))
+  | inr e ↦ rw e
+      (let n' : number < choose (suc (count (order Empty) ls)) pieces = subst (λ (x : ℕ). number < choose x pieces) (count_at (order Empty) l ls e) n in
       elim (cases_lt number (with_first (count (order Empty) ls) pieces)) [
         | inl lt ↦ (let k = with_first-positive (count (order Empty) ls) pieces number lt in
             let lower : number < choose (count (order Empty) ls) k.0 = subst (λ (x : ℕ). number < with_first (count (order Empty) ls) x) k.1 lt in
@@ -160,7 +158,7 @@ settle-settles t pieces number (l ∷ ls) h a n = elim a.0 [
             subst (IsSettled t pieces number (order Empty ∷ ls)) (sym (settle_taken t pieces number ls lt)) i')
         | inr le ↦ (let lower : number - with_first (count (order Empty) ls) pieces < choose (count (order Empty) ls) pieces
             = omega (arith, choose-split (count (order Empty) ls) pieces) in
-            subst (IsSettled t pieces number (order Empty ∷ ls)) (sym (settle_left t pieces number ls le))
+            rw (settle_left t pieces number ls le)
             (left_step t pieces number ls (settle t pieces (number - with_first (count (order Empty) ls) pieces) ls) h le
             (settle-settles t pieces (number - with_first (count (order Empty) ls) pieces) ls h a.1 lower)))
       ])

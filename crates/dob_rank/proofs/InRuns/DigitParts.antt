@@ -38,7 +38,7 @@ parts_are set ob run local forms h l f =
           ∙ ap (λ (xs : List ℕ). xs ++ digits_of (local_bases ob) local)
           (digits_of-append (hand_bases set ob) (own_squares ∷ enemy_squares ∷ []) run h)
           ∙ ap (λ (xs : List ℕ). (digits_of (hand_bases set ob) (run / lion_pairs) ++ xs) ++ digits_of (local_bases ob) local)
-          (digits_of-two own_squares enemy_squares (run % lion_pairs) lions)
+          (digits_of-two own_squares enemy_squares (run % lion_pairs))
           ∙ ap (λ (xs : List ℕ). (digits_of (hand_bases set ob) (run / lion_pairs)
           ++ (run % lion_pairs / enemy_squares ∷ run % lion_pairs % enemy_squares ∷ [])) ++ xs)
           (digits_of-append (square_bases ob) (form_bases ob) local l);
