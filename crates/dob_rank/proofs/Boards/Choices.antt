@@ -63,9 +63,6 @@ choice-below t (l ∷ ls) =
 abbrev pub layer_squares : ℕ → ℕ → List ℕ → List ℕ
 layer_squares t from ls = squares_from from (λ (l : ℕ). eqb l t) ls
 
-pub layer_squares_same : (t from : ℕ) (ls : List ℕ) → layer_squares t from (t ∷ ls) ≡ from ∷ layer_squares t (suc from) ls
-layer_squares_same t from ls = rw (eq-eqb t t refl) refl
-
 pub layer_squares_other : (t from l : ℕ) (ls : List ℕ) → (l ≡ t → ⊥) → layer_squares t from (l ∷ ls) ≡ layer_squares t (suc from) ls
 layer_squares_other t from l ls h = rw (ne_eqb l t h) refl
 

@@ -131,7 +131,6 @@ forms_number-board_of numbers t [] h a = sym (ap (λ (x : ℕ). numbers t % x) (
 forms_number-board_of numbers t (l ∷ ls) h a =
     let rest : forms_number t (board_of numbers ls) ≡ numbers t % base_of t ^ count t ls = forms_number-board_of numbers t ls h a.1 in
     let layers : map layer (board_of numbers ls) ≡ ls = layers-board_of numbers ls a.1 in
-    let f : ℕ = numbers l / base_of l ^ count l ls % base_of l in
     let head : layer (cell_of l (numbers l / base_of l ^ count l ls % base_of l)) ≡ l = layer-cell_of l (numbers l / base_of l ^ count l ls % base_of l) a.0 in
     elim (cases_eq l t) [
       | inl e ↦ at_layer numbers t l ls h e layers rest head

@@ -160,7 +160,6 @@ stage_two numbers t n m ls cells f h low s =
     let below : higher_of m n < m = choice.below in
     let here : higher_of m n < count (order Empty) ls = omega arith in
     let rest = next_stage t 2 n m ls h low s.stage in
-    let once : List ℕ = set ls (empty_place ls (higher_of m n)) t in
     let is : settle t 2 n ls ≡ set (set ls (empty_place ls (higher_of m n)) t) (empty_place ls (lower_of m n)) t =
     subst (λ (x : ℕ). settle t 2 n ls ≡ set (set ls (empty_place ls (higher_of x n)) t) (empty_place ls (lower_of x n)) t) same
     (settle_two t n ls (subst (λ (x : ℕ). n < choose x 2) (sym same) low)) in

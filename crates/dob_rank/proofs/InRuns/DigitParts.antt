@@ -109,11 +109,6 @@ quotient_is local bits forms found e b = e ∙ ap (λ (n : ℕ). local / n) b
 pub rest_is : (local bits forms found : ℕ) → found ≡ local % 2 ^ bits → 2 ^ bits ≡ forms → found ≡ local % forms
 rest_is local bits forms found e b = e ∙ ap (λ (n : ℕ). local % n) b
 
-abbrev eleven : ℕ → List ℕ → List ℕ → List ℕ → List ℕ
-eleven run hands squares kinds =
-    get_or hands 0 0 ∷ get_or hands 1 0 ∷ get_or hands 2 0 ∷ run % lion_pairs / enemy_squares ∷ run % lion_pairs % enemy_squares
-    ∷ get_or squares 0 0 ∷ get_or squares 1 0 ∷ get_or squares 2 0 ∷ get_or kinds 0 0 ∷ get_or kinds 1 0 ∷ get_or kinds 2 0 ∷ []
-
 pub below_same : (n : ℕ) (xs ys : List ℕ) → xs ≡ ys → n < product ys → n < product xs
 below_same n xs ys e h = subst (λ (zs : List ℕ). n < product zs) (sym e) h
 

@@ -33,7 +33,6 @@ pub ranked_at : (family : Family) (r : ℕ) → r < size_of_set family.set → i
     → IsRanked family (nth family.set r) (marks_below (is_present family) r)
 unfolding rank_of
 ranked_at family r below on =
-    let s : Setup = nth family.set r in
     let back : rank_of_set family.set (nth family.set r) ≡ r = rank_of_set-nth family.set r below in
     let p = allowed family (nth family.set r) (nth-block family.set r below).position (ap (is_present family) back ∙ on) in
     let same : marks_below (is_present family) (rank_of_set family.set (nth family.set r)) ≡ marks_below (is_present family) r = ap (marks_below (is_present family)) back in

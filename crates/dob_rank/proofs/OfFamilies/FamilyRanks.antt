@@ -105,7 +105,6 @@ pub own_forms : (family : Family) (s : Setup) (r f : ℕ) → IsPositionOf famil
     → marks_below (is_form family.profile (run_of family.set s) (slice_index (on_board s) 0) r (slice_index (digits s) 5)) (forms_number (order Chicks) s.board * r + f)
     ≡ allowed_number (may_have family.profile) 4 (order Chicks) 0 s.board * r + f
 own_forms family s r f p some low =
-    let cf : ℕ = forms_number (order Chicks) s.board in
     let high : (n : ℕ) → are_allowed (may_have family.profile) 4 (order Chicks) n 0
     (settle (order Chicks) (slice_index (on_board s) 0) (slice_index (digits s) 5) (lions_in (run_of family.set s))) ≡ chicks_form family.profile s n
     = settled_form family.profile family.set s p.of_set in
@@ -197,7 +196,6 @@ pub rank_of-parts : (family : Family) (s : Setup) → IsPositionOf family s
 unfolding rank_of place_in hand_size
 rank_of-parts family s p =
     let set = family.set in
-    let run : ℕ = run_of family.set s in
     let e : ob_of family (block_of family.set s) ≡ on_board s = on_board-block family.set s p.of_set in
     let spot = spot_there family.set s family.set (block_of family.set s) (run_of family.set s) (local_of s) p.of_set refl refl refl refl in
     let whole = run_of-lions family.set s in

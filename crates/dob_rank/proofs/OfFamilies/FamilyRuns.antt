@@ -63,7 +63,6 @@ to_the_end : (family : Family) (block run c n r : ℕ) → IsSpotIn family block
     ≡ marks_below (is_present family) (run_start family.set block run)
     + sum_below (choice_weight family.profile run (slice_index (ob_of family block) 0)) (suc c) * (suc n * r)
 to_the_end family block run c n r spot =
-    let i : ℕ = slice_index (ob_of family block) 0 in
     ap (λ (x : ℕ). marks_below (is_present family) (run_start family.set block run + x)) (sym (last_block n (4 ^ slice_index (ob_of family block) 0 * r) c))
     ∙ present_before family block run c n (4 ^ slice_index (ob_of family block) 0 * r) (suc n) r spot
     ∙ ap (λ (x : ℕ). marks_below (is_present family) (run_start family.set block run) + x)
@@ -202,7 +201,6 @@ pub block_present : (family : Family) (block : ℕ) → block < product (block_b
     → marks_below (is_present family) (start_of family.set block) + present_size family block
     ≡ marks_below (is_present family) (start_of family.set (block + 1))
 block_present family block within =
-    let hands : ℕ = product (hand_bases family.set (ob_of family block)) in
     let whole = runs_by_hand family.set block in
     ap (λ (x : ℕ). marks_below (is_present family) (start_of family.set block) + x * (others_squares (ob_of family block) * others_forms (ob_of family block)))
     (none_more (product (hand_bases family.set (ob_of family block)) * lions_before family.profile (slice_index (ob_of family block) 0) lion_pairs))

@@ -227,9 +227,6 @@ AreBases-by set ob bs h e =
       fits = fits_word (product (bases_by set ob)) low;
     })
 
-fits_small : (n : ℕ) → n ≤ 27 → (n ≤ 2 ^ 36) × (n < 2 ^ 64)
-fits_small n h = ((omega arith), (omega arith))
-
 pub HasDigits-numbers : (set : PieceSet) (block : ℕ) (xs : List ℕ) → block < product (block_bases set)
     → xs ≡ digits_of (block_bases set) block → HasDigits (block_bases set) xs
 HasDigits-numbers set block xs h e = subst (HasDigits (block_bases set)) (sym e) (few_in_block set block h)

@@ -62,7 +62,6 @@ pub record HasRoom (s : Setup) : Type 0 where
 
 HasRoom-from_parts : (set : PieceSet) (s : Setup) → HasParts set s → HasRoom s
 HasRoom-from_parts set s h =
-    let ls : List ℕ = map layer s.board in
     let len : length (map layer s.board) ≡ 12 = h.squares in
     let a : count (order OwnLion) (map layer s.board) ≡ 1 = h.own_lion in
     let b : count (order EnemyLion) (map layer s.board) ≡ 1 = h.other_lion in

@@ -97,10 +97,6 @@ in_run : (set : PieceSet) (block run c q d g f number : ℕ) → block < product
     * (4 ^ slice_index (digits_of (block_bases set) block) 0 * others_forms (digits_of (block_bases set) block))
     + (g * others_forms (digits_of (block_bases set) block) + f))
 in_run set block run c q d g f number within below p =
-    let ob : List ℕ = digits_of (block_bases set) block in
-    let i : ℕ = slice_index (digits_of (block_bases set) block) 0 in
-    let n : ℕ = others_squares (digits_of (block_bases set) block) in
-    let r : ℕ = others_forms (digits_of (block_bases set) block) in
     let some : 0 < others_forms (digits_of (block_bases set) block) = others_forms-some (digits_of (block_bases set) block) in
     let inside : g * others_forms (digits_of (block_bases set) block) + f
     < 4 ^ slice_index (digits_of (block_bases set) block) 0 * others_forms (digits_of (block_bases set) block)

@@ -23,7 +23,6 @@ computed = refl
 
 size_is : (set : PieceSet) (block : ℕ) → block < product (block_bases set) → size_by set.chicks set.elephants set.giraffes block ≡ present_size (family_of set B) block
 size_is set block within =
-    let ob : List ℕ = digits_of (block_bases set) block in
     ap (λ (x : ℕ). product ((set.chicks - slice_index (digits_of (block_bases set) block) 0 + 1) ∷ (set.elephants - slice_index (digits_of (block_bases set) block) 1 + 1)
     ∷ (set.giraffes - slice_index (digits_of (block_bases set) block) 2 + 1) ∷ []) * x
     * (others_squares (digits_of (block_bases set) block) * others_forms (digits_of (block_bases set) block)))

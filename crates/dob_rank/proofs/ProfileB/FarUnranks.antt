@@ -17,11 +17,6 @@ use Rattle.dob_rank.proofs.OfFamilies.FamilyOrder.{ranked_at}
 use Rattle.dob_rank.proofs.OfFamilies.FamilyRuns.{present_before_run, block_present}
 use Rattle.dob_rank.proofs.ProfileB.FarSpots.{in_choice, hand_size_is}
 
--- ---- the block
-
-pub reached : (start rank number : ℕ) → start ≤ rank → number ≡ rank - start → start + number ≡ rank
-reached start rank number h e = omega (arith, h, e)
-
 -- ---- the spot in it
 
 -- the forms of the others, and of the choices those before the run of the lions found

@@ -24,7 +24,6 @@ pub record AreOthersSquares (ob ds choices : List ℕ) : Type 0 where
 
 pub others_squares_are : (ob ds choices : List ℕ) → AreFewOnBoard ob → choices ≡ square_bases ob → AreOthersSquares ob ds choices
 others_squares_are ob ds choices few is =
-    let i : ℕ = slice_index ob 0 in
     record {
       number_is = ap (λ (cs : List ℕ). get_or ds 6 0 * get_or cs 2 0 + get_or ds 7 0) is
           ∙ two_digits (choose (free_squares - slice_index ob 0) (slice_index ob 1)) (choose (free_squares - slice_index ob 0 - slice_index ob 1) (slice_index ob 2))

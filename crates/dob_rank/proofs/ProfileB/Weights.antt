@@ -1,10 +1,8 @@
--- Weighted counts: the sum of the weights of all choices, and how many numbers stand for allowed forms.
-use Rattle.dob_rank.proofs.Common.{◌%◌, ◌&&◌, ◌*◌, ◌+◌, ◌-◌, ◌/◌, ◌<◌, ◌^◌, ◌∙◌, ◌∷◌, ◌≡◌, Bool, List, [], ap, arith, false, inl, inr, refl, subst, suc, sym}
-use Rattle.dob_rank.proofs.Common.{true, ℕ, mod-mul, mod-eq_of_lt, mul_comm, pow-succ', pow-zero, cases_eq, eq-eqb, ne_eqb, div-mul-add, mod-mul-add, mod_below}
-use Rattle.dob_rank.proofs.Common.{same_from_place, sum_blocks, sum_same, sum_times, marks_below, one_if, choose, count, order, settle, sum_below, with_first}
-use Rattle.dob_rank.proofs.Common.{are_allowed, weight, Empty, ◌≤◌}
+-- Weighted counts: the weight of a choice, and how many numbers stand for allowed forms.
+use Rattle.dob_rank.proofs.Common.{◌%◌, ◌&&◌, ◌*◌, ◌+◌, ◌/◌, ◌<◌, ◌^◌, ◌∙◌, ◌∷◌, ◌≡◌, Bool, List, [], ap, arith, false, inl, inr, refl, subst, suc, sym, true}
+use Rattle.dob_rank.proofs.Common.{ℕ, mod-mul, mod-eq_of_lt, mul_comm, pow-succ', pow-zero, cases_eq, eq-eqb, ne_eqb, div-mul-add, mod-mul-add, mod_below}
+use Rattle.dob_rank.proofs.Common.{same_from_place, sum_blocks, sum_same, sum_times, marks_below, one_if, count, sum_below, are_allowed, weight, ◌≤◌}
 use Rattle.dob_rank.proofs.Boards.Choices.{count_same, count_other, count_at}
-use Rattle.dob_rank.proofs.Boards.Settled.{settle_kept, settle_taken, settle_left}
 use Rattle.dob_rank.proofs.Boards.FormDigits.{power_positive}
 
 -- ---- choices
@@ -14,39 +12,6 @@ weight_same w t s ls = rw (eq-eqb t t refl) refl
 
 pub weight_other : (w : ℕ → ℕ) (t s l : ℕ) (ls : List ℕ) → (l ≡ t → ⊥) → weight w t s (l ∷ ls) ≡ weight w t (suc s) ls
 weight_other w t s l ls h = rw (ne_eqb l t h) (omega arith)
-
--- the sum of the weights of all choices, from square s on
-abbrev pub summed : (ℕ → ℕ) → ℕ → ℕ → ℕ → List ℕ → ℕ
-summed w t s pieces ls = sum_below (λ c. weight w t s (settle t pieces c ls)) (choose (count (order Empty) ls) pieces)
-
--- a square that isn't order Empty adds nothing
-kept : (w : ℕ → ℕ) (t s pieces l : ℕ) (ls : List ℕ) → (l ≡ order Empty → ⊥) → (l ≡ t → ⊥) → summed w t s pieces (l ∷ ls) ≡ summed w t (suc s) pieces ls
-kept w t s pieces l ls full other =
-    ap (λ (n : ℕ). sum_below (λ c. weight w t s (settle t pieces c (l ∷ ls))) (choose n pieces)) (count_other (order Empty) l ls full)
-    ∙ sum_same (λ c. weight w t s (settle t pieces c (l ∷ ls))) (λ c. weight w t (suc s) (settle t pieces c ls)) (choose (count (order Empty) ls) pieces)
-    (λ c lt. ap (weight w t s) (settle_kept t pieces c l ls full) ∙ weight_other w t s l (settle t pieces c ls) other)
-
--- of an order Empty square the choices that leave it
-left : (w : ℕ → ℕ) (t s pieces : ℕ) (ls : List ℕ) → t < order Empty
-    → sum_below (λ k. weight w t s (settle t pieces (with_first (count (order Empty) ls) pieces + k) (order Empty ∷ ls))) (choose (count (order Empty) ls) pieces)
-    ≡ summed w t (suc s) pieces ls
-left w t s pieces ls low =
-    sum_same (λ k. weight w t s (settle t pieces (with_first (count (order Empty) ls) pieces + k) (order Empty ∷ ls))) (λ c. weight w t (suc s) (settle t pieces c ls))
-    (choose (count (order Empty) ls) pieces)
-    (λ k lt. ap (weight w t s) (settle_left t pieces (with_first (count (order Empty) ls) pieces + k) ls (omega arith))
-    ∙ weight_other w t s (order Empty) (settle t pieces (with_first (count (order Empty) ls) pieces + k - with_first (count (order Empty) ls) pieces) ls)
-    (λ (e : order Empty ≡ t). (let same : order Empty ≡ t = e in omega arith))
-    ∙ ap (λ (x : ℕ). weight w t (suc s) (settle t pieces x ls)) (let e : with_first (count (order Empty) ls) pieces + k - with_first (count (order Empty) ls) pieces ≡ k = omega arith in e))
-
--- and those that take it
-taken : (w : ℕ → ℕ) (t s pieces : ℕ) (ls : List ℕ)
-    → sum_below (λ c. weight w t s (settle t (suc pieces) c (order Empty ∷ ls))) (choose (count (order Empty) ls) pieces) ≡ w s * summed w t (suc s) pieces ls
-taken w t s pieces ls =
-    sum_same (λ c. weight w t s (settle t (suc pieces) c (order Empty ∷ ls))) (λ c. w s * weight w t (suc s) (settle t pieces c ls)) (choose (count (order Empty) ls) pieces)
-    (λ c lt. ap (weight w t s) (settle_taken t (suc pieces) c ls lt)
-    ∙ ap (λ (x : ℕ). weight w t s (t ∷ settle t x c ls)) (let e : suc pieces - 1 ≡ pieces = omega arith in e)
-    ∙ weight_same w t s (settle t pieces c ls))
-    ∙ sum_times (w s) (λ c. weight w t (suc s) (settle t pieces c ls)) (choose (count (order Empty) ls) pieces)
 
 -- ---- forms
 
