@@ -1,6 +1,6 @@
 -- The letters of boards and hands are ASCII, and neither slash nor space.
 use Rattle.dob_text.proofs.Common.{◌<◌, ◌∷◌, ◌≢◌, All, List, None, Some, [], arith, length, refl, ℕ, All-append, All-replicate, Cell, Hand, Chick, Elephant}
-use Rattle.dob_text.proofs.Common.{Giraffe, Hen, Lion, Side, Enemy, Mover, cased, letter_of, letter_of_kind, IsBoardLetter, hand_letters, hand_text, or_dash}
+use Rattle.dob_text.proofs.Common.{Giraffe, Hen, Side, Enemy, Mover, cased, letter_of, letter_of_kind, IsBoardLetter, hand_letters, hand_text, or_dash}
 use Rattle.dob_pieces.specs.declared.kind.Kind.{Kind}
 
 -- a byte below 128 that is neither slash nor space

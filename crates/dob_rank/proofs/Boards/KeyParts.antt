@@ -1,7 +1,7 @@
 -- The parts of the key against the digits: squares against choices, forms against forms numbers.
 use Rattle.dob_rank.proofs.Common.{◌*◌, ◌+◌, ◌<◌, ◌^◌, ◌∙◌, ◌∷◌, ◌≡◌, ◌≤◌, List, [], ap, arith, cond, eqb, inl, inr, length, map, refl, replicate, subst, suc}
 use Rattle.dob_rank.proofs.Common.{sym, zero, ℕ, pow-succ', pow-zero, cases_eq, cases_lt, eq-eqb, ne_eqb, filter, Cell, HasDigits, base_of, choice, count}
-use Rattle.dob_rank.proofs.Common.{count_from, forms_number, layer, number_of, product, with_first, Precedes, form}
+use Rattle.dob_rank.proofs.Common.{count_from, forms_number, layer, number_of, product, Precedes, form}
 use Rattle.dob_rank.proofs.Arithmetic.MixedRadix.{number_of-rises}
 use Rattle.dob_rank.proofs.Boards.Choices.{Alike, layer_squares, count_other, count_from-alike, count_at}
 use Rattle.dob_rank.proofs.Boards.Choices.{choice_later, choice_not_later}
@@ -57,9 +57,7 @@ choice-alike t (x ∷ xs) (y ∷ ys) h =
           choice_not_later t x xs (omega arith) ∙ rest ∙ sym (choice_not_later t y ys (omega arith)))
       | inr q ↦ (let c : count t xs ≡ count t ys = count-alike t xs ys h.1 in
           let m : count_from t xs ≡ count_from t ys = count_from-alike t xs ys (count_from-alike-next t xs ys h.1) in
-          choice_later t x xs q.0 ∙ ap (λ (n : ℕ). with_first n (count t xs) + choice t xs) m
-          ∙ ap (λ (n : ℕ). with_first (count_from t ys) n + choice t xs) c ∙ ap (λ (n : ℕ). with_first (count_from t ys) (count t ys) + n) rest
-          ∙ sym (choice_later t y ys q.1))
+          rw (choice_later t x xs q.0, choice_later t y ys q.1, m, c, rest) refl)
     ]
 choice-alike t xs ys h = absurd h
 

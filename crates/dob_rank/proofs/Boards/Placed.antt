@@ -227,19 +227,16 @@ place_below numbers t n m ls cells f low s =
 
 pub first_below : (numbers : ℕ → ℕ) (t p n m : ℕ) (ls : List ℕ) (cells : List Cell) (f : ℕ → ℕ) → p ≤ 2 → n < choose m p → Stand numbers t m ls cells f →
     0 < p → f (first_place m p n) < 12
-first_below numbers t zero n m ls cells f few low s some = absurd (omega arith)
 first_below numbers t (suc zero) n m ls cells f few low s some = place_below numbers t n m ls cells f (subst (λ (x : ℕ). n < x) (choose_one m) low) s
 first_below numbers t (suc (suc zero)) n m ls cells f few low s some =
     let choice = choice_of m n low in let rising = choice.rising in let below = choice.below in
     place_below numbers t (lower_of m n) m ls cells f (omega arith) s
-first_below numbers t (suc (suc (suc p))) n m ls cells f few low s some = absurd (omega arith)
+first_below numbers t p n m ls cells f few low s some = absurd (omega arith)
 
 pub second_below : (numbers : ℕ → ℕ) (t p n m : ℕ) (ls : List ℕ) (cells : List Cell) (f : ℕ → ℕ) → p ≤ 2 → n < choose m p → Stand numbers t m ls cells f →
     1 < p → f (second_place m p n) < 12
-second_below numbers t zero n m ls cells f few low s some = absurd (omega arith)
-second_below numbers t (suc zero) n m ls cells f few low s some = absurd (omega arith)
 second_below numbers t (suc (suc zero)) n m ls cells f few low s some = place_below numbers t (higher_of m n) m ls cells f (choice_of m n low).below s
-second_below numbers t (suc (suc (suc p))) n m ls cells f few low s some = absurd (omega arith)
+second_below numbers t p n m ls cells f few low s some = absurd (omega arith)
 
 -- ---- the squares of a choice are empty, and two
 

@@ -1,11 +1,10 @@
 -- The digits of a position of a set: each is below its base, and they give the position back.
 use Rattle.dob_rank.proofs.Common.{◌%◌, ◌+◌, ◌-◌, ◌<◌, ◌^◌, ◌∙◌, ◌∷◌, ◌≡◌, ◌≤◌, List, [], ap, arith, inl, inr, length, map, refl, replicate, subst, suc, sym}
 use Rattle.dob_rank.proofs.Common.{zero, ℕ, mod-eq_of_lt, pow-succ', pow-zero, cases_lt, length-map, count_by, Cell, IsLegal, at, held, holds_kind, holds_lion}
-use Rattle.dob_rank.proofs.Common.{total, Hand, HandKind, Enemy, Mover, PieceSet, Setup, HasDigits, base_of, bases_by, block_bases, board_of, choice, choose}
-use Rattle.dob_rank.proofs.Common.{count, count_from, digits, empty_layers, enemy_squares, forms_number, free_squares, layer, layers_by, numbers_by, on_board}
-use Rattle.dob_rank.proofs.Common.{order, own_squares, settle, setup_by, IsPositionOfSet, pieces_of, Chicks, Elephants, Empty, EnemyLion, Giraffes, OwnLion}
+use Rattle.dob_rank.proofs.Common.{total, HandKind, Enemy, Mover, PieceSet, Setup, HasDigits, base_of, bases_by, block_bases, board_of, choice, choose, count}
+use Rattle.dob_rank.proofs.Common.{count_from, digits, empty_layers, enemy_squares, forms_number, free_squares, layer, layers_by, numbers_by, on_board, order}
+use Rattle.dob_rank.proofs.Common.{own_squares, settle, setup_by, IsPositionOfSet, pieces_of, Chicks, Elephants, Empty, EnemyLion, Giraffes, OwnLion}
 use Rattle.dob_rank.proofs.Common.{form_bases}
-use Rattle.dob_rank.specs.Numbers.{hands_by}
 use Rattle.dob_pieces.specs.declared.kind.HandKind.TheVariants as hand
 use Rattle.dob_rank.proofs.Boards.Choices.{choice-below}
 use Rattle.dob_rank.proofs.Boards.Settled.{hidden, hide, hidden_lower, hidden_later, settle-choice, AreLayers}
@@ -152,29 +151,21 @@ no_forms t cells h =
     mod-eq_of_lt (let p : 0 < base_of t ^ count t (map layer cells) = omega arith in p) ∙ (let e : 0 ≡ forms_number t cells = omega arith in e)
 
 pub numbers-back : (s : Setup) (t : ℕ) → numbers_by (digits s) t % base_of t ^ count t (map layer s.board) ≡ forms_number t s.board
-numbers-back s zero = no_forms 0 s.board refl
-numbers-back s (suc zero) = no_forms 1 s.board refl
 numbers-back s (suc (suc zero)) = mod-eq_of_lt (forms_number-below (order Chicks) s.board)
 numbers-back s (suc (suc (suc zero))) = mod-eq_of_lt (forms_number-below (order Elephants) s.board)
 numbers-back s (suc (suc (suc (suc zero)))) = mod-eq_of_lt (forms_number-below (order Giraffes) s.board)
-numbers-back s (suc (suc (suc (suc (suc zero))))) = no_forms (order Empty) s.board refl
 numbers-back s (suc (suc (suc (suc (suc (suc t)))))) = no_forms (suc (suc (suc (suc (suc (suc t)))))) s.board refl
-
-abbrev make_hand : ℕ → ℕ → ℕ → Hand
-make_hand c e g = record { chicks = c; elephants = e; giraffes = g }
-
-abbrev make_setup : List Cell → Hand → Hand → Setup
-make_setup board mover enemy = record { board = board; hands = record { mover = mover; enemy = enemy } }
-
-make_hand-same : (a b c d e f : ℕ) → a ≡ d → b ≡ e → c ≡ f → make_hand a b c ≡ make_hand d e f
-make_hand-same a b c d e f p q r = ap (λ (x : ℕ). make_hand x b c) p ∙ ap (λ (x : ℕ). make_hand d x c) q ∙ ap (λ (x : ℕ). make_hand d e x) r
+numbers-back s t = no_forms t s.board refl
 
 -- a position is the setup of its numbers on the board and its digits
 pub setup_by-back : (set : PieceSet) (s : Setup) → HasParts set s → setup_by set (on_board s) (digits s) ≡ s
 setup_by-back set s h =
     let board : board_of (numbers_by (digits s)) (layers_by (on_board s) (digits s)) ≡ s.board
     = ap (board_of (numbers_by (digits s))) (layers_by-back set s h) ∙ board_of-back (numbers_by (digits s)) s.board (numbers-back s) in
-    let enemy : (hands_by set (on_board s) (digits s)).enemy ≡ s.hands.enemy
-    = make_hand-same _ _ _ _ _ _ (omega (arith, h.chicks)) (omega (arith, h.elephants)) (omega (arith, h.giraffes)) in
-    ap (λ (x : List Cell). make_setup x s.hands.mover (hands_by set (on_board s) (digits s)).enemy) board
-    ∙ ap (λ (x : Hand). make_setup s.board s.hands.mover x) enemy
+    let chicks : set.chicks - count (order Chicks) (map layer s.board) - s.hands.mover.chicks ≡ s.hands.enemy.chicks = omega (arith, h.chicks) in
+    let elephants : set.elephants - count (order Elephants) (map layer s.board) - s.hands.mover.elephants ≡ s.hands.enemy.elephants = omega (arith, h.elephants) in
+    let giraffes : set.giraffes - count (order Giraffes) (map layer s.board) - s.hands.mover.giraffes ≡ s.hands.enemy.giraffes = omega (arith, h.giraffes) in
+    λ i. record {
+      board = board i;
+      hands = record { mover = s.hands.mover; enemy = record { chicks = chicks i; elephants = elephants i; giraffes = giraffes i } };
+    }

@@ -163,10 +163,8 @@ hand_size_is chicks few = before_lions chicks lion_pairs few all_lions
 
 -- there are some
 pub hand_size-some : (chicks : ℕ) → chicks ≤ 2 → 0 < hand_size B chicks
-hand_size-some zero few = subst (λ (n : ℕ). 0 < n) (hand_size_is 0 few).value_is (omega arith)
-hand_size-some (suc zero) few = subst (λ (n : ℕ). 0 < n) (hand_size_is 1 few).value_is (omega arith)
-hand_size-some (suc (suc zero)) few = subst (λ (n : ℕ). 0 < n) (hand_size_is 2 few).value_is (omega arith)
 hand_size-some (suc (suc (suc n))) few = absurd (omega (arith, few))
+hand_size-some chicks few = subst (λ (n : ℕ). 0 < n) (hand_size_is chicks few).value_is (omega arith)
 
 -- ---- the forms on a square
 
