@@ -1,10 +1,10 @@
 -- The names that the proofs here use most, from other crates and the definitions of this one.
 pub use Rattle.std.proofs.Common.{if◌then◌else◌, ◌%◌, ◌&&◌, ◌*◌, ◌++◌, ◌+◌, ◌-◌, ◌/◌, ◌<◌, ◌^◌, ◌||◌, ◌∙◌, ◌∷◌, ◌≡◌, ◌≢◌, ◌≤◌, ◌⊎◌, Bool, List, None, Some, []}
 pub use Rattle.std.proofs.Common.{ap, arith, bit_and, cond, drop, eqb, false, get_or, inl, inr, leb, length, ltb, map, nat_eq, nat_lt, not, refl, replicate}
-pub use Rattle.std.proofs.Common.{set, slice_index, slice_index_or, subst, suc, sym, take, true, zero, ℕ}
+pub use Rattle.std.proofs.Common.{append-nil, set, slice_index, slice_index_or, subst, suc, sym, take, true, zero, ℕ}
 pub use Rattle.std.proofs.Math.Arith.{mod-mul}
 pub use Rattle.std.proofs.Math.Nat.{add-mul, mod-eq_of_lt, mod-one, mul-le-mul, mul-pos, mul_assoc, mul_comm, pow-le-pow_right, pow-suc, pow-succ', pow-zero}
-pub use Rattle.std.proofs.lemmas.Bool.{and_parts, cases_Bool, cases_eq, cases_lt, cases_order, eq-eqb, eqb-true, le-ltb, lt-ltb, ltb-true, ne_eqb}
+pub use Rattle.std.proofs.lemmas.Bool.{and_parts, cases_Bool, cases_eq, cases_lt, cases_order, eq-eqb, eqb-true, le-ltb, leb-true, lt-ltb, ltb-true, ne_eqb}
 pub use Rattle.std.proofs.lemmas.List.{drop_more, length-drop, length-map, length_push}
 pub use Rattle.std.proofs.lemmas.Nat.{div-add-mod', div-mul-add, div_below, mod-mul-add, mod_below, mul-add-lt, mul-le, one_shl, same_from_place}
 pub use Rattle.std.specs.List.{All, Contains, count_by, filter, range_with_len}

@@ -93,10 +93,7 @@ hand_in side word = record {
 }
 
 pub same_hand : (h k : Hand) → h.chicks ≡ k.chicks → h.elephants ≡ k.elephants → h.giraffes ≡ k.giraffes → h ≡ k
-same_hand h k chicks elephants giraffes =
-    ap (λ (n : ℕ). let r : Hand = record { chicks = n; elephants = h.elephants; giraffes = h.giraffes } in r) chicks
-    ∙ ap (λ (n : ℕ). let r : Hand = record { chicks = k.chicks; elephants = n; giraffes = h.giraffes } in r) elephants
-    ∙ ap (λ (n : ℕ). let r : Hand = record { chicks = k.chicks; elephants = k.elephants; giraffes = n } in r) giraffes
+same_hand h k chicks elephants giraffes = λ i. record { chicks = chicks i; elephants = elephants i; giraffes = giraffes i }
 
 runs_hand : (side : Side) (hand : Hand) (word : List ℕ)
     → Runs (cased side 67) (cased side 69) (cased side 71) hand.chicks hand.elephants hand.giraffes word → hand_in side word ≡ hand
@@ -141,11 +138,9 @@ hand_spelled side word c e g some is_c is_e is_g whole =
     let a : ℕ = cased side 67 in
     let b : ℕ = cased side 69 in
     let d : ℕ = cased side 71 in
-    let chicks : take c word ≡ replicate c a = ap (λ n. take n word) is_c ∙ front_is a word ∙ ap (λ n. replicate n a) (sym is_c) in
-    let elephants : take e (drop c word) ≡ replicate e b = ap (λ n. take n (drop c word)) is_e
-    ∙ front_is b (drop c word) ∙ ap (λ n. replicate n b) (sym is_e) in
-    let giraffes : take g (drop e (drop c word)) ≡ replicate g d = ap (λ n. take n (drop e (drop c word))) is_g
-    ∙ front_is d (drop e (drop c word)) ∙ ap (λ n. replicate n d) (sym is_g) in
+    let chicks : take c word ≡ replicate c a = rw is_c (front_is a word) in
+    let elephants : take e (drop c word) ≡ replicate e b = rw is_e (front_is b (drop c word)) in
+    let giraffes : take g (drop e (drop c word)) ≡ replicate g d = rw is_g (front_is d (drop e (drop c word))) in
     let last : drop e (drop c word) ≡ replicate g d = sym (take_all g (drop e (drop c word)) whole) ∙ giraffes in
     let middle : drop c word ≡ replicate e b ++ replicate g d = sym (take-append-drop e (drop c word))
     ∙ ap (λ x. x ++ drop e (drop c word)) elephants ∙ ap (λ x. replicate e b ++ x) last in
@@ -176,8 +171,7 @@ hand_fault side word c e g other is_c is_e is_g more hand is =
 
 pub one_byte : (xs : List ℕ) (byte : ℕ) → length xs ≡ 1 → get_or xs 0 0 ≡ byte → xs ≡ byte ∷ []
 one_byte (x ∷ []) byte size is = ap (λ n. n ∷ []) is
-one_byte [] byte size is = absurd (omega arith)
-one_byte (x ∷ y ∷ xs) byte size is = absurd (omega arith)
+one_byte xs byte size is = absurd (omega arith)
 
 -- a front that ends where the letter does
 pub front_stops : (letter : ℕ) (xs : List ℕ) (n : ℕ) → n ≤ length xs → ((k : ℕ) → k < n → get_or xs k 0 ≡ letter)

@@ -1,28 +1,10 @@
 -- The text of a board stands for one board.
-use Rattle.dob_text.proofs.Common.{if◌then◌else◌, ◌%◌, ◌-◌, ◌<◌, ◌==◌, ◌↔◌, ◌∙◌, ◌∷◌, ◌≡◌, ◌≢◌, All, List, None, Some, [], ap, arith, get_or, length, nat_lt}
+use Rattle.dob_text.proofs.Common.{◌+◌, if◌then◌else◌, ◌%◌, ◌-◌, ◌<◌, ◌==◌, ◌↔◌, ◌∙◌, ◌∷◌, ◌≡◌, ◌≢◌, All, List, None, Some, [], ap, arith, get_or, length, nat_lt}
 use Rattle.dob_text.proofs.Common.{refl, suc, sym, zero, ℕ, All-from_get_or, Cell, Chick, Elephant, Giraffe, Hen, Lion, Side, Enemy, Mover, cased, letter_of}
 use Rattle.dob_text.proofs.Common.{letter_of_kind, HasLetters, IsBoardLetter, IsGrid, board_text, letter_place}
+use Rattle.std.proofs.Common.{◌*◌, ◌/◌}
 use Rattle.dob_pieces.specs.declared.kind.Kind.{Kind}
 use Rattle.dob_text.proofs.Plain.{IsPlain, letter_plain, letter_known}
-
--- a fact of each number below 15
-below_15 : (P : ℕ → Type 0) → P 0 → P 1 → P 2 → P 3 → P 4 → P 5 → P 6 → P 7 → P 8 → P 9 → P 10 → P 11 → P 12 → P 13 → P 14 → (i : ℕ) → i < 15 → P i
-below_15 P a b c d e f g h i j k l m n o zero lt = a
-below_15 P a b c d e f g h i j k l m n o (suc zero) lt = b
-below_15 P a b c d e f g h i j k l m n o (suc (suc zero)) lt = c
-below_15 P a b c d e f g h i j k l m n o (suc (suc (suc zero))) lt = d
-below_15 P a b c d e f g h i j k l m n o (suc (suc (suc (suc zero)))) lt = e
-below_15 P a b c d e f g h i j k l m n o (suc (suc (suc (suc (suc zero))))) lt = f
-below_15 P a b c d e f g h i j k l m n o (suc (suc (suc (suc (suc (suc zero)))))) lt = g
-below_15 P a b c d e f g h i j k l m n o (suc (suc (suc (suc (suc (suc (suc zero))))))) lt = h
-below_15 P a b c d e f g h i j k l m n o (suc (suc (suc (suc (suc (suc (suc (suc zero)))))))) lt = i
-below_15 P a b c d e f g h i j k l m n o (suc (suc (suc (suc (suc (suc (suc (suc (suc zero))))))))) lt = j
-below_15 P a b c d e f g h i j k l m n o (suc (suc (suc (suc (suc (suc (suc (suc (suc (suc zero)))))))))) lt = k
-below_15 P a b c d e f g h i j k l m n o (suc (suc (suc (suc (suc (suc (suc (suc (suc (suc (suc zero))))))))))) lt = l
-below_15 P a b c d e f g h i j k l m n o (suc (suc (suc (suc (suc (suc (suc (suc (suc (suc (suc (suc zero)))))))))))) lt = m
-below_15 P a b c d e f g h i j k l m n o (suc (suc (suc (suc (suc (suc (suc (suc (suc (suc (suc (suc (suc zero))))))))))))) lt = n
-below_15 P a b c d e f g h i j k l m n o (suc (suc (suc (suc (suc (suc (suc (suc (suc (suc (suc (suc (suc (suc zero)))))))))))))) lt = o
-below_15 P a b c d e f g h i j k l m n o (suc (suc (suc (suc (suc (suc (suc (suc (suc (suc (suc (suc (suc (suc (suc q))))))))))))))) lt = absurd (omega arith)
 
 -- what a byte of a board's text is
 abbrev IsPlaced : ℕ → ℕ → Type 0
@@ -38,23 +20,11 @@ slash_placed i here = (omega arith, (λ _. here, λ _. refl), λ other. absurd (
 
 -- the text of a board, byte by byte
 pub placed : (board : List Cell) (i : ℕ) → i < 15 → IsPlaced (get_or (board_text board) i 0) i
-placed board =
-    below_15 (λ i. IsPlaced (get_or (board_text board) i 0) i)
-    (letter_placed (get_or board 9 None) 0 (omega arith))
-    (letter_placed (get_or board 10 None) 1 (omega arith))
-    (letter_placed (get_or board 11 None) 2 (omega arith))
-    (slash_placed 3 refl)
-    (letter_placed (get_or board 6 None) 4 (omega arith))
-    (letter_placed (get_or board 7 None) 5 (omega arith))
-    (letter_placed (get_or board 8 None) 6 (omega arith))
-    (slash_placed 7 refl)
-    (letter_placed (get_or board 3 None) 8 (omega arith))
-    (letter_placed (get_or board 4 None) 9 (omega arith))
-    (letter_placed (get_or board 5 None) 10 (omega arith))
-    (slash_placed 11 refl)
-    (letter_placed (get_or board 0 None) 12 (omega arith))
-    (letter_placed (get_or board 1 None) 13 (omega arith))
-    (letter_placed (get_or board 2 None) 14 (omega arith))
+placed board (suc (suc (suc zero))) lt = slash_placed 3 refl
+placed board (suc (suc (suc (suc (suc (suc (suc zero))))))) lt = slash_placed 7 refl
+placed board (suc (suc (suc (suc (suc (suc (suc (suc (suc (suc (suc zero))))))))))) lt = slash_placed 11 refl
+placed board (suc (suc (suc (suc (suc (suc (suc (suc (suc (suc (suc (suc (suc (suc (suc i))))))))))))))) lt = absurd (omega arith)
+placed board i lt = letter_placed (get_or board (9 + i % 4 - 3 * (i / 4)) None) i (omega arith)
 
 -- a list of fifteen, element by element
 fifteen : (xs : List ℕ) → length xs ≡ 15 → xs ≡ get_or xs 0 0 ∷ get_or xs 1 0 ∷ get_or xs 2 0 ∷ get_or xs 3 0 ∷ get_or xs 4 0 ∷ get_or xs 5 0
@@ -90,16 +60,9 @@ abbrev cell_in : ℕ → Cell
 cell_in byte = if byte == 46 then None else Some (record { side = side_in byte; kind = kind_in (upper byte) })
 
 piece_back : (side : Side) (kind : Kind) → cell_in (cased side (letter_of_kind kind)) ≡ Some (record { side = side; kind = kind })
-piece_back Mover Lion = refl
-piece_back Mover Giraffe = refl
-piece_back Mover Elephant = refl
-piece_back Mover Chick = refl
 piece_back Mover Hen = refl
-piece_back Enemy Lion = refl
-piece_back Enemy Giraffe = refl
-piece_back Enemy Elephant = refl
-piece_back Enemy Chick = refl
 piece_back Enemy Hen = refl
+piece_back side kind = refl
 
 letter_back : (cell : Cell) → cell_in (letter_of cell) ≡ cell
 letter_back None = refl

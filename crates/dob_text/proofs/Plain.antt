@@ -1,6 +1,6 @@
 -- The letters of boards and hands are ASCII, and neither slash nor space.
 use Rattle.dob_text.proofs.Common.{◌<◌, ◌∷◌, ◌≢◌, All, List, None, Some, [], arith, length, refl, ℕ, All-append, All-replicate, Cell, Hand, Chick, Elephant}
-use Rattle.dob_text.proofs.Common.{Giraffe, Hen, Lion, Side, Enemy, Mover, cased, letter_of, letter_of_kind, IsBoardLetter, hand_letters, hand_text, or_dash}
+use Rattle.dob_text.proofs.Common.{Giraffe, Hen, Side, Enemy, Mover, cased, letter_of, letter_of_kind, IsBoardLetter, hand_letters, hand_text, or_dash}
 use Rattle.dob_pieces.specs.declared.kind.Kind.{Kind}
 
 -- a byte below 128 that is neither slash nor space
@@ -10,16 +10,9 @@ pub record IsPlain (byte : ℕ) : Type 0 where
   pub slash : byte ≢ 47
 
 piece_plain : (side : Side) (kind : Kind) → IsPlain (cased side (letter_of_kind kind))
-piece_plain Mover Lion = record { ascii = omega arith; space = omega arith; slash = omega arith }
-piece_plain Mover Giraffe = record { ascii = omega arith; space = omega arith; slash = omega arith }
-piece_plain Mover Elephant = record { ascii = omega arith; space = omega arith; slash = omega arith }
-piece_plain Mover Chick = record { ascii = omega arith; space = omega arith; slash = omega arith }
 piece_plain Mover Hen = record { ascii = omega arith; space = omega arith; slash = omega arith }
-piece_plain Enemy Lion = record { ascii = omega arith; space = omega arith; slash = omega arith }
-piece_plain Enemy Giraffe = record { ascii = omega arith; space = omega arith; slash = omega arith }
-piece_plain Enemy Elephant = record { ascii = omega arith; space = omega arith; slash = omega arith }
-piece_plain Enemy Chick = record { ascii = omega arith; space = omega arith; slash = omega arith }
 piece_plain Enemy Hen = record { ascii = omega arith; space = omega arith; slash = omega arith }
+piece_plain side kind = record { ascii = omega arith; space = omega arith; slash = omega arith }
 
 pub letter_plain : (cell : Cell) → IsPlain (letter_of cell)
 letter_plain None = record { ascii = omega arith; space = omega arith; slash = omega arith }
@@ -49,16 +42,9 @@ hand_filled side hand = dash_filled (hand_letters side hand)
 
 -- the letter of a square is one of those of boards
 piece_letter_known : (side : Side) (kind : Kind) → IsBoardLetter (cased side (letter_of_kind kind))
-piece_letter_known Mover Lion = refl
-piece_letter_known Mover Giraffe = refl
-piece_letter_known Mover Elephant = refl
-piece_letter_known Mover Chick = refl
 piece_letter_known Mover Hen = refl
-piece_letter_known Enemy Lion = refl
-piece_letter_known Enemy Giraffe = refl
-piece_letter_known Enemy Elephant = refl
-piece_letter_known Enemy Chick = refl
 piece_letter_known Enemy Hen = refl
+piece_letter_known side kind = refl
 
 pub letter_known : (cell : Cell) → IsBoardLetter (letter_of cell)
 letter_known None = refl

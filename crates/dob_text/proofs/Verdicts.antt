@@ -23,13 +23,8 @@ place fault.FarLion = 5
 place fault.FarChick = 6
 
 place_small : (f : TextFault) → place f ≤ 6
-place_small fault.Shape = omega arith
-place_small fault.Letter = omega arith
-place_small fault.Hand = omega arith
-place_small fault.Lions = omega arith
-place_small fault.Count = omega arith
-place_small fault.FarLion = omega arith
 place_small fault.FarChick = omega arith
+place_small f = omega arith
 
 same_place : (f g : TextFault) → place f ≡ place g → f ≡ g
 same_place fault.Shape fault.Shape e = refl
@@ -123,14 +118,12 @@ whole_as profile text (Err f) reads setup legal allowed is =
 few_up : (setup : Setup) → HasFewPieces (capped_setup setup) → HasFewPieces setup
 unfolding total
 few_up setup few kind.Chick = let h : total kind.Chick (capped_setup setup) ≤ 2 = few kind.Chick in omega arith
-few_up setup few kind.Elephant = let h : total kind.Elephant (capped_setup setup) ≤ 2 = few kind.Elephant in omega arith
-few_up setup few kind.Giraffe = let h : total kind.Giraffe (capped_setup setup) ≤ 2 = few kind.Giraffe in omega arith
+few_up setup few of_kind = let h : total of_kind (capped_setup setup) ≤ 2 = few of_kind in omega arith
 
 few_down : (setup : Setup) → HasFewPieces setup → HasFewPieces (capped_setup setup)
 unfolding total
 few_down setup few kind.Chick = let h : total kind.Chick setup ≤ 2 = few kind.Chick in omega arith
-few_down setup few kind.Elephant = let h : total kind.Elephant setup ≤ 2 = few kind.Elephant in omega arith
-few_down setup few kind.Giraffe = let h : total kind.Giraffe setup ≤ 2 = few kind.Giraffe in omega arith
+few_down setup few of_kind = let h : total of_kind setup ≤ 2 = few of_kind in omega arith
 
 -- where there are few pieces nothing is capped
 uncapped : (setup : Setup) → HasFewPieces setup → capped_setup setup ≡ setup
@@ -149,12 +142,10 @@ fault_up : (profile : Profile) (text : List ℕ) (setup : Setup) (f : TextFault)
 fault_up profile text setup fault.Lions spells x = (setup, spells, x)
 fault_up profile text setup fault.Count spells x = (setup, spells, x.0, λ few. x.1 (few_down setup few))
 fault_up profile text setup fault.FarLion spells x = (setup, spells, x.0, few_up setup x.1, x.2)
-fault_up profile text setup fault.Shape spells x = absurd x
-fault_up profile text setup fault.Letter spells x = absurd x
-fault_up profile text setup fault.Hand spells x = absurd x
 fault_up profile text setup fault.FarChick spells x =
     let same : capped_setup setup ≡ setup = uncapped setup (few_up setup x.0.few) in
     (setup, spells, subst (λ (s : Setup). IsLegal s) same x.0, λ allowed. x.1 (subst (λ (s : Setup). IsAllowed profile s) (sym same) allowed))
+fault_up profile text setup f spells x = absurd x
 
 -- so is its position the text's
 pub reads_by : (profile : Profile) (text : List ℕ) (full setup : Setup) (r : Result Position TextFault) → Spells text full → setup ≡ capped_setup full

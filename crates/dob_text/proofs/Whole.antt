@@ -63,10 +63,7 @@ pub spelled_hands : (text : List ℕ) (setup : Setup) → Spells text setup → 
 spelled_hands text setup spells = (board_text setup.board, setup.hands.mover, setup.hands.enemy, refl, spells.spelled)
 
 pub same_setup : (s t : Setup) → s.board ≡ t.board → s.hands.mover ≡ t.hands.mover → s.hands.enemy ≡ t.hands.enemy → s ≡ t
-same_setup s t board mover enemy =
-    ap (λ (x : List Cell). let r : Setup = record { board = x; hands = s.hands } in r) board
-    ∙ ap (λ (h : Hand). let r : Setup = record { board = t.board; hands = record { mover = h; enemy = s.hands.enemy } } in r) mover
-    ∙ ap (λ (h : Hand). let r : Setup = record { board = t.board; hands = record { mover = t.hands.mover; enemy = h } } in r) enemy
+same_setup s t board mover enemy = λ i. record { board = board i; hands = record { mover = mover i; enemy = enemy i } }
 
 -- a text spells one setup
 pub same_spelled : (text : List ℕ) (s t : Setup) → Spells text s → Spells text t → s ≡ t

@@ -1,7 +1,8 @@
 -- Mixed radix numbers: the number of the digits and the digits of the number, in order.
 use Rattle.dob_rank.proofs.Common.{◌%◌, ◌*◌, ◌++◌, ◌+◌, ◌/◌, ◌<◌, ◌∙◌, ◌∷◌, ◌≡◌, ◌≤◌, List, [], ap, arith, get_or, inl, inr, length, refl, subst, suc, sym}
 use Rattle.dob_rank.proofs.Common.{zero, ℕ, add-mul, mul_assoc, mul_comm, div-add-mod', div-mul-add, div_below, mod-mul-add, mod_below, mul-add-lt, HasDigits}
-use Rattle.dob_rank.proofs.Common.{digits_of, number_of, product, Precedes}
+use Rattle.dob_rank.proofs.Common.{digits_of, number_of, product, Precedes, append-nil}
+use Rattle.dob_rank.proofs.Arithmetic.Order.{Upto, Upto-split}
 
 -- a digit below its base, and less than a whole step after it
 pub digit_below : (d b p n : ℕ) → d < b → n < p → d * p + n < b * p
@@ -15,9 +16,8 @@ factor_positive n b (suc p) h = omega arith
 -- a number is below the product of its bases
 pub number_of-below : (bases digits : List ℕ) → HasDigits bases digits → number_of bases digits < product bases
 number_of-below [] [] h = omega arith
-number_of-below [] (d ∷ ds) h = absurd h
-number_of-below (b ∷ bs) [] h = absurd h
 number_of-below (b ∷ bs) (d ∷ ds) h = digit_below d b (product bs) (number_of bs ds) h.0 (number_of-below bs ds h.1)
+number_of-below bs ds h = absurd h
 
 -- an earlier list of digits has a lower number
 pub number_of-rises : (bases xs ys : List ℕ) → HasDigits bases xs → HasDigits bases ys → Precedes xs ys → number_of bases xs < number_of bases ys
@@ -32,6 +32,13 @@ number_of-rises (b ∷ bs) (x ∷ xs) (y ∷ ys) h k p =
       | inl lt ↦ (let step : x * product bs + number_of bs xs < y * product bs = digit_below x y (product bs) (number_of bs xs) lt low in omega arith)
       | inr q ↦ (let rest : number_of bs xs < number_of bs ys = number_of-rises bs xs ys h.1 k.1 q.1 in
           let same : x * product bs ≡ y * product bs = ap (λ (z : ℕ). z * product bs) q.0 in omega arith)
+    ]
+
+pub number_of-upto : (bases xs ys : List ℕ) → length xs ≡ length ys → HasDigits bases xs → HasDigits bases ys → Upto xs ys → number_of bases xs ≤ number_of bases ys
+number_of-upto bases xs ys e h k p =
+    elim (Upto-split xs ys [] [] e (subst (λ (zs : List ℕ). Upto zs (ys ++ [])) (sym (append-nil xs)) (subst (Upto xs) (sym (append-nil ys)) p))) [
+      | inl lt ↦ (let less = number_of-rises bases xs ys h k lt in omega (arith, less))
+      | inr q ↦ (let same : number_of bases xs ≡ number_of bases ys = ap (number_of bases) q.0 in omega arith)
     ]
 
 -- the digits of a number below the product are below their bases
@@ -53,12 +60,11 @@ number_of-digits_of (b ∷ bs) n h =
 -- the digits of the number that digits write are those digits
 pub digits_of-number_of : (bases digits : List ℕ) → HasDigits bases digits → digits_of bases (number_of bases digits) ≡ digits
 digits_of-number_of [] [] h = refl
-digits_of-number_of [] (d ∷ ds) h = absurd h
-digits_of-number_of (b ∷ bs) [] h = absurd h
 digits_of-number_of (b ∷ bs) (d ∷ ds) h =
     let low : number_of bs ds < product bs = number_of-below bs ds h.1 in
     let rest : digits_of bs (number_of bs ds) ≡ ds = digits_of-number_of bs ds h.1 in
     rw (div-mul-add d (product bs) (number_of bs ds) low, mod-mul-add d (product bs) (number_of bs ds) low, rest)
+digits_of-number_of bs ds h = absurd h
 
 -- ---- in two parts
 
@@ -69,8 +75,6 @@ product-append (b ∷ bs) cs = ap (λ n. b * n) (product-append bs cs) ∙ sym (
 pub number_of-append : (bs cs xs ys : List ℕ) → length bs ≡ length xs →
     number_of (bs ++ cs) (xs ++ ys) ≡ number_of bs xs * product cs + number_of cs ys
 number_of-append [] cs [] ys e = omega arith
-number_of-append [] cs (x ∷ xs) ys e = absurd (omega arith)
-number_of-append (b ∷ bs) cs [] ys e = absurd (omega arith)
 number_of-append (b ∷ bs) cs (x ∷ xs) ys e =
     let rest : number_of (bs ++ cs) (xs ++ ys) ≡ number_of bs xs * product cs + number_of cs ys =
     number_of-append bs cs xs ys (omega arith) in
@@ -79,6 +83,7 @@ number_of-append (b ∷ bs) cs (x ∷ xs) ys e =
     let sum : (x * product bs + number_of bs xs) * product cs ≡ x * product bs * product cs + number_of bs xs * product cs =
     add-mul (x * product bs) (number_of bs xs) (product cs) in
     omega (arith, rest, front, sum)
+number_of-append bs cs xs ys e = absurd (omega arith)
 
 length-digits_of : (bs : List ℕ) (n : ℕ) → length bs ≡ length (digits_of bs n)
 length-digits_of [] n = refl
@@ -86,9 +91,8 @@ length-digits_of (b ∷ bs) n = ap suc (length-digits_of bs (n % product bs))
 
 HasDigits-append : (bs cs xs ys : List ℕ) → HasDigits bs xs → HasDigits cs ys → HasDigits (bs ++ cs) (xs ++ ys)
 HasDigits-append [] cs [] ys h k = k
-HasDigits-append [] cs (x ∷ xs) ys h k = absurd h
-HasDigits-append (b ∷ bs) cs [] ys h k = absurd h
 HasDigits-append (b ∷ bs) cs (x ∷ xs) ys h k = (h.0, HasDigits-append bs cs xs ys h.1 k)
+HasDigits-append bs cs xs ys h k = absurd h
 
 -- the digits of a number are those of its two parts
 pub digits_of-append : (bs cs : List ℕ) (n : ℕ) → n < product (bs ++ cs) →
@@ -160,21 +164,14 @@ number_by_three bs ds e f h = absurd (omega arith)
 whole : (n : ℕ) → n / 1 ≡ n
 whole n = omega arith
 
-pub digits_of-two : (b c n : ℕ) → n < b * (c * 1) → digits_of (b ∷ c ∷ []) n ≡ n / c ∷ n % c ∷ []
-digits_of-two b c n h =
-    digits_of-append (b ∷ []) (c ∷ []) n h
-    ∙ ap (λ (m : ℕ). n / m / 1 ∷ n % m / 1 ∷ []) (once c)
-    ∙ ap (λ (x : ℕ). x ∷ n % c / 1 ∷ []) (whole (n / c))
-    ∙ ap (λ (x : ℕ). n / c ∷ x ∷ []) (whole (n % c))
+pub digits_of-two : (b c n : ℕ) → digits_of (b ∷ c ∷ []) n ≡ n / c ∷ n % c ∷ []
+digits_of-two b c n = rw (once c, whole (n % c)) refl
 
 -- the digits of three bases, the last first
 pub digits_of-three : (a b c n : ℕ) → n < a * (b * (c * 1)) → digits_of (a ∷ b ∷ c ∷ []) n ≡ n / c / b ∷ n / c % b ∷ n % c ∷ []
 digits_of-three a b c n h =
-    let below : n < a * (b * 1) * (c * 1) = subst (λ (m : ℕ). n < m) (product-append (a ∷ b ∷ []) (c ∷ [])) h in
-    let some : 0 < c * 1 = factor_positive n (a * (b * 1)) (c * 1) below in
-    let high : n / (c * 1) < a * (b * 1) = div_below n (c * 1) (a * (b * 1)) some below in
     digits_of-append (a ∷ b ∷ []) (c ∷ []) n h
-    ∙ ap (λ (xs : List ℕ). xs ++ digits_of (c ∷ []) (n % (c * 1))) (digits_of-two a b (n / (c * 1)) high)
+    ∙ ap (λ (xs : List ℕ). xs ++ digits_of (c ∷ []) (n % (c * 1))) (digits_of-two a b (n / (c * 1)))
     ∙ ap (λ (m : ℕ). n / m / b ∷ n / m % b ∷ n % m / 1 ∷ []) (once c)
     ∙ ap (λ (x : ℕ). n / c / b ∷ n / c % b ∷ x ∷ []) (whole (n % c))
 
@@ -185,10 +182,6 @@ pub record AreThree (bs : List ℕ) (n : ℕ) : Type 0 where
   pub digits_are : n / get_or bs 2 0 / get_or bs 1 0 ∷ n / get_or bs 2 0 % get_or bs 1 0 ∷ n % get_or bs 2 0 ∷ [] ≡ digits_of bs n
 
 pub three : (bs : List ℕ) (n : ℕ) → length bs ≡ 3 → n < product bs → AreThree bs n
-three [] n e h = absurd (omega arith)
-three (a ∷ []) n e h = absurd (omega arith)
-three (a ∷ b ∷ []) n e h = absurd (omega arith)
-three (a ∷ b ∷ c ∷ d ∷ ds) n e h = absurd (omega arith)
 three (a ∷ b ∷ c ∷ []) n e h =
     let two : 0 < b * (c * 1) = factor_positive n a (b * (c * 1)) h in
     let one : 0 < c * 1 = factor_positive 0 b (c * 1) two in
@@ -197,3 +190,4 @@ three (a ∷ b ∷ c ∷ []) n e h =
     first_some : (b m : ℕ) → 0 < b * m → 0 < b
     first_some zero m h = absurd (omega arith)
     first_some (suc b) m h = omega arith
+three bs n e h = absurd (omega arith)

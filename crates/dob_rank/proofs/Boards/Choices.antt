@@ -10,6 +10,19 @@ count_same t ls = rw (eq-eqb t t refl) (omega arith)
 pub count_other : (t l : ℕ) (ls : List ℕ) → (l ≡ t → ⊥) → count t (l ∷ ls) ≡ count t ls
 count_other t l ls h = rw (ne_eqb l t h) (omega arith)
 
+pub count_at : (t l : ℕ) (ls : List ℕ) → l ≡ t → count t (l ∷ ls) ≡ suc (count t ls)
+count_at t l ls e = ap (λ (x : ℕ). count t (x ∷ ls)) e ∙ count_same t ls
+
+-- and how many come behind a first cell
+pub count_rest : (t l n : ℕ) (ls : List ℕ) → l ≡ t → count t (l ∷ ls) ≡ suc n → count t ls ≡ n
+count_rest t l n ls e h = (let more = count_at t l ls e in omega (arith, more, h))
+
+pub no_first : (t l : ℕ) (ls : List ℕ) → count t (l ∷ ls) ≡ 0 → (l ≡ t → ⊥) × (count t ls ≡ 0)
+no_first t l ls h = elim (cases_eq l t) [
+  | inl e ↦ (let more = count_at t l ls e in absurd (omega (arith, more, h)))
+  | inr ne ↦ (ne, sym (count_other t l ls ne) ∙ h)
+]
+
 pub count_from_lower : (t l : ℕ) (ls : List ℕ) → l < t → count_from t (l ∷ ls) ≡ count_from t ls
 count_from_lower t l ls h = rw (lt-ltb l t h) (omega arith)
 
@@ -50,9 +63,6 @@ choice-below t (l ∷ ls) =
 abbrev pub layer_squares : ℕ → ℕ → List ℕ → List ℕ
 layer_squares t from ls = squares_from from (λ (l : ℕ). eqb l t) ls
 
-pub layer_squares_same : (t from : ℕ) (ls : List ℕ) → layer_squares t from (t ∷ ls) ≡ from ∷ layer_squares t (suc from) ls
-layer_squares_same t from ls = rw (eq-eqb t t refl) refl
-
 pub layer_squares_other : (t from l : ℕ) (ls : List ℕ) → (l ≡ t → ⊥) → layer_squares t from (l ∷ ls) ≡ layer_squares t (suc from) ls
 layer_squares_other t from l ls h = rw (ne_eqb l t h) refl
 
@@ -60,22 +70,16 @@ layer_squares_other t from l ls h = rw (ne_eqb l t h) refl
 pub none_from_later : (t s from : ℕ) (ls ys : List ℕ) → s < from → Precedes (layer_squares t from ls) (s ∷ ys) → count t ls ≡ 0
 none_from_later t s from [] ys h p = refl
 none_from_later t s from (l ∷ ls) ys h p = elim (cases_eq l t) [
-  | inl e ↦ (let first : Precedes (from ∷ layer_squares t (suc from) ls) (s ∷ ys)
-      = subst (λ (xs : List ℕ). Precedes xs (s ∷ ys)) (ap (λ (x : ℕ). layer_squares t from (x ∷ ls)) e ∙ layer_squares_same t from ls) p in
-      elim first [ inl lt ↦ absurd (omega arith) | inr q ↦ (let same : from ≡ s = q.0 in absurd (omega arith)) ])
-  | inr n ↦ (let first : Precedes (layer_squares t (suc from) ls) (s ∷ ys)
-      = subst (λ (xs : List ℕ). Precedes xs (s ∷ ys)) (layer_squares_other t from l ls n) p in
-      count_other t l ls n ∙ none_from_later t s (suc from) ls ys (omega arith) first)
+  | inl e ↦ elim (rw (eq-eqb l t e) at p) [ inl lt ↦ absurd (omega arith) | inr q ↦ (let same : from ≡ s = q.0 in absurd (omega arith)) ]
+  | inr n ↦ count_other t l ls n ∙ none_from_later t s (suc from) ls ys (omega arith) (rw (ne_eqb l t n) at p)
 ]
 
 -- squares that begin later aren't equal
 pub unlike_from_later : (t s from : ℕ) (ls ys : List ℕ) → s < from → layer_squares t from ls ≡ s ∷ ys → ⊥
 unlike_from_later t s from [] ys h e = cc
 unlike_from_later t s from (l ∷ ls) ys h e = elim (cases_eq l t) [
-  | inl i ↦ (let first : from ∷ layer_squares t (suc from) ls ≡ s ∷ ys
-      = sym (ap (λ (x : ℕ). layer_squares t from (x ∷ ls)) i ∙ layer_squares_same t from ls) ∙ e in
-      let same : from ≡ s = cc in absurd (omega arith))
-  | inr n ↦ unlike_from_later t s (suc from) ls ys (omega arith) (sym (layer_squares_other t from l ls n) ∙ e)
+  | inl i ↦ (let first : from ∷ layer_squares t (suc from) ls ≡ s ∷ ys = rw (eq-eqb l t i) at e in let same : from ≡ s = cc in absurd (omega arith))
+  | inr n ↦ unlike_from_later t s (suc from) ls ys (omega arith) (rw (ne_eqb l t n) at e)
 ]
 
 -- ---- the order
@@ -92,8 +96,6 @@ Alike t (x ∷ xs) (y ∷ ys) = AlikeAt t x y × Alike t xs ys
 
 pub count_from-alike : (t : ℕ) (xs ys : List ℕ) → Alike t xs ys → count_from t xs ≡ count_from t ys
 count_from-alike t [] [] h = refl
-count_from-alike t [] (y ∷ ys) h = absurd h
-count_from-alike t (x ∷ xs) [] h = absurd h
 count_from-alike t (x ∷ xs) (y ∷ ys) h =
     let rest : count_from t xs ≡ count_from t ys = count_from-alike t xs ys h.1 in
     elim h.0 [
@@ -101,6 +103,7 @@ count_from-alike t (x ∷ xs) (y ∷ ys) h =
           count_from_lower t x xs low ∙ rest ∙ sym (count_from_lower t y ys (omega arith)))
       | inr q ↦ count_from_later t x xs q.0 ∙ ap suc rest ∙ sym (count_from_later t y ys q.1)
     ]
+count_from-alike t xs ys h = absurd h
 
 -- both begin with a square of the layer
 both_same : (t from x y : ℕ) (xs ys : List ℕ) → x ≡ t → y ≡ t → count t (x ∷ xs) ≡ count t (y ∷ ys)
@@ -108,55 +111,34 @@ both_same : (t from x y : ℕ) (xs ys : List ℕ) → x ≡ t → y ≡ t → co
     → (count t xs ≡ count t ys → Precedes (layer_squares t (suc from) xs) (layer_squares t (suc from) ys) → choice t xs < choice t ys)
     → choice t (x ∷ xs) < choice t (y ∷ ys)
 both_same t from x y xs ys ex ey e p step =
-    let cx : count t (x ∷ xs) ≡ suc (count t xs) = ap (λ (z : ℕ). count t (z ∷ xs)) ex ∙ count_same t xs in
-    let cy : count t (y ∷ ys) ≡ suc (count t ys) = ap (λ (z : ℕ). count t (z ∷ ys)) ey ∙ count_same t ys in
-    let sx : layer_squares t from (x ∷ xs) ≡ from ∷ layer_squares t (suc from) xs
-    = ap (λ (z : ℕ). layer_squares t from (z ∷ xs)) ex ∙ layer_squares_same t from xs in
-    let sy : layer_squares t from (y ∷ ys) ≡ from ∷ layer_squares t (suc from) ys
-    = ap (λ (z : ℕ). layer_squares t from (z ∷ ys)) ey ∙ layer_squares_same t from ys in
-    let order : Precedes (from ∷ layer_squares t (suc from) xs) (from ∷ layer_squares t (suc from) ys)
-    = subst (λ (zs : List ℕ). Precedes zs (from ∷ layer_squares t (suc from) ys)) sx
-    (subst (λ (zs : List ℕ). Precedes (layer_squares t from (x ∷ xs)) zs) sy p) in
-    let rest : choice t xs < choice t ys
-    = step (omega arith) (elim order [ inl lt ↦ absurd (omega arith) | inr q ↦ q.1 ]) in
-    let dx : choice t (x ∷ xs) ≡ choice t xs = choice_not_later t x xs (omega arith) in
-    let dy : choice t (y ∷ ys) ≡ choice t ys = choice_not_later t y ys (omega arith) in
-    omega arith
+    let order = rw (eq-eqb x t ex, eq-eqb y t ey) at p in
+    let cx = count_at t x xs ex in
+    let cy = count_at t y ys ey in
+    rw (choice_not_later t x xs (omega arith), choice_not_later t y ys (omega arith))
+    (step (omega arith) (elim order [ inl lt ↦ absurd (omega arith) | inr q ↦ q.1 ]))
 
 -- the first begins with a square of the layer, the second doesn't
 first_earlier : (t x y : ℕ) (xs ys : List ℕ) → x ≡ t → t < y → count t (x ∷ xs) ≡ count t (y ∷ ys) → count_from t xs ≡ count_from t ys
     → choice t (x ∷ xs) < choice t (y ∷ ys)
 first_earlier t x y xs ys ex gt e m =
     let ny : y ≡ t → ⊥ = omega arith in
-    let cx : count t (x ∷ xs) ≡ suc (count t xs) = ap (λ (z : ℕ). count t (z ∷ xs)) ex ∙ count_same t xs in
-    let cy : count t ys ≡ suc (count t xs) = sym (count_other t y ys ny) ∙ sym e ∙ cx in
-    let first : with_first (count_from t ys) (count t ys) ≡ choose (count_from t xs) (count t xs)
-    = ap (with_first (count_from t ys)) cy ∙ ap (λ (z : ℕ). choose z (count t xs)) (sym m) in
-    let dx : choice t (x ∷ xs) ≡ choice t xs = choice_not_later t x xs (omega arith) in
-    let dy : choice t (y ∷ ys) ≡ with_first (count_from t ys) (count t ys) + choice t ys = choice_later t y ys gt in
+    let more : count t ys ≡ suc (count t xs) = sym (count_other t y ys ny) ∙ sym e ∙ count_at t x xs ex in
     let low : choice t xs < choose (count_from t xs) (count t xs) = choice-below t xs in
-    omega arith
+    rw (choice_not_later t x xs (omega arith), choice_later t y ys gt, more, ← m) (omega arith)
 
 -- the second begins with a square of the layer, the first doesn't: then the first isn't earlier
 first_later : (t from x y : ℕ) (xs ys : List ℕ) → (x ≡ t → ⊥) → y ≡ t → count t (x ∷ xs) ≡ count t (y ∷ ys)
     → Precedes (layer_squares t from (x ∷ xs)) (layer_squares t from (y ∷ ys)) → ⊥
 first_later t from x y xs ys nx ey e p =
-    let cy : count t (y ∷ ys) ≡ suc (count t ys) = ap (λ (z : ℕ). count t (z ∷ ys)) ey ∙ count_same t ys in
-    let cx : count t (x ∷ xs) ≡ count t xs = count_other t x xs nx in
-    let sy : layer_squares t from (y ∷ ys) ≡ from ∷ layer_squares t (suc from) ys
-    = ap (λ (z : ℕ). layer_squares t from (z ∷ ys)) ey ∙ layer_squares_same t from ys in
-    let order : Precedes (layer_squares t (suc from) xs) (from ∷ layer_squares t (suc from) ys)
-    = subst (λ (zs : List ℕ). Precedes zs (from ∷ layer_squares t (suc from) ys)) (layer_squares_other t from x xs nx)
-    (subst (λ (zs : List ℕ). Precedes (layer_squares t from (x ∷ xs)) zs) sy p) in
-    let none : count t xs ≡ 0 = none_from_later t from (suc from) xs (layer_squares t (suc from) ys) (omega arith) order in
+    let cy = count_at t y ys ey in
+    let cx = count_other t x xs nx in
+    let none : count t xs ≡ 0 = none_from_later t from (suc from) xs (layer_squares t (suc from) ys) (omega arith) (rw (ne_eqb x t nx, eq-eqb y t ey) at p) in
     omega arith
 
 -- an earlier list of squares is an earlier choice
 pub choice-rises : (t from : ℕ) (xs ys : List ℕ) → Alike t xs ys → count t xs ≡ count t ys
     → Precedes (layer_squares t from xs) (layer_squares t from ys) → choice t xs < choice t ys
 choice-rises t from [] [] h e p = absurd p
-choice-rises t from [] (y ∷ ys) h e p = absurd h
-choice-rises t from (x ∷ xs) [] h e p = absurd h
 choice-rises t from (x ∷ xs) (y ∷ ys) h e p = elim h.0 [
   | inl q ↦ (let same : x ≡ y = q.0 in let low : x < t = q.1 in
       let low' : y < t = omega arith in
@@ -183,6 +165,7 @@ choice-rises t from (x ∷ xs) (y ∷ ys) h e p = elim h.0 [
     ]
   ]
 ]
+choice-rises t from xs ys h e p = absurd h
 
 further : (t x y : ℕ) → AlikeAt t x y → (x ≡ t → ⊥) → (y ≡ t → ⊥) → AlikeAt (suc t) x y
 further t x y h nx ny = elim h [
@@ -193,29 +176,16 @@ further t x y h nx ny = elim h [
 -- the same squares: the layers are alike one layer further
 pub Alike-next : (t from : ℕ) (xs ys : List ℕ) → Alike t xs ys → layer_squares t from xs ≡ layer_squares t from ys → Alike (suc t) xs ys
 Alike-next t from [] [] h e = tt
-Alike-next t from [] (y ∷ ys) h e = absurd h
-Alike-next t from (x ∷ xs) [] h e = absurd h
 Alike-next t from (x ∷ xs) (y ∷ ys) h e = elim (cases_eq x t) [
   | inl ex ↦ elim (cases_eq y t) [
-    | inl ey ↦ (let sx : layer_squares t from (x ∷ xs) ≡ from ∷ layer_squares t (suc from) xs
-        = ap (λ (z : ℕ). layer_squares t from (z ∷ xs)) ex ∙ layer_squares_same t from xs in
-        let sy : layer_squares t from (y ∷ ys) ≡ from ∷ layer_squares t (suc from) ys
-        = ap (λ (z : ℕ). layer_squares t from (z ∷ ys)) ey ∙ layer_squares_same t from ys in
-        let whole : from ∷ layer_squares t (suc from) xs ≡ from ∷ layer_squares t (suc from) ys = sym sx ∙ e ∙ sy in
+    | inl ey ↦ (let whole : from ∷ layer_squares t (suc from) xs ≡ from ∷ layer_squares t (suc from) ys = rw (eq-eqb x t ex, eq-eqb y t ey) at e in
         let rest : layer_squares t (suc from) xs ≡ layer_squares t (suc from) ys = cc in
         (inl (ex ∙ sym ey, (omega arith)), Alike-next t (suc from) xs ys h.1 rest))
-    | inr ny ↦ absurd (let sx : layer_squares t from (x ∷ xs) ≡ from ∷ layer_squares t (suc from) xs
-        = ap (λ (z : ℕ). layer_squares t from (z ∷ xs)) ex ∙ layer_squares_same t from xs in
-        unlike_from_later t from (suc from) ys (layer_squares t (suc from) xs) (omega arith)
-        (sym (layer_squares_other t from y ys ny) ∙ sym e ∙ sx))
+    | inr ny ↦ absurd (unlike_from_later t from (suc from) ys (layer_squares t (suc from) xs) (omega arith) (sym (rw (eq-eqb x t ex, ne_eqb y t ny) at e)))
   ]
   | inr nx ↦ elim (cases_eq y t) [
-    | inl ey ↦ absurd (let sy : layer_squares t from (y ∷ ys) ≡ from ∷ layer_squares t (suc from) ys
-        = ap (λ (z : ℕ). layer_squares t from (z ∷ ys)) ey ∙ layer_squares_same t from ys in
-        unlike_from_later t from (suc from) xs (layer_squares t (suc from) ys) (omega arith)
-        (sym (layer_squares_other t from x xs nx) ∙ e ∙ sy))
-    | inr ny ↦ (let rest : layer_squares t (suc from) xs ≡ layer_squares t (suc from) ys
-        = sym (layer_squares_other t from x xs nx) ∙ e ∙ layer_squares_other t from y ys ny in
-        (further t x y h.0 nx ny, Alike-next t (suc from) xs ys h.1 rest))
+    | inl ey ↦ absurd (unlike_from_later t from (suc from) xs (layer_squares t (suc from) ys) (omega arith) (rw (ne_eqb x t nx, eq-eqb y t ey) at e))
+    | inr ny ↦ (further t x y h.0 nx ny, Alike-next t (suc from) xs ys h.1 (rw (ne_eqb x t nx, ne_eqb y t ny) at e))
   ]
 ]
+Alike-next t from xs ys h e = absurd h

@@ -22,10 +22,8 @@ empty_more ls = count_same (order Empty) ls
 pub empty_place-below : (ls : List ℕ) (n : ℕ) → n < count (order Empty) ls → empty_place ls n < length ls
 empty_place-below [] n h = absurd (omega arith)
 empty_place-below (l ∷ ls) n h = elim (cases_eq l (order Empty)) [
-  | inl e ↦ subst (λ (x : ℕ). empty_place (x ∷ ls) n < length (x ∷ ls)) (sym e)
-      (five ls n (subst (λ (x : ℕ). n < count (order Empty) (x ∷ ls)) e h) (λ k low. empty_place-below ls k low))
-  | inr ne ↦ (let rest = empty_place-below ls n (subst (λ (x : ℕ). n < x) (count_other (order Empty) l ls ne) h) in
-      subst (λ (x : ℕ). x < length (l ∷ ls)) (sym (kept l ls n ne)) (omega (arith, rest)))
+  | inl e ↦ rw e (five ls n (rw e at h) (λ k low. empty_place-below ls k low))
+  | inr ne ↦ (let rest = empty_place-below ls n (rw (count_other (order Empty) l ls ne) at h) in rw (kept l ls n ne) (omega (arith, rest)))
 ]
   where
     five : (ls : List ℕ) (n : ℕ) → n < count (order Empty) (order Empty ∷ ls) → ((k : ℕ) → k < count (order Empty) ls → empty_place ls k < length ls) →
@@ -55,10 +53,8 @@ past-upto a n = elim (cases_lt n a) [
 pub empty_place-set : (t a n : ℕ) (ls : List ℕ) → (t ≡ order Empty → ⊥) → empty_place (set ls (empty_place ls a) t) n ≡ empty_place ls (past a n)
 empty_place-set t a n [] h = refl
 empty_place-set t a n (l ∷ ls) h = elim (cases_eq l (order Empty)) [
-  | inl e ↦ subst (λ (x : ℕ). empty_place (set (x ∷ ls) (empty_place (x ∷ ls) a) t) n ≡ empty_place (x ∷ ls) (past a n)) (sym e)
-      (five t a n ls h (λ b k. empty_place-set t b k ls h))
-  | inr ne ↦ ap (λ (x : ℕ). empty_place (set (l ∷ ls) x t) n) (kept l ls a ne) ∙ kept l (set ls (empty_place ls a) t) n ne
-      ∙ ap suc (empty_place-set t a n ls h) ∙ sym (kept l ls (past a n) ne)
+  | inl e ↦ rw e (five t a n ls h (λ b k. empty_place-set t b k ls h))
+  | inr ne ↦ rw (kept l ls a ne, kept l (set ls (empty_place ls a) t) n ne, kept l ls (past a n) ne) (ap suc (empty_place-set t a n ls h))
 ]
   where
     five : (t a n : ℕ) (ls : List ℕ) → (t ≡ order Empty → ⊥) → ((b k : ℕ) → empty_place (set ls (empty_place ls b) t) k ≡ empty_place ls (past b k)) →
@@ -73,8 +69,7 @@ empty_place-set t a n (l ∷ ls) h = elim (cases_eq l (order Empty)) [
 pub settle_none : (t n : ℕ) (ls : List ℕ) → settle t 0 n ls ≡ ls
 settle_none t n [] = refl
 settle_none t n (l ∷ ls) = elim (cases_eq l (order Empty)) [
-  | inl e ↦ subst (λ (x : ℕ). settle t 0 n (x ∷ ls) ≡ x ∷ ls) (sym e)
-      (settle_left t 0 n ls (omega arith) ∙ ap (λ (xs : List ℕ). order Empty ∷ xs) (settle_none t (n - 0) ls))
+  | inl e ↦ rw e (settle_left t 0 n ls (omega arith) ∙ ap (λ (xs : List ℕ). order Empty ∷ xs) (settle_none t (n - 0) ls))
   | inr ne ↦ settle_kept t 0 n l ls ne ∙ ap (λ (xs : List ℕ). l ∷ xs) (settle_none t n ls)
 ]
 
@@ -85,10 +80,8 @@ one_way (suc m) = refl
 pub settle_one : (t n : ℕ) (ls : List ℕ) → n < count (order Empty) ls → settle t 1 n ls ≡ set ls (empty_place ls n) t
 settle_one t n [] h = absurd (omega arith)
 settle_one t n (l ∷ ls) h = elim (cases_eq l (order Empty)) [
-  | inl e ↦ subst (λ (x : ℕ). settle t 1 n (x ∷ ls) ≡ set (x ∷ ls) (empty_place (x ∷ ls) n) t) (sym e)
-      (five t n ls (subst (λ (x : ℕ). n < count (order Empty) (x ∷ ls)) e h) (λ k low. settle_one t k ls low))
-  | inr ne ↦ settle_kept t 1 n l ls ne ∙ ap (λ (xs : List ℕ). l ∷ xs) (settle_one t n ls (subst (λ (x : ℕ). n < x) (count_other (order Empty) l ls ne) h))
-      ∙ ap (λ (x : ℕ). set (l ∷ ls) x t) (sym (kept l ls n ne))
+  | inl e ↦ rw e (five t n ls (rw e at h) (λ k low. settle_one t k ls low))
+  | inr ne ↦ rw (settle_kept t 1 n l ls ne, settle_one t n ls (rw (count_other (order Empty) l ls ne) at h), kept l ls n ne) refl
 ]
   where
     five : (t n : ℕ) (ls : List ℕ) → n < count (order Empty) (order Empty ∷ ls)
@@ -110,20 +103,17 @@ pub settle_two : (t n : ℕ) (ls : List ℕ) → n < choose (count (order Empty)
     settle t 2 n ls ≡ set (set ls (empty_place ls (higher_of (count (order Empty) ls) n)) t) (empty_place ls (lower_of (count (order Empty) ls) n)) t
 settle_two t n [] h = absurd (omega arith)
 settle_two t n (l ∷ ls) h = elim (cases_eq l (order Empty)) [
-  | inl e ↦ subst (λ (x : ℕ). settle t 2 n (x ∷ ls) ≡ set (set (x ∷ ls) (empty_place (x ∷ ls) (higher_of (count (order Empty) (x ∷ ls)) n)) t)
-      (empty_place (x ∷ ls) (lower_of (count (order Empty) (x ∷ ls)) n)) t) (sym e)
-      (subst (λ (m : ℕ). settle t 2 n (order Empty ∷ ls) ≡ set (set (order Empty ∷ ls) (empty_place (order Empty ∷ ls) (higher_of m n)) t)
-      (empty_place (order Empty ∷ ls) (lower_of m n)) t)
-      (sym (empty_more ls))
-      (five t n ls (subst (λ (m : ℕ). n < choose m 2) (ap (λ (x : ℕ). count (order Empty) (x ∷ ls)) e ∙ empty_more ls) h) (λ k low. settle_two t k ls low)))
-  | inr ne ↦ (let same : count (order Empty) (l ∷ ls) ≡ count (order Empty) ls = count_other (order Empty) l ls ne in
-      subst (λ (m : ℕ). settle t 2 n (l ∷ ls) ≡ set (set (l ∷ ls) (empty_place (l ∷ ls) (higher_of m n)) t) (empty_place (l ∷ ls) (lower_of m n)) t) (sym same)
-      (settle_kept t 2 n l ls ne
-      ∙ ap (λ (xs : List ℕ). l ∷ xs) (settle_two t n ls (subst (λ (m : ℕ). n < choose m 2) same h))
-      ∙ ap (λ (x : ℕ). set (set (l ∷ ls) x t) (suc (empty_place ls (lower_of (count (order Empty) ls) n))) t)
-      (sym (kept l ls (higher_of (count (order Empty) ls) n) ne))
-      ∙ ap (λ (x : ℕ). set (set (l ∷ ls) (empty_place (l ∷ ls) (higher_of (count (order Empty) ls) n)) t) x t)
-      (sym (kept l ls (lower_of (count (order Empty) ls) n) ne))))
+  | inl e ↦ rw (e, empty_more ls) (five t n ls (subst (λ (m : ℕ). n < choose m 2) (ap (λ (x : ℕ). count (order Empty) (x ∷ ls)) e ∙ empty_more ls) h)
+      (λ k low. settle_two t k ls low))
+  | inr ne ↦
+      let same : count (order Empty) (l ∷ ls) ≡ count (order Empty) ls = count_other (order Empty) l ls ne in
+      rw (
+        same,
+        settle_kept t 2 n l ls ne,
+        settle_two t n ls (subst (λ (m : ℕ). n < choose m 2) same h),
+        kept l ls (higher_of (count (order Empty) ls) n) ne,
+        kept l ls (lower_of (count (order Empty) ls) n) ne,
+      ) refl
 ]
   where
     five : (t n : ℕ) (ls : List ℕ) → n < choose (suc (count (order Empty) ls)) 2 →

@@ -1,106 +1,49 @@
 -- Forms as digits: a layer's forms number comes back from the board of it, and so does each board.
-use Rattle.dob_rank.proofs.Common.{◌%◌, ◌*◌, ◌+◌, ◌/◌, ◌<◌, ◌^◌, ◌∙◌, ◌∷◌, ◌≡◌, ◌≤◌, List, None, Some, [], ap, arith, inl, inr, map, refl, subst, suc, sym}
-use Rattle.dob_rank.proofs.Common.{zero, ℕ, mod-mul, mod-one, pow-succ', pow-zero, cases_eq, eq-eqb, ne_eqb, mod_below, same_from_place, Cell, piece_of, Kind}
-use Rattle.dob_rank.proofs.Common.{Chick, Elephant, Giraffe, Hen, Lion, Side, Enemy, Mover, base_of, board_of, cell_of, count, forms_number, layer, layer_of}
-use Rattle.dob_rank.proofs.Common.{order, form, form_of, Empty}
+use Rattle.dob_rank.proofs.Common.{◌%◌, ◌*◌, ◌+◌, ◌/◌, ◌<◌, ◌^◌, ◌∙◌, ◌∷◌, ◌≡◌, ◌≤◌, List, [], ap, arith, inl, inr, map, refl, subst, suc, sym, zero, ℕ}
+use Rattle.dob_rank.proofs.Common.{mod-mul, mod-one, pow-succ', pow-zero, cases_eq, eq-eqb, ne_eqb, mod_below, same_from_place, Cell, base_of, board_of}
+use Rattle.dob_rank.proofs.Common.{cell_of, count, forms_number, layer, order, form, Empty}
 use Rattle.dob_rank.proofs.Arithmetic.MixedRadix.{digit_below}
-use Rattle.dob_rank.proofs.Boards.Choices.{count_same, count_other}
+use Rattle.dob_rank.proofs.Boards.Choices.{count_same, count_other, count_at}
 use Rattle.dob_rank.proofs.Boards.Settled.{AreLayers}
+use Rattle.dob_rank.proofs.Boards.EachCell.{of_cell}
 
 -- ---- the pieces of a layer and their forms
 
-pub form_of-below : (s : Side) (k : Kind) → form_of s k < base_of (order (layer_of s k))
-form_of-below Mover Lion = omega arith
-form_of-below Mover Giraffe = omega arith
-form_of-below Mover Elephant = omega arith
-form_of-below Mover Chick = omega arith
-form_of-below Mover Hen = omega arith
-form_of-below Enemy Lion = omega arith
-form_of-below Enemy Giraffe = omega arith
-form_of-below Enemy Elephant = omega arith
-form_of-below Enemy Chick = omega arith
-form_of-below Enemy Hen = omega arith
-
 pub form-below : (cell : Cell) → form cell < base_of (layer cell)
-form-below None = omega arith
-form-below (Some piece) = form_of-below piece.side piece.kind
-
-pub layer_of-bound : (s : Side) (k : Kind) → order (layer_of s k) < order Empty
-layer_of-bound Mover Lion = omega arith
-layer_of-bound Mover Giraffe = omega arith
-layer_of-bound Mover Elephant = omega arith
-layer_of-bound Mover Chick = omega arith
-layer_of-bound Mover Hen = omega arith
-layer_of-bound Enemy Lion = omega arith
-layer_of-bound Enemy Giraffe = omega arith
-layer_of-bound Enemy Elephant = omega arith
-layer_of-bound Enemy Chick = omega arith
-layer_of-bound Enemy Hen = omega arith
+form-below = of_cell (λ cell. form cell < base_of (layer cell)) (omega arith)
+    (omega arith, omega arith, omega arith, omega arith, omega arith) (omega arith, omega arith, omega arith, omega arith, omega arith)
 
 pub layer-bound : (cell : Cell) → layer cell ≤ order Empty
-layer-bound None = omega arith
-layer-bound (Some piece) = (let low : order (layer_of piece.side piece.kind) < order Empty = layer_of-bound piece.side piece.kind in omega arith)
+layer-bound = of_cell (λ cell. layer cell ≤ order Empty) (omega arith)
+    (omega arith, omega arith, omega arith, omega arith, omega arith) (omega arith, omega arith, omega arith, omega arith, omega arith)
 
 pub AreLayers-map : (cells : List Cell) → AreLayers (map layer cells)
 AreLayers-map [] = tt
 AreLayers-map (cell ∷ cells) = (layer-bound cell, AreLayers-map cells)
 
--- the cell of a piece's layer and form has that piece
-pub cell_of-piece : (s : Side) (k : Kind) → cell_of (order (layer_of s k)) (form_of s k) ≡ Some (piece_of s k)
-cell_of-piece Mover Lion = refl
-cell_of-piece Mover Giraffe = refl
-cell_of-piece Mover Elephant = refl
-cell_of-piece Mover Chick = refl
-cell_of-piece Mover Hen = refl
-cell_of-piece Enemy Lion = refl
-cell_of-piece Enemy Giraffe = refl
-cell_of-piece Enemy Elephant = refl
-cell_of-piece Enemy Chick = refl
-cell_of-piece Enemy Hen = refl
-
+-- the cell of a cell's layer and form is that cell
 pub cell_of-cell : (cell : Cell) → cell_of (layer cell) (form cell) ≡ cell
-cell_of-cell None = refl
-cell_of-cell (Some piece) = cell_of-piece piece.side piece.kind
+cell_of-cell = of_cell (λ cell. cell_of (layer cell) (form cell) ≡ cell) refl (refl, refl, refl, refl, refl) (refl, refl, refl, refl, refl)
 
 -- a cell made has its layer
 pub layer-cell_of : (l f : ℕ) → l ≤ order Empty → layer (cell_of l f) ≡ l
-layer-cell_of zero f h = refl
-layer-cell_of (suc zero) f h = refl
-layer-cell_of (suc (suc zero)) zero h = refl
-layer-cell_of (suc (suc zero)) (suc zero) h = refl
-layer-cell_of (suc (suc zero)) (suc (suc zero)) h = refl
 layer-cell_of (suc (suc zero)) (suc (suc (suc f))) h = refl
-layer-cell_of (suc (suc (suc zero))) zero h = refl
 layer-cell_of (suc (suc (suc zero))) (suc f) h = refl
-layer-cell_of (suc (suc (suc (suc zero)))) zero h = refl
 layer-cell_of (suc (suc (suc (suc zero)))) (suc f) h = refl
-layer-cell_of (suc (suc (suc (suc (suc zero))))) f h = refl
 layer-cell_of (suc (suc (suc (suc (suc (suc l)))))) f h = absurd (omega arith)
+layer-cell_of l f h = refl
 
 -- a cell made has its form
 pub form-cell_of : (l f : ℕ) → l < order Empty → f < base_of l → form (cell_of l f) ≡ f
-form-cell_of zero f h k = omega arith
-form-cell_of (suc zero) f h k = omega arith
-form-cell_of (suc (suc zero)) zero h k = refl
-form-cell_of (suc (suc zero)) (suc zero) h k = refl
-form-cell_of (suc (suc zero)) (suc (suc zero)) h k = refl
-form-cell_of (suc (suc zero)) (suc (suc (suc zero))) h k = refl
-form-cell_of (suc (suc zero)) (suc (suc (suc (suc f)))) h k = absurd (omega arith)
-form-cell_of (suc (suc (suc zero))) zero h k = refl
-form-cell_of (suc (suc (suc zero))) (suc zero) h k = refl
-form-cell_of (suc (suc (suc zero))) (suc (suc f)) h k = absurd (omega arith)
-form-cell_of (suc (suc (suc (suc zero)))) zero h k = refl
-form-cell_of (suc (suc (suc (suc zero)))) (suc zero) h k = refl
-form-cell_of (suc (suc (suc (suc zero)))) (suc (suc f)) h k = absurd (omega arith)
-form-cell_of (suc (suc (suc (suc (suc l))))) f h k = absurd (omega arith)
+form-cell_of (suc (suc zero)) (suc (suc (suc (suc f)))) h k = omega arith
+form-cell_of (suc (suc (suc zero))) (suc (suc f)) h k = omega arith
+form-cell_of (suc (suc (suc (suc zero)))) (suc (suc f)) h k = omega arith
+form-cell_of (suc (suc (suc (suc (suc l))))) f h k = omega arith
+form-cell_of l f h k = omega arith
 
 pub base_of-positive : (t : ℕ) → 0 < base_of t
-base_of-positive zero = omega arith
-base_of-positive (suc zero) = omega arith
-base_of-positive (suc (suc zero)) = omega arith
-base_of-positive (suc (suc (suc zero))) = omega arith
-base_of-positive (suc (suc (suc (suc zero)))) = omega arith
 base_of-positive (suc (suc (suc (suc (suc t))))) = omega arith
+base_of-positive t = omega arith
 
 pub power_positive : (b k : ℕ) → 0 < b → 0 < b ^ k
 power_positive b zero h = omega (arith, pow-zero b)
@@ -115,26 +58,16 @@ forms_number_same t cell cells h = rw (eq-eqb (layer cell) t h) refl
 pub forms_number_other : (t : ℕ) (cell : Cell) (cells : List Cell) → (layer cell ≡ t → ⊥) → forms_number t (cell ∷ cells) ≡ forms_number t cells
 forms_number_other t cell cells h = rw (ne_eqb (layer cell) t h) (omega arith)
 
-count_at : (t l : ℕ) (ls : List ℕ) → l ≡ t → count t (l ∷ ls) ≡ suc (count t ls)
-count_at t l ls e = ap (λ (x : ℕ). count t (x ∷ ls)) e ∙ count_same t ls
-
 -- the forms number is below the power of the base
 pub forms_number-below : (t : ℕ) (cells : List Cell) → forms_number t cells < base_of t ^ count t (map layer cells)
 forms_number-below t [] = omega (arith, pow-zero (base_of t))
 forms_number-below t (cell ∷ cells) =
     let rest : forms_number t cells < base_of t ^ count t (map layer cells) = forms_number-below t cells in
     elim (cases_eq (layer cell) t) [
-      | inl e ↦ (let more : base_of t ^ count t (layer cell ∷ map layer cells) ≡ base_of t * base_of t ^ count t (map layer cells)
-          = ap (λ (x : ℕ). base_of t ^ x) (count_at t (layer cell) (map layer cells) e) ∙ pow-succ' (base_of t) (count t (map layer cells)) in
-          let f : form cell < base_of t = subst (λ (x : ℕ). form cell < base_of x) e (form-below cell) in
-          let low : form cell * base_of t ^ count t (map layer cells) + forms_number t cells < base_of t * base_of t ^ count t (map layer cells)
-          = digit_below (form cell) (base_of t) (base_of t ^ count t (map layer cells)) (forms_number t cells) f rest in
-          let number : forms_number t (cell ∷ cells) ≡ form cell * base_of t ^ count t (map layer cells) + forms_number t cells
-          = forms_number_same t cell cells e in
-          subst (λ (x : ℕ). forms_number t (cell ∷ cells) < x) (sym more)
-          (subst (λ (x : ℕ). x < base_of t * base_of t ^ count t (map layer cells)) (sym number) low))
-      | inr n ↦ subst (λ (x : ℕ). x < base_of t ^ count t (layer cell ∷ map layer cells)) (sym (forms_number_other t cell cells n))
-          (subst (λ (x : ℕ). forms_number t cells < base_of t ^ x) (sym (count_other t (layer cell) (map layer cells) n)) rest)
+      | inl e ↦ rw (forms_number_same t cell cells e, count_at t (layer cell) (map layer cells) e, pow-succ' (base_of t) (count t (map layer cells)))
+          (digit_below (form cell) (base_of t) (base_of t ^ count t (map layer cells)) (forms_number t cells)
+          (subst (λ (x : ℕ). form cell < base_of x) e (form-below cell)) rest)
+      | inr n ↦ rw (forms_number_other t cell cells n, count_other t (layer cell) (map layer cells) n) rest
     ]
 
 -- ---- back and forth
@@ -148,15 +81,11 @@ pub board_of-back : (numbers : ℕ → ℕ) (cells : List Cell)
     → ((t : ℕ) → numbers t % base_of t ^ count t (map layer cells) ≡ forms_number t cells) → board_of numbers (map layer cells) ≡ cells
 board_of-back numbers [] h = refl
 board_of-back numbers (cell ∷ cells) h =
-    let l : ℕ = layer cell in
-    let w : ℕ = base_of (layer cell) ^ count (layer cell) (map layer cells) in
-    let more : base_of (layer cell) ^ count (layer cell) (layer cell ∷ map layer cells)
-    ≡ base_of (layer cell) * base_of (layer cell) ^ count (layer cell) (map layer cells)
-    = ap (λ (x : ℕ). base_of (layer cell) ^ x) (count_same (layer cell) (map layer cells))
-    ∙ pow-succ' (base_of (layer cell)) (count (layer cell) (map layer cells)) in
-    let here : numbers (layer cell) % (base_of (layer cell) * base_of (layer cell) ^ count (layer cell) (map layer cells))
-    ≡ form cell * base_of (layer cell) ^ count (layer cell) (map layer cells) + forms_number (layer cell) cells
-    = ap (λ (x : ℕ). numbers (layer cell) % x) (sym more) ∙ h (layer cell) ∙ forms_number_same (layer cell) cell cells refl in
+    let here = rw (
+      count_same (layer cell) (map layer cells),
+      pow-succ' (base_of (layer cell)) (count (layer cell) (map layer cells)),
+      forms_number_same (layer cell) cell cells refl,
+    ) at (h (layer cell)) in
     let two = digits_apart (numbers (layer cell)) (base_of (layer cell)) (base_of (layer cell) ^ count (layer cell) (map layer cells))
     (form cell) (forms_number (layer cell) cells)
     (base_of-positive (layer cell)) (power_positive (base_of (layer cell)) (count (layer cell) (map layer cells)) (base_of-positive (layer cell))) here
@@ -184,15 +113,16 @@ at_layer : (numbers : ℕ → ℕ) (t l : ℕ) (ls : List ℕ) → t < order Emp
 at_layer numbers t l ls h e layers rest head =
     let f : form (cell_of t (numbers t / base_of t ^ count t ls % base_of t)) ≡ numbers t / base_of t ^ count t ls % base_of t
     = form-cell_of t (numbers t / base_of t ^ count t ls % base_of t) h (mod_below (numbers t / base_of t ^ count t ls) (base_of t) (base_of-positive t)) in
-    subst (λ (x : ℕ). forms_number t (board_of numbers (x ∷ ls)) ≡ numbers t % base_of t ^ count t (x ∷ ls)) (sym e)
-    (forms_number_same t (cell_of t (numbers t / base_of t ^ count t ls % base_of t)) (board_of numbers ls)
-    (subst (λ (x : ℕ). layer (cell_of x (numbers x / base_of x ^ count x ls % base_of x)) ≡ x) e head)
-    ∙ ap (λ (x : ℕ). x * base_of t ^ count t (map layer (board_of numbers ls)) + forms_number t (board_of numbers ls)) f
-    ∙ ap (λ (xs : List ℕ). numbers t / base_of t ^ count t ls % base_of t * base_of t ^ count t xs + forms_number t (board_of numbers ls)) layers
-    ∙ ap (λ (x : ℕ). numbers t / base_of t ^ count t ls % base_of t * base_of t ^ count t ls + x) rest
-    ∙ sym (mod-mul (numbers t) (base_of-positive t) (power_positive (base_of t) (count t ls) (base_of-positive t)))
-    ∙ ap (λ (x : ℕ). numbers t % x) (sym (pow-succ' (base_of t) (count t ls)))
-    ∙ ap (λ (x : ℕ). numbers t % base_of t ^ x) (sym (count_same t ls)))
+    rw (
+      e,
+      forms_number_same t (cell_of t (numbers t / base_of t ^ count t ls % base_of t)) (board_of numbers ls) (rw e at head),
+      f,
+      layers,
+      rest,
+      count_same t ls,
+      pow-succ' (base_of t) (count t ls),
+      mod-mul (numbers t) (base_of-positive t) (power_positive (base_of t) (count t ls) (base_of-positive t)),
+    ) refl
 
 -- the forms number of the board made is the number that it was made from
 pub forms_number-board_of : (numbers : ℕ → ℕ) (t : ℕ) (ls : List ℕ) → t < order Empty → AreLayers ls
@@ -201,7 +131,6 @@ forms_number-board_of numbers t [] h a = sym (ap (λ (x : ℕ). numbers t % x) (
 forms_number-board_of numbers t (l ∷ ls) h a =
     let rest : forms_number t (board_of numbers ls) ≡ numbers t % base_of t ^ count t ls = forms_number-board_of numbers t ls h a.1 in
     let layers : map layer (board_of numbers ls) ≡ ls = layers-board_of numbers ls a.1 in
-    let f : ℕ = numbers l / base_of l ^ count l ls % base_of l in
     let head : layer (cell_of l (numbers l / base_of l ^ count l ls % base_of l)) ≡ l = layer-cell_of l (numbers l / base_of l ^ count l ls % base_of l) a.0 in
     elim (cases_eq l t) [
       | inl e ↦ at_layer numbers t l ls h e layers rest head

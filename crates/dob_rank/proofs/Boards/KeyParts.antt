@@ -1,9 +1,9 @@
 -- The parts of the key against the digits: squares against choices, forms against forms numbers.
 use Rattle.dob_rank.proofs.Common.{◌*◌, ◌+◌, ◌<◌, ◌^◌, ◌∙◌, ◌∷◌, ◌≡◌, ◌≤◌, List, [], ap, arith, cond, eqb, inl, inr, length, map, refl, replicate, subst, suc}
 use Rattle.dob_rank.proofs.Common.{sym, zero, ℕ, pow-succ', pow-zero, cases_eq, cases_lt, eq-eqb, ne_eqb, filter, Cell, HasDigits, base_of, choice, count}
-use Rattle.dob_rank.proofs.Common.{count_from, forms_number, layer, number_of, product, with_first, Precedes, form}
+use Rattle.dob_rank.proofs.Common.{count_from, forms_number, layer, number_of, product, Precedes, form}
 use Rattle.dob_rank.proofs.Arithmetic.MixedRadix.{number_of-rises}
-use Rattle.dob_rank.proofs.Boards.Choices.{Alike, layer_squares, layer_squares_same, layer_squares_other, count_same, count_other, count_from-alike}
+use Rattle.dob_rank.proofs.Boards.Choices.{Alike, layer_squares, count_other, count_from-alike, count_at}
 use Rattle.dob_rank.proofs.Boards.Choices.{choice_later, choice_not_later}
 use Rattle.dob_rank.proofs.Boards.FormDigits.{form-below, forms_number_same, forms_number_other}
 
@@ -12,22 +12,18 @@ use Rattle.dob_rank.proofs.Boards.FormDigits.{form-below, forms_number_same, for
 pub length-layer_squares : (t from : ℕ) (ls : List ℕ) → length (layer_squares t from ls) ≡ count t ls
 length-layer_squares t from [] = refl
 length-layer_squares t from (l ∷ ls) = elim (cases_eq l t) [
-  | inl e ↦ ap (λ (x : ℕ). length (layer_squares t from (x ∷ ls))) e ∙ ap length (layer_squares_same t from ls) ∙ ap suc (length-layer_squares t (suc from) ls)
-      ∙ sym (ap (λ (x : ℕ). count t (x ∷ ls)) e ∙ count_same t ls)
-  | inr n ↦ ap length (layer_squares_other t from l ls n) ∙ length-layer_squares t (suc from) ls ∙ sym (count_other t l ls n)
+  | inl e ↦ rw (count_at t l ls e, eq-eqb l t e) (ap suc (length-layer_squares t (suc from) ls))
+  | inr n ↦ rw (count_other t l ls n, ne_eqb l t n) (length-layer_squares t (suc from) ls)
 ]
 
 -- boards of the same length are alike below layer 0
 pub Alike-start : (xs ys : List ℕ) → length xs ≡ length ys → Alike 0 xs ys
 Alike-start [] [] e = tt
-Alike-start [] (y ∷ ys) e = absurd (omega arith)
-Alike-start (x ∷ xs) [] e = absurd (omega arith)
 Alike-start (x ∷ xs) (y ∷ ys) e = (inr ((omega arith), (omega arith)), Alike-start xs ys (omega arith))
+Alike-start xs ys e = absurd (omega arith)
 
 pub count-alike : (t : ℕ) (xs ys : List ℕ) → Alike (suc t) xs ys → count t xs ≡ count t ys
 count-alike t [] [] h = refl
-count-alike t [] (y ∷ ys) h = absurd h
-count-alike t (x ∷ xs) [] h = absurd h
 count-alike t (x ∷ xs) (y ∷ ys) h =
     let rest : count t xs ≡ count t ys = count-alike t xs ys h.1 in
     elim h.0 [
@@ -35,11 +31,10 @@ count-alike t (x ∷ xs) (y ∷ ys) h =
       | inr q ↦ (let a : suc t ≤ x = q.0 in let b : suc t ≤ y = q.1 in let nx : x ≡ t → ⊥ = omega arith in let ny : y ≡ t → ⊥ = omega arith in
           count_other t x xs nx ∙ rest ∙ sym (count_other t y ys ny))
     ]
+count-alike t xs ys h = absurd h
 
 pub count_from-alike-next : (t : ℕ) (xs ys : List ℕ) → Alike (suc t) xs ys → Alike t xs ys
 count_from-alike-next t [] [] h = tt
-count_from-alike-next t [] (y ∷ ys) h = absurd h
-count_from-alike-next t (x ∷ xs) [] h = absurd h
 count_from-alike-next t (x ∷ xs) (y ∷ ys) h = (
   elim h.0 [
     | inl q ↦ (let low : x < suc t = q.1 in elim (cases_lt x t) [
@@ -50,12 +45,11 @@ count_from-alike-next t (x ∷ xs) (y ∷ ys) h = (
   ],
   count_from-alike-next t xs ys h.1,
 )
+count_from-alike-next t xs ys h = absurd h
 
 -- layers that are alike up to t make the same choice
 pub choice-alike : (t : ℕ) (xs ys : List ℕ) → Alike (suc t) xs ys → choice t xs ≡ choice t ys
 choice-alike t [] [] h = refl
-choice-alike t [] (y ∷ ys) h = absurd h
-choice-alike t (x ∷ xs) [] h = absurd h
 choice-alike t (x ∷ xs) (y ∷ ys) h =
     let rest : choice t xs ≡ choice t ys = choice-alike t xs ys h.1 in
     elim h.0 [
@@ -63,10 +57,9 @@ choice-alike t (x ∷ xs) (y ∷ ys) h =
           choice_not_later t x xs (omega arith) ∙ rest ∙ sym (choice_not_later t y ys (omega arith)))
       | inr q ↦ (let c : count t xs ≡ count t ys = count-alike t xs ys h.1 in
           let m : count_from t xs ≡ count_from t ys = count_from-alike t xs ys (count_from-alike-next t xs ys h.1) in
-          choice_later t x xs q.0 ∙ ap (λ (n : ℕ). with_first n (count t xs) + choice t xs) m
-          ∙ ap (λ (n : ℕ). with_first (count_from t ys) n + choice t xs) c ∙ ap (λ (n : ℕ). with_first (count_from t ys) (count t ys) + n) rest
-          ∙ sym (choice_later t y ys q.1))
+          rw (choice_later t x xs q.0, choice_later t y ys q.1, m, c, rest) refl)
     ]
+choice-alike t xs ys h = absurd h
 
 -- ---- forms
 
@@ -83,9 +76,8 @@ layer_forms_other t cell cells h = rw (ne_eqb (layer cell) t h) refl
 pub length-layer_forms : (t : ℕ) (cells : List Cell) → length (layer_forms t cells) ≡ count t (map layer cells)
 length-layer_forms t [] = refl
 length-layer_forms t (cell ∷ cells) = elim (cases_eq (layer cell) t) [
-  | inl e ↦ ap length (layer_forms_same t cell cells e) ∙ ap suc (length-layer_forms t cells)
-      ∙ sym (ap (λ (x : ℕ). count t (x ∷ map layer cells)) e ∙ count_same t (map layer cells))
-  | inr n ↦ ap length (layer_forms_other t cell cells n) ∙ length-layer_forms t cells ∙ sym (count_other t (layer cell) (map layer cells) n)
+  | inl e ↦ rw (count_at t (layer cell) (map layer cells) e, layer_forms_same t cell cells e) (ap suc (length-layer_forms t cells))
+  | inr n ↦ rw (count_other t (layer cell) (map layer cells) n, layer_forms_other t cell cells n) (length-layer_forms t cells)
 ]
 
 pub product-replicate : (b n : ℕ) → product (replicate n b) ≡ b ^ n
@@ -96,29 +88,23 @@ product-replicate b (suc n) = ap (λ (x : ℕ). b * x) (product-replicate b n) �
 pub HasDigits-layer_forms : (t : ℕ) (cells : List Cell) → HasDigits (replicate (count t (map layer cells)) (base_of t)) (layer_forms t cells)
 HasDigits-layer_forms t [] = tt
 HasDigits-layer_forms t (cell ∷ cells) = elim (cases_eq (layer cell) t) [
-  | inl e ↦ subst (λ (n : ℕ). HasDigits (replicate n (base_of t)) (layer_forms t (cell ∷ cells)))
-      (sym (ap (λ (x : ℕ). count t (x ∷ map layer cells)) e ∙ count_same t (map layer cells)))
-      (subst (λ (xs : List ℕ). HasDigits (base_of t ∷ replicate (count t (map layer cells)) (base_of t)) xs) (sym (layer_forms_same t cell cells e))
-      (subst (λ (x : ℕ). form cell < base_of x) e (form-below cell), HasDigits-layer_forms t cells))
-  | inr n ↦ subst (λ (m : ℕ). HasDigits (replicate m (base_of t)) (layer_forms t (cell ∷ cells))) (sym (count_other t (layer cell) (map layer cells) n))
-      (subst (λ (xs : List ℕ). HasDigits (replicate (count t (map layer cells)) (base_of t)) xs)
-      (sym (layer_forms_other t cell cells n)) (HasDigits-layer_forms t cells))
+  | inl e ↦ rw (count_at t (layer cell) (map layer cells) e, layer_forms_same t cell cells e)
+      (subst (λ (x : ℕ). form cell < base_of x) e (form-below cell), HasDigits-layer_forms t cells)
+  | inr n ↦ rw (count_other t (layer cell) (map layer cells) n, layer_forms_other t cell cells n) (HasDigits-layer_forms t cells)
 ]
 
 pub forms_number-digits : (t : ℕ) (cells : List Cell)
     → forms_number t cells ≡ number_of (replicate (count t (map layer cells)) (base_of t)) (layer_forms t cells)
 forms_number-digits t [] = refl
 forms_number-digits t (cell ∷ cells) = elim (cases_eq (layer cell) t) [
-  | inl e ↦ forms_number_same t cell cells e
-      ∙ ap (λ (x : ℕ). form cell * base_of t ^ count t (map layer cells) + x) (forms_number-digits t cells)
-      ∙ ap (λ (x : ℕ). form cell * x + number_of (replicate (count t (map layer cells)) (base_of t)) (layer_forms t cells))
-      (sym (product-replicate (base_of t) (count t (map layer cells))))
-      ∙ ap (λ (xs : List ℕ). number_of (base_of t ∷ replicate (count t (map layer cells)) (base_of t)) xs) (sym (layer_forms_same t cell cells e))
-      ∙ ap (λ (n : ℕ). number_of (replicate n (base_of t)) (layer_forms t (cell ∷ cells)))
-      (sym (ap (λ (x : ℕ). count t (x ∷ map layer cells)) e ∙ count_same t (map layer cells)))
-  | inr n ↦ forms_number_other t cell cells n ∙ forms_number-digits t cells
-      ∙ ap (λ (xs : List ℕ). number_of (replicate (count t (map layer cells)) (base_of t)) xs) (sym (layer_forms_other t cell cells n))
-      ∙ ap (λ (m : ℕ). number_of (replicate m (base_of t)) (layer_forms t (cell ∷ cells))) (sym (count_other t (layer cell) (map layer cells) n))
+  | inl e ↦ rw (
+    forms_number_same t cell cells e,
+    count_at t (layer cell) (map layer cells) e,
+    layer_forms_same t cell cells e,
+    product-replicate (base_of t) (count t (map layer cells)),
+    forms_number-digits t cells,
+  ) refl
+  | inr n ↦ rw (forms_number_other t cell cells n, count_other t (layer cell) (map layer cells) n, layer_forms_other t cell cells n) (forms_number-digits t cells)
 ]
 
 -- earlier forms have a lower number, and the same forms the same

@@ -6,7 +6,7 @@ use Rattle.dob_rank.proofs.Common.{Empty, EnemyLion, Giraffes, OwnLion}
 use Rattle.std.proofs.lemmas.List.Recursion.{is_count_by}
 use Rattle.dob_pieces.specs.declared.kind.HandKind.TheVariants as hand
 use Rattle.dob_rank.proofs.Boards.EachCell.{of_cell}
-use Rattle.dob_rank.proofs.Boards.Choices.{count_same, count_other, count_from_lower, count_from_later, choice_later, choice_not_later, layer_squares}
+use Rattle.dob_rank.proofs.Boards.Choices.{count_other, count_from_lower, count_from_later, choice_later, choice_not_later, layer_squares, no_first, count_at}
 use Rattle.dob_rank.proofs.Boards.Settled.{AreShown, AreLayers, settle_kept, settle_taken, settle_left}
 
 -- ---- counts of one layer and of all from a layer on
@@ -16,17 +16,13 @@ count_from-next t [] = omega arith
 count_from-next t (l ∷ ls) =
     let rest : count_from (suc t) ls + count t ls ≡ count_from t ls = count_from-next t ls in
     elim (cases_order l t) [
-      | inl e ↦ (let a : count_from (suc t) (l ∷ ls) ≡ count_from (suc t) ls = count_from_lower (suc t) l ls (omega arith) in
-          let b : count t (l ∷ ls) ≡ suc (count t ls) = ap (λ (x : ℕ). count t (x ∷ ls)) e ∙ count_same t ls in
-          let c : count_from t (l ∷ ls) ≡ suc (count_from t ls) = count_from_later t l ls (omega arith) in omega arith)
-      | inr o ↦ (let other : l ≡ t → ⊥ = elim o [ inl lt ↦ omega arith | inr gt ↦ omega arith ] in
-          let b : count t (l ∷ ls) ≡ count t ls = count_other t l ls other in
-          elim o [
-            | inl lt ↦ (let a : count_from (suc t) (l ∷ ls) ≡ count_from (suc t) ls = count_from_lower (suc t) l ls (omega arith) in
-                let c : count_from t (l ∷ ls) ≡ count_from t ls = count_from_lower t l ls lt in omega arith)
-            | inr gt ↦ (let a : count_from (suc t) (l ∷ ls) ≡ suc (count_from (suc t) ls) = count_from_later (suc t) l ls gt in
-                let c : count_from t (l ∷ ls) ≡ suc (count_from t ls) = count_from_later t l ls (omega arith) in omega arith)
-          ])
+      | inl e ↦ rw (count_from_lower (suc t) l ls (omega arith), count_at t l ls e, count_from_later t l ls (omega arith)) (omega (arith, rest))
+      | inr o ↦ elim o [
+        | inl lt ↦ (let other : l ≡ t → ⊥ = omega arith in
+            rw (count_from_lower (suc t) l ls (omega arith), count_other t l ls other, count_from_lower t l ls lt) rest)
+        | inr gt ↦ (let other : l ≡ t → ⊥ = omega arith in
+            rw (count_from_later (suc t) l ls gt, count_other t l ls other, count_from_later t l ls (omega arith)) (omega (arith, rest)))
+      ]
     ]
 
 pub count_from-zero : (ls : List ℕ) → count_from (order OwnLion) ls ≡ length ls
@@ -39,8 +35,8 @@ count_five t [] h a = refl
 count_five t (l ∷ ls) h a =
     let rest : count (order Empty) ls ≡ count_from t ls = count_five t ls h a.1 in
     elim a.0 [
-      | inl lt ↦ (let other : l ≡ order Empty → ⊥ = omega arith in count_other (order Empty) l ls other ∙ rest ∙ sym (count_from_lower t l ls lt))
-      | inr e ↦ ap (λ (x : ℕ). count (order Empty) (x ∷ ls)) e ∙ count_same (order Empty) ls ∙ ap suc rest ∙ sym (count_from_later t l ls (omega arith))
+      | inl lt ↦ (let other : l ≡ order Empty → ⊥ = omega arith in rw (count_other (order Empty) l ls other, count_from_lower t l ls lt) rest)
+      | inr e ↦ rw (count_at (order Empty) l ls e, count_from_later t l ls (omega arith)) (ap suc rest)
     ]
 
 pub AreLayers-shown : (ls : List ℕ) → AreShown (order Empty) ls → AreLayers ls
@@ -51,50 +47,39 @@ pub length-settle : (t pieces number : ℕ) (ls : List ℕ) → length (settle t
 length-settle t pieces number [] = refl
 length-settle t pieces number (l ∷ ls) = elim (cases_eq l (order Empty)) [
   | inr n ↦ ap length (settle_kept t pieces number l ls n) ∙ ap suc (length-settle t pieces number ls)
-  | inl e ↦ ap (λ (x : ℕ). length (settle t pieces number (x ∷ ls))) e
-      ∙ elim (cases_lt number (with_first (count (order Empty) ls) pieces)) [
-        | inl lt ↦ ap length (settle_taken t pieces number ls lt) ∙ ap suc (length-settle t (pieces - 1) number ls)
-        | inr le ↦ ap length (settle_left t pieces number ls le) ∙ ap suc (length-settle t pieces (number - with_first (count (order Empty) ls) pieces) ls)
-      ]
+  | inl e ↦ elim (cases_lt number (with_first (count (order Empty) ls) pieces)) [
+    | inl lt ↦ rw (e, settle_taken t pieces number ls lt) (ap suc (length-settle t (pieces - 1) number ls))
+    | inr le ↦ rw (e, settle_left t pieces number ls le) (ap suc (length-settle t pieces (number - with_first (count (order Empty) ls) pieces) ls))
+  ]
 ]
 
 -- ---- a layer of one cell
 
 pub choice_none : (t : ℕ) (ls : List ℕ) → count t ls ≡ 0 → choice t ls ≡ 0
 choice_none t [] h = refl
-choice_none t (l ∷ ls) h = elim (cases_order l t) [
-  | inl e ↦ absurd (let one : count t (l ∷ ls) ≡ suc (count t ls) = ap (λ (x : ℕ). count t (x ∷ ls)) e ∙ count_same t ls in omega arith)
-  | inr o ↦ (let other : l ≡ t → ⊥ = elim o [ inl lt ↦ omega arith | inr gt ↦ omega arith ] in
-      let none : count t ls ≡ 0 = sym (count_other t l ls other) ∙ h in
-      let rest : choice t ls ≡ 0 = choice_none t ls none in
-      elim o [
-        | inl lt ↦ choice_not_later t l ls (omega arith) ∙ rest
-        | inr gt ↦ choice_later t l ls gt ∙ ap (λ (x : ℕ). with_first (count_from t ls) x + choice t ls) none ∙ ap (λ (x : ℕ). 0 + x) rest
-      ])
-]
+choice_none t (l ∷ ls) h =
+    let rest = no_first t l ls h in
+    let again : choice t ls ≡ 0 = choice_none t ls rest.1 in
+    elim (cases_lt t l) [
+      | inl gt ↦ rw (choice_later t l ls gt, rest.1) (omega (arith, again))
+      | inr le ↦ choice_not_later t l ls le ∙ again
+    ]
 
 pub count_positive : (t : ℕ) (ls : List ℕ) (k : ℕ) → t < order Empty → get_or ls k (order Empty) ≡ t → 0 < count t ls
 count_positive t [] k h e = absurd (let five : order Empty ≡ t = e in omega arith)
-count_positive t (l ∷ ls) zero h e = (let one : count t (l ∷ ls) ≡ suc (count t ls) = ap (λ (x : ℕ). count t (x ∷ ls)) e ∙ count_same t ls in omega arith)
-count_positive t (l ∷ ls) (suc k) h e = (let rest : 0 < count t ls = count_positive t ls k h e in
-    elim (cases_eq l t) [
-      | inl i ↦ (let one : count t (l ∷ ls) ≡ suc (count t ls) = ap (λ (x : ℕ). count t (x ∷ ls)) i ∙ count_same t ls in omega arith)
-      | inr n ↦ (let one : count t (l ∷ ls) ≡ count t ls = count_other t l ls n in omega arith)
-    ])
+count_positive t (l ∷ ls) zero h e = (let one = count_at t l ls e in omega arith)
+count_positive t (l ∷ ls) (suc k) h e = (let rest : 0 < count t ls = count_positive t ls k h e in omega arith)
+
+next_lion : (l : ℕ) (ls : List ℕ) → count (order OwnLion) ls ≡ 1 → choice (order OwnLion) (suc l ∷ ls) ≡ suc (choice (order OwnLion) ls)
+next_lion l ls one = rw (choice_later (order OwnLion) (suc l) ls (omega arith), one) (omega arith)
 
 -- the choice of one square is that square, where no layer is earlier
 pub lion_at : (ls : List ℕ) → count (order OwnLion) ls ≡ 1 → get_or ls (choice (order OwnLion) ls) (order Empty) ≡ order OwnLion
 lion_at [] h = absurd (omega arith)
-lion_at (zero ∷ ls) h =
-    let none : count (order OwnLion) ls ≡ 0 = (let one : count (order OwnLion) (zero ∷ ls) ≡ suc (count (order OwnLion) ls)
-    = count_same (order OwnLion) ls in omega arith) in
-    ap (λ (x : ℕ). get_or (zero ∷ ls) x (order Empty)) (choice_not_later (order OwnLion) 0 ls (omega arith) ∙ choice_none (order OwnLion) ls none)
+lion_at (zero ∷ ls) h = rw (choice_not_later (order OwnLion) 0 ls (omega arith), choice_none (order OwnLion) ls (omega arith)) refl
 lion_at (suc l ∷ ls) h =
     let one : count (order OwnLion) ls ≡ 1 = sym (count_other (order OwnLion) (suc l) ls (omega arith)) ∙ h in
-    let next : choice (order OwnLion) (suc l ∷ ls) ≡ suc (choice (order OwnLion) ls) = choice_later (order OwnLion) (suc l) ls (omega arith)
-    ∙ ap (λ (x : ℕ). with_first (count_from (order OwnLion) ls) x + choice (order OwnLion) ls) one
-    ∙ (let s : 1 + choice (order OwnLion) ls ≡ suc (choice (order OwnLion) ls) = omega arith in s) in
-    ap (λ (x : ℕ). get_or (suc l ∷ ls) x (order Empty)) next ∙ lion_at ls one
+    rw (next_lion l ls one) (lion_at ls one)
 
 first_only : (ls : List ℕ) (k : ℕ) → count (order OwnLion) ls ≡ 0 → get_or (zero ∷ ls) k (order Empty) ≡ order OwnLion → k ≡ 0
 first_only ls zero none e = refl
@@ -103,17 +88,12 @@ first_only ls (suc k) none e = absurd (let some : 0 < count (order OwnLion) ls =
 pub lion_only : (ls : List ℕ) (k : ℕ) → count (order OwnLion) ls ≡ 1 → get_or ls k (order Empty) ≡ order OwnLion → k ≡ choice (order OwnLion) ls
 lion_only [] k h e = absurd (omega arith)
 lion_only (zero ∷ ls) k h e =
-    let none : count (order OwnLion) ls ≡ 0 = (let one : count (order OwnLion) (zero ∷ ls) ≡ suc (count (order OwnLion) ls)
-    = count_same (order OwnLion) ls in omega arith) in
-    let here : choice (order OwnLion) (zero ∷ ls) ≡ 0 = choice_not_later (order OwnLion) 0 ls (omega arith) ∙ choice_none (order OwnLion) ls none in
-    first_only ls k none e ∙ sym here
+    let none : count (order OwnLion) ls ≡ 0 = omega arith in
+    rw (choice_not_later (order OwnLion) 0 ls (omega arith), choice_none (order OwnLion) ls none) (first_only ls k none e)
 lion_only (suc l ∷ ls) zero h e = absurd (let z : suc l ≡ 0 = e in omega arith)
 lion_only (suc l ∷ ls) (suc k) h e =
     let one : count (order OwnLion) ls ≡ 1 = sym (count_other (order OwnLion) (suc l) ls (omega arith)) ∙ h in
-    let next : choice (order OwnLion) (suc l ∷ ls) ≡ suc (choice (order OwnLion) ls) = choice_later (order OwnLion) (suc l) ls (omega arith)
-    ∙ ap (λ (x : ℕ). with_first (count_from (order OwnLion) ls) x + choice (order OwnLion) ls) one
-    ∙ (let s : 1 + choice (order OwnLion) ls ≡ suc (choice (order OwnLion) ls) = omega arith in s) in
-    ap suc (lion_only ls k one e) ∙ sym next
+    rw (next_lion l ls one) (ap suc (lion_only ls k one e))
 
 -- ---- layers and the tests of the key
 

@@ -1,6 +1,6 @@
 -- The tables of the choices of two squares: computed for each number of squares and each choice.
-use Rattle.dob_rank.proofs.Common.{◌&&◌, ◌*◌, ◌+◌, ◌-◌, ◌/◌, ◌<◌, ◌||◌, ◌≡◌, ◌≤◌, Bool, ap, arith, false, inl, inr, nat_eq, nat_lt, not, refl, slice_index_or}
-use Rattle.dob_rank.proofs.Common.{subst, true, ℕ, cases_lt, le-ltb, lt-ltb, all_below, all_below-at, choose, free_squares, higher_of, lower_of}
+use Rattle.dob_rank.proofs.Common.{◌&&◌, ◌*◌, ◌+◌, ◌-◌, ◌/◌, ◌<◌, ◌||◌, ◌≡◌, ◌≤◌, Bool, ap, arith, false, nat_eq, nat_lt, not, refl, slice_index_or, subst}
+use Rattle.dob_rank.proofs.Common.{true, ℕ, lt-ltb, all_below, all_below-at, choose, free_squares, higher_of, lower_of, and_parts, ltb-true}
 use Rattle.dob_rank.specs.declared.placing.TheConstants.{FIRST_FROM_END, SECOND_FROM_END}
 use Rattle.dob_rank.proofs.Positions.Blocks.{choose-small, most_choices}
 use Rattle.dob_rank.proofs.Boards.EmptySquares.{choose_one}
@@ -37,34 +37,25 @@ agrees squares number = not (nat_lt number (choose squares 2)) || (
 computed : all_below (λ squares. all_below (agrees squares) most_choices) 11 ≡ true
 computed = refl
 
-both : (a b : Bool) → (a && b) ≡ true → (a ≡ true) × (b ≡ true)
-both true b h = (refl, h)
-both false b h = (h, absurd (cc))
-
-less : (a b : ℕ) → nat_lt a b ≡ true → a < b
-less a b h = elim (cases_lt a b) [
-  | inl lt ↦ lt
-  | inr le ↦ (let other : nat_lt a b ≡ false = le-ltb a b le in absurd (cc))
-]
-
 not_less : (a b : ℕ) → a < b → not (nat_lt a b) ≡ false
 not_less a b h = ap not (lt-ltb a b h)
 
-pub pair_is : (squares number : ℕ) → squares ≤ free_squares → number < choose squares 2 → number < most_choices
+pub pair_is : (squares number : ℕ) → squares ≤ free_squares → number < choose squares 2
     → IsPair squares number (first_at squares number) (second_at squares number)
-pair_is squares number few below small =
+pair_is squares number few below =
+    let small : number < most_choices = (let most = choose-small squares 2 few (omega arith) in omega arith) in
     let row = all_below-at (λ s. all_below (agrees s) most_choices) 11 squares computed (omega arith) in
     let here = all_below-at (agrees squares) most_choices number row small in
     let all = second _ _ here (not_less number (choose squares 2) below) in
-    let a = both _ _ all in
-    let b = both _ _ a.1 in
-    let c = both _ _ b.1 in
-    let d = both _ _ c.1 in
-    let e = both _ _ d.1 in
-    let low : from_end squares number < most_choices = less (from_end squares number) most_choices a.0 in
-    let fits : number < squares * (squares - 1) / 2 = less number (squares * (squares - 1) / 2) b.0 in
-    let first : first_at squares number < squares - 1 + 1 = less (first_at squares number) (squares - 1 + 1) c.0 in
-    let other : second_at squares number < squares - 1 + 1 = less (second_at squares number) (squares - 1 + 1) d.0 in
+    let a = and_parts _ _ all in
+    let b = and_parts _ _ a.1 in
+    let c = and_parts _ _ b.1 in
+    let d = and_parts _ _ c.1 in
+    let e = and_parts _ _ d.1 in
+    let low : from_end squares number < most_choices = ltb-true (from_end squares number) most_choices a.0 in
+    let fits : number < squares * (squares - 1) / 2 = ltb-true number (squares * (squares - 1) / 2) b.0 in
+    let first : first_at squares number < squares - 1 + 1 = ltb-true (first_at squares number) (squares - 1 + 1) c.0 in
+    let other : second_at squares number < squares - 1 + 1 = ltb-true (second_at squares number) (squares - 1 + 1) d.0 in
     record {
       place_low = low;
       fits = omega (arith, fits);
@@ -73,9 +64,6 @@ pair_is squares number few below small =
       lower_is = same_number (squares - 1 - first_at squares number) (lower_of squares number) e.0;
       higher_is = same_number (squares - 1 - second_at squares number) (higher_of squares number) e.1;
     }
-
-pub few_pairs : (squares number : ℕ) → squares ≤ free_squares → number < choose squares 2 → number < most_choices
-few_pairs squares number few below = (let most = choose-small squares 2 few (omega arith) in omega arith)
 
 pub few_ones : (squares pieces number : ℕ) → squares ≤ free_squares → pieces ≡ 1 → number < choose squares pieces → number ≤ 12
 few_ones squares pieces number few one below =

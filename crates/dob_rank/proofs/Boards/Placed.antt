@@ -4,12 +4,10 @@ use Rattle.dob_rank.proofs.Common.{set, slice_index, slice_index_or, subst, suc,
 use Rattle.dob_rank.proofs.Common.{base_of, board_of, cell_of, choose, count, empty_layers, enemy_squares, free_squares, layers_by, numbers_by, order}
 use Rattle.dob_rank.proofs.Common.{own_squares, settle, AreChoices, AreFree, first_place, higher_of, lower_of, past, put, second_place, Chicks, Elephants}
 use Rattle.dob_rank.proofs.Common.{Empty, EnemyLion, Giraffes, OwnLion}
-use Rattle.dob_rank.proofs.Boards.Choices.{count_same, count_other, choose-split}
-use Rattle.dob_rank.proofs.Boards.Settled.{AreShown, IsSettled, settle-settles}
-use Rattle.dob_rank.proofs.Boards.LayerCounts.{length-settle}
-use Rattle.dob_rank.proofs.Positions.Made.{empty_after}
+use Rattle.dob_rank.proofs.Boards.Choices.{count_same, count_other, choose-split, no_first, count_at}
 use Rattle.dob_rank.proofs.Boards.EmptySquares.{empty_place, kept, empty_place-below, empty_place-set, past-low, past-upto, settle_none, settle_one, settle_two}
 use Rattle.dob_rank.proofs.Boards.EmptySquares.{choose_one}
+use Rattle.dob_rank.proofs.Boards.Stages.{IsStage, none_shown, next_stage, first_stage}
 
 -- ---- a board with one more piece
 
@@ -56,24 +54,13 @@ board_of-set numbers t (suc s) (l ∷ ls) h o =
 
 -- ---- the squares that choices take are open
 
-no_layer : (t l : ℕ) (ls : List ℕ) → count t (l ∷ ls) ≡ 0 → (l ≡ t → ⊥) × (count t ls ≡ 0)
-no_layer t l ls h = elim (cases_eq l t) [
-  | inl e ↦ (let more : count t (l ∷ ls) ≡ suc (count t ls) = ap (λ (x : ℕ). count t (x ∷ ls)) e ∙ count_same t ls in absurd (omega arith))
-  | inr ne ↦ (ne, sym (count_other t l ls ne) ∙ h)
-]
-
-five_more : (l : ℕ) (ls : List ℕ) → l ≡ order Empty → count (order Empty) (l ∷ ls) ≡ suc (count (order Empty) ls)
-five_more l ls e = ap (λ (x : ℕ). count (order Empty) (x ∷ ls)) e ∙ count_same (order Empty) ls
-
 open_one : (t n : ℕ) (ls : List ℕ) → (order Empty ≡ t → ⊥) → count t ls ≡ 0 → n < count (order Empty) ls → IsOpen (empty_place ls n) t ls
 open_one t n [] h z k = absurd (omega arith)
 open_one t n (l ∷ ls) h z k =
-    let none = no_layer t l ls z in
+    let none = no_first t l ls z in
     elim (cases_eq l (order Empty)) [
-      | inl e ↦ subst (λ (x : ℕ). IsOpen (empty_place (x ∷ ls) n) t (x ∷ ls)) (sym e)
-          (five n (subst (λ (m : ℕ). n < m) (five_more l ls e) k) (λ j low. open_one t j ls h none.1 low))
-      | inr ne ↦ subst (λ (s : ℕ). IsOpen s t (l ∷ ls)) (sym (kept l ls n ne))
-          (none.0, open_one t n ls h none.1 (subst (λ (m : ℕ). n < m) (count_other (order Empty) l ls ne) k))
+      | inl e ↦ rw e (five n (rw (count_at (order Empty) l ls e) at k) (λ j low. open_one t j ls h none.1 low))
+      | inr ne ↦ rw (kept l ls n ne) (none.0, open_one t n ls h none.1 (rw (count_other (order Empty) l ls ne) at k))
     ]
   where
     five : (n : ℕ) → n < suc (count (order Empty) ls) → ((j : ℕ) → j < count (order Empty) ls → IsOpen (empty_place ls j) t ls)
@@ -85,13 +72,10 @@ open_two : (t a b : ℕ) (ls : List ℕ) → (order Empty ≡ t → ⊥) → cou
     → IsOpen (empty_place ls a) t (set ls (empty_place ls b) t)
 open_two t a b [] h z k low = absurd (omega arith)
 open_two t a b (l ∷ ls) h z k low =
-    let none = no_layer t l ls z in
+    let none = no_first t l ls z in
     elim (cases_eq l (order Empty)) [
-      | inl e ↦ subst (λ (x : ℕ). IsOpen (empty_place (x ∷ ls) a) t (set (x ∷ ls) (empty_place (x ∷ ls) b) t)) (sym e)
-          (five a b k (subst (λ (m : ℕ). b < m) (five_more l ls e) low) (λ i j less under. open_two t i j ls h none.1 less under))
-      | inr ne ↦ subst (λ (s : ℕ). IsOpen s t (set (l ∷ ls) (empty_place (l ∷ ls) b) t)) (sym (kept l ls a ne))
-          (subst (λ (s : ℕ). IsOpen (suc (empty_place ls a)) t (set (l ∷ ls) s t)) (sym (kept l ls b ne))
-          (none.0, open_two t a b ls h none.1 k (subst (λ (m : ℕ). b < m) (count_other (order Empty) l ls ne) low)))
+      | inl e ↦ rw e (five a b k (rw (count_at (order Empty) l ls e) at low) (λ i j less under. open_two t i j ls h none.1 less under))
+      | inr ne ↦ rw (kept l ls a ne, kept l ls b ne) (none.0, open_two t a b ls h none.1 k (rw (count_other (order Empty) l ls ne) at low))
     ]
   where
     five : (a b : ℕ) → a < b → b < suc (count (order Empty) ls) →
@@ -121,32 +105,8 @@ choice_of (suc m) n h = elim (cases_lt n m) [
 -- the board of the layers that were settled so far, and where the squares that are left stand
 pub record Stand (numbers : ℕ → ℕ) (t m : ℕ) (ls : List ℕ) (cells : List Cell) (f : ℕ → ℕ) : Type 0 where
   pub board_is : cells ≡ board_of numbers ls
-  pub empty_is : count (order Empty) ls ≡ m
-  pub long : length ls ≡ 12
-  pub shown : AreShown t ls
+  pub stage : IsStage t m ls
   pub place_is : (n : ℕ) → n < m → empty_place ls n ≡ f n
-
-none_shown : (t : ℕ) (ls : List ℕ) → t < order Empty → AreShown t ls → count t ls ≡ 0
-none_shown t [] h a = refl
-none_shown t (l ∷ ls) h a = count_other t l ls other ∙ none_shown t ls h a.1
-  where
-    other : l ≡ t → ⊥
-    other e = elim a.0 [ inl lt ↦ absurd (omega arith) | inr five ↦ absurd (omega arith) ]
-
--- what is the same of each number of pieces
-record IsLeft (t p m : ℕ) (rs : List ℕ) : Type 0 where
-  empty_is : count (order Empty) rs ≡ m - p
-  long : length rs ≡ 12
-  shown : AreShown (suc t) rs
-
-left : (numbers : ℕ → ℕ) (t p n m : ℕ) (ls : List ℕ) (cells : List Cell) (f : ℕ → ℕ) → t < order Empty → n < choose m p → Stand numbers t m ls cells f →
-    IsLeft t p m (settle t p n ls)
-left numbers t p n m ls cells f h low s =
-    let settled : IsSettled t p n ls (settle t p n ls) =
-    settle-settles t p n ls h s.shown (subst (λ (x : ℕ). n < choose x p) (sym s.empty_is) low) in
-    let after : count (order Empty) (settle t p n ls) + p ≡ count (order Empty) ls = empty_after t p n ls (settle t p n ls) h settled in
-    let before : count (order Empty) ls ≡ m = s.empty_is in
-    record { empty_is = omega arith; long = length-settle t p n ls ∙ s.long; shown = settled.shown }
 
 without : (n : ℕ) → n / 1 ≡ n
 without n = omega arith
@@ -168,22 +128,22 @@ second_form numbers t ls o =
 pub stage_one : (numbers : ℕ → ℕ) (t n m : ℕ) (ls : List ℕ) (cells : List Cell) (f : ℕ → ℕ) → t < order Empty → n < m → Stand numbers t m ls cells f →
     Stand numbers (suc t) (m - 1) (settle t 1 n ls) (set cells (f n) (cell_of t (numbers t % base_of t))) (λ k. f (past n k))
 stage_one numbers t n m ls cells f h low s =
-    let same : count (order Empty) ls ≡ m = s.empty_is in
+    let same : count (order Empty) ls ≡ m = s.stage.empty_is in
     let here : n < count (order Empty) ls = omega arith in
-    let rest = left numbers t 1 n m ls cells f h (subst (λ (x : ℕ). n < x) (sym (choose_one m)) low) s in
+    let rest = next_stage t 1 n m ls h (subst (λ (x : ℕ). n < x) (sym (choose_one m)) low) s.stage in
     let is : settle t 1 n ls ≡ set ls (empty_place ls n) t = settle_one t n ls here in
-    let none : count t ls ≡ 0 = none_shown t ls h s.shown in
+    let none : count t ls ≡ 0 = none_shown t ls h s.stage.shown in
     let five : order Empty ≡ t → ⊥ = λ (e : order Empty ≡ t). absurd (omega arith) in
     let other : t ≡ order Empty → ⊥ = λ (e : t ≡ order Empty). absurd (omega arith) in
     record {
-      board_is = ap (λ (cs : List Cell). set cs (f n) (cell_of t (numbers t % base_of t))) s.board_is
-          ∙ ap (λ (x : ℕ). set (board_of numbers ls) x (cell_of t (numbers t % base_of t))) (sym (s.place_is n low))
-          ∙ ap (set (board_of numbers ls) (empty_place ls n)) (sym (first_form numbers t ls none))
-          ∙ sym (board_of-set numbers t (empty_place ls n) ls other (open_one t n ls five none here))
-          ∙ ap (board_of numbers) (sym is);
-      empty_is = rest.empty_is;
-      long = rest.long;
-      shown = rest.shown;
+      board_is = rw (
+        s.board_is,
+        ← s.place_is n low,
+        is,
+        board_of-set numbers t (empty_place ls n) ls other (open_one t n ls five none here),
+        first_form numbers t ls none,
+      );
+      stage = rest.stage;
       place_is = λ k less. (let upto : past n k ≤ k + 1 = past-upto n k in
           ap (λ (xs : List ℕ). empty_place xs k) is ∙ empty_place-set t n k ls other ∙ s.place_is (past n k) (omega arith));
     }
@@ -194,44 +154,34 @@ stage_two : (numbers : ℕ → ℕ) (t n m : ℕ) (ls : List ℕ) (cells : List 
     (set (set cells (f (higher_of m n)) (cell_of t (numbers t % base_of t))) (f (lower_of m n)) (cell_of t (numbers t / base_of t % base_of t)))
     (λ k. f (past (higher_of m n) (past (lower_of m n) k)))
 stage_two numbers t n m ls cells f h low s =
-    let same : count (order Empty) ls ≡ m = s.empty_is in
+    let same : count (order Empty) ls ≡ m = s.stage.empty_is in
     let choice = choice_of m n low in
     let rising : lower_of m n < higher_of m n = choice.rising in
     let below : higher_of m n < m = choice.below in
     let here : higher_of m n < count (order Empty) ls = omega arith in
-    let rest = left numbers t 2 n m ls cells f h low s in
-    let once : List ℕ = set ls (empty_place ls (higher_of m n)) t in
+    let rest = next_stage t 2 n m ls h low s.stage in
     let is : settle t 2 n ls ≡ set (set ls (empty_place ls (higher_of m n)) t) (empty_place ls (lower_of m n)) t =
     subst (λ (x : ℕ). settle t 2 n ls ≡ set (set ls (empty_place ls (higher_of x n)) t) (empty_place ls (lower_of x n)) t) same
     (settle_two t n ls (subst (λ (x : ℕ). n < choose x 2) (sym same) low)) in
-    let none : count t ls ≡ 0 = none_shown t ls h s.shown in
+    let none : count t ls ≡ 0 = none_shown t ls h s.stage.shown in
     let five : order Empty ≡ t → ⊥ = λ (e : order Empty ≡ t). absurd (omega arith) in
     let other : t ≡ order Empty → ⊥ = λ (e : t ≡ order Empty). absurd (omega arith) in
     let first = open_one t (higher_of m n) ls five none here in
     let one : count t (set ls (empty_place ls (higher_of m n)) t) ≡ 1 = count-set_same t (empty_place ls (higher_of m n)) ls other first ∙ ap suc none in
     let lower : past (higher_of m n) (lower_of m n) ≡ lower_of m n = past-low (higher_of m n) (lower_of m n) rising in
     record {
-      board_is = ap (λ (cs : List Cell). set (set cs (f (higher_of m n)) (cell_of t (numbers t % base_of t)))
-          (f (lower_of m n)) (cell_of t (numbers t / base_of t % base_of t))) s.board_is
-          ∙ ap (λ (x : ℕ). set (set (board_of numbers ls) x (cell_of t (numbers t % base_of t)))
-          (f (lower_of m n)) (cell_of t (numbers t / base_of t % base_of t)))
-          (sym (s.place_is (higher_of m n) below))
-          ∙ ap (λ (x : ℕ). set (set (board_of numbers ls) (empty_place ls (higher_of m n)) (cell_of t (numbers t % base_of t))) x
-          (cell_of t (numbers t / base_of t % base_of t)))
-          (sym (s.place_is (lower_of m n) (omega arith)))
-          ∙ ap (λ (c : Cell). set (set (board_of numbers ls) (empty_place ls (higher_of m n)) c)
-          (empty_place ls (lower_of m n)) (cell_of t (numbers t / base_of t % base_of t)))
-          (sym (first_form numbers t ls none))
-          ∙ ap (λ (cs : List Cell). set cs (empty_place ls (lower_of m n)) (cell_of t (numbers t / base_of t % base_of t)))
-          (sym (board_of-set numbers t (empty_place ls (higher_of m n)) ls other first))
-          ∙ ap (set (board_of numbers (set ls (empty_place ls (higher_of m n)) t)) (empty_place ls (lower_of m n)))
-          (sym (second_form numbers t (set ls (empty_place ls (higher_of m n)) t) one))
-          ∙ sym (board_of-set numbers t (empty_place ls (lower_of m n)) (set ls (empty_place ls (higher_of m n)) t) other
-          (open_two t (lower_of m n) (higher_of m n) ls five none rising here))
-          ∙ ap (board_of numbers) (sym is);
-      empty_is = rest.empty_is;
-      long = rest.long;
-      shown = rest.shown;
+      board_is = rw (
+        s.board_is,
+        ← s.place_is (higher_of m n) below,
+        ← s.place_is (lower_of m n) (omega arith),
+        is,
+        board_of-set numbers t (empty_place ls (lower_of m n)) (set ls (empty_place ls (higher_of m n)) t) other
+            (open_two t (lower_of m n) (higher_of m n) ls five none rising here),
+        board_of-set numbers t (empty_place ls (higher_of m n)) ls other first,
+        second_form numbers t (set ls (empty_place ls (higher_of m n)) t) one,
+        first_form numbers t ls none,
+      );
+      stage = rest.stage;
       place_is = λ k less. (let upto : past (lower_of m n) k ≤ k + 1 = past-upto (lower_of m n) k in
           let over : past (higher_of m n) (past (lower_of m n) k) ≤ past (lower_of m n) k + 1 = past-upto (higher_of m n) (past (lower_of m n) k) in
           ap (λ (xs : List ℕ). empty_place xs k) is
@@ -248,13 +198,11 @@ pub stage : (numbers : ℕ → ℕ) (t p n m : ℕ) (ls : List ℕ) (cells : Lis
     Stand numbers (suc t) (m - p) (settle t p n ls) (put t p (f (first_place m p n)) (f (second_place m p n)) (numbers t) cells)
     (λ k. f (past (second_place m p n) (past (first_place m p n) k)))
 stage numbers t zero n m ls cells f h few upto low s =
-    let rest = left numbers t 0 n m ls cells f h low s in
+    let rest = next_stage t 0 n m ls h low s.stage in
     let is : settle t 0 n ls ≡ ls = settle_none t n ls in
     record {
       board_is = s.board_is ∙ ap (board_of numbers) (sym is);
-      empty_is = rest.empty_is;
-      long = rest.long;
-      shown = rest.shown;
+      stage = rest.stage;
       place_is = λ k less. (let one : past 12 k ≡ k = past-low 12 k (omega arith) in
           ap (λ (xs : List ℕ). empty_place xs k) is ∙ s.place_is k (omega arith) ∙ ap f (sym (ap (past 12) one ∙ one)));
     }
@@ -262,9 +210,7 @@ stage numbers t (suc zero) n m ls cells f h few upto low s =
     let one = stage_one numbers t n m ls cells f h (subst (λ (x : ℕ). n < x) (choose_one m) low) s in
     record {
       board_is = one.board_is;
-      empty_is = one.empty_is;
-      long = one.long;
-      shown = one.shown;
+      stage = one.stage;
       place_is = λ k less. (let most : past n k ≤ k + 1 = past-upto n k in one.place_is k less ∙ ap f (sym (past-low 12 (past n k) (omega arith))));
     }
 stage numbers t (suc (suc zero)) n m ls cells f h few upto low s = stage_two numbers t n m ls cells f h low s
@@ -273,27 +219,24 @@ stage numbers t (suc (suc (suc p))) n m ls cells f h few upto low s = absurd (om
 -- the squares of a choice are on the board
 pub place_below : (numbers : ℕ → ℕ) (t n m : ℕ) (ls : List ℕ) (cells : List Cell) (f : ℕ → ℕ) → n < m → Stand numbers t m ls cells f → f n < 12
 place_below numbers t n m ls cells f low s =
-    let same : count (order Empty) ls ≡ m = s.empty_is in
+    let same : count (order Empty) ls ≡ m = s.stage.empty_is in
     let here = empty_place-below ls n (omega arith) in
-    let long : length ls ≡ 12 = s.long in
+    let long : length ls ≡ 12 = s.stage.long in
     let is : empty_place ls n ≡ f n = s.place_is n low in
     omega arith
 
 pub first_below : (numbers : ℕ → ℕ) (t p n m : ℕ) (ls : List ℕ) (cells : List Cell) (f : ℕ → ℕ) → p ≤ 2 → n < choose m p → Stand numbers t m ls cells f →
     0 < p → f (first_place m p n) < 12
-first_below numbers t zero n m ls cells f few low s some = absurd (omega arith)
 first_below numbers t (suc zero) n m ls cells f few low s some = place_below numbers t n m ls cells f (subst (λ (x : ℕ). n < x) (choose_one m) low) s
 first_below numbers t (suc (suc zero)) n m ls cells f few low s some =
     let choice = choice_of m n low in let rising = choice.rising in let below = choice.below in
     place_below numbers t (lower_of m n) m ls cells f (omega arith) s
-first_below numbers t (suc (suc (suc p))) n m ls cells f few low s some = absurd (omega arith)
+first_below numbers t p n m ls cells f few low s some = absurd (omega arith)
 
 pub second_below : (numbers : ℕ → ℕ) (t p n m : ℕ) (ls : List ℕ) (cells : List Cell) (f : ℕ → ℕ) → p ≤ 2 → n < choose m p → Stand numbers t m ls cells f →
     1 < p → f (second_place m p n) < 12
-second_below numbers t zero n m ls cells f few low s some = absurd (omega arith)
-second_below numbers t (suc zero) n m ls cells f few low s some = absurd (omega arith)
 second_below numbers t (suc (suc zero)) n m ls cells f few low s some = place_below numbers t (higher_of m n) m ls cells f (choice_of m n low).below s
-second_below numbers t (suc (suc (suc p))) n m ls cells f few low s some = absurd (omega arith)
+second_below numbers t p n m ls cells f few low s some = absurd (omega arith)
 
 -- ---- the squares of a choice are empty, and two
 
@@ -311,22 +254,22 @@ pub free_at : (numbers : ℕ → ℕ) (t m : ℕ) (ls : List ℕ) (cells : List 
     → (n : ℕ) → n < m → slice_index_or cells (f n) None ≡ None
 free_at numbers t m ls cells f h s n low =
     let five : order Empty ≡ t → ⊥ = λ (e : order Empty ≡ t). absurd (omega arith) in
-    let same : count (order Empty) ls ≡ m = s.empty_is in
+    let same : count (order Empty) ls ≡ m = s.stage.empty_is in
     ap (λ (cs : List Cell). slice_index_or cs (f n) None) s.board_is
     ∙ ap (λ (x : ℕ). slice_index_or (board_of numbers ls) x None) (sym (s.place_is n low))
-    ∙ none_at numbers t (empty_place ls n) ls (open_one t n ls five (none_shown t ls h s.shown) (omega arith))
+    ∙ none_at numbers t (empty_place ls n) ls (open_one t n ls five (none_shown t ls h s.stage.shown) (omega arith))
 
 apart_at : (numbers : ℕ → ℕ) (t m : ℕ) (ls : List ℕ) (cells : List Cell) (f : ℕ → ℕ) → t < order Empty → Stand numbers t m ls cells f
     → (a b : ℕ) → a < b → b < m → f a ≢ f b
 apart_at numbers t m ls cells f h s a b less low =
     let five : order Empty ≡ t → ⊥ = λ (e : order Empty ≡ t). absurd (omega arith) in
     let other : t ≡ order Empty → ⊥ = λ (e : t ≡ order Empty). absurd (omega arith) in
-    let same : count (order Empty) ls ≡ m = s.empty_is in
+    let same : count (order Empty) ls ≡ m = s.stage.empty_is in
     λ (e : f a ≡ f b).
     not_open t (empty_place ls b) ls other
     (subst (λ (x : ℕ). IsOpen x t (set ls (empty_place ls b) t))
     (s.place_is a (omega arith) ∙ e ∙ sym (s.place_is b low))
-    (open_two t a b ls five (none_shown t ls h s.shown) less (omega arith)))
+    (open_two t a b ls five (none_shown t ls h s.stage.shown) less (omega arith)))
 
 pub are_free : (numbers : ℕ → ℕ) (t p n m : ℕ) (ls : List ℕ) (cells : List Cell) (f : ℕ → ℕ) → t < order Empty → p ≤ 2 → n < choose m p
     → Stand numbers t m ls cells f → AreFree p (f (first_place m p n)) (f (second_place m p n)) cells
@@ -350,10 +293,6 @@ are_free numbers t (suc (suc (suc p))) n m ls cells f h few low s = absurd (omeg
 
 -- ---- the empty board
 
-all_empty : (n : ℕ) → AreShown (order OwnLion) (replicate n (order Empty))
-all_empty zero = tt
-all_empty (suc n) = (inr refl, all_empty n)
-
 empty_board : (numbers : ℕ → ℕ) (n : ℕ) → replicate n None ≡ board_of numbers (replicate n (order Empty))
 empty_board numbers zero = refl
 empty_board numbers (suc n) = ap (λ (cs : List Cell). None ∷ cs) (empty_board numbers n)
@@ -366,9 +305,7 @@ every_place (suc m) (suc n) h = ap suc (every_place m n (omega arith))
 pub start : (numbers : ℕ → ℕ) → Stand numbers (order OwnLion) 12 empty_layers (replicate 12 None) (λ n. n)
 start numbers = record {
   board_is = empty_board numbers 12;
-  empty_is = refl;
-  long = refl;
-  shown = all_empty 12;
+  stage = first_stage;
   place_is = every_place 12;
 }
 

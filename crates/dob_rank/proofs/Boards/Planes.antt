@@ -7,16 +7,16 @@ use Rattle.dob_rank.proofs.Common.{order, with_first, form, Chicks, Elephants, E
 use Rattle.std.proofs.lemmas.Nat.{ones_cat, and_block}
 use lib.Bits.{and_self}
 use lib.Count.{ones, count_trailing_zeros, under}
-use Rattle.dob_rank.proofs.Boards.FormDigits.{forms_number-below, forms_number_same, forms_number_other}
-use Rattle.dob_rank.proofs.Boards.Choices.{count_same, count_other, count_from_lower, count_from_later, choice_later, choice_not_later}
+use Rattle.dob_rank.proofs.Boards.FormDigits.{forms_number-below, forms_number_other}
+use Rattle.dob_rank.proofs.Boards.Choices.{count_other, count_from_lower, count_from_later, choice_later, choice_not_later, count_rest, count_at}
 use Rattle.dob_rank.proofs.Boards.LayerCounts.{count_from-next, choice_none}
 use Rattle.dob_rank.proofs.Boards.EmptySquares.{choose_one, one_way}
 use Rattle.dob_rank.proofs.Positions.BlockStarts.{same_number, second}
 
 -- ---- one more square in front
 
-mask_same : (t : ℕ) (ls : List ℕ) → layer_mask t (t ∷ ls) ≡ layer_mask t ls * 2 + 1
-mask_same t ls = rw (eq-eqb t t refl) (omega arith)
+mask_at : (t l : ℕ) (ls : List ℕ) → l ≡ t → layer_mask t (l ∷ ls) ≡ layer_mask t ls * 2 + 1
+mask_at t l ls e = rw (eq-eqb l t e) (omega arith)
 
 mask_other : (t l : ℕ) (ls : List ℕ) → (l ≡ t → ⊥) → layer_mask t (l ∷ ls) ≡ layer_mask t ls * 2 + 0
 mask_other t l ls h = rw (ne_eqb l t h) (omega arith)
@@ -46,8 +46,7 @@ ones_odd n = ones_cat 1 n 1 (let h : 1 < 2 = omega arith in h) ∙ ap (λ (x : �
 pub ones-layer_mask : (t : ℕ) (ls : List ℕ) → ones (layer_mask t ls) ≡ count t ls
 ones-layer_mask t [] = ones-zero
 ones-layer_mask t (l ∷ ls) = elim (cases_eq l t) [
-  | inl e ↦ subst (λ (x : ℕ). ones (layer_mask t (x ∷ ls)) ≡ count t (x ∷ ls)) (sym e)
-      (ap ones (mask_same t ls) ∙ ones_odd (layer_mask t ls) ∙ ap suc (ones-layer_mask t ls) ∙ sym (count_same t ls))
+  | inl e ↦ rw (mask_at t l ls e, count_at t l ls e) (ones_odd (layer_mask t ls) ∙ ap suc (ones-layer_mask t ls))
   | inr n ↦ ap ones (mask_other t l ls n) ∙ ones_even (layer_mask t ls) ∙ ones-layer_mask t ls ∙ sym (count_other t l ls n)
 ]
 
@@ -62,7 +61,7 @@ ones-from_mask t (l ∷ ls) = elim (cases_lt l t) [
 mask_some : (t : ℕ) (ls : List ℕ) → 0 < count t ls → 0 < layer_mask t ls
 mask_some t [] h = absurd (omega arith)
 mask_some t (l ∷ ls) h = elim (cases_eq l t) [
-  | inl e ↦ subst (λ (x : ℕ). 0 < layer_mask t (x ∷ ls)) (sym e) (omega (arith, mask_same t ls))
+  | inl e ↦ omega (arith, mask_at t l ls e)
   | inr n ↦ (let rest = mask_some t ls (subst (λ (x : ℕ). 0 < x) (count_other t l ls n) h) in omega (arith, mask_other t l ls n, rest))
 ]
 
@@ -73,9 +72,8 @@ apart t (l ∷ ls) =
     let rest = apart t ls in
     let none : bit_and (layer_mask t ls) (from_mask (suc t) ls) * 2 + 0 ≡ 0 = omega (arith, rest) in
     elim (cases_order l t) [
-      | inl e ↦ subst (λ (x : ℕ). bit_and (layer_mask t (x ∷ ls)) (from_mask (suc t) (x ∷ ls)) ≡ 0) (sym e)
-          (rw (mask_same t ls, from_lower (suc t) t ls (omega arith))
-          (and_block 1 (layer_mask t ls) (from_mask (suc t) ls) 1 0 (omega arith) (omega arith) ∙ none))
+      | inl e ↦ rw (mask_at t l ls e, from_lower (suc t) l ls (omega arith))
+          (and_block 1 (layer_mask t ls) (from_mask (suc t) ls) 1 0 (omega arith) (omega arith) ∙ none)
       | inr o ↦ elim o [
         | inl lt ↦ (let other : l ≡ t → ⊥ = omega arith in
             rw (mask_other t l ls other, from_lower (suc t) l ls (omega arith))
@@ -97,17 +95,11 @@ abbrev pub before_second : ℕ → List ℕ → ℕ
 before_second t [] = 0
 before_second t (l ∷ ls) = cond (nat_eq l t) (before_first t ls) (cond (nat_lt t l) 1 0 + before_second t ls)
 
-first_same : (t : ℕ) (ls : List ℕ) → before_first t (t ∷ ls) ≡ 0
-first_same t ls = rw (eq-eqb t t refl) refl
-
 first_lower : (t l : ℕ) (ls : List ℕ) → l < t → before_first t (l ∷ ls) ≡ before_first t ls
 first_lower t l ls h = rw (ne_eqb l t (λ (e : l ≡ t). absurd (omega arith)), le-ltb t l (let le : l ≤ t = omega arith in le)) (omega arith)
 
 first_later : (t l : ℕ) (ls : List ℕ) → t < l → before_first t (l ∷ ls) ≡ suc (before_first t ls)
 first_later t l ls h = rw (ne_eqb l t (λ (e : l ≡ t). absurd (omega arith)), lt-ltb t l h) (omega arith)
-
-second_same : (t : ℕ) (ls : List ℕ) → before_second t (t ∷ ls) ≡ before_first t ls
-second_same t ls = rw (eq-eqb t t refl) refl
 
 second_lower : (t l : ℕ) (ls : List ℕ) → l < t → before_second t (l ∷ ls) ≡ before_second t ls
 second_lower t l ls h = rw (ne_eqb l t (λ (e : l ≡ t). absurd (omega arith)), le-ltb t l (let le : l ≤ t = omega arith in le)) (omega arith)
@@ -137,12 +129,11 @@ ones_below_one n f h =
 pub first_bits : (t : ℕ) (ls : List ℕ) → 0 < count t ls → ones (bit_and (layer_mask t ls - 1) (from_mask (suc t) ls)) ≡ before_first t ls
 first_bits t [] h = absurd (omega arith)
 first_bits t (l ∷ ls) h = elim (cases_order l t) [
-  | inl e ↦ subst (λ (x : ℕ). ones (bit_and (layer_mask t (x ∷ ls) - 1) (from_mask (suc t) (x ∷ ls))) ≡ before_first t (x ∷ ls)) (sym e)
-      (rw (mask_same t ls, from_lower (suc t) t ls (omega arith), first_same t ls)
+  | inl e ↦ rw (mask_at t l ls e, from_lower (suc t) l ls (omega arith), eq-eqb l t e)
       (ap (λ x. ones (bit_and x (from_mask (suc t) ls * 2 + 0))) (odd_less (layer_mask t ls))
       ∙ ap ones (and_bits (layer_mask t ls) (from_mask (suc t) ls) 0 0 (omega arith) (omega arith))
       ∙ ones_even (bit_and (layer_mask t ls) (from_mask (suc t) ls))
-      ∙ ap ones (apart t ls) ∙ ones-zero))
+      ∙ ap ones (apart t ls) ∙ ones-zero)
   | inr o ↦ elim o [
     | inl lt ↦ (let other : l ≡ t → ⊥ = omega arith in
         let some : 0 < count t ls = subst (λ (x : ℕ). 0 < x) (count_other t l ls other) h in
@@ -165,10 +156,9 @@ rest_other n h = ap (bit_and (n * 2 + 0)) (even_less n h) ∙ and_bits n (n - 1)
 rest_some : (t : ℕ) (ls : List ℕ) → 1 < count t ls → 0 < bit_and (layer_mask t ls) (layer_mask t ls - 1)
 rest_some t [] h = absurd (omega arith)
 rest_some t (l ∷ ls) h = elim (cases_eq l t) [
-  | inl e ↦ subst (λ (x : ℕ). 0 < bit_and (layer_mask t (x ∷ ls)) (layer_mask t (x ∷ ls) - 1)) (sym e)
-      (let more : 1 < suc (count t ls) = subst (λ (x : ℕ). 1 < x) (ap (λ (x : ℕ). count t (x ∷ ls)) e ∙ count_same t ls) h in
+  | inl e ↦ (let more = count_at t l ls e in
       let some : 0 < layer_mask t ls = mask_some t ls (omega arith) in
-      rw (mask_same t ls) (subst (λ (x : ℕ). 0 < x) (sym (rest_same (layer_mask t ls))) (omega arith)))
+      rw (mask_at t l ls e, rest_same (layer_mask t ls)) (omega arith))
   | inr n ↦ (let more : 1 < count t ls = subst (λ (x : ℕ). 1 < x) (count_other t l ls n) h in
       let some : 0 < layer_mask t ls = mask_some t ls (omega arith) in
       let rest : 0 < bit_and (layer_mask t ls) (layer_mask t ls - 1) = rest_some t ls more in
@@ -179,13 +169,10 @@ pub second_bits : (t : ℕ) (ls : List ℕ) → count t ls ≡ 2 →
     ones (bit_and (bit_and (layer_mask t ls) (layer_mask t ls - 1) - 1) (from_mask (suc t) ls)) ≡ before_second t ls
 second_bits t [] h = absurd (omega arith)
 second_bits t (l ∷ ls) h = elim (cases_order l t) [
-  | inl e ↦ subst (λ (x : ℕ). ones (bit_and (bit_and (layer_mask t (x ∷ ls)) (layer_mask t (x ∷ ls) - 1) - 1) (from_mask (suc t) (x ∷ ls)))
-      ≡ before_second t (x ∷ ls)) (sym e)
-      (let one : suc (count t ls) ≡ 2 = sym (ap (λ (x : ℕ). count t (x ∷ ls)) e ∙ count_same t ls) ∙ h in
+  | inl e ↦ (let one = count_rest t l 1 ls e h in
       let some : 0 < count t ls = omega arith in
-      rw (mask_same t ls, from_lower (suc t) t ls (omega arith), second_same t ls)
-      (ap (λ x. ones (bit_and (x - 1) (from_mask (suc t) ls * 2 + 0))) (rest_same (layer_mask t ls))
-      ∙ ones_below (layer_mask t ls) (from_mask (suc t) ls) (mask_some t ls some) ∙ first_bits t ls some))
+      rw (mask_at t l ls e, from_lower (suc t) l ls (omega arith), eq-eqb l t e, rest_same (layer_mask t ls))
+      (ones_below (layer_mask t ls) (from_mask (suc t) ls) (mask_some t ls some) ∙ first_bits t ls some))
   | inr o ↦ elim o [
     | inl lt ↦ (let other : l ≡ t → ⊥ = omega arith in
         let two : count t ls ≡ 2 = sym (count_other t l ls other) ∙ h in
@@ -208,25 +195,21 @@ second_bits t (l ∷ ls) h = elim (cases_order l t) [
 pub choice_one : (t : ℕ) (ls : List ℕ) → count t ls ≡ 1 → choice t ls ≡ before_first t ls
 choice_one t [] h = absurd (omega arith)
 choice_one t (l ∷ ls) h = elim (cases_order l t) [
-  | inl e ↦ (let more : count t (l ∷ ls) ≡ suc (count t ls) = ap (λ (x : ℕ). count t (x ∷ ls)) e ∙ count_same t ls in
-      let none : count t ls ≡ 0 = omega arith in
-      choice_not_later t l ls (omega arith) ∙ choice_none t ls none ∙ sym (ap (λ (x : ℕ). before_first t (x ∷ ls)) e ∙ first_same t ls))
+  | inl e ↦ rw (choice_not_later t l ls (omega arith), eq-eqb l t e) (choice_none t ls (count_rest t l 0 ls e h))
   | inr o ↦ elim o [
     | inl lt ↦ (let other : l ≡ t → ⊥ = omega arith in
-        choice_not_later t l ls (omega arith) ∙ choice_one t ls (sym (count_other t l ls other) ∙ h) ∙ sym (first_lower t l ls lt))
+        rw (choice_not_later t l ls (omega arith), first_lower t l ls lt) (choice_one t ls (sym (count_other t l ls other) ∙ h)))
     | inr gt ↦ (let other : l ≡ t → ⊥ = omega arith in
         let one : count t ls ≡ 1 = sym (count_other t l ls other) ∙ h in
-        let way : with_first (count_from t ls) 1 ≡ 1 = one_way (count_from t ls) in
-        let rest : choice t ls ≡ before_first t ls = choice_one t ls one in
-        choice_later t l ls gt ∙ ap (λ (n : ℕ). with_first (count_from t ls) n + choice t ls) one
-        ∙ (let e : with_first (count_from t ls) 1 + choice t ls ≡ suc (before_first t ls) = omega arith in e) ∙ sym (first_later t l ls gt))
+        let rest = choice_one t ls one in
+        rw (choice_later t l ls gt, first_later t l ls gt, one, one_way (count_from t ls)) (omega (arith, rest)))
   ]
 ]
 
 first_upto : (t : ℕ) (ls : List ℕ) → before_first t ls ≤ count_from (suc t) ls
 first_upto t [] = omega arith
 first_upto t (l ∷ ls) = (let rest = first_upto t ls in elim (cases_order l t) [
-  | inl e ↦ subst (λ (x : ℕ). before_first t (x ∷ ls) ≤ count_from (suc t) (x ∷ ls)) (sym e) (omega (arith, first_same t ls))
+  | inl e ↦ rw (eq-eqb l t e) (omega arith)
   | inr o ↦ elim o [
     | inl lt ↦ omega (arith, first_lower t l ls lt, count_from_lower (suc t) l ls (omega arith), rest)
     | inr gt ↦ omega (arith, first_later t l ls gt, count_from_later (suc t) l ls gt, rest)
@@ -263,19 +246,11 @@ pub choice_two : (t : ℕ) (ls : List ℕ) → length ls ≤ 12 → count t ls �
     choice t ls ≡ pairs_before (before_first t ls) (count_from (suc t) ls) + before_second t ls
 choice_two t [] k h = absurd (omega arith)
 choice_two t (l ∷ ls) k h = elim (cases_order l t) [
-  | inl e ↦ (let more : count t (l ∷ ls) ≡ suc (count t ls) = ap (λ (x : ℕ). count t (x ∷ ls)) e ∙ count_same t ls in
-      let one : count t ls ≡ 1 = omega arith in
-      subst (λ (x : ℕ). choice t (x ∷ ls) ≡ pairs_before (before_first t (x ∷ ls)) (count_from (suc t) (x ∷ ls)) + before_second t (x ∷ ls)) (sym e)
-      (choice_not_later t t ls (omega arith) ∙ choice_one t ls one
-      ∙ sym (ap (λ (n : ℕ). pairs_before n (count_from (suc t) (t ∷ ls)) + before_second t (t ∷ ls)) (first_same t ls)
-      ∙ (let none : pairs_before 0 (count_from (suc t) (t ∷ ls)) + before_second t (t ∷ ls) ≡ before_second t (t ∷ ls) = omega arith in none)
-      ∙ second_same t ls)))
+  | inl e ↦ rw (choice_not_later t l ls (omega arith), eq-eqb l t e) (let one = choice_one t ls (count_rest t l 1 ls e h) in omega (arith, one))
   | inr o ↦ elim o [
     | inl lt ↦ (let other : l ≡ t → ⊥ = omega arith in
-        choice_not_later t l ls (omega arith) ∙ choice_two t ls (omega arith) (sym (count_other t l ls other) ∙ h)
-        ∙ sym (ap (λ (n : ℕ). pairs_before n (count_from (suc t) (l ∷ ls)) + before_second t (l ∷ ls)) (first_lower t l ls lt)
-        ∙ ap (λ (n : ℕ). pairs_before (before_first t ls) n + before_second t (l ∷ ls)) (count_from_lower (suc t) l ls (omega arith))
-        ∙ ap (λ (n : ℕ). pairs_before (before_first t ls) (count_from (suc t) ls) + n) (second_lower t l ls lt)))
+        rw (choice_not_later t l ls (omega arith), first_lower t l ls lt, second_lower t l ls lt, count_from_lower (suc t) l ls (omega arith))
+        (choice_two t ls (omega arith) (sym (count_other t l ls other) ∙ h)))
     | inr gt ↦ (let other : l ≡ t → ⊥ = omega arith in
         let two : count t ls ≡ 2 = sym (count_other t l ls other) ∙ h in
         let rest : choice t ls ≡ pairs_before (before_first t ls) (count_from (suc t) ls) + before_second t ls = choice_two t ls (omega arith) two in
@@ -285,13 +260,10 @@ choice_two t (l ∷ ls) k h = elim (cases_order l t) [
         let step : pairs_before (suc (before_first t ls)) (suc (count_from (suc t) ls))
         ≡ pairs_before (before_first t ls) (count_from (suc t) ls) + count_from (suc t) ls + 1 =
         pairs_step (before_first t ls) (count_from (suc t) ls) (first_upto t ls) (omega arith) in
-        choice_later t l ls gt ∙ ap (λ (n : ℕ). with_first (count_from t ls) n + choice t ls) two
-        ∙ summed (with_first (count_from t ls) 2) (choice t ls) (count_from t ls) (count t ls) (count_from (suc t) ls) (before_second t ls)
+        rw (choice_later t l ls gt, first_later t l ls gt, second_later t l ls gt, count_from_later (suc t) l ls gt, two)
+        (summed (with_first (count_from t ls) 2) (choice t ls) (count_from t ls) (count t ls) (count_from (suc t) ls) (before_second t ls)
         (pairs_before (before_first t ls) (count_from (suc t) ls))
-        (pairs_before (suc (before_first t ls)) (suc (count_from (suc t) ls))) ways rest next two step
-        ∙ sym (ap (λ (n : ℕ). pairs_before n (count_from (suc t) (l ∷ ls)) + before_second t (l ∷ ls)) (first_later t l ls gt)
-        ∙ ap (λ (n : ℕ). pairs_before (suc (before_first t ls)) n + before_second t (l ∷ ls)) (count_from_later (suc t) l ls gt)
-        ∙ ap (λ (n : ℕ). pairs_before (suc (before_first t ls)) (suc (count_from (suc t) ls)) + n) (second_later t l ls gt)))
+        (pairs_before (suc (before_first t ls)) (suc (count_from (suc t) ls))) ways rest next two step))
   ]
 ]
   where
@@ -303,35 +275,21 @@ choice_two t (l ∷ ls) k h = elim (cases_order l t) [
 pub one_choice : (t : ℕ) (ls : List ℕ) (mask later below number : ℕ) → mask ≡ layer_mask t ls → later ≡ from_mask (suc t) ls → below ≡ mask - 1 →
     number ≡ ones (bit_and below later) → count t ls ≡ 1 → number ≡ choice t ls
 one_choice t ls mask later below number m f b n one =
-    n ∙ ap (λ (x : ℕ). ones (bit_and x later)) (b ∙ ap (λ (x : ℕ). x - 1) m) ∙ ap (λ (x : ℕ). ones (bit_and (layer_mask t ls - 1) x)) f
-    ∙ first_bits t ls (omega arith) ∙ sym (choice_one t ls one)
+    rw (n, b, m, f) (first_bits t ls (omega arith) ∙ sym (choice_one t ls one))
 
 pub two_choice : (t : ℕ) (ls : List ℕ) (mask later below first rest second_number free factor : ℕ)
     → length ls ≤ 12 → mask ≡ layer_mask t ls → later ≡ from_mask (suc t) ls →
     below ≡ mask - 1 → first ≡ ones (bit_and below later) → rest ≡ bit_and mask below - 1 → second_number ≡ ones (bit_and rest later) → free ≡ ones later →
     factor ≡ 2 * free + 1 - first → count t ls ≡ 2 → first * factor / 2 + second_number ≡ choice t ls
 two_choice t ls mask later below first rest second_number free factor few m f b n r s o g two =
-    let lower : below ≡ layer_mask t ls - 1 = b ∙ ap (λ (x : ℕ). x - 1) m in
-    let one : first ≡ before_first t ls =
-    n ∙ ap (λ (x : ℕ). ones (bit_and x later)) lower ∙ ap (λ (x : ℕ). ones (bit_and (layer_mask t ls - 1) x)) f ∙ first_bits t ls (omega arith) in
-    let other : rest ≡ bit_and (layer_mask t ls) (layer_mask t ls - 1) - 1 =
-    r ∙ ap (λ (x : ℕ). bit_and x below - 1) m ∙ ap (λ (x : ℕ). bit_and (layer_mask t ls) x - 1) lower in
-    let higher : second_number ≡ before_second t ls =
-    s ∙ ap (λ (x : ℕ). ones (bit_and x later)) other ∙ ap (λ (x : ℕ). ones (bit_and (bit_and (layer_mask t ls) (layer_mask t ls - 1) - 1) x)) f
-    ∙ second_bits t ls two in
-    let left : free ≡ count_from (suc t) ls = o ∙ ap ones f ∙ ones-from_mask (suc t) ls in
-    ap (λ (x : ℕ). first * x / 2 + second_number) g
-    ∙ ap (λ (x : ℕ). x * (2 * free + 1 - x) / 2 + second_number) one
-    ∙ ap (λ (x : ℕ). pairs_before (before_first t ls) x + second_number) left
-    ∙ ap (λ (x : ℕ). pairs_before (before_first t ls) (count_from (suc t) ls) + x) higher
-    ∙ sym (choice_two t ls few two)
+    rw (g, n, s, r, b, m, o, f, ones-from_mask (suc t) ls, first_bits t ls (omega arith), second_bits t ls two) (sym (choice_two t ls few two))
 
 -- ---- planes
 
 mask-small : (t : ℕ) (ls : List ℕ) → layer_mask t ls < 2 ^ length ls
 mask-small t [] = omega (arith, pow-zero 2)
 mask-small t (l ∷ ls) = (let rest = mask-small t ls in elim (cases_eq l t) [
-  | inl e ↦ subst (λ (x : ℕ). layer_mask t (x ∷ ls) < 2 ^ suc (length ls)) (sym e) (omega (arith, mask_same t ls, rest, pow-suc 2 (length ls)))
+  | inl e ↦ omega (arith, mask_at t l ls e, rest, pow-suc 2 (length ls))
   | inr n ↦ omega (arith, mask_other t l ls n, rest, pow-suc 2 (length ls))
 ])
 
@@ -346,11 +304,6 @@ planes-parts : (ls : List ℕ) → planes ls ≡ layer_mask (order OwnLion) ls +
     + first_bit Chicks * layer_mask (order Chicks) ls + first_bit Elephants * layer_mask (order Elephants) ls
     + first_bit Giraffes * layer_mask (order Giraffes) ls
 planes-parts [] = refl
-planes-parts (zero ∷ ls) = omega (arith, planes-parts ls)
-planes-parts (suc zero ∷ ls) = omega (arith, planes-parts ls)
-planes-parts (suc (suc zero) ∷ ls) = omega (arith, planes-parts ls)
-planes-parts (suc (suc (suc zero)) ∷ ls) = omega (arith, planes-parts ls)
-planes-parts (suc (suc (suc (suc zero))) ∷ ls) = omega (arith, planes-parts ls)
 planes-parts (suc (suc (suc (suc (suc l)))) ∷ ls) =
     omega (
       arith,
@@ -361,6 +314,7 @@ planes-parts (suc (suc (suc (suc (suc l)))) ∷ ls) =
       mask_other (order Elephants) (suc (suc (suc (suc (suc l))))) ls (beyond (order Elephants) l (omega arith)),
       mask_other (order Giraffes) (suc (suc (suc (suc (suc l))))) ls (beyond (order Giraffes) l (omega arith)),
     )
+planes-parts (l ∷ ls) = omega (arith, planes-parts ls)
 
 -- five planes
 pub planes-small : (ls : List ℕ) → length ls ≤ 12 → planes ls < 2 ^ (5 * plane_len)
@@ -413,8 +367,7 @@ planes_all cells square number h z is =
 from-next : (t : ℕ) (ls : List ℕ) → from_mask (suc t) ls + layer_mask t ls ≡ from_mask t ls
 from-next t [] = refl
 from-next t (l ∷ ls) = (let rest = from-next t ls in elim (cases_order l t) [
-  | inl e ↦ subst (λ (x : ℕ). from_mask (suc t) (x ∷ ls) + layer_mask t (x ∷ ls) ≡ from_mask t (x ∷ ls)) (sym e)
-      (omega (arith, mask_same t ls, from_lower (suc t) t ls (omega arith), from_later t t ls (omega arith), rest))
+  | inl e ↦ omega (arith, mask_at t l ls e, from_lower (suc t) l ls (omega arith), from_later t l ls (omega arith), rest)
   | inr o ↦ elim o [
     | inl lt ↦ omega (arith, mask_other t l ls (λ (e : l ≡ t). absurd (omega arith)), from_lower (suc t) l ls (omega arith), from_lower t l ls lt, rest)
     | inr gt ↦ omega (arith, mask_other t l ls (λ (e : l ≡ t). absurd (omega arith)), from_later (suc t) l ls gt, from_later t l ls (omega arith), rest)
@@ -473,8 +426,7 @@ pub first_zeros : (t k : ℕ) (ls : List ℕ) → length ls ≤ k → 0 < count 
 first_zeros t k [] h some = absurd (omega arith)
 first_zeros t zero (l ∷ ls) h some = absurd (omega arith)
 first_zeros t (suc k) (l ∷ ls) h some = elim (cases_eq l t) [
-  | inl e ↦ subst (λ (x : ℕ). count_trailing_zeros (suc k) (layer_mask t (x ∷ ls)) ≡ first_square t (x ∷ ls)) (sym e)
-      (rw (mask_same t ls, eq-eqb t t refl) (zeros_odd k (layer_mask t ls)))
+  | inl e ↦ rw (mask_at t l ls e, eq-eqb l t e) (zeros_odd k (layer_mask t ls))
   | inr n ↦ rw (mask_other t l ls n, ne_eqb l t n)
       (zeros_even k (layer_mask t ls) ∙ ap suc (first_zeros t k ls (omega arith) (subst (λ (x : ℕ). 0 < x) (count_other t l ls n) some)))
 ]
@@ -484,11 +436,9 @@ pub second_zeros : (t k : ℕ) (ls : List ℕ) → length ls ≤ k → count t l
 second_zeros t k [] h two = absurd (omega arith)
 second_zeros t zero (l ∷ ls) h two = absurd (omega arith)
 second_zeros t (suc k) (l ∷ ls) h two = elim (cases_eq l t) [
-  | inl e ↦ (let more : suc (count t ls) ≡ 2 = sym (ap (λ (x : ℕ). count t (x ∷ ls)) e ∙ count_same t ls) ∙ two in
-      subst (λ (x : ℕ). count_trailing_zeros (suc k) (bit_and (layer_mask t (x ∷ ls)) (layer_mask t (x ∷ ls) - 1)) ≡ second_square t (x ∷ ls)) (sym e)
-      (rw (mask_same t ls, eq-eqb t t refl)
-      (ap (count_trailing_zeros (suc k)) (rest_same (layer_mask t ls)) ∙ zeros_even k (layer_mask t ls)
-      ∙ ap suc (first_zeros t k ls (omega arith) (omega arith)))))
+  | inl e ↦ (let one = count_rest t l 1 ls e two in
+      rw (mask_at t l ls e, eq-eqb l t e, rest_same (layer_mask t ls))
+      (zeros_even k (layer_mask t ls) ∙ ap suc (first_zeros t k ls (omega arith) (omega arith))))
   | inr n ↦ (let fewer : count t ls ≡ 2 = sym (count_other t l ls n) ∙ two in
       let some : 0 < layer_mask t ls = mask_some t ls (omega arith) in
       rw (mask_other t l ls n, ne_eqb l t n)
@@ -506,8 +456,7 @@ first_square-below t (l ∷ ls) h = elim (cases_eq l t) [
 pub second_square-below : (t : ℕ) (ls : List ℕ) → count t ls ≡ 2 → second_square t ls < length ls
 second_square-below t [] h = absurd (omega arith)
 second_square-below t (l ∷ ls) h = elim (cases_eq l t) [
-  | inl e ↦ (let more : suc (count t ls) ≡ 2 = sym (ap (λ (x : ℕ). count t (x ∷ ls)) e ∙ count_same t ls) ∙ h in
-      rw (eq-eqb l t e) (let rest = first_square-below t ls (omega arith) in omega arith))
+  | inl e ↦ (let one = count_rest t l 1 ls e h in rw (eq-eqb l t e) (let rest = first_square-below t ls (omega arith) in omega arith))
   | inr n ↦ rw (ne_eqb l t n) (let rest = second_square-below t ls (sym (count_other t l ls n) ∙ h) in omega arith)
 ]
 
@@ -520,56 +469,23 @@ no_form t cells z =
 pub form_one : (t : ℕ) (cells : List Cell) → count t (map layer cells) ≡ 1 → forms_number t cells ≡ form (get_or cells (first_square t (map layer cells)) None)
 form_one t [] h = absurd (omega arith)
 form_one t (cell ∷ cells) h = elim (cases_eq (layer cell) t) [
-  | inl e ↦ (let more : suc (count t (map layer cells)) ≡ 1 = sym (ap (λ (x : ℕ). count t (x ∷ map layer cells)) e ∙ count_same t (map layer cells)) ∙ h in
-      let none : count t (map layer cells) ≡ 0 = omega arith in
-      let rest : forms_number t cells ≡ 0 = no_form t cells none in
-      let one : base_of t ^ count t (map layer cells) ≡ 1 = ap (λ (n : ℕ). base_of t ^ n) none ∙ pow-zero (base_of t) in
-      forms_number_same t cell cells e ∙ ap (λ (w : ℕ). form cell * w + forms_number t cells) one
-      ∙ (let s : form cell * 1 + forms_number t cells ≡ form cell = omega arith in s)
-      ∙ ap (λ (n : ℕ). form (get_or (cell ∷ cells) n None)) (sym (first_at e)))
-  | inr n ↦ forms_number_other t cell cells n ∙ form_one t cells (sym (count_other t (layer cell) (map layer cells) n) ∙ h)
-      ∙ ap (λ (k : ℕ). form (get_or (cell ∷ cells) k None)) (sym (first_after n))
+  | inl e ↦ (let none = count_rest t (layer cell) 0 (map layer cells) e h in
+      rw (eq-eqb (layer cell) t e, none, pow-zero (base_of t)) (omega (arith, no_form t cells none)))
+  | inr n ↦ rw (forms_number_other t cell cells n, ne_eqb (layer cell) t n) (form_one t cells (sym (count_other t (layer cell) (map layer cells) n) ∙ h))
 ]
-  where
-    first_at : layer cell ≡ t → first_square t (layer cell ∷ map layer cells) ≡ 0
-    first_at e = rw (eq-eqb (layer cell) t e) refl
-
-    first_after : (layer cell ≡ t → ⊥) → first_square t (layer cell ∷ map layer cells) ≡ suc (first_square t (map layer cells))
-    first_after n = rw (ne_eqb (layer cell) t n) refl
 
 pub form_two : (t : ℕ) (cells : List Cell) → count t (map layer cells) ≡ 2 →
     forms_number t cells ≡ form (get_or cells (first_square t (map layer cells)) None) * base_of t
     + form (get_or cells (second_square t (map layer cells)) None)
 form_two t [] h = absurd (omega arith)
 form_two t (cell ∷ cells) h = elim (cases_eq (layer cell) t) [
-  | inl e ↦ (let more : suc (count t (map layer cells)) ≡ 2 = sym (ap (λ (x : ℕ). count t (x ∷ map layer cells)) e ∙ count_same t (map layer cells)) ∙ h in
-      let one : count t (map layer cells) ≡ 1 = omega arith in
-      let base : base_of t ^ count t (map layer cells) ≡ base_of t = ap (λ (n : ℕ). base_of t ^ n) one ∙ first_power (base_of t) in
-      forms_number_same t cell cells e ∙ ap (λ (w : ℕ). form cell * w + forms_number t cells) base
-      ∙ ap (λ (x : ℕ). form cell * base_of t + x) (form_one t cells one)
-      ∙ ap (λ (k : ℕ). form cell * base_of t + form (get_or (cell ∷ cells) k None)) (sym (second_at e))
-      ∙ ap (λ (k : ℕ). form (get_or (cell ∷ cells) k None) * base_of t
-      + form (get_or (cell ∷ cells) (second_square t (layer cell ∷ map layer cells)) None)) (sym (first_at e)))
-  | inr n ↦ forms_number_other t cell cells n ∙ form_two t cells (sym (count_other t (layer cell) (map layer cells) n) ∙ h)
-      ∙ ap (λ (k : ℕ). form (get_or (cell ∷ cells) k None) * base_of t + form (get_or cells (second_square t (map layer cells)) None)) (sym (first_after n))
-      ∙ ap (λ (k : ℕ). form (get_or (cell ∷ cells) (first_square t (layer cell ∷ map layer cells)) None) * base_of t
-      + form (get_or (cell ∷ cells) k None)) (sym (second_after n))
+  | inl e ↦ (let one = count_rest t (layer cell) 1 (map layer cells) e h in
+      rw (eq-eqb (layer cell) t e, one, first_power (base_of t)) (ap (λ (x : ℕ). form cell * base_of t + x) (form_one t cells one)))
+  | inr n ↦ rw (forms_number_other t cell cells n, ne_eqb (layer cell) t n) (form_two t cells (sym (count_other t (layer cell) (map layer cells) n) ∙ h))
 ]
   where
     first_power : (b : ℕ) → b ^ 1 ≡ b
     first_power b = pow-succ' b 0 ∙ ap (λ (x : ℕ). b * x) (pow-zero b) ∙ (let e : b * 1 ≡ b = omega arith in e)
-
-    first_at : layer cell ≡ t → first_square t (layer cell ∷ map layer cells) ≡ 0
-    first_at e = rw (eq-eqb (layer cell) t e) refl
-
-    second_at : layer cell ≡ t → second_square t (layer cell ∷ map layer cells) ≡ suc (first_square t (map layer cells))
-    second_at e = rw (eq-eqb (layer cell) t e) refl
-
-    first_after : (layer cell ≡ t → ⊥) → first_square t (layer cell ∷ map layer cells) ≡ suc (first_square t (map layer cells))
-    first_after n = rw (ne_eqb (layer cell) t n) refl
-
-    second_after : (layer cell ≡ t → ⊥) → second_square t (layer cell ∷ map layer cells) ≡ suc (second_square t (map layer cells))
-    second_after n = rw (ne_eqb (layer cell) t n) refl
 
 -- the same of the squares and forms that the code finds
 layers_long : (cells : List Cell) → length cells ≡ 12 → length (map layer cells) ≡ 12
@@ -584,9 +500,7 @@ pub second_found : (t : ℕ) (cells : List Cell) (mask less : ℕ) → length ce
     → less ≡ mask - 1 → count t (map layer cells) ≡ 2 →
     lowest (bit_and mask less) ≡ second_square t (map layer cells)
 second_found t cells mask less h m l two =
-    let long = layers_long cells h in
-    ap (λ (x : ℕ). lowest (bit_and mask x)) l ∙ ap (λ (x : ℕ). lowest (bit_and x (x - 1))) m
-    ∙ second_zeros t 64 (map layer cells) (omega arith) two
+    let long = layers_long cells h in rw (l, m) (second_zeros t 64 (map layer cells) (omega arith) two)
 
 pub first_on_board : (t : ℕ) (cells : List Cell) (mask : ℕ) → length cells ≡ 12 → mask ≡ layer_mask t (map layer cells) → 0 < count t (map layer cells) →
     lowest mask < 12
@@ -599,22 +513,14 @@ pub second_on_board : (t : ℕ) (cells : List Cell) (mask less : ℕ) → length
 second_on_board t cells mask less h m l two =
     let long = layers_long cells h in let is = second_found t cells mask less h m l two in let low = second_square-below t (map layer cells) two in omega arith
 
-at_square : (cells : List Cell) (found square number : ℕ) → found ≡ square → number ≡ form (get_or cells found None) → number ≡ form (get_or cells square None)
-at_square cells found square number e n = n ∙ ap (λ (k : ℕ). form (get_or cells k None)) e
-
 pub form_found : (t : ℕ) (cells : List Cell) (mask number : ℕ) → length cells ≡ 12 → mask ≡ layer_mask t (map layer cells) → count t (map layer cells) ≡ 1 →
     number ≡ form (get_or cells (lowest mask) None) → number ≡ forms_number t cells
 form_found t cells mask number h m one n =
-    at_square cells (lowest mask) (first_square t (map layer cells)) number (first_found t cells mask h m (omega arith)) n
-    ∙ sym (form_one t cells one)
+    rw (n, first_found t cells mask h m (omega arith)) (sym (form_one t cells one))
 
 pub forms_found : (t : ℕ) (cells : List Cell) (mask less first other base : ℕ) → length cells ≡ 12 → mask ≡ layer_mask t (map layer cells) → less ≡ mask - 1 →
     count t (map layer cells) ≡ 2 → first ≡ form (get_or cells (lowest mask) None)
     → other ≡ form (get_or cells (lowest (bit_and mask less)) None) →
     base ≡ base_of t → first * base + other ≡ forms_number t cells
 forms_found t cells mask less first other base h m l two f s b =
-    let one = at_square cells (lowest mask) (first_square t (map layer cells)) first (first_found t cells mask h m (omega arith)) f in
-    let next = at_square cells (lowest (bit_and mask less)) (second_square t (map layer cells)) other
-    (second_found t cells mask less h m l two) s in
-    ap (λ (x : ℕ). first * x + other) b ∙ ap (λ (x : ℕ). x * base_of t + other) one
-    ∙ ap (λ (x : ℕ). form (get_or cells (first_square t (map layer cells)) None) * base_of t + x) next ∙ sym (form_two t cells two)
+    rw (b, f, s, first_found t cells mask h m (omega arith), second_found t cells mask less h m l two) (sym (form_two t cells two))

@@ -1,7 +1,7 @@
 -- Layers settled one after another: each choice comes back, and so does each list of layers.
-use Rattle.dob_rank.proofs.Common.{◌+◌, ◌-◌, ◌<◌, ◌∙◌, ◌∷◌, ◌≡◌, ◌≤◌, ◌⊎◌, List, [], ap, arith, cond, eqb, inl, inr, ltb, refl, subst, suc, sym, zero, ℕ}
-use Rattle.dob_rank.proofs.Common.{cases_lt, cases_order, le-ltb, lt-ltb, ne_eqb, choice, choose, count, count_from, order, settle, with_first, Empty}
-use Rattle.dob_rank.proofs.Boards.Choices.{count_same, count_other, count_from_lower, count_from_later, choice_later, choice_not_later, choose-split}
+use Rattle.dob_rank.proofs.Common.{◌+◌, ◌-◌, ◌<◌, ◌∙◌, ◌∷◌, ◌≡◌, ◌≤◌, ◌⊎◌, List, [], ap, arith, cond, inl, inr, ltb, refl, subst, suc, sym, zero, ℕ, cases_lt}
+use Rattle.dob_rank.proofs.Common.{cases_order, le-ltb, lt-ltb, ne_eqb, choice, choose, count, count_from, order, settle, with_first, Empty}
+use Rattle.dob_rank.proofs.Boards.Choices.{count_same, count_other, count_from_lower, count_from_later, choice_later, choice_not_later, choose-split, count_at}
 use Rattle.dob_rank.proofs.Boards.Choices.{choice-below}
 
 -- a layer that is shown only if it is below t
@@ -43,10 +43,8 @@ count-hide t (l ∷ ls) h a =
     let rest : count (order Empty) (hide t ls) ≡ count_from t ls = count-hide t ls h a.1 in
     elim (cases_lt l t) [
       | inl lt ↦ (let other : l ≡ order Empty → ⊥ = omega arith in
-          ap (λ (x : ℕ). count (order Empty) (x ∷ hide t ls)) (hidden_lower t l lt) ∙ count_other (order Empty) l (hide t ls) other ∙ rest
-          ∙ sym (count_from_lower t l ls lt))
-      | inr le ↦ ap (λ (x : ℕ). count (order Empty) (x ∷ hide t ls)) (hidden_later t l le) ∙ count_same (order Empty) (hide t ls) ∙ ap suc rest
-          ∙ sym (count_from_later t l ls le)
+          rw (hidden_lower t l lt, count_other (order Empty) l (hide t ls) other, count_from_lower t l ls lt) rest)
+      | inr le ↦ rw (hidden_later t l le, count_from_later t l ls le) (count_same (order Empty) (hide t ls) ∙ ap suc rest)
     ]
 
 cons : (x y : ℕ) (xs ys : List ℕ) → x ≡ y → xs ≡ ys → x ∷ xs ≡ y ∷ ys
@@ -144,12 +142,10 @@ settle-settles t zero number [] h a n = record { number_is = omega arith; count_
 settle-settles t (suc pieces) number [] h a n = absurd (omega arith)
 settle-settles t pieces number (l ∷ ls) h a n = elim a.0 [
   | inl lt ↦ (let five : l ≡ order Empty → ⊥ = omega arith in
-      let n' : number < choose (count (order Empty) ls) pieces = subst (λ (x : ℕ). number < choose x pieces) (count_other (order Empty) l ls five) n in
-      subst (IsSettled t pieces number (l ∷ ls)) (sym (settle_kept t pieces number l ls five))
-      (kept_step t pieces number l ls (settle t pieces number ls) h lt (settle-settles t pieces number ls h a.1 n')))
-  | inr e ↦ subst (λ (x : ℕ). IsSettled t pieces number (x ∷ ls) (settle t pieces number (x ∷ ls))) (sym e)
-      (let n' : number < choose (suc (count (order Empty) ls)) pieces
-      = subst (λ (x : ℕ). number < choose x pieces) (ap (λ (x : ℕ). count (order Empty) (x ∷ ls)) e ∙ count_same (order Empty) ls) n in
+      rw (settle_kept t pieces number l ls five) (kept_step t pieces number l ls (settle t pieces number ls) h lt
+      (settle-settles t pieces number ls h a.1 (subst (λ (x : ℕ). number < choose x pieces) (count_other (order Empty) l ls five) n))))
+  | inr e ↦ rw e
+      (let n' : number < choose (suc (count (order Empty) ls)) pieces = subst (λ (x : ℕ). number < choose x pieces) (count_at (order Empty) l ls e) n in
       elim (cases_lt number (with_first (count (order Empty) ls) pieces)) [
         | inl lt ↦ (let k = with_first-positive (count (order Empty) ls) pieces number lt in
             let lower : number < choose (count (order Empty) ls) k.0 = subst (λ (x : ℕ). number < with_first (count (order Empty) ls) x) k.1 lt in
@@ -162,7 +158,7 @@ settle-settles t pieces number (l ∷ ls) h a n = elim a.0 [
             subst (IsSettled t pieces number (order Empty ∷ ls)) (sym (settle_taken t pieces number ls lt)) i')
         | inr le ↦ (let lower : number - with_first (count (order Empty) ls) pieces < choose (count (order Empty) ls) pieces
             = omega (arith, choose-split (count (order Empty) ls) pieces) in
-            subst (IsSettled t pieces number (order Empty ∷ ls)) (sym (settle_left t pieces number ls le))
+            rw (settle_left t pieces number ls le)
             (left_step t pieces number ls (settle t pieces (number - with_first (count (order Empty) ls) pieces) ls) h le
             (settle-settles t pieces (number - with_first (count (order Empty) ls) pieces) ls h a.1 lower)))
       ])
@@ -185,10 +181,9 @@ count_hide_next t [] h = refl
 count_hide_next t (l ∷ ls) h =
     let rest : count t (hide (suc t) ls) ≡ count t ls = count_hide_next t ls h in
     elim (cases_lt l (suc t)) [
-      | inl lt ↦ ap (λ (x : ℕ). count t (x ∷ hide (suc t) ls)) (hidden_lower (suc t) l lt) ∙ ap (λ (n : ℕ). cond (eqb l t) 1 0 + n) rest
+      | inl lt ↦ rw (hidden_lower (suc t) l lt, rest) refl
       | inr le ↦ (let five : order Empty ≡ t → ⊥ = omega arith in let other : l ≡ t → ⊥ = omega arith in
-          ap (λ (x : ℕ). count t (x ∷ hide (suc t) ls)) (hidden_later (suc t) l le) ∙ count_other t (order Empty) (hide (suc t) ls) five ∙ rest
-          ∙ sym (count_other t l ls other))
+          rw (hidden_later (suc t) l le, count_other t (order Empty) (hide (suc t) ls) five, count_other t l ls other) rest)
     ]
 
 pub count_from_hide_next : (t : ℕ) (ls : List ℕ) → t < order Empty → count_from t (hide (suc t) ls) ≡ count_from t ls
@@ -196,9 +191,9 @@ count_from_hide_next t [] h = refl
 count_from_hide_next t (l ∷ ls) h =
     let rest : count_from t (hide (suc t) ls) ≡ count_from t ls = count_from_hide_next t ls h in
     elim (cases_lt l (suc t)) [
-      | inl lt ↦ ap (λ (x : ℕ). count_from t (x ∷ hide (suc t) ls)) (hidden_lower (suc t) l lt) ∙ ap (λ (n : ℕ). cond (ltb l t) 0 1 + n) rest
-      | inr le ↦ ap (λ (x : ℕ). count_from t (x ∷ hide (suc t) ls)) (hidden_later (suc t) l le)
-          ∙ count_from_later t (order Empty) (hide (suc t) ls) (omega arith) ∙ ap suc rest ∙ sym (count_from_later t l ls (omega arith))
+      | inl lt ↦ rw (hidden_lower (suc t) l lt, rest) refl
+      | inr le ↦
+          rw (hidden_later (suc t) l le, count_from_later t (order Empty) (hide (suc t) ls) (omega arith), count_from_later t l ls (omega arith)) (ap suc rest)
     ]
 
 pub choice_hide_next : (t : ℕ) (ls : List ℕ) → t < order Empty → choice t (hide (suc t) ls) ≡ choice t ls
@@ -206,12 +201,13 @@ choice_hide_next t [] h = refl
 choice_hide_next t (l ∷ ls) h =
     let rest : choice t (hide (suc t) ls) ≡ choice t ls = choice_hide_next t ls h in
     elim (cases_lt l (suc t)) [
-      | inl lt ↦ ap (λ (x : ℕ). choice t (x ∷ hide (suc t) ls)) (hidden_lower (suc t) l lt)
-          ∙ choice_not_later t l (hide (suc t) ls) (omega arith) ∙ rest ∙ sym (choice_not_later t l ls (omega arith))
-      | inr le ↦ ap (λ (x : ℕ). choice t (x ∷ hide (suc t) ls)) (hidden_later (suc t) l le)
-          ∙ choice_later t (order Empty) (hide (suc t) ls) h
-          ∙ ap (λ (n : ℕ). with_first n (count t (hide (suc t) ls)) + choice t (hide (suc t) ls)) (count_from_hide_next t ls h)
-          ∙ ap (λ (n : ℕ). with_first (count_from t ls) n + choice t (hide (suc t) ls)) (count_hide_next t ls h)
-          ∙ ap (λ (n : ℕ). with_first (count_from t ls) (count t ls) + n) rest
-          ∙ sym (choice_later t l ls le)
+      | inl lt ↦ rw (hidden_lower (suc t) l lt, choice_not_later t l (hide (suc t) ls) (omega arith), choice_not_later t l ls (omega arith)) rest
+      | inr le ↦ rw (
+        hidden_later (suc t) l le,
+        choice_later t (order Empty) (hide (suc t) ls) h,
+        count_from_hide_next t ls h,
+        count_hide_next t ls h,
+        choice_later t l ls le,
+        rest,
+      ) refl
     ]

@@ -6,11 +6,10 @@ use Rattle.dob_rank.proofs.Common.{AreFewOnBoard, form_bases, lion_pairs, local_
 use Rattle.dob_rank.proofs.Arithmetic.MixedRadix.{factor_positive, product-append, number_of-below, number_of-append, number_by_three, digits_of-append}
 use Rattle.dob_rank.proofs.Arithmetic.MixedRadix.{digits_of-parts, digits_of-two, digits_of-three}
 use Rattle.dob_rank.proofs.Positions.Loops.{digit-at}
-use Rattle.dob_rank.proofs.Positions.Blocks.{few_from_digits, few_of_three, four_small, two_small, choose-small, most_choices}
+pub use Rattle.dob_rank.proofs.Positions.Blocks.{AreFewOnBoard-digits}
+use Rattle.dob_rank.proofs.Positions.Blocks.{four_small, two_small, most_choices, product-at_most, hand_bases, most_hands, most_squares, most_forms}
+use Rattle.dob_rank.proofs.Positions.Blocks.{hands_at_most, squares_at_most, forms_at_most}
 use Rattle.dob_rank.proofs.Positions.BlockStarts.{same_number}
-
-abbrev pub hand_bases : PieceSet → List ℕ → List ℕ
-hand_bases set ob = (set.chicks - slice_index ob 0 + 1) ∷ (set.elephants - slice_index ob 1 + 1) ∷ (set.giraffes - slice_index ob 2 + 1) ∷ []
 
 -- the numbers of a spot's parts, below the products of their bases, and the digits of the whole
 pub record AreParts (set : PieceSet) (ob : List ℕ) (run local forms : ℕ) : Type 0 where
@@ -39,7 +38,7 @@ parts_are set ob run local forms h l f =
           ∙ ap (λ (xs : List ℕ). xs ++ digits_of (local_bases ob) local)
           (digits_of-append (hand_bases set ob) (own_squares ∷ enemy_squares ∷ []) run h)
           ∙ ap (λ (xs : List ℕ). (digits_of (hand_bases set ob) (run / lion_pairs) ++ xs) ++ digits_of (local_bases ob) local)
-          (digits_of-two own_squares enemy_squares (run % lion_pairs) lions)
+          (digits_of-two own_squares enemy_squares (run % lion_pairs))
           ∙ ap (λ (xs : List ℕ). (digits_of (hand_bases set ob) (run / lion_pairs)
           ++ (run % lion_pairs / enemy_squares ∷ run % lion_pairs % enemy_squares ∷ [])) ++ xs)
           (digits_of-append (square_bases ob) (form_bases ob) local l);
@@ -62,30 +61,14 @@ forms_shifted i j k a b c =
 pub form_bits_are : (i j k : ℕ) → i ≤ 2 → j ≤ 2 → k ≤ 2 → 2 ^ (2 * i + j + k) ≡ 4 ^ i * (2 ^ j * (2 ^ k * 1))
 form_bits_are i j k a b c = sym (one_shl (2 * i + j + k) 64 (omega arith)) ∙ forms_shifted i j k a b c
 
-pub AreFewOnBoard-digits : (set : PieceSet) (ob : List ℕ) → HasDigits (block_bases set) ob → AreFewOnBoard ob
-AreFewOnBoard-digits set ob h =
-    let few = few_from_digits set ob h in
-    record {
-      chicks = few_of_three set.chicks (slice_index ob 0) set.few_chicks few.chicks;
-      elephants = few_of_three set.elephants (slice_index ob 1) set.few_elephants few.elephants;
-      giraffes = few_of_three set.giraffes (slice_index ob 2) set.few_giraffes few.giraffes;
-    }
-
 pub form_digits_are : (ob : List ℕ) (n rest giraffes chicks elephants : ℕ) → n < product (form_bases ob) →
     rest ≡ n / 2 ^ slice_index ob 2 → giraffes ≡ n % 2 ^ slice_index ob 2 →
     chicks ≡ rest / 2 ^ slice_index ob 1 → elephants ≡ rest % 2 ^ slice_index ob 1 →
     chicks ∷ elephants ∷ giraffes ∷ [] ≡ digits_of (form_bases ob) n
 form_digits_are ob n rest giraffes chicks elephants h r g c e =
-    ap (λ (x : ℕ). x ∷ elephants ∷ giraffes ∷ []) (c ∙ ap (λ (x : ℕ). x / 2 ^ slice_index ob 1) r)
-    ∙ ap (λ (x : ℕ). n / 2 ^ slice_index ob 2 / 2 ^ slice_index ob 1 ∷ x ∷ giraffes ∷ []) (e ∙ ap (λ (x : ℕ). x % 2 ^ slice_index ob 1) r)
-    ∙ ap (λ (x : ℕ). n / 2 ^ slice_index ob 2 / 2 ^ slice_index ob 1 ∷ n / 2 ^ slice_index ob 2 % 2 ^ slice_index ob 1 ∷ x ∷ []) g
-    ∙ sym (digits_of-three (4 ^ slice_index ob 0) (2 ^ slice_index ob 1) (2 ^ slice_index ob 2) n h)
+    rw (c, e, g, r) (sym (digits_of-three (4 ^ slice_index ob 0) (2 ^ slice_index ob 1) (2 ^ slice_index ob 2) n h))
 
 -- ---- the parts as the code finds them
-
-forms_few : (i j k : ℕ) → i ≤ 2 → j ≤ 2 → k ≤ 2 → 4 ^ i * (2 ^ j * (2 ^ k * 1)) ≤ 256
-forms_few i j k a b c = mul-le (4 ^ i) (2 ^ j * (2 ^ k * 1)) 16 16 (four_small i a)
-    (mul-le (2 ^ j) (2 ^ k * 1) 4 4 (two_small j b) (let few = two_small k c in omega arith))
 
 -- the bases as the code finds them
 pub record AreBasesFound (set : PieceSet) (ob bs : List ℕ) : Type 0 where
@@ -108,16 +91,14 @@ few_in_run ob cs forms few chosen f =
     let two = choose (free_squares - slice_index ob 0) (slice_index ob 1) in
     let three = choose (free_squares - slice_index ob 0 - slice_index ob 1) (slice_index ob 2) in
     let all = product (form_bases ob) in
-    let most : all ≤ 256 = forms_few (slice_index ob 0) (slice_index ob 1) (slice_index ob 2) few.chicks few.elephants few.giraffes in
-    let first : one ≤ most_choices = choose-small free_squares (slice_index ob 0) (omega arith) few.chicks in
-    let second : two ≤ most_choices = choose-small (free_squares - slice_index ob 0) (slice_index ob 1) (omega arith) few.elephants in
-    let third : three ≤ most_choices = choose-small (free_squares - slice_index ob 0 - slice_index ob 1) (slice_index ob 2) (omega arith) few.giraffes in
-    let one_low : three * all ≤ most_choices * 256 = mul-le three all most_choices 256 third most in
-    let two_low : two * (three * all) ≤ most_choices * (most_choices * 256) = mul-le two (three * all) most_choices (most_choices * 256) second one_low in
+    let most : all ≤ 256 = product-at_most (form_bases ob) most_forms (forms_at_most ob few) in
+    let squares = squares_at_most ob few in
+    let one_low : three * all ≤ most_choices * 256 = mul-le three all most_choices 256 squares.1.1.0 most in
+    let two_low : two * (three * all) ≤ most_choices * (most_choices * 256) = mul-le two (three * all) most_choices (most_choices * 256) squares.1.0 one_low in
     subst (λ (n : ℕ). AreFewInRun ob cs n) (sym f) (subst (λ (xs : List ℕ). AreFewInRun ob xs (product (form_bases ob))) (sym chosen) (record {
       one_fits = one_low;
       two_fits = two_low;
-      three_fits = mul-le one (two * (three * all)) most_choices (most_choices * (most_choices * 256)) first two_low;
+      three_fits = mul-le one (two * (three * all)) most_choices (most_choices * (most_choices * 256)) squares.0 two_low;
       size_is = refl;
     }))
 
@@ -127,11 +108,6 @@ quotient_is local bits forms found e b = e ∙ ap (λ (n : ℕ). local / n) b
 
 pub rest_is : (local bits forms found : ℕ) → found ≡ local % 2 ^ bits → 2 ^ bits ≡ forms → found ≡ local % forms
 rest_is local bits forms found e b = e ∙ ap (λ (n : ℕ). local % n) b
-
-abbrev eleven : ℕ → List ℕ → List ℕ → List ℕ → List ℕ
-eleven run hands squares kinds =
-    get_or hands 0 0 ∷ get_or hands 1 0 ∷ get_or hands 2 0 ∷ run % lion_pairs / enemy_squares ∷ run % lion_pairs % enemy_squares
-    ∷ get_or squares 0 0 ∷ get_or squares 1 0 ∷ get_or squares 2 0 ∷ get_or kinds 0 0 ∷ get_or kinds 1 0 ∷ get_or kinds 2 0 ∷ []
 
 pub below_same : (n : ℕ) (xs ys : List ℕ) → xs ≡ ys → n < product ys → n < product xs
 below_same n xs ys e h = subst (λ (zs : List ℕ). n < product zs) (sym e) h
@@ -143,26 +119,6 @@ pub digits_same : (n : ℕ) (xs ys : List ℕ) → xs ≡ ys → digits_of xs n 
 digits_same n xs ys e = ap (λ (zs : List ℕ). digits_of zs n) e
 
 -- ---- the spot that digits write
-
-hands_few : (set : PieceSet) (ob : List ℕ) → product (hand_bases set ob) ≤ 3 * (3 * (3 * 1))
-hands_few set ob =
-    let one : set.chicks - slice_index ob 0 + 1 ≤ 3 = (let few = set.few_chicks in omega arith) in
-    let two : set.elephants - slice_index ob 1 + 1 ≤ 3 = (let few = set.few_elephants in omega arith) in
-    let three : (set.giraffes - slice_index ob 2 + 1) * 1 ≤ 3 * 1 = (let few = set.few_giraffes in omega arith) in
-    mul-le (set.chicks - slice_index ob 0 + 1) ((set.elephants - slice_index ob 1 + 1) * ((set.giraffes - slice_index ob 2 + 1) * 1)) 3 (3 * (3 * 1)) one
-    (mul-le (set.elephants - slice_index ob 1 + 1) ((set.giraffes - slice_index ob 2 + 1) * 1) 3 (3 * 1) two three)
-
-squares_few : (ob : List ℕ) → AreFewOnBoard ob → product (square_bases ob) ≤ most_choices * (most_choices * (most_choices * 1))
-squares_few ob few =
-    let one = choose-small free_squares (slice_index ob 0) (omega arith) few.chicks in
-    let two = choose-small (free_squares - slice_index ob 0) (slice_index ob 1) (omega arith) few.elephants in
-    let third = choose-small (free_squares - slice_index ob 0 - slice_index ob 1) (slice_index ob 2) (omega arith) few.giraffes in
-    let three : choose (free_squares - slice_index ob 0 - slice_index ob 1) (slice_index ob 2) * 1 ≤ most_choices * 1 = omega (arith, third) in
-    mul-le (choose free_squares (slice_index ob 0))
-    (choose (free_squares - slice_index ob 0) (slice_index ob 1) * (choose (free_squares - slice_index ob 0 - slice_index ob 1) (slice_index ob 2) * 1))
-    most_choices (most_choices * (most_choices * 1)) one
-    (mul-le (choose (free_squares - slice_index ob 0) (slice_index ob 1)) (choose (free_squares - slice_index ob 0 - slice_index ob 1) (slice_index ob 2) * 1)
-    most_choices (most_choices * 1) two three)
 
 -- what digits below their bases are, part by part
 pub record AreSpotDigits (set : PieceSet) (ob ds : List ℕ) : Type 0 where
@@ -180,8 +136,8 @@ pub record AreSpotDigits (set : PieceSet) (ob ds : List ℕ) : Type 0 where
 
 pub spot_digits : (set : PieceSet) (ob ds : List ℕ) → length ds ≡ 11 → HasDigits (block_bases set) ob → HasDigits (bases_by set ob) ds → AreSpotDigits set ob ds
 spot_digits set ob (a ∷ b ∷ c ∷ d ∷ e ∷ f ∷ g ∷ h ∷ i ∷ j ∷ k ∷ []) long on has =
-    let hands = hands_few set ob in
-    let squares = squares_few ob (AreFewOnBoard-digits set ob on) in
+    let hands = product-at_most (hand_bases set ob) most_hands (hands_at_most set ob) in
+    let squares = product-at_most (square_bases ob) most_squares (squares_at_most ob (AreFewOnBoard-digits set ob on)) in
     let run = number_of-append (hand_bases set ob) (own_squares ∷ enemy_squares ∷ []) (a ∷ b ∷ c ∷ []) (d ∷ e ∷ []) refl in
     record {
       hands_have = (has.0, (has.1.0, (has.1.1.0, tt)));
@@ -226,10 +182,7 @@ local_found set ob ds bs squares found are e =
     e ∙ ap (λ (xs : List ℕ). number_of xs (get_or ds 5 0 ∷ get_or ds 6 0 ∷ get_or ds 7 0 ∷ [])) found.squares_are in
     subst (IsLocalFound ob ds) (sym same) (record {
       squares_low = number_of-below (square_bases ob) (get_or ds 5 0 ∷ get_or ds 6 0 ∷ get_or ds 7 0 ∷ []) are.squares_have;
-      local_is = λ bits forms b f.
-          ap (λ (n : ℕ). number_of (square_bases ob) (get_or ds 5 0 ∷ get_or ds 6 0 ∷ get_or ds 7 0 ∷ []) * n + forms) b
-          ∙ ap (λ (n : ℕ). number_of (square_bases ob) (get_or ds 5 0 ∷ get_or ds 6 0 ∷ get_or ds 7 0 ∷ []) * product (form_bases ob) + n) f
-          ∙ are.local_is;
+      local_is = λ bits forms b f. rw (b, f) are.local_is;
     })
 
 -- forms joined by shifts
@@ -247,7 +200,7 @@ pub forms_joined : (ob fs : List ℕ) (elephants : ℕ) → length fs ≡ 3 → 
     elephants ≡ get_or fs 0 0 * 2 ^ slice_index ob 1 + get_or fs 1 0 → AreFormsJoined ob fs elephants
 forms_joined ob fs elephants long few has e =
     let by = number_by_three (form_bases ob) fs refl long has in
-    let most = forms_few (slice_index ob 0) (slice_index ob 1) (slice_index ob 2) few.chicks few.elephants few.giraffes in
+    let most = product-at_most (form_bases ob) most_forms (forms_at_most ob few) in
     let four = four_small (slice_index ob 0) few.chicks in
     let two = two_small (slice_index ob 1) few.elephants in
     let last = two_small (slice_index ob 2) few.giraffes in

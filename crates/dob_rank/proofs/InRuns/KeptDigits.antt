@@ -1,10 +1,11 @@
 -- The digits that the positions of a run have in common as the code keeps them, and the digits of a spot by them.
-use Rattle.dob_rank.proofs.Common.{◌%◌, ◌*◌, ◌++◌, ◌+◌, ◌/◌, ◌<◌, ◌∙◌, ◌∷◌, ◌≡◌, List, [], ap, arith, get_or, subst, sym, ℕ, div_below, mod_below, PieceSet}
-use Rattle.dob_rank.proofs.Common.{HasDigits, bases_by, digits_of, enemy_squares, own_squares, product, form_bases, lion_pairs, local_bases, run_bases}
-use Rattle.dob_rank.proofs.Common.{run_digits, square_bases}
+use Rattle.dob_rank.proofs.Common.{◌%◌, ◌*◌, ◌++◌, ◌+◌, ◌/◌, ◌<◌, ◌∙◌, ◌∷◌, ◌≡◌, List, [], ap, arith, get_or, subst, sym, ℕ, div_below, PieceSet, HasDigits}
+use Rattle.dob_rank.proofs.Common.{bases_by, digits_of, enemy_squares, own_squares, product, form_bases, lion_pairs, local_bases, run_bases, run_digits}
+use Rattle.dob_rank.proofs.Common.{square_bases}
 use Rattle.dob_rank.specs.declared.runs.RunDigits.{RunDigits}
 use Rattle.dob_rank.proofs.Arithmetic.MixedRadix.{product-append, HasDigits-digits_of, digits_of-append, digits_of-parts, digits_of-two}
-use Rattle.dob_rank.proofs.InRuns.DigitParts.{AreBasesFound, hand_bases, digits_same}
+use Rattle.dob_rank.proofs.InRuns.DigitParts.{AreBasesFound, digits_same}
+use Rattle.dob_rank.proofs.Positions.Blocks.{hand_bases}
 
 -- what the code finds of a run: the hands' number and digits, which are small, and the digits of all
 pub record AreRunParts (set : PieceSet) (ob : List ℕ) (run : ℕ) (hands : List ℕ) : Type 0 where
@@ -14,28 +15,28 @@ pub record AreRunParts (set : PieceSet) (ob : List ℕ) (run : ℕ) (hands : Lis
   pub digits_are : get_or hands 0 0 ∷ get_or hands 1 0 ∷ get_or hands 2 0 ∷ run % lion_pairs / enemy_squares ∷ run % lion_pairs % enemy_squares ∷ []
       ≡ digits_of (run_bases set ob) run
 
+hand_below : (set : PieceSet) (ob : List ℕ) (run : ℕ) → run < product (run_bases set ob) → run / lion_pairs < product (hand_bases set ob)
+hand_below set ob run below = div_below run lion_pairs (product (hand_bases set ob)) (omega arith)
+    (subst (λ (n : ℕ). run < n) (product-append (hand_bases set ob) (own_squares ∷ enemy_squares ∷ [])) below)
+
 pub hands_below : (set : PieceSet) (ob bases : List ℕ) (run : ℕ) → AreBasesFound set ob bases → run < product (run_bases set ob)
     → run / lion_pairs < product (get_or bases 0 0 ∷ get_or bases 1 0 ∷ get_or bases 2 0 ∷ [])
 hands_below set ob bases run found below =
     subst (λ (xs : List ℕ). run / lion_pairs < product xs) (sym found.hands_are)
-    (div_below run lion_pairs (product (hand_bases set ob)) (omega arith)
-    (subst (λ (n : ℕ). run < n) (product-append (hand_bases set ob) (own_squares ∷ enemy_squares ∷ [])) below))
+    (hand_below set ob run below)
 
 pub run_parts : (set : PieceSet) (ob bases hands : List ℕ) (run : ℕ) → AreBasesFound set ob bases → run < product (run_bases set ob)
     → hands ≡ digits_of (get_or bases 0 0 ∷ get_or bases 1 0 ∷ get_or bases 2 0 ∷ []) (run / lion_pairs) → AreRunParts set ob run hands
 run_parts set ob bases hands run found below is =
-    let low : run / lion_pairs < product (hand_bases set ob) =
-    div_below run lion_pairs (product (hand_bases set ob)) (omega arith)
-    (subst (λ (n : ℕ). run < n) (product-append (hand_bases set ob) (own_squares ∷ enemy_squares ∷ [])) below) in
     let has : HasDigits (hand_bases set ob) (digits_of (hand_bases set ob) (run / lion_pairs)) =
-    HasDigits-digits_of (hand_bases set ob) (run / lion_pairs) low in
+    HasDigits-digits_of (hand_bases set ob) (run / lion_pairs) (hand_below set ob run below) in
     subst (AreRunParts set ob run) (sym (is ∙ digits_same _ _ _ found.hands_are)) (record {
       chicks_small = (let few = set.few_chicks in let digit = has.0 in omega (arith, few, digit));
       elephants_small = (let few = set.few_elephants in let digit = has.1.0 in omega (arith, few, digit));
       giraffes_small = (let few = set.few_giraffes in let digit = has.1.1.0 in omega (arith, few, digit));
       digits_are = sym (digits_of-append (hand_bases set ob) (own_squares ∷ enemy_squares ∷ []) run below
           ∙ ap (λ (xs : List ℕ). digits_of (hand_bases set ob) (run / lion_pairs) ++ xs)
-          (digits_of-two own_squares enemy_squares (run % lion_pairs) (mod_below run lion_pairs (omega arith))));
+          (digits_of-two own_squares enemy_squares (run % lion_pairs)));
     })
 
 -- ---- the digits of a spot

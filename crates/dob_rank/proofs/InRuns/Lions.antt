@@ -1,14 +1,14 @@
 -- What the lions' squares say of a position and its mirror image.
 use Rattle.dob_rank.proofs.Common.{◌%◌, ◌&&◌, ◌*◌, ◌+◌, ◌/◌, ◌<◌, ◌∙◌, ◌∷◌, ◌≡◌, Bool, List, None, Some, [], ap, arith, cond, eqb, length, ltb, map, refl}
-use Rattle.dob_rank.proofs.Common.{replicate, slice_index_or, subst, sym, true, ℕ, and_parts, eqb-true, ltb-true, range_with_len, all_below, all_below-at, Cell}
-use Rattle.dob_rank.proofs.Common.{board_by, mirrored, piece_of, Lion, Enemy, Mover, PieceSet, Setup, choice, count, empty_layers, enemy_squares, layer, order}
+use Rattle.dob_rank.proofs.Common.{slice_index_or, subst, sym, true, ℕ, and_parts, eqb-true, ltb-true, range_with_len, all_below, all_below-at, Cell, board_by}
+use Rattle.dob_rank.proofs.Common.{mirrored, piece_of, Lion, Enemy, Mover, PieceSet, Setup, choice, count, empty_layers, enemy_squares, layer, order}
 use Rattle.dob_rank.proofs.Common.{own_squares, settle, IsPositionOfSet, enemy_square, lion_pairs, lions_of, run_kind, Chicks, Empty, EnemyLion, OwnLion}
 use Rattle.dob_pieces.specs.Squares.{mirrored_square}
 use Rattle.dob_rank.specs.declared.runs.RunKind.{RunKind}
 use Rattle.dob_rank.specs.declared.runs.RunKind.TheVariants.{First, Later, Mixed}
-use Rattle.dob_rank.proofs.Boards.Settled.{hide, AreLayers, hide-hide, settle-choice, choice_hide_next}
+use Rattle.dob_rank.proofs.Boards.Settled.{hide, AreLayers, hide-hide, choice_hide_next}
 use Rattle.dob_rank.proofs.Boards.FormDigits.{AreLayers-map}
-use Rattle.dob_rank.proofs.Positions.Digits.{HasParts, HasParts-from_position, HasDigits-digits, hide_zero}
+use Rattle.dob_rank.proofs.Positions.Digits.{HasParts, HasParts-from_position, HasDigits-digits, lions_back}
 
 -- ---- layers of the mirror image
 
@@ -63,17 +63,9 @@ lions_layers-of ls h =
     let below : choice (order EnemyLion) ls < enemy_squares = h.below in
     let own : lions_in ls / enemy_squares ≡ choice (order OwnLion) ls = omega arith in
     let enemy : lions_in ls % enemy_squares ≡ choice (order EnemyLion) ls = omega arith in
-    let start : empty_layers ≡ hide (order OwnLion) ls = sym (hide_zero ls ∙ ap (λ (n : ℕ). replicate n (order Empty)) h.squares) in
-    let first : settle (order OwnLion) 1 (choice (order OwnLion) ls) empty_layers ≡ hide (order EnemyLion) ls
-    = ap (settle (order OwnLion) 1 (choice (order OwnLion) ls)) start
-    ∙ ap (λ (n : ℕ). settle (order OwnLion) n (choice (order OwnLion) ls) (hide (order OwnLion) ls)) (sym h.own_lion)
-    ∙ settle-choice (order OwnLion) ls (omega arith) h.layers in
-    let second : settle (order EnemyLion) 1 (choice (order EnemyLion) ls) (hide (order EnemyLion) ls) ≡ hide (order Chicks) ls
-    = ap (λ (n : ℕ). settle (order EnemyLion) n (choice (order EnemyLion) ls) (hide (order EnemyLion) ls)) (sym h.enemy_lion)
-    ∙ settle-choice (order EnemyLion) ls (omega arith) h.layers in
     ap (λ n. settle (order EnemyLion) 1 (lions_in ls % enemy_squares) (settle (order OwnLion) 1 n empty_layers)) own
     ∙ ap (λ n. settle (order EnemyLion) 1 n (settle (order OwnLion) 1 (choice (order OwnLion) ls) empty_layers)) enemy
-    ∙ ap (settle (order EnemyLion) 1 (choice (order EnemyLion) ls)) first ∙ second
+    ∙ lions_back ls h.squares h.layers h.own_lion h.enemy_lion
 
 -- the number of its mirrored lions
 image-of_pair : (ls : List ℕ) → HasPair ls → lions_in (mirror_layers ls) ≡ image_lions (lions_in ls)

@@ -2,7 +2,7 @@
 use Rattle.dob_rank.proofs.Common.{◌%◌, ◌*◌, ◌+◌, ◌<◌, ◌^◌, ◌∙◌, ◌≡◌, ◌≤◌, Bool, ap, arith, suc, sym, zero, ℕ, add-mul, PieceSet, marks_below, one_if}
 use Rattle.dob_rank.proofs.Common.{block_bases, block_size, product, start_of, sum_below, lion_pairs, run_size, run_start, runs_in}
 use Rattle.dob_rank.proofs.Positions.Blocks.{block_size-small, blocks_small}
-use Rattle.dob_rank.proofs.Marked.Words.{marks_below_more, marks_below_none}
+use Rattle.dob_rank.proofs.Marked.Words.{marks_below_more, marks_below_none, no_later, marks_later}
 use Rattle.dob_rank.proofs.InRuns.RunPlaces.{block_size-runs, run_start-is}
 
 -- ---- places of runs
@@ -46,15 +46,8 @@ marks_agree f g (suc n) same =
 
 pub marks_from : (mark : ℕ → Bool) (from n : ℕ) → marks_below mark from + marks_below (λ k. mark (from + k)) n ≡ marks_below mark (from + n)
 marks_from mark from zero =
-    let none = marks_below_none (λ k. mark (from + k)) in
-    let same : marks_below mark from ≡ marks_below mark (from + 0) = ap (marks_below mark) (let e : from ≡ from + 0 = omega arith in e) in
-    omega (arith, none, same)
-marks_from mark from (suc n) =
-    let rest = marks_from mark from n in
-    let more = marks_below_more (λ k. mark (from + k)) n in
-    let next = marks_below_more mark (from + n) in
-    let same : marks_below mark (suc (from + n)) ≡ marks_below mark (from + suc n) = ap (marks_below mark) (let e : suc (from + n) ≡ from + suc n = omega arith in e) in
-    omega (arith, rest, more, next, same)
+    omega (arith, marks_below_none (λ k. mark (from + k)), no_later mark from)
+marks_from mark from (suc n) = omega (arith, marks_from mark from n, marks_below_more (λ k. mark (from + k)) n, marks_later mark from n)
 
 pub lions_run : (run : ℕ) → run % lion_pairs % lion_pairs ≡ run % lion_pairs
 lions_run run = omega arith

@@ -1,26 +1,24 @@
 -- A place in a block is a run and a place in that run, and the lions of a run compare its positions with their mirror
 -- images.
-use Rattle.dob_rank.proofs.Common.{◌%◌, ◌*◌, ◌++◌, ◌+◌, ◌-◌, ◌/◌, ◌<◌, ◌^◌, ◌∙◌, ◌∷◌, ◌≡◌, ◌≤◌, Bool, List, [], ap, arith, false, get_or, inl, inr, length, map}
-use Rattle.dob_rank.proofs.Common.{refl, subst, suc, sym, true, zero, ℕ, mul-pos, cases_Bool, cases_lt, length-map, div-mul-add, All, mirrored, PieceSet, Setup}
+use Rattle.dob_rank.proofs.Common.{◌%◌, ◌*◌, ◌++◌, ◌+◌, ◌/◌, ◌<◌, ◌^◌, ◌∙◌, ◌∷◌, ◌≡◌, ◌≤◌, Bool, List, [], ap, arith, false, get_or, inl, inr, length, map}
+use Rattle.dob_rank.proofs.Common.{refl, subst, suc, sym, true, zero, ℕ, cases_Bool, cases_lt, length-map, div-mul-add, All, mirrored, PieceSet, Setup}
 use Rattle.dob_rank.proofs.Common.{is_first, marked, bases_by, block_bases, block_of, block_size, choice, count, digits_of, enemy_squares, forms_number, layer}
 use Rattle.dob_rank.proofs.Common.{number_of, on_board, order, own_squares, product, rank_of_set, setup_in, size_of_set, sum_below, IsPositionOfSet, IsInRun}
 use Rattle.dob_rank.proofs.Common.{lion_pairs, lions_of, local_bases, local_of, run_bases, run_kind, run_of, run_size, run_start, runs_in, Chicks, Elephants}
 use Rattle.dob_rank.proofs.Common.{EnemyLion, Giraffes, OwnLion}
 use Rattle.dob_rank.specs.declared.runs.RunKind.TheVariants.{First, Later}
-use Rattle.dob_rank.proofs.Positions.Blocks.{AreBases-by, few_in_block, block_size-small, run_bases-few, place_below_size}
+use Rattle.dob_rank.proofs.Positions.Blocks.{AreBases-by, few_in_block, block_size-small, run_bases-few, place_below_size, block_size-product, hand_bases}
 use Rattle.dob_rank.proofs.Arithmetic.MixedRadix.{digit_below, number_of-below, product-append, number_of-append}
 use Rattle.dob_rank.proofs.Positions.Digits.{HasParts-from_position, HasDigits-digits}
-use Rattle.dob_rank.proofs.Positions.Numbering.{HasBlock, place_of, rank_of_set-place, block_of-below, block_size-product, on_board-block, HasBlock-setup_in}
+use Rattle.dob_rank.proofs.Positions.Numbering.{HasBlock, place_of, rank_of_set-place, block_of-below, on_board-block, HasBlock-setup_in}
 use Rattle.dob_rank.proofs.Positions.Numbering.{rank_of_set-block, rank_of_set-below}
 use Rattle.dob_rank.proofs.Positions.Found.{IsPositionOfSet-mirrored}
 use Rattle.dob_rank.proofs.Marked.Marks.{first-marked, marked-first, marked-first_of}
 use Rattle.dob_rank.proofs.Marked.Representatives.{first_by_rank, rank_of_first}
 use Rattle.dob_rank.proofs.InRuns.Lions.{mirror_layers, layers-mirrored, image_lions, lions_of-mirrored, lions_of-below, first_lions, later_lions}
+use Rattle.dob_rank.proofs.Positions.Loops.{product-positive}
 
 -- ---- a position's run, and its place there
-
-abbrev pub hand_bases : PieceSet → List ℕ → List ℕ
-hand_bases set ob = (set.chicks - get_or ob 0 0 + 1) ∷ (set.elephants - get_or ob 1 0 + 1) ∷ (set.giraffes - get_or ob 2 0 + 1) ∷ []
 
 abbrev pub hand_digits : Setup → List ℕ
 hand_digits s = s.hands.mover.chicks ∷ s.hands.mover.elephants ∷ s.hands.mover.giraffes ∷ []
@@ -266,24 +264,6 @@ marked_later set block run local h kind =
 pub positive_locals : (set : PieceSet) (ob : List ℕ) → All (λ (n : ℕ). 0 < n) (bases_by set ob) → All (λ (n : ℕ). 0 < n) (local_bases ob)
 positive_locals set ob all k other below = all (suc (suc (suc (suc (suc k))))) other (omega arith)
 
-positive_runs : (set : PieceSet) (ob : List ℕ) → All (λ (n : ℕ). 0 < n) (bases_by set ob) → All (λ (n : ℕ). 0 < n) (run_bases set ob)
-positive_runs set ob all zero other below = all 0 other (omega arith)
-positive_runs set ob all (suc zero) other below = all 1 other (omega arith)
-positive_runs set ob all (suc (suc zero)) other below = all 2 other (omega arith)
-positive_runs set ob all (suc (suc (suc zero))) other below = all 3 other (omega arith)
-positive_runs set ob all (suc (suc (suc (suc zero)))) other below = all 4 other (omega arith)
-positive_runs set ob all (suc (suc (suc (suc (suc k))))) other below = absurd (omega arith)
-
-product-positive : (bs : List ℕ) → All (λ (n : ℕ). 0 < n) bs → 0 < product bs
-product-positive [] all = omega arith
-product-positive (b ∷ bs) all =
-    let rest = product-positive bs (λ k other below. all (suc k) other (omega arith)) in
-    let here : 0 < b = all 0 b (omega arith) in
-    mul_positive b (product bs) here rest
-  where
-    mul_positive : (a b : ℕ) → 0 < a → 0 < b → 0 < a * b
-    mul_positive a b p q = mul-pos p q
-
 -- what the code finds of a block's numbers
 pub runs_found : (set : PieceSet) (block : ℕ) (nums bs : List ℕ) → nums ≡ digits_of (block_bases set) block → bs ≡ bases_by set nums →
     get_or bs 0 0 * (get_or bs 1 0 * (get_or bs 2 0 * (get_or bs 3 0 * get_or bs 4 0))) ≡ runs_in set block
@@ -301,15 +281,15 @@ unfolding runs_in
 runs_few set block within = run_bases-few set (digits_of (block_bases set) block)
 
 pub no_runs : (set : PieceSet) (block : ℕ) → block < product (block_bases set) → runs_in set block ≤ 0 → ⊥
-unfolding runs_in
 no_runs set block within none =
     let ob = digits_of (block_bases set) block in
-    let all = (AreBases-by set ob (bases_by set ob) (few_in_block set block within) refl).positive in
-    let some : 0 < product (run_bases set ob) = product-positive (run_bases set ob) (positive_runs set ob all) in
-    none_but_some (product (run_bases set ob)) none some
+    let some : 0 < block_size set block = subst (λ (n : ℕ). 0 < n) (sym (block_size-product set block))
+    (product-positive (bases_by set ob) (AreBases-by set ob (bases_by set ob) (few_in_block set block within) refl).positive) in
+    none_of_none (runs_in set block) (run_size set block) (block_size set block) none (block_size-runs set block) some
   where
-    none_but_some : (n : ℕ) → n ≤ 0 → 0 < n → ⊥
-    none_but_some n p q = omega arith
+    none_of_none : (runs size all : ℕ) → runs ≤ 0 → all ≡ runs * size → 0 < all → ⊥
+    none_of_none zero size all none whole some = omega arith
+    none_of_none (suc runs) size all none whole some = omega arith
 
 pub run_size-small : (set : PieceSet) (block : ℕ) → block < product (block_bases set) → run_size set block ≤ 2 ^ 36
 run_size-small set block within =

@@ -2,7 +2,8 @@
 use Rattle.dob_rank.proofs.Common.{◌%◌, ◌*◌, ◌<◌, ◌∷◌, ◌≡◌, ◌≤◌, [], arith, suc, zero, ℕ, PieceSet, block_bases, digits_of, enemy_squares, own_squares, product}
 use Rattle.dob_rank.proofs.Common.{lion_pairs, runs_in}
 use Rattle.dob_rank.proofs.Arithmetic.MixedRadix.{product-append}
-use Rattle.dob_rank.proofs.InRuns.RunPlaces.{hand_bases, no_runs}
+use Rattle.dob_rank.proofs.InRuns.RunPlaces.{no_runs}
+use Rattle.dob_rank.proofs.Positions.Blocks.{hand_bases}
 
 -- ---- sums
 

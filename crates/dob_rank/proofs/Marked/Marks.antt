@@ -6,8 +6,8 @@ use Rattle.std.proofs.lemmas.Bool.{le-leb, leb-true, both_ways}
 use Rattle.std.proofs.lemmas.List.Elements.{All-nil, All-push, All-weaker, Contains-push, Contains-append_left}
 use Rattle.std.proofs.lemmas.List.Quantifiers.{all_pairs_push}
 use Rattle.dob_rank.proofs.Arithmetic.Counts.{IsNumbering}
-use Rattle.dob_rank.proofs.Positions.Numbering.{nth-block, nth-rank_of_set, rank_of_set-nth, rank_of_set-below, rank_of_set-rises, Before-from_rank}
-use Rattle.dob_rank.proofs.Positions.Found.{IsPositionOfSet-mirrored}
+use Rattle.dob_rank.proofs.Positions.Numbering.{nth-block, nth-rank_of_set, rank_of_set-nth, rank_of_set-below}
+use Rattle.dob_rank.proofs.Marked.Representatives.{first_by_rank, rank_of_first}
 
 -- the same setups are as many
 pub HasCount-same : (P Q : Setup → Type 0) (n : ℕ) → ((s : Setup) → P s → Q s) → ((s : Setup) → Q s → P s) → HasCount P n → HasCount Q n
@@ -98,24 +98,22 @@ numbering set = record {
   forth = λ i h. rank_of_set-nth set i h;
 }
 
+-- what just the positions of marked ranks below a bound have is had by as many
+pub HasCount-by : (set : PieceSet) (mark : ℕ → Bool) (n : ℕ) (Q : Setup → Type 0) → n ≤ size_of_set set
+    → ((s : Setup) → IsMarkedBelow (IsPositionOfSet set) mark (rank_of_set set) n s → Q s)
+    → ((s : Setup) → Q s → IsMarkedBelow (IsPositionOfSet set) mark (rank_of_set set) n s) → HasCount Q (marks_below mark n)
+HasCount-by set mark n Q upto f g = HasCount-same (IsMarkedBelow (IsPositionOfSet set) mark (rank_of_set set) n) Q (marks_below mark n) f g
+    (HasCount-marked (IsPositionOfSet set) (size_of_set set) (nth set) (rank_of_set set) mark (numbering set) n upto)
+
 -- a position's rank is marked just where the position is no later than its mirror image
 pub first-marked : (set : PieceSet) (s : Setup) → IsPositionOfSet set s → IsFirstOfTwo s → is_first set (rank_of_set set s) ≡ true
 first-marked set s p first =
-    let image : IsPositionOfSet set (mirrored s) = IsPositionOfSet-mirrored set s p in
     ap (λ (x : Setup). leb (rank_of_set set s) (rank_of_set set (mirrored x))) (nth-rank_of_set set s p)
-    ∙ le-leb (rank_of_set set s) (rank_of_set set (mirrored s))
-    (elim (cases_lt (rank_of_set set (mirrored s)) (rank_of_set set s)) [
-      | inl lt ↦ absurd (first (Before-from_rank set (mirrored s) s image p lt))
-      | inr ge ↦ ge
-    ])
+    ∙ le-leb (rank_of_set set s) (rank_of_set set (mirrored s)) (rank_of_first set s p first)
 
 pub marked-first : (set : PieceSet) (s : Setup) → IsPositionOfSet set s → is_first set (rank_of_set set s) ≡ true → IsFirstOfTwo s
-marked-first set s p on b =
-    let image : IsPositionOfSet set (mirrored s) = IsPositionOfSet-mirrored set s p in
-    let low : rank_of_set set (mirrored s) < rank_of_set set s = rank_of_set-rises set (mirrored s) s image p b in
-    let le : rank_of_set set s ≤ rank_of_set set (mirrored s) = leb-true (rank_of_set set s) (rank_of_set set (mirrored s))
-    (ap (λ (x : Setup). leb (rank_of_set set s) (rank_of_set set (mirrored x))) (sym (nth-rank_of_set set s p)) ∙ on) in
-    omega arith
+marked-first set s p on = first_by_rank set s p (leb-true (rank_of_set set s) (rank_of_set set (mirrored s))
+    (ap (λ (x : Setup). leb (rank_of_set set s) (rank_of_set set (mirrored x))) (sym (nth-rank_of_set set s p)) ∙ on))
 
 -- ---- the marks of a whole set
 

@@ -1,5 +1,5 @@
 -- Marks below a place.
-use Rattle.dob_rank.proofs.Common.{◌+◌, ◌-◌, ◌<◌, ◌≡◌, ◌≤◌, Bool, ap, arith, false, refl, suc, true, zero, ℕ, marks_below, one_if}
+use Rattle.dob_rank.proofs.Common.{◌+◌, ◌-◌, ◌<◌, ◌≡◌, ◌≤◌, Bool, ap, arith, false, refl, suc, true, zero, ℕ, marks_below, one_if, ◌∙◌}
 
 one_if-below : (b : Bool) → one_if b < 2
 one_if-below true = omega arith
@@ -22,42 +22,31 @@ pub marks_below_none : (mark : ℕ → Bool) → marks_below mark 0 ≡ 0
 unfolding marks_below
 marks_below_none mark = refl
 
+pub no_later : (mark : ℕ → Bool) (from : ℕ) → marks_below mark (from + 0) ≡ marks_below mark from
+no_later mark from = ap (marks_below mark) (let e : from + 0 ≡ from = omega arith in e)
+
+pub marks_later : (mark : ℕ → Bool) (from n : ℕ) → marks_below mark (from + suc n) ≡ marks_below mark (from + n) + one_if (mark (from + n))
+marks_later mark from n = ap (marks_below mark) (let e : from + suc n ≡ suc (from + n) = omega arith in e) ∙ marks_below_more mark (from + n)
+
 pub marks_below-up : (mark : ℕ → Bool) (from n : ℕ) → marks_below mark from ≤ marks_below mark (from + n)
-marks_below-up mark from zero =
-    let same : marks_below mark (from + 0) ≡ marks_below mark from = ap (marks_below mark) (let e : from + 0 ≡ from = omega arith in e) in
-    omega (arith, same)
-marks_below-up mark from (suc n) =
-    let rest = marks_below-up mark from n in
-    let more = marks_below_more mark (from + n) in
-    let same : marks_below mark (from + suc n) ≡ marks_below mark (suc (from + n)) =
-    ap (marks_below mark) (let e : from + suc n ≡ suc (from + n) = omega arith in e) in
-    omega (arith, rest, more, same)
+marks_below-up mark from zero = omega (arith, no_later mark from)
+marks_below-up mark from (suc n) = omega (arith, marks_below-up mark from n, marks_later mark from n)
 
 -- a stretch of marked places
 pub marks_below-all : (mark : ℕ → Bool) (from n : ℕ) → ((k : ℕ) → k < n → mark (from + k) ≡ true) →
     marks_below mark (from + n) ≡ marks_below mark from + n
-marks_below-all mark from zero all =
-    let same : marks_below mark (from + 0) ≡ marks_below mark from = ap (marks_below mark) (let e : from + 0 ≡ from = omega arith in e) in
-    omega (arith, same)
+marks_below-all mark from zero all = omega (arith, no_later mark from)
 marks_below-all mark from (suc n) all =
-    let rest = marks_below-all mark from n (λ k below. all k (omega arith)) in
-    let more = marks_below_more mark (from + n) in
     let one : one_if (mark (from + n)) ≡ 1 = ap one_if (all n (omega arith)) in
-    let same : marks_below mark (from + suc n) ≡ marks_below mark (suc (from + n)) =
-    ap (marks_below mark) (let e : from + suc n ≡ suc (from + n) = omega arith in e) in
-    omega (arith, rest, more, one, same)
+    omega (arith, marks_below-all mark from n (λ k below. all k (omega arith)), marks_later mark from n, one)
 
 -- and one of places that aren't
 pub marks_below-unmarked : (mark : ℕ → Bool) (from n : ℕ) → ((k : ℕ) → k < n → mark (from + k) ≡ false) →
     marks_below mark (from + n) ≡ marks_below mark from
-marks_below-unmarked mark from zero all = ap (marks_below mark) (let e : from + 0 ≡ from = omega arith in e)
+marks_below-unmarked mark from zero all = no_later mark from
 marks_below-unmarked mark from (suc n) all =
-    let rest = marks_below-unmarked mark from n (λ k below. all k (omega arith)) in
-    let more = marks_below_more mark (from + n) in
     let none : one_if (mark (from + n)) ≡ 0 = ap one_if (all n (omega arith)) in
-    let same : marks_below mark (from + suc n) ≡ marks_below mark (suc (from + n)) =
-    ap (marks_below mark) (let e : from + suc n ≡ suc (from + n) = omega arith in e) in
-    omega (arith, rest, more, none, same)
+    omega (arith, marks_below-unmarked mark from n (λ k below. all k (omega arith)), marks_later mark from n, none)
 
 -- marks below a place are no more than those below a later one
 pub marks_below-upto : (mark : ℕ → Bool) (m n : ℕ) → m ≤ n → marks_below mark m ≤ marks_below mark n

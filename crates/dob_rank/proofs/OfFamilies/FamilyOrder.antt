@@ -1,8 +1,8 @@
 -- Ranks in a family are below its size, and no two of its positions have one; the position of a present rank of its set.
-use Rattle.dob_rank.proofs.Common.{◌+◌, ◌-◌, ◌<◌, ◌∙◌, ◌≡◌, Bool, ap, arith, inl, inr, subst, suc, sym, true, ℕ, cases_lt, Family, Setup, HasRank, IsPositionOf}
-use Rattle.dob_rank.proofs.Common.{IsRanked, is_present, rank_of, marks_below, one_if, nth, rank_of_set, size_of_set, Before}
+use Rattle.dob_rank.proofs.Common.{◌<◌, ◌∙◌, ◌≡◌, Bool, ap, arith, inl, inr, subst, suc, sym, true, ℕ, cases_lt, Family, Setup, HasRank, IsPositionOf, IsRanked}
+use Rattle.dob_rank.proofs.Common.{is_present, rank_of, marks_below, one_if, nth, rank_of_set, size_of_set, Before}
 use Rattle.dob_rank.proofs.Positions.Numbering.{nth-block, rank_of_set-nth, rank_of_set-same, rank_of_set-rises}
-use Rattle.dob_rank.proofs.Marked.Words.{marks_below_more, marks_below-up}
+use Rattle.dob_rank.proofs.Marked.Words.{marks_below_more, marks_below-upto}
 use Rattle.dob_rank.proofs.OfFamilies.Present.{present, allowed, HasRank-rank_of}
 
 -- a marked place adds to the marks below each later one
@@ -10,9 +10,7 @@ marks_rise : (mark : ℕ → Bool) (a b : ℕ) → a < b → mark a ≡ true →
 marks_rise mark a b low on =
     let more = marks_below_more mark a in
     let one : one_if (mark a) ≡ 1 = ap one_if on in
-    let up = marks_below-up mark (suc a) (b - suc a) in
-    let end : marks_below mark (suc a + (b - suc a)) ≡ marks_below mark b = ap (marks_below mark) (let e : suc a + (b - suc a) ≡ b = omega (arith, low) in e) in
-    omega (arith, more, one, up, end)
+    omega (arith, more, one, marks_below-upto mark (suc a) b low)
 
 -- the earlier of two positions has the lower rank
 pub rank_of-rises : (family : Family) (p q : Setup) → IsPositionOf family p → IsPositionOf family q → Before p q → rank_of family p < rank_of family q
@@ -35,7 +33,6 @@ pub ranked_at : (family : Family) (r : ℕ) → r < size_of_set family.set → i
     → IsRanked family (nth family.set r) (marks_below (is_present family) r)
 unfolding rank_of
 ranked_at family r below on =
-    let s : Setup = nth family.set r in
     let back : rank_of_set family.set (nth family.set r) ≡ r = rank_of_set-nth family.set r below in
     let p = allowed family (nth family.set r) (nth-block family.set r below).position (ap (is_present family) back ∙ on) in
     let same : marks_below (is_present family) (rank_of_set family.set (nth family.set r)) ≡ marks_below (is_present family) r = ap (marks_below (is_present family)) back in
@@ -46,8 +43,5 @@ ranked_at family r below on =
     }
 
 -- a position of that rank is the only one
-pub record IsOnly (family : Family) (s : Setup) (number : ℕ) : Type 0 where
-  pub only : (p : Setup) → IsPositionOf family p → rank_of family p ≡ number → p ≡ s
-
-pub only_ranked : (family : Family) (s : Setup) (number : ℕ) → IsRanked family s number → IsOnly family s number
-only_ranked family s number at = record { only = λ p is same. rank_of-same family p s is at.position (same ∙ sym at.rank_is) }
+pub only_ranked : (family : Family) (s : Setup) (number : ℕ) → IsRanked family s number → (p : Setup) → IsPositionOf family p → rank_of family p ≡ number → p ≡ s
+only_ranked family s number at p is same = rank_of-same family p s is at.position (same ∙ sym at.rank_is)

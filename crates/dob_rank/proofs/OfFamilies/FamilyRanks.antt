@@ -37,12 +37,7 @@ pub record IsPlaceIn (family : Family) (block run c q g d f : ℕ) : Type 0 wher
       ≡ d * others_forms (ob_of family block) + f
 
 joined : (a s n q w d r f : ℕ) → a + (s * (n * r) + q * (w * r) + (d * r + f)) ≡ a + ((s * n + q * w + d) * r + f)
-joined a s n q w d r f =
-    let one : (s * n + q * w + d) * r ≡ (s * n + q * w) * r + d * r = add-mul (s * n + q * w) d r in
-    let two : (s * n + q * w) * r ≡ s * n * r + q * w * r = add-mul (s * n) (q * w) r in
-    let three : s * n * r ≡ s * (n * r) = mul_assoc s n r in
-    let four : q * w * r ≡ q * (w * r) = mul_assoc q w r in
-    omega (arith, one, two, three, four)
+joined a s n q w d r f = simp (add-mul, mul_assoc) (omega arith)
 
 pub present_at : (family : Family) (block run c q g d f : ℕ) → IsPlaceIn family block run c q g d f
     → marks_below (is_present family) (run_start family.set block run
@@ -110,7 +105,6 @@ pub own_forms : (family : Family) (s : Setup) (r f : ℕ) → IsPositionOf famil
     → marks_below (is_form family.profile (run_of family.set s) (slice_index (on_board s) 0) r (slice_index (digits s) 5)) (forms_number (order Chicks) s.board * r + f)
     ≡ allowed_number (may_have family.profile) 4 (order Chicks) 0 s.board * r + f
 own_forms family s r f p some low =
-    let cf : ℕ = forms_number (order Chicks) s.board in
     let high : (n : ℕ) → are_allowed (may_have family.profile) 4 (order Chicks) n 0
     (settle (order Chicks) (slice_index (on_board s) 0) (slice_index (digits s) 5) (lions_in (run_of family.set s))) ≡ chicks_form family.profile s n
     = settled_form family.profile family.set s p.of_set in
@@ -184,16 +178,7 @@ own_place family s p =
 -- ---- its rank
 
 gathered : (start x s n q w d r f : ℕ) → start + x * (n * r) + ((s * n + q * w + d) * r + f) ≡ start + (((x + s) * n + (q * w + d)) * r + f)
-gathered start x s n q w d r f =
-    let one : ((x + s) * n + (q * w + d)) * r ≡ (x + s) * n * r + (q * w + d) * r = add-mul ((x + s) * n) (q * w + d) r in
-    let two : (q * w + d) * r ≡ q * w * r + d * r = add-mul (q * w) d r in
-    let three : (x + s) * n ≡ x * n + s * n = add-mul x s n in
-    let four : (x * n + s * n) * r ≡ x * n * r + s * n * r = add-mul (x * n) (s * n) r in
-    let five : x * n * r ≡ x * (n * r) = mul_assoc x n r in
-    let six : (s * n + q * w + d) * r ≡ (s * n + q * w) * r + d * r = add-mul (s * n + q * w) d r in
-    let seven : (s * n + q * w) * r ≡ s * n * r + q * w * r = add-mul (s * n) (q * w) r in
-    let eight : (x + s) * n * r ≡ (x * n + s * n) * r = ap (λ (y : ℕ). y * r) three in
-    omega (arith, one, two, four, five, six, seven, eight)
+gathered start x s n q w d r f = simp (add-mul, mul_assoc) (omega arith)
 
 -- the run's lions alone say how many forms its choices have
 same_weights : (profile : Profile) (run lions : ℕ) (ob : List ℕ) (c n q d r f : ℕ) → run % lion_pairs ≡ lions % lion_pairs
@@ -211,7 +196,6 @@ pub rank_of-parts : (family : Family) (s : Setup) → IsPositionOf family s
 unfolding rank_of place_in hand_size
 rank_of-parts family s p =
     let set = family.set in
-    let run : ℕ = run_of family.set s in
     let e : ob_of family (block_of family.set s) ≡ on_board s = on_board-block family.set s p.of_set in
     let spot = spot_there family.set s family.set (block_of family.set s) (run_of family.set s) (local_of s) p.of_set refl refl refl refl in
     let whole = run_of-lions family.set s in

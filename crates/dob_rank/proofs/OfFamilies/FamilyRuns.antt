@@ -1,16 +1,13 @@
 -- How many positions of a family a run has, and how many stand before it in its block.
-use Rattle.dob_rank.proofs.Common.{◌%◌, ◌*◌, ◌+◌, ◌-◌, ◌<◌, ◌^◌, ◌∙◌, ◌≡◌, ◌≤◌, List, ap, arith, refl, slice_index, subst, suc, sym, zero, ℕ, add-mul, mul-pos}
-use Rattle.dob_rank.proofs.Common.{mul_assoc, mul_comm, Family, Profile, sum_alike, sum_blocks, sum_same, sum_times, is_present, marks_below, block_bases}
-use Rattle.dob_rank.proofs.Common.{block_size, choose, digits_of, free_squares, order, product, settle, start_of, sum_below, form_bases, lion_pairs, run_size}
-use Rattle.dob_rank.proofs.Common.{run_start, runs_in, square_bases, choice_weight, forms_in, forms_on, lions_before, others_forms, others_squares, weight}
-use Rattle.dob_rank.proofs.Common.{Chicks}
+use Rattle.dob_rank.proofs.Common.{◌%◌, ◌*◌, ◌+◌, ◌<◌, ◌^◌, ◌∙◌, ◌≡◌, ◌≤◌, List, ap, arith, refl, slice_index, subst, suc, sym, zero, ℕ, add-mul, mul_assoc}
+use Rattle.dob_rank.proofs.Common.{mul_comm, Family, Profile, sum_alike, sum_blocks, sum_same, sum_times, is_present, marks_below, block_bases, block_size}
+use Rattle.dob_rank.proofs.Common.{choose, digits_of, free_squares, order, product, settle, start_of, sum_below, form_bases, lion_pairs, run_size, run_start}
+use Rattle.dob_rank.proofs.Common.{runs_in, square_bases, choice_weight, forms_in, forms_on, lions_before, others_forms, others_squares, weight, Chicks, drop}
 use Rattle.dob_rank.proofs.Arithmetic.MixedRadix.{product-append}
-use Rattle.dob_rank.proofs.Boards.FormDigits.{power_positive}
-use Rattle.dob_rank.proofs.Positions.Blocks.{sum_below_more, choose-positive, few_in_block, room_left}
-use Rattle.dob_rank.proofs.InRuns.DigitParts.{AreFewOnBoard-digits}
+use Rattle.dob_rank.proofs.Positions.Blocks.{sum_below_more, few_in_block, hand_bases, positive_product, squares_positive, forms_positive}
+use Rattle.dob_rank.proofs.Positions.Blocks.{AreFewOnBoard-digits}
 use Rattle.dob_rank.proofs.InRuns.Lions.{lions_layers}
 use Rattle.dob_rank.proofs.Marked.Words.{marks_below_none}
-use Rattle.dob_rank.proofs.InRuns.RunPlaces.{hand_bases}
 use Rattle.dob_rank.proofs.InRuns.RunMarks.{run_start_first, run_start_next, run_start_end}
 use Rattle.dob_rank.proofs.InRuns.RunSums.{runs_by_hand}
 use Rattle.dob_rank.proofs.ProfileB.LionBoards.{chicks_settled}
@@ -42,14 +39,7 @@ abbrev pub ob_of : Family → ℕ → List ℕ
 ob_of family block = digits_of (block_bases family.set) block
 
 pub others_forms-some : (ob : List ℕ) → 0 < others_forms ob
-others_forms-some ob =
-    mul-pos (power_positive 2 (slice_index ob 1) two_some) (mul-pos (power_positive 2 (slice_index ob 2) two_some) one_some)
-  where
-    two_some : 0 < 2
-    two_some = omega arith
-
-    one_some : 0 < 1
-    one_some = omega arith
+others_forms-some ob = positive_product (drop 1 (form_bases ob)) (forms_positive ob).1
 
 pub spot_in_run : (family : Family) (block run c s f : ℕ) → block < product (block_bases family.set) → run < runs_in family.set block
     → c < choose free_squares (slice_index (ob_of family block) 0) → s < others_squares (ob_of family block)
@@ -73,7 +63,6 @@ to_the_end : (family : Family) (block run c n r : ℕ) → IsSpotIn family block
     ≡ marks_below (is_present family) (run_start family.set block run)
     + sum_below (choice_weight family.profile run (slice_index (ob_of family block) 0)) (suc c) * (suc n * r)
 to_the_end family block run c n r spot =
-    let i : ℕ = slice_index (ob_of family block) 0 in
     ap (λ (x : ℕ). marks_below (is_present family) (run_start family.set block run + x)) (sym (last_block n (4 ^ slice_index (ob_of family block) 0 * r) c))
     ∙ present_before family block run c n (4 ^ slice_index (ob_of family block) 0 * r) (suc n) r spot
     ∙ ap (λ (x : ℕ). marks_below (is_present family) (run_start family.set block run) + x)
@@ -95,24 +84,12 @@ one_less (suc n) some = (n, refl)
 
 pub others_squares-some : (family : Family) (block : ℕ) → block < product (block_bases family.set) → 0 < others_squares (ob_of family block)
 others_squares-some family block within =
-    let few = AreFewOnBoard-digits family.set (ob_of family block) (few_in_block family.set block within) in
-    let room = room_left (slice_index (ob_of family block) 0) (slice_index (ob_of family block) 1) few.chicks few.elephants in
-    mul-pos (choose-positive (free_squares - slice_index (ob_of family block) 0) (slice_index (ob_of family block) 1) (left_two _ few.chicks) few.elephants)
-    (mul-pos (choose-positive (free_squares - slice_index (ob_of family block) 0 - slice_index (ob_of family block) 1) (slice_index (ob_of family block) 2)
-    room.1 few.giraffes) one_some)
-  where
-    left_two : (i : ℕ) → i ≤ 2 → 2 ≤ free_squares - i
-    left_two i h = omega arith
-
-    one_some : 0 < 1
-    one_some = omega arith
+    positive_product (drop 1 (square_bases (ob_of family block)))
+    (squares_positive (ob_of family block) (AreFewOnBoard-digits family.set (ob_of family block) (few_in_block family.set block within))).1
 
 pub choices-some : (family : Family) (block : ℕ) → block < product (block_bases family.set) → 0 < choose free_squares (slice_index (ob_of family block) 0)
 choices-some family block within =
-    choose-positive free_squares (slice_index (ob_of family block) 0) two_of_ten (AreFewOnBoard-digits family.set (ob_of family block) (few_in_block family.set block within)).chicks
-  where
-    two_of_ten : 2 ≤ free_squares
-    two_of_ten = omega arith
+    (squares_positive (ob_of family block) (AreFewOnBoard-digits family.set (ob_of family block) (few_in_block family.set block within))).0
 
 pub run_size-parts : (family : Family) (block : ℕ) → run_size family.set block
     ≡ choose free_squares (slice_index (ob_of family block) 0) * others_squares (ob_of family block)
@@ -224,7 +201,6 @@ pub block_present : (family : Family) (block : ℕ) → block < product (block_b
     → marks_below (is_present family) (start_of family.set block) + present_size family block
     ≡ marks_below (is_present family) (start_of family.set (block + 1))
 block_present family block within =
-    let hands : ℕ = product (hand_bases family.set (ob_of family block)) in
     let whole = runs_by_hand family.set block in
     ap (λ (x : ℕ). marks_below (is_present family) (start_of family.set block) + x * (others_squares (ob_of family block) * others_forms (ob_of family block)))
     (none_more (product (hand_bases family.set (ob_of family block)) * lions_before family.profile (slice_index (ob_of family block) 0) lion_pairs))

@@ -1,11 +1,11 @@
 -- The positions of a family, counted among the setups of its set.
-use Rattle.dob_rank.proofs.Common.{◌&&◌, ◌+◌, ◌<◌, ◌∙◌, ◌≡◌, ◌≤◌, Bool, ap, arith, false, refl, suc, sym, true, zero, ℕ, is_allowed, PieceSet, Family, Profile}
-use Rattle.dob_rank.proofs.Common.{A, Setup, HasRank, HasSize, IsPositionOf, classes_of, family_of, is_marked, is_present, rank_of, size_of, is_first}
-use Rattle.dob_rank.proofs.Common.{marks_below, one_if, block_bases, block_size, nth, product, rank_of_set, size_of_set, start_of, Before, IsPositionOfSet}
+use Rattle.dob_rank.proofs.Common.{◌&&◌, ◌+◌, ◌<◌, ◌∙◌, ◌≡◌, ◌≤◌, Bool, ap, arith, refl, suc, sym, true, zero, ℕ, is_allowed, PieceSet, Family, Profile, A}
+use Rattle.dob_rank.proofs.Common.{Setup, HasRank, HasSize, IsPositionOf, classes_of, family_of, is_marked, is_present, rank_of, size_of, is_first, marks_below}
+use Rattle.dob_rank.proofs.Common.{one_if, block_bases, block_size, nth, product, rank_of_set, size_of_set, start_of, Before, IsPositionOfSet, and_parts, subst}
 use Rattle.dob_rank.specs.Families.{IsRepresentative, HasClasses, HasClass}
 use Rattle.dob_rank.proofs.Positions.Numbering.{nth-rank_of_set, rank_of_set-below, rank_of_set-rises, Before-from_rank}
 use Rattle.dob_rank.proofs.Positions.Blocks.{sum_below_more}
-use Rattle.dob_rank.proofs.Marked.Marks.{HasCount-same, HasCount-marked, IsMarkedBelow, numbering, first-marked, marked-first}
+use Rattle.dob_rank.proofs.Marked.Marks.{first-marked, marked-first, HasCount-by}
 
 -- a position's number is present just where the position is one of the family
 pub present : (family : Family) (s : Setup) → IsPositionOf family s → is_present family (rank_of_set family.set s) ≡ true
@@ -22,31 +22,20 @@ allowed family s p on = record {
 pub HasSize-size_of : (family : Family) → HasSize family (size_of family)
 unfolding size_of
 HasSize-size_of family =
-    HasCount-same (IsMarkedBelow (IsPositionOfSet family.set) (is_present family) (rank_of_set family.set) (size_of_set family.set)) (IsPositionOf family)
-    (marks_below (is_present family) (size_of_set family.set))
+    HasCount-by family.set (is_present family) (size_of_set family.set) (IsPositionOf family) (omega arith)
     (λ s q. allowed family s q.0 q.1)
     (λ s p. (p.of_set, present family s p, rank_of_set-below family.set s p.of_set))
-    (HasCount-marked (IsPositionOfSet family.set) (size_of_set family.set) (nth family.set) (rank_of_set family.set) (is_present family) (numbering family.set)
-    (size_of_set family.set) (omega arith))
 
 pub HasRank-rank_of : (family : Family) (s : Setup) → IsPositionOf family s → HasRank family s (rank_of family s)
 unfolding rank_of
 HasRank-rank_of family s p =
     let low : rank_of_set family.set s < size_of_set family.set = rank_of_set-below family.set s p.of_set in
-    HasCount-same (IsMarkedBelow (IsPositionOfSet family.set) (is_present family) (rank_of_set family.set) (rank_of_set family.set s))
-    (λ (q : Setup). IsPositionOf family q × Before q s) (marks_below (is_present family) (rank_of_set family.set s))
+    HasCount-by family.set (is_present family) (rank_of_set family.set s) (λ (q : Setup). IsPositionOf family q × Before q s) (omega arith)
     (λ q h. (allowed family q h.0 h.1, Before-from_rank family.set q s h.0 p.of_set h.2))
     (λ q h. (h.0.of_set, present family q h.0, rank_of_set-rises family.set q s h.0.of_set p.of_set h.1))
-    (HasCount-marked (IsPositionOfSet family.set) (size_of_set family.set) (nth family.set) (rank_of_set family.set) (is_present family) (numbering family.set)
-    (rank_of_set family.set s) (omega arith))
 
-and_left : (a b : Bool) → a && b ≡ true → a ≡ true
-and_left true b e = refl
-and_left false b e = e
-
-and_right : (a b : Bool) → a && b ≡ true → b ≡ true
-and_right true b e = e
-and_right false b e = absurd (let e' : false ≡ true = e in cc)
+pub HasRank-of : (family : Family) (s : Setup) (number : ℕ) → IsPositionOf family s → number ≡ rank_of family s → HasRank family s number
+HasRank-of family s number p is = subst (HasRank family s) (sym is) (HasRank-rank_of family s p)
 
 and_both : (a b : Bool) → a ≡ true → b ≡ true → a && b ≡ true
 and_both a b e f = ap (λ (x : Bool). x && b) e ∙ f
@@ -58,31 +47,24 @@ marked family s h = and_both (is_present family (rank_of_set family.set s)) (is_
 
 pub represents : (family : Family) (s : Setup) → IsPositionOfSet family.set s → is_marked family (rank_of_set family.set s) ≡ true → IsRepresentative family s
 unfolding is_marked
-represents family s p on = (
-  allowed family s p (and_left (is_present family (rank_of_set family.set s)) (is_first family.set (rank_of_set family.set s)) on),
-  marked-first family.set s p (and_right (is_present family (rank_of_set family.set s)) (is_first family.set (rank_of_set family.set s)) on),
-)
+represents family s p on =
+    let both = and_parts (is_present family (rank_of_set family.set s)) (is_first family.set (rank_of_set family.set s)) on in
+    (allowed family s p both.0, marked-first family.set s p both.1)
 
 pub HasClasses-classes_of : (family : Family) → HasClasses family (classes_of family)
 unfolding classes_of
 HasClasses-classes_of family =
-    HasCount-same (IsMarkedBelow (IsPositionOfSet family.set) (is_marked family) (rank_of_set family.set) (size_of_set family.set)) (IsRepresentative family)
-    (marks_below (is_marked family) (size_of_set family.set))
+    HasCount-by family.set (is_marked family) (size_of_set family.set) (IsRepresentative family) (omega arith)
     (λ s q. represents family s q.0 q.1)
     (λ s h. (h.0.of_set, marked family s h, rank_of_set-below family.set s h.0.of_set))
-    (HasCount-marked (IsPositionOfSet family.set) (size_of_set family.set) (nth family.set) (rank_of_set family.set) (is_marked family) (numbering family.set)
-    (size_of_set family.set) (omega arith))
 
 pub HasClass-marked : (family : Family) (s : Setup) → IsPositionOf family s
     → HasClass family s (marks_below (is_marked family) (rank_of_set family.set s))
 HasClass-marked family s p =
     let low : rank_of_set family.set s < size_of_set family.set = rank_of_set-below family.set s p.of_set in
-    HasCount-same (IsMarkedBelow (IsPositionOfSet family.set) (is_marked family) (rank_of_set family.set) (rank_of_set family.set s))
-    (λ (q : Setup). IsRepresentative family q × Before q s) (marks_below (is_marked family) (rank_of_set family.set s))
+    HasCount-by family.set (is_marked family) (rank_of_set family.set s) (λ (q : Setup). IsRepresentative family q × Before q s) (omega arith)
     (λ q h. (represents family q h.0 h.1, Before-from_rank family.set q s h.0 p.of_set h.2))
     (λ q h. (h.0.0.of_set, marked family q h.0, rank_of_set-rises family.set q s h.0.0.of_set p.of_set h.1))
-    (HasCount-marked (IsPositionOfSet family.set) (size_of_set family.set) (nth family.set) (rank_of_set family.set) (is_marked family) (numbering family.set)
-    (rank_of_set family.set s) (omega arith))
 
 -- ---- in profile A every setup of the set is there
 

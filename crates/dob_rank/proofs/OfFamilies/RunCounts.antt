@@ -28,7 +28,6 @@ nothing n = omega arith
 pub all_forms : (profile : Profile) (run chicks r c : ℕ) → 0 < r → count (order Chicks) (settle (order Chicks) chicks c (lions_in run)) ≡ chicks
     → marks_below (is_form profile run chicks r c) (4 ^ chicks * r) ≡ choice_weight profile run chicks c * r
 all_forms profile run chicks r c some is =
-    let ls = settle (order Chicks) chicks c (lions_in run) in
     ap (marks_below (is_form profile run chicks r c)) (none_more (4 ^ chicks * r))
     ∙ low_alike (is_form profile run chicks r c)
     (λ n. are_allowed (may_have profile) 4 (order Chicks) n 0 (settle (order Chicks) chicks c (lions_in run))) r (4 ^ chicks) 0
@@ -84,8 +83,6 @@ pub form_in_run : (family : Family) (block run c s f n r d t g : ℕ) → IsSpot
     ≡ is_form family.profile run (slice_index (digits_of (block_bases family.set) block) 0) r d g
 form_in_run family block run c s f n r d t g i ld lt lg =
     let ob : List ℕ = digits_of (block_bases family.set) block in
-    let m : ℕ = 4 ^ slice_index ob 0 * r in
-    let local : ℕ = (d * n + t) * (4 ^ slice_index ob 0 * r) + g in
     let forms : 4 ^ slice_index ob 0 * r ≡ product (form_bases ob) = ap (λ (x : ℕ). 4 ^ slice_index ob 0 * x) i.r_is in
     let high : ((d * n + t) * (4 ^ slice_index ob 0 * r) + g) / (4 ^ slice_index ob 0 * r) ≡ d * n + t = div-mul-add (d * n + t) (4 ^ slice_index ob 0 * r) g lg in
     let rest : ((d * n + t) * (4 ^ slice_index ob 0 * r) + g) % (4 ^ slice_index ob 0 * r) ≡ g = mod-mul-add (d * n + t) (4 ^ slice_index ob 0 * r) g lg in
@@ -112,7 +109,6 @@ pub present_before : (family : Family) (block run c s f n r : ℕ) → IsSpotIn 
 unfolding marks_below
 present_before family block run c s f n r spot =
     let i = slice_index (digits_of (block_bases family.set) block) 0 in
-    let start : ℕ = run_start family.set block run in
     sum_parts (λ x. one_if (is_present family x)) (run_start family.set block run)
     ((c * n + s) * (4 ^ slice_index (digits_of (block_bases family.set) block) 0 * r) + f)
     ∙ ap (λ (x : ℕ). sum_below (λ y. one_if (is_present family y)) (run_start family.set block run) + x)

@@ -26,7 +26,6 @@ chicks_allowed profile ob ds =
 pub allowed_by_digits : (profile : Profile) (set : PieceSet) (s : Setup) → IsPositionOfSet set s → is_allowed profile s ≡ chicks_allowed profile (on_board s) (digits s)
 allowed_by_digits profile set s p =
     let parts = HasParts-from_position set s p in
-    let ob : List ℕ = on_board s in
     let board : board_of (numbers_by (digits s)) (map layer s.board) ≡ s.board = board_of-back (numbers_by (digits s)) s.board (numbers-back s) in
     let chicks = settle (order Chicks) (slice_index (on_board s) 0) (slice_index (digits s) 5) (lions_by (digits s)) in
     let first = settled_later (may_have profile) 4 (order Chicks) (slice_index (digits s) 8) (order Elephants) 0 (slice_index (on_board s) 1) (slice_index (digits s) 6)
@@ -75,9 +74,7 @@ pub allowed_in_run : (family : Family) (block run local forms : ℕ) → IsInRun
     (settle (order EnemyLion) 1 (run % lion_pairs % enemy_squares) (settle (order OwnLion) 1 (run % lion_pairs / enemy_squares) empty_layers))))
 unfolding runs_in run_size
 allowed_in_run family block run local forms h f =
-    let ob : List ℕ = digits_of (block_bases family.set) block in
     let parts = parts_are family.set (digits_of (block_bases family.set) block) run local forms h.run_below h.local_below f in
-    let place : ℕ = run * product (local_bases (digits_of (block_bases family.set) block)) + local in
     ap (is_present family) (ap (λ (x : ℕ). x + local) (run_start-is family.set block run)
     ∙ (let e : sum_below (block_size family.set) block + run * product (local_bases (digits_of (block_bases family.set) block)) + local
     ≡ sum_below (block_size family.set) block + (run * product (local_bases (digits_of (block_bases family.set) block)) + local) = omega arith in e))

@@ -4,7 +4,7 @@ use Rattle.dob_rank.proofs.Common.{◌*◌, ◌+◌, ◌-◌, ◌<◌, ◌^◌, 
 use Rattle.dob_rank.proofs.Common.{slice_index_or, subst, sym, true, ℕ, cases_eq, ltb-true, ne_eqb, all_below, all_below-at, PieceSet, sum_same, block_bases}
 use Rattle.dob_rank.proofs.Common.{block_size, choose, digits_of, enemy_squares, free_squares, own_squares, product, sum_below}
 use Rattle.dob_rank.specs.declared.starts.TheConstants.{FIRST, STARTS}
-use Rattle.dob_rank.proofs.Positions.Numbering.{block_size-product}
+use Rattle.dob_rank.proofs.Positions.Blocks.{block_size-product}
 
 -- ---- each set by its numbers, and each of its blocks with the end
 

@@ -1,13 +1,16 @@
 -- Blocks: their bases are positive, and their sizes and number are small.
-use Rattle.dob_rank.proofs.Common.{◌*◌, ◌+◌, ◌-◌, ◌<◌, ◌^◌, ◌∷◌, ◌≡◌, ◌≤◌, List, [], ap, arith, inl, inr, refl, slice_index, subst, suc, sym, zero, ℕ}
-use Rattle.dob_rank.proofs.Common.{mul-le-mul, cases_lt, mul-le, All, PieceSet, sum_below-rises, HasDigits, bases, bases_by, block_bases, block_size, choose}
-use Rattle.dob_rank.proofs.Common.{digits_of, enemy_squares, free_squares, own_squares, product, size_of_set, start_of, sum_below, with_first, AreChoices}
-use Rattle.dob_rank.proofs.Common.{lion_pairs, run_bases}
+use Rattle.dob_rank.proofs.Common.{◌+◌, ◌-◌, ◌<◌, ◌^◌, ◌∷◌, ◌≡◌, ◌≤◌, List, [], ap, arith, inl, inr, refl, slice_index, subst, suc, sym, zero, ℕ, cases_lt}
+use Rattle.dob_rank.proofs.Common.{mul-le, All, PieceSet, sum_below-rises, HasDigits, bases_by, block_bases, block_size, choose, digits_of, enemy_squares}
+use Rattle.dob_rank.proofs.Common.{free_squares, own_squares, product, size_of_set, start_of, sum_below, with_first, AreChoices, run_bases, AreFewOnBoard}
+use Rattle.dob_rank.proofs.Common.{all_below-at, form_bases, leb, local_bases, ltb, ltb-true, mul-pos, square_bases, ◌++◌, leb-true}
 use Rattle.dob_rank.proofs.Arithmetic.MixedRadix.{HasDigits-digits_of}
 use Rattle.dob_rank.proofs.Boards.Choices.{choose-split}
 use Rattle.dob_rank.proofs.Boards.FormDigits.{power_positive}
 use Rattle.dob_rank.proofs.Positions.Loops.{digit-at}
-use Rattle.dob_rank.proofs.Positions.Numbering.{block_size-product}
+
+pub block_size-product : (set : PieceSet) (block : ℕ) → block_size set block ≡ product (bases_by set (digits_of (block_bases set) block))
+unfolding block_size
+block_size-product set block = refl
 
 -- each number is at most the one beside it
 abbrev pub AreAtMost : List ℕ → List ℕ → Type 0
@@ -18,9 +21,13 @@ AreAtMost (b ∷ bs) (c ∷ cs) = (b ≤ c) × AreAtMost bs cs
 
 pub product-at_most : (bs cs : List ℕ) → AreAtMost bs cs → product bs ≤ product cs
 product-at_most [] [] h = omega arith
-product-at_most [] (c ∷ cs) h = absurd h
-product-at_most (b ∷ bs) [] h = absurd h
 product-at_most (b ∷ bs) (c ∷ cs) h = mul-le b (product bs) c (product cs) h.0 (product-at_most bs cs h.1)
+product-at_most bs cs h = absurd h
+
+append_at_most : (bs cs ds es : List ℕ) → AreAtMost bs cs → AreAtMost ds es → AreAtMost (bs ++ ds) (cs ++ es)
+append_at_most [] [] ds es h k = k
+append_at_most (b ∷ bs) (c ∷ cs) ds es h k = (h.0, append_at_most bs cs ds es h.1 k)
+append_at_most bs cs ds es h k = absurd h
 
 -- ---- choices of at most two squares
 
@@ -37,10 +44,7 @@ abbrev pub most_choices : ℕ
 most_choices = 45
 
 pub choose_ten : (k : ℕ) → k ≤ 2 → choose free_squares k ≤ most_choices
-choose_ten zero h = (let x : 1 ≤ most_choices = omega arith in x)
-choose_ten (suc zero) h = (let x : free_squares ≤ most_choices = omega arith in x)
-choose_ten (suc (suc zero)) h = (let x : most_choices ≤ most_choices = omega arith in x)
-choose_ten (suc (suc (suc k))) h = absurd (omega arith)
+choose_ten k h = leb-true (choose free_squares k) most_choices (all_below-at (λ k. leb (choose free_squares k) most_choices) 3 k refl (omega arith))
 
 pub choose-small : (m k : ℕ) → m ≤ free_squares → k ≤ 2 → choose m k ≤ most_choices
 choose-small m k h l =
@@ -49,10 +53,7 @@ choose-small m k h l =
     omega arith
 
 choose_two_of_two : (k : ℕ) → k ≤ 2 → 0 < choose 2 k
-choose_two_of_two zero h = (let x : 0 < 1 = omega arith in x)
-choose_two_of_two (suc zero) h = (let x : 0 < 2 = omega arith in x)
-choose_two_of_two (suc (suc zero)) h = (let x : 0 < 1 = omega arith in x)
-choose_two_of_two (suc (suc (suc k))) h = absurd (omega arith)
+choose_two_of_two k h = ltb-true 0 (choose 2 k) (all_below-at (λ k. ltb 0 (choose 2 k)) 3 k refl (omega arith))
 
 pub choose-positive : (m k : ℕ) → 2 ≤ m → k ≤ 2 → 0 < choose m k
 choose-positive m k h l = (let a : choose 2 k ≤ choose m k = choose-grows 2 m k h in let b : 0 < choose 2 k = choose_two_of_two k l in omega arith)
@@ -60,26 +61,29 @@ choose-positive m k h l = (let a : choose 2 k ≤ choose m k = choose-grows 2 m 
 -- ---- powers
 
 pub four_small : (k : ℕ) → k ≤ 2 → 4 ^ k ≤ 16
-four_small zero h = (let x : 1 ≤ 16 = omega arith in x)
-four_small (suc zero) h = (let x : 4 ≤ 16 = omega arith in x)
-four_small (suc (suc zero)) h = (let x : 16 ≤ 16 = omega arith in x)
-four_small (suc (suc (suc k))) h = absurd (omega arith)
+four_small k h = leb-true (4 ^ k) 16 (all_below-at (λ k. leb (4 ^ k) 16) 3 k refl (omega arith))
 
 pub two_small : (k : ℕ) → k ≤ 2 → 2 ^ k ≤ 4
-two_small zero h = (let x : 1 ≤ 4 = omega arith in x)
-two_small (suc zero) h = (let x : 2 ≤ 4 = omega arith in x)
-two_small (suc (suc zero)) h = (let x : 4 ≤ 4 = omega arith in x)
-two_small (suc (suc (suc k))) h = absurd (omega arith)
+two_small k h = leb-true (2 ^ k) 4 (all_below-at (λ k. leb (2 ^ k) 4) 3 k refl (omega arith))
 
 -- ---- the bases of a block
 
-pub record AreFew (set : PieceSet) (i j k : ℕ) : Type 0 where
-  pub chicks : i ≤ set.chicks
-  pub elephants : j ≤ set.elephants
-  pub giraffes : k ≤ set.giraffes
+le_by : (m d : ℕ) → m ≤ m + d
+le_by m d = omega arith
 
-pub few_of_three : (c i : ℕ) → c ≤ 2 → i ≤ c → i ≤ 2
-few_of_three c i h l = omega arith
+-- at most two of each kind are on the board
+pub AreFewOnBoard-digits : (set : PieceSet) (ob : List ℕ) → HasDigits (block_bases set) ob → AreFewOnBoard ob
+AreFewOnBoard-digits set ob h = record {
+  chicks = few set.chicks (slice_index ob 0) set.few_chicks (digit-at (block_bases set) ob 0 h (le_by 1 2));
+  elephants = few set.elephants (slice_index ob 1) set.few_elephants (digit-at (block_bases set) ob 1 h (le_by 2 1));
+  giraffes = few set.giraffes (slice_index ob 2) set.few_giraffes (digit-at (block_bases set) ob 2 h (le_by 3 0));
+}
+  where
+    few : (c i : ℕ) → c ≤ 2 → i < c + 1 → i ≤ 2
+    few c i h l = omega arith
+
+abbrev pub hand_bases : PieceSet → List ℕ → List ℕ
+hand_bases set ob = (set.chicks - slice_index ob 0 + 1) ∷ (set.elephants - slice_index ob 1 + 1) ∷ (set.giraffes - slice_index ob 2 + 1) ∷ []
 
 in_hand : (c i : ℕ) → c ≤ 2 → c - i + 1 ≤ 3
 in_hand c i h = omega arith
@@ -96,26 +100,40 @@ same n = omega arith
 below : (n : ℕ) → 0 < suc n
 below n = omega arith
 
-le_by : (m d : ℕ) → m ≤ m + d
-le_by m d = omega arith
-
-at_most : (a b : ℕ) → a < b + 1 → a ≤ b
-at_most a b h = omega arith
-
 one_more : (c : ℕ) → c ≤ 2 → c + 1 ≤ 3
 one_more c h = omega arith
 
 pub room_left : (i j : ℕ) → i ≤ 2 → j ≤ 2 → (2 ≤ free_squares - i) × (2 ≤ free_squares - i - j)
 room_left i j h l = ((omega arith), (omega arith))
 
--- the greatest bases that a block has
-abbrev most_bases : List ℕ
-most_bases = 3 ∷ 3 ∷ 3 ∷ own_squares ∷ enemy_squares ∷ most_choices ∷ most_choices ∷ most_choices ∷ (4 ^ 2) ∷ (2 ^ 2) ∷ (2 ^ 2) ∷ []
+-- the greatest bases that a block has, part by part
+abbrev pub most_hands : List ℕ
+most_hands = 3 ∷ 3 ∷ 3 ∷ []
 
-small : (n : ℕ) → n ≤ product most_bases → n ≤ 2 ^ 36
-small n h = omega arith
+abbrev pub most_squares : List ℕ
+most_squares = most_choices ∷ most_choices ∷ most_choices ∷ []
 
-abbrev AllPositive : List ℕ → Type 0
+abbrev pub most_forms : List ℕ
+most_forms = 16 ∷ 4 ∷ 4 ∷ []
+
+pub hands_at_most : (set : PieceSet) (ob : List ℕ) → AreAtMost (hand_bases set ob) most_hands
+hands_at_most set ob =
+    let chicks = in_hand set.chicks (slice_index ob 0) set.few_chicks in
+    let elephants = in_hand set.elephants (slice_index ob 1) set.few_elephants in
+    (chicks, (elephants, (in_hand set.giraffes (slice_index ob 2) set.few_giraffes, tt)))
+
+pub squares_at_most : (ob : List ℕ) → AreFewOnBoard ob → AreAtMost (square_bases ob) most_squares
+squares_at_most ob few =
+    let room = less_than_ten (slice_index ob 0) (slice_index ob 1) in
+    let one = choose-small free_squares (slice_index ob 0) (same free_squares) few.chicks in
+    let two = choose-small (free_squares - slice_index ob 0) (slice_index ob 1) room.0 few.elephants in
+    (one, (two, (choose-small (free_squares - slice_index ob 0 - slice_index ob 1) (slice_index ob 2) room.1 few.giraffes, tt)))
+
+pub forms_at_most : (ob : List ℕ) → AreFewOnBoard ob → AreAtMost (form_bases ob) most_forms
+forms_at_most ob few = (four_small (slice_index ob 0) few.chicks, (two_small (slice_index ob 1) few.elephants, (two_small (slice_index ob 2) few.giraffes, tt)))
+
+-- and none is 0
+abbrev pub AllPositive : List ℕ → Type 0
 AllPositive [] = Unit {0}
 AllPositive (b ∷ bs) = (0 < b) × AllPositive bs
 
@@ -124,67 +142,39 @@ all_positive [] h k d l = absurd (omega arith)
 all_positive (b ∷ bs) h zero d l = h.0
 all_positive (b ∷ bs) h (suc k) d l = all_positive bs h.1 k d (omega arith)
 
-pub product-bases : (set : PieceSet) (i j k : ℕ) → AreFew set i j k → product (bases set i j k) ≤ 2 ^ 36
-product-bases set i j k h =
-    let i2 : i ≤ 2 = few_of_three set.chicks i set.few_chicks h.chicks in
-    let j2 : j ≤ 2 = few_of_three set.elephants j set.few_elephants h.elephants in
-    let k2 : k ≤ 2 = few_of_three set.giraffes k set.few_giraffes h.giraffes in
-    small (product (bases set i j k)) (product-at_most (bases set i j k) most_bases (
-      in_hand set.chicks i set.few_chicks,
-      (
-        in_hand set.elephants j set.few_elephants,
-        (
-          in_hand set.giraffes k set.few_giraffes,
-          (
-            same own_squares,
-            (
-              same enemy_squares,
-              (
-                choose-small free_squares i (same free_squares) i2,
-                (
-                  choose-small (free_squares - i) j (less_than_ten i j).0 j2,
-                  (
-                    choose-small (free_squares - i - j) k (less_than_ten i j).1 k2,
-                    (four_small i i2, (two_small j j2, (two_small k k2, tt))),
-                  ),
-                ),
-              ),
-            ),
-          ),
-        ),
-      ),
-    ))
+pub positive_product : (bs : List ℕ) → AllPositive bs → 0 < product bs
+positive_product [] h = below 0
+positive_product (b ∷ bs) h = mul-pos h.0 (positive_product bs h.1)
 
-pub bases-positive : (set : PieceSet) (i j k : ℕ) → AreFew set i j k → All (λ (b : ℕ). 0 < b) (bases set i j k)
-bases-positive set i j k h =
-    let i2 : i ≤ 2 = few_of_three set.chicks i set.few_chicks h.chicks in
-    let j2 : j ≤ 2 = few_of_three set.elephants j set.few_elephants h.elephants in
-    let k2 : k ≤ 2 = few_of_three set.giraffes k set.few_giraffes h.giraffes in
-    all_positive (bases set i j k) (
-      some_in_hand set.chicks i,
+append_positive : (bs cs : List ℕ) → AllPositive bs → AllPositive cs → AllPositive (bs ++ cs)
+append_positive [] cs h k = k
+append_positive (b ∷ bs) cs h k = (h.0, append_positive bs cs h.1 k)
+
+pub squares_positive : (ob : List ℕ) → AreFewOnBoard ob → AllPositive (square_bases ob)
+squares_positive ob few =
+    let room = room_left (slice_index ob 0) (slice_index ob 1) few.chicks few.elephants in
+    let one = choose-positive free_squares (slice_index ob 0) (le_by 2 8) few.chicks in
+    let two = choose-positive (free_squares - slice_index ob 0) (slice_index ob 1) room.0 few.elephants in
+    (one, (two, (choose-positive (free_squares - slice_index ob 0 - slice_index ob 1) (slice_index ob 2) room.1 few.giraffes, tt)))
+
+pub forms_positive : (ob : List ℕ) → AllPositive (form_bases ob)
+forms_positive ob =
+    (power_positive 4 (slice_index ob 0) (below 3), (power_positive 2 (slice_index ob 1) (below 1), (power_positive 2 (slice_index ob 2) (below 1), tt)))
+
+bases_small : (set : PieceSet) (ob : List ℕ) → AreFewOnBoard ob → product (bases_by set ob) ≤ 2 ^ 36
+bases_small set ob few = small (product (bases_by set ob))
+    (product-at_most (bases_by set ob) (most_hands ++ (own_squares ∷ enemy_squares ∷ (most_squares ++ most_forms)))
+    (append_at_most (hand_bases set ob) most_hands (own_squares ∷ enemy_squares ∷ local_bases ob) (own_squares ∷ enemy_squares ∷ (most_squares ++ most_forms))
+    (hands_at_most set ob) (
+      same own_squares,
       (
-        some_in_hand set.elephants j,
-        (
-          some_in_hand set.giraffes k,
-          (
-            below 8,
-            (
-              below 10,
-              (
-                choose-positive free_squares i (le_by 2 8) i2,
-                (
-                  choose-positive (free_squares - i) j (room_left i j i2 j2).0 j2,
-                  (
-                    choose-positive (free_squares - i - j) k (room_left i j i2 j2).1 k2,
-                    (power_positive 4 i (below 3), (power_positive 2 j (below 1), (power_positive 2 k (below 1), tt))),
-                  ),
-                ),
-              ),
-            ),
-          ),
-        ),
+        same enemy_squares,
+        append_at_most (square_bases ob) most_squares (form_bases ob) most_forms (squares_at_most ob few) (forms_at_most ob few),
       ),
-    )
+    )))
+  where
+    small : (n : ℕ) → n ≤ product (most_hands ++ (own_squares ∷ enemy_squares ∷ (most_squares ++ most_forms))) → n ≤ 2 ^ 36
+    small n h = omega arith
 
 -- ---- the number of blocks
 
@@ -192,23 +182,13 @@ pub blocks_small : (set : PieceSet) → product (block_bases set) ≤ 27
 blocks_small set = product-at_most (block_bases set) (3 ∷ 3 ∷ 3 ∷ [])
     (one_more set.chicks set.few_chicks, (one_more set.elephants set.few_elephants, (one_more set.giraffes set.few_giraffes, tt)))
 
--- the numbers on the board are within the set
-pub few_from_digits : (set : PieceSet) (ob : List ℕ) → HasDigits (block_bases set) ob → AreFew set (slice_index ob 0) (slice_index ob 1) (slice_index ob 2)
-few_from_digits set ob h = record {
-  chicks = (let a : slice_index ob 0 < set.chicks + 1 = digit-at (block_bases set) ob 0 h (le_by 1 2) in at_most (slice_index ob 0) set.chicks a);
-  elephants = (let a : slice_index ob 1 < set.elephants + 1 = digit-at (block_bases set) ob 1 h (le_by 2 1) in at_most (slice_index ob 1) set.elephants a);
-  giraffes = (let a : slice_index ob 2 < set.giraffes + 1 = digit-at (block_bases set) ob 2 h (le_by 3 0) in at_most (slice_index ob 2) set.giraffes a);
-}
-
 pub few_in_block : (set : PieceSet) (block : ℕ) → block < product (block_bases set) → HasDigits (block_bases set) (digits_of (block_bases set) block)
 few_in_block set block h = HasDigits-digits_of (block_bases set) block h
 
 pub block_size-small : (set : PieceSet) (block : ℕ) → block < product (block_bases set) → block_size set block ≤ 2 ^ 36
 block_size-small set block h =
     subst (λ (x : ℕ). x ≤ 2 ^ 36) (sym (block_size-product set block))
-    (product-bases set (slice_index (digits_of (block_bases set) block) 0) (slice_index (digits_of (block_bases set) block) 1)
-    (slice_index (digits_of (block_bases set) block) 2)
-    (few_from_digits set (digits_of (block_bases set) block) (few_in_block set block h)))
+    (bases_small set (digits_of (block_bases set) block) (AreFewOnBoard-digits set (digits_of (block_bases set) block) (few_in_block set block h)))
 
 -- ---- sums of blocks
 
@@ -232,16 +212,20 @@ fits_word n h = omega arith
 
 pub AreBases-by : (set : PieceSet) (ob bs : List ℕ) → HasDigits (block_bases set) ob → bs ≡ bases_by set ob → AreBases bs
 AreBases-by set ob bs h e =
-    let few : AreFew set (slice_index ob 0) (slice_index ob 1) (slice_index ob 2) = few_from_digits set ob h in
-    let low : product (bases_by set ob) ≤ 2 ^ 36 = product-bases set (slice_index ob 0) (slice_index ob 1) (slice_index ob 2) few in
+    let few = AreFewOnBoard-digits set ob h in
+    let low : product (bases_by set ob) ≤ 2 ^ 36 = bases_small set ob few in
+    let local = append_positive (square_bases ob) (form_bases ob) (squares_positive ob few) (forms_positive ob) in
     subst AreBases (sym e) (record {
-      positive = bases-positive set (slice_index ob 0) (slice_index ob 1) (slice_index ob 2) few;
+      positive = all_positive (bases_by set ob) (
+        some_in_hand set.chicks (slice_index ob 0),
+        (
+          some_in_hand set.elephants (slice_index ob 1),
+          (some_in_hand set.giraffes (slice_index ob 2), (below 8, (below 10, local))),
+        ),
+      );
       small_product = low;
       fits = fits_word (product (bases_by set ob)) low;
     })
-
-fits_small : (n : ℕ) → n ≤ 27 → (n ≤ 2 ^ 36) × (n < 2 ^ 64)
-fits_small n h = ((omega arith), (omega arith))
 
 pub HasDigits-numbers : (set : PieceSet) (block : ℕ) (xs : List ℕ) → block < product (block_bases set)
     → xs ≡ digits_of (block_bases set) block → HasDigits (block_bases set) xs
@@ -249,26 +233,21 @@ HasDigits-numbers set block xs h e = subst (HasDigits (block_bases set)) (sym e)
 
 -- a block has few runs
 pub run_bases-few : (set : PieceSet) (ob : List ℕ) → product (run_bases set ob) ≤ 2 ^ 12
-run_bases-few set ob =
-    few_hands (set.chicks - slice_index ob 0 + 1) (set.elephants - slice_index ob 1 + 1) (set.giraffes - slice_index ob 2 + 1)
-    (in_hand set.chicks (slice_index ob 0) set.few_chicks) (in_hand set.elephants (slice_index ob 1) set.few_elephants)
-    (in_hand set.giraffes (slice_index ob 2) set.few_giraffes)
+run_bases-few set ob = few_hands (product (run_bases set ob)) (product-at_most (run_bases set ob) (most_hands ++ (own_squares ∷ enemy_squares ∷ []))
+    (append_at_most (hand_bases set ob) most_hands (own_squares ∷ enemy_squares ∷ []) (own_squares ∷ enemy_squares ∷ []) (hands_at_most set ob)
+    (same own_squares, (same enemy_squares, tt))))
   where
-    few_hands : (a b c : ℕ) → a ≤ 3 → b ≤ 3 → c ≤ 3 → a * (b * (c * (own_squares * (enemy_squares * 1)))) ≤ 2 ^ 12
-    few_hands a b c p q r =
-        let first : c * lion_pairs ≤ 3 * lion_pairs = omega arith in
-        let second : b * (c * lion_pairs) ≤ 3 * (3 * lion_pairs) = mul-le-mul q first in
-        let third : a * (b * (c * lion_pairs)) ≤ 3 * (3 * (3 * lion_pairs)) = mul-le-mul p second in
-        omega (arith, third)
+    few_hands : (n : ℕ) → n ≤ product (most_hands ++ (own_squares ∷ enemy_squares ∷ [])) → n ≤ 2 ^ 12
+    few_hands n h = omega arith
 
 -- digits below their bases are choices of squares
 pub AreChoices-digits : (set : PieceSet) (ob ds : List ℕ) → HasDigits (block_bases set) ob → HasDigits (bases_by set ob) ds → AreChoices ob ds
 AreChoices-digits set ob ds h k =
-    let few = few_from_digits set ob h in
+    let few = AreFewOnBoard-digits set ob h in
     record {
-      chicks = few_of_three set.chicks (slice_index ob 0) set.few_chicks few.chicks;
-      elephants = few_of_three set.elephants (slice_index ob 1) set.few_elephants few.elephants;
-      giraffes = few_of_three set.giraffes (slice_index ob 2) set.few_giraffes few.giraffes;
+      chicks = few.chicks;
+      elephants = few.elephants;
+      giraffes = few.giraffes;
       own_lion = digit-at (bases_by set ob) ds 3 k (le_by 4 7);
       other_lion = digit-at (bases_by set ob) ds 4 k (le_by 5 6);
       chick_squares = digit-at (bases_by set ob) ds 5 k (le_by 6 5);

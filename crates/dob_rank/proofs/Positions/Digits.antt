@@ -1,15 +1,17 @@
 -- The digits of a position of a set: each is below its base, and they give the position back.
 use Rattle.dob_rank.proofs.Common.{◌%◌, ◌+◌, ◌-◌, ◌<◌, ◌^◌, ◌∙◌, ◌∷◌, ◌≡◌, ◌≤◌, List, [], ap, arith, inl, inr, length, map, refl, replicate, subst, suc, sym}
 use Rattle.dob_rank.proofs.Common.{zero, ℕ, mod-eq_of_lt, pow-succ', pow-zero, cases_lt, length-map, count_by, Cell, IsLegal, at, held, holds_kind, holds_lion}
-use Rattle.dob_rank.proofs.Common.{total, Hand, HandKind, Enemy, Mover, PieceSet, Setup, HasDigits, base_of, bases_by, block_bases, board_of, choice, choose}
-use Rattle.dob_rank.proofs.Common.{count, count_from, digits, empty_layers, enemy_squares, forms_number, free_squares, layer, layers_by, numbers_by, on_board}
-use Rattle.dob_rank.proofs.Common.{order, own_squares, settle, setup_by, IsPositionOfSet, pieces_of, Chicks, Elephants, Empty, EnemyLion, Giraffes, OwnLion}
+use Rattle.dob_rank.proofs.Common.{total, HandKind, Enemy, Mover, PieceSet, Setup, HasDigits, base_of, bases_by, block_bases, board_of, choice, choose, count}
+use Rattle.dob_rank.proofs.Common.{count_from, digits, empty_layers, enemy_squares, forms_number, free_squares, layer, layers_by, numbers_by, on_board, order}
+use Rattle.dob_rank.proofs.Common.{own_squares, settle, setup_by, IsPositionOfSet, pieces_of, Chicks, Elephants, Empty, EnemyLion, Giraffes, OwnLion}
+use Rattle.dob_rank.proofs.Common.{form_bases}
 use Rattle.dob_pieces.specs.declared.kind.HandKind.TheVariants as hand
 use Rattle.dob_rank.proofs.Boards.Choices.{choice-below}
 use Rattle.dob_rank.proofs.Boards.Settled.{hidden, hide, hidden_lower, hidden_later, settle-choice, AreLayers}
 use Rattle.dob_rank.proofs.Boards.FormDigits.{AreLayers-map, forms_number-below, board_of-back}
 use Rattle.dob_rank.proofs.Boards.LayerCounts.{count_from-next, count_from-zero, lion_at, holds_mover_lion, holds_enemy_lion, holds_kind-layer, count-layer}
 use Rattle.dob_rank.proofs.Boards.LayerCounts.{mover_lion, layer-at}
+use Rattle.dob_rank.proofs.Positions.Blocks.{hand_bases}
 
 -- what a position of the set says of its layers and hands
 pub record HasParts (set : PieceSet) (s : Setup) : Type 0 where
@@ -62,64 +64,37 @@ HasRoom-from_parts set s h =
     let len : length (map layer s.board) ≡ 12 = h.squares in
     let a : count (order OwnLion) (map layer s.board) ≡ 1 = h.own_lion in
     let b : count (order EnemyLion) (map layer s.board) ≡ 1 = h.other_lion in
-    let c0 : count_from (order OwnLion) (map layer s.board) ≡ length (map layer s.board) = count_from-zero (map layer s.board) in
-    let c1 : count_from (order EnemyLion) (map layer s.board) + count (order OwnLion) (map layer s.board) ≡ count_from (order OwnLion) (map layer s.board)
-    = count_from-next (order OwnLion) (map layer s.board) in
-    let c2 : count_from (order Chicks) (map layer s.board) + count (order EnemyLion) (map layer s.board) ≡ count_from (order EnemyLion) (map layer s.board)
-    = count_from-next (order EnemyLion) (map layer s.board) in
-    let c3 : count_from (order Elephants) (map layer s.board) + count (order Chicks) (map layer s.board) ≡ count_from (order Chicks) (map layer s.board)
-    = count_from-next (order Chicks) (map layer s.board) in
-    let c4 : count_from (order Giraffes) (map layer s.board) + count (order Elephants) (map layer s.board) ≡ count_from (order Elephants) (map layer s.board)
-    = count_from-next (order Elephants) (map layer s.board) in
+    let c0 = count_from-zero (map layer s.board) in
+    let c1 = count_from-next (order OwnLion) (map layer s.board) in
+    let c2 = count_from-next (order EnemyLion) (map layer s.board) in
+    let c3 = count_from-next (order Chicks) (map layer s.board) in
+    let c4 = count_from-next (order Elephants) (map layer s.board) in
     record { one = omega arith; two = omega arith; three = omega arith; four = omega arith }
 
 pub HasDigits-on_board : (set : PieceSet) (s : Setup) → HasParts set s → HasDigits (block_bases set) (on_board s)
-HasDigits-on_board set s h =
-    let a : count (order Chicks) (map layer s.board) + s.hands.mover.chicks + s.hands.enemy.chicks ≡ set.chicks = h.chicks in
-    let b : count (order Elephants) (map layer s.board) + s.hands.mover.elephants + s.hands.enemy.elephants ≡ set.elephants = h.elephants in
-    let c : count (order Giraffes) (map layer s.board) + s.hands.mover.giraffes + s.hands.enemy.giraffes ≡ set.giraffes = h.giraffes in
-    ((omega arith), ((omega arith), ((omega arith), tt)))
+HasDigits-on_board set s h = (omega (arith, h.chicks), (omega (arith, h.elephants), (omega (arith, h.giraffes), tt)))
+
+HasDigits-hands : (set : PieceSet) (s : Setup) → HasParts set s
+    → HasDigits (hand_bases set (on_board s)) (s.hands.mover.chicks ∷ s.hands.mover.elephants ∷ s.hands.mover.giraffes ∷ [])
+HasDigits-hands set s h = (omega (arith, h.chicks), (omega (arith, h.elephants), (omega (arith, h.giraffes), tt)))
+
+choice_below : (t m : ℕ) (ls : List ℕ) → count_from t ls ≡ m → choice t ls < choose m (count t ls)
+choice_below t m ls e = subst (λ (x : ℕ). choice t ls < choose x (count t ls)) e (choice-below t ls)
 
 pub HasDigits-digits : (set : PieceSet) (s : Setup) → HasParts set s → HasDigits (bases_by set (on_board s)) (digits s)
 HasDigits-digits set s h =
+    let ls : List ℕ = map layer s.board in
     let r : HasRoom s = HasRoom-from_parts set s h in
-    let a : count (order Chicks) (map layer s.board) + s.hands.mover.chicks + s.hands.enemy.chicks ≡ set.chicks = h.chicks in
-    let b : count (order Elephants) (map layer s.board) + s.hands.mover.elephants + s.hands.enemy.elephants ≡ set.elephants = h.elephants in
-    let c : count (order Giraffes) (map layer s.board) + s.hands.mover.giraffes + s.hands.enemy.giraffes ≡ set.giraffes = h.giraffes in
-    let n1 : choice (order EnemyLion) (map layer s.board) < choose enemy_squares 1
+    let enemy : choice (order EnemyLion) (map layer s.board) < choose enemy_squares 1
     = subst (λ (x : ℕ). choice (order EnemyLion) (map layer s.board) < choose enemy_squares x) h.other_lion
-    (subst (λ (x : ℕ). choice (order EnemyLion) (map layer s.board) < choose x (count (order EnemyLion) (map layer s.board))) r.one
-    (choice-below (order EnemyLion) (map layer s.board))) in (
-      (omega arith),
-      (
-        (omega arith),
-        (
-          (omega arith),
-          (
-            h.home,
-            (
-              (omega arith),
-              (
-                subst (λ (x : ℕ). choice (order Chicks) (map layer s.board) < choose x (count (order Chicks) (map layer s.board))) r.two
-                    (choice-below (order Chicks) (map layer s.board)),
-                (
-                  subst (λ (x : ℕ). choice (order Elephants) (map layer s.board) < choose x (count (order Elephants) (map layer s.board))) r.three
-                      (choice-below (order Elephants) (map layer s.board)),
-                  (
-                    subst (λ (x : ℕ). choice (order Giraffes) (map layer s.board) < choose x (count (order Giraffes) (map layer s.board))) r.four
-                        (choice-below (order Giraffes) (map layer s.board)),
-                    (
-                      forms_number-below (order Chicks) s.board,
-                      (forms_number-below (order Elephants) s.board, (forms_number-below (order Giraffes) s.board, tt)),
-                    ),
-                  ),
-                ),
-              ),
-            ),
-          ),
-        ),
-      ),
-    )
+    (choice_below (order EnemyLion) enemy_squares (map layer s.board) r.one) in
+    let chicks = choice_below (order Chicks) free_squares ls r.two in
+    let elephants = choice_below (order Elephants) (free_squares - count (order Chicks) (map layer s.board)) (map layer s.board) r.three in
+    let giraffes = choice_below (order Giraffes) _ (map layer s.board) r.four in
+    let forms : HasDigits (form_bases (on_board s)) (forms_number (order Chicks) s.board ∷ forms_number (order Elephants) s.board ∷ forms_number (order Giraffes) s.board ∷ [])
+    = (forms_number-below (order Chicks) s.board, (forms_number-below (order Elephants) s.board, (forms_number-below (order Giraffes) s.board, tt))) in
+    let hands = HasDigits-hands set s h in
+    (hands.0, (hands.1.0, (hands.1.1.0, (h.home, (enemy, (chicks, (elephants, (giraffes, forms))))))))
 
 -- ---- back
 
@@ -138,23 +113,24 @@ hide_all (l ∷ ls) a = (let head : hidden (order Empty) l ≡ l
     ] in
     let rest : hide (order Empty) ls ≡ ls = hide_all ls a.1 in cc)
 
+back : (t p : ℕ) (ls : List ℕ) → t < order Empty → AreLayers ls → count t ls ≡ p → settle t p (choice t ls) (hide t ls) ≡ hide (suc t) ls
+back t p ls h ok e = ap (λ (n : ℕ). settle t n (choice t ls) (hide t ls)) (sym e) ∙ settle-choice t ls h ok
+
+pub lions_back : (ls : List ℕ) → length ls ≡ 12 → AreLayers ls → count (order OwnLion) ls ≡ 1 → count (order EnemyLion) ls ≡ 1
+    → settle (order EnemyLion) 1 (choice (order EnemyLion) ls) (settle (order OwnLion) 1 (choice (order OwnLion) ls) empty_layers) ≡ hide (order Chicks) ls
+lions_back ls long ok own enemy =
+    ap (λ (xs : List ℕ). settle (order EnemyLion) 1 (choice (order EnemyLion) ls) (settle (order OwnLion) 1 (choice (order OwnLion) ls) xs))
+    (sym (hide_zero ls ∙ ap (λ (n : ℕ). replicate n (order Empty)) long))
+    ∙ ap (settle (order EnemyLion) 1 (choice (order EnemyLion) ls)) (back (order OwnLion) 1 ls (omega arith) ok own)
+    ∙ back (order EnemyLion) 1 ls (omega arith) ok enemy
+
 pub layers_by-back : (set : PieceSet) (s : Setup) → HasParts set s → layers_by (on_board s) (digits s) ≡ map layer s.board
 layers_by-back set s h =
     let ok : AreLayers (map layer s.board) = AreLayers-map s.board in
-    let start : empty_layers ≡ hide (order OwnLion) (map layer s.board)
-    = sym (hide_zero (map layer s.board) ∙ ap (λ (n : ℕ). replicate n (order Empty)) h.squares) in
-    let r0 : settle (order OwnLion) 1 (choice (order OwnLion) (map layer s.board)) empty_layers ≡ hide (order EnemyLion) (map layer s.board)
-    = ap (settle (order OwnLion) 1 (choice (order OwnLion) (map layer s.board))) start
-    ∙ ap (λ (n : ℕ). settle (order OwnLion) n (choice (order OwnLion) (map layer s.board)) (hide (order OwnLion) (map layer s.board))) (sym h.own_lion)
-    ∙ settle-choice (order OwnLion) (map layer s.board) (omega arith) ok in
-    let r1 : settle (order EnemyLion) 1 (choice (order EnemyLion) (map layer s.board))
-    (settle (order OwnLion) 1 (choice (order OwnLion) (map layer s.board)) empty_layers) ≡ hide (order Chicks) (map layer s.board)
-    = ap (settle (order EnemyLion) 1 (choice (order EnemyLion) (map layer s.board))) r0
-    ∙ ap (λ (n : ℕ). settle (order EnemyLion) n (choice (order EnemyLion) (map layer s.board)) (hide (order EnemyLion) (map layer s.board))) (sym h.other_lion)
-    ∙ settle-choice (order EnemyLion) (map layer s.board) (omega arith) ok in
     ap (λ (x : List ℕ). settle (order Giraffes) (count (order Giraffes) (map layer s.board)) (choice (order Giraffes) (map layer s.board))
     (settle (order Elephants) (count (order Elephants) (map layer s.board)) (choice (order Elephants) (map layer s.board))
-    (settle (order Chicks) (count (order Chicks) (map layer s.board)) (choice (order Chicks) (map layer s.board)) x))) r1
+    (settle (order Chicks) (count (order Chicks) (map layer s.board)) (choice (order Chicks) (map layer s.board)) x)))
+    (lions_back (map layer s.board) h.squares ok h.own_lion h.other_lion)
     ∙ ap (λ (x : List ℕ). settle (order Giraffes) (count (order Giraffes) (map layer s.board)) (choice (order Giraffes) (map layer s.board))
     (settle (order Elephants) (count (order Elephants) (map layer s.board)) (choice (order Elephants) (map layer s.board)) x))
     (settle-choice (order Chicks) (map layer s.board) (omega arith) ok)
@@ -175,39 +151,21 @@ no_forms t cells h =
     mod-eq_of_lt (let p : 0 < base_of t ^ count t (map layer cells) = omega arith in p) ∙ (let e : 0 ≡ forms_number t cells = omega arith in e)
 
 pub numbers-back : (s : Setup) (t : ℕ) → numbers_by (digits s) t % base_of t ^ count t (map layer s.board) ≡ forms_number t s.board
-numbers-back s zero = no_forms 0 s.board refl
-numbers-back s (suc zero) = no_forms 1 s.board refl
 numbers-back s (suc (suc zero)) = mod-eq_of_lt (forms_number-below (order Chicks) s.board)
 numbers-back s (suc (suc (suc zero))) = mod-eq_of_lt (forms_number-below (order Elephants) s.board)
 numbers-back s (suc (suc (suc (suc zero)))) = mod-eq_of_lt (forms_number-below (order Giraffes) s.board)
-numbers-back s (suc (suc (suc (suc (suc zero))))) = no_forms (order Empty) s.board refl
 numbers-back s (suc (suc (suc (suc (suc (suc t)))))) = no_forms (suc (suc (suc (suc (suc (suc t)))))) s.board refl
-
-abbrev make_hand : ℕ → ℕ → ℕ → Hand
-make_hand c e g = record { chicks = c; elephants = e; giraffes = g }
-
-abbrev make_setup : List Cell → Hand → Hand → Setup
-make_setup board mover enemy = record { board = board; hands = record { mover = mover; enemy = enemy } }
-
-make_hand-same : (a b c d e f : ℕ) → a ≡ d → b ≡ e → c ≡ f → make_hand a b c ≡ make_hand d e f
-make_hand-same a b c d e f p q r = ap (λ (x : ℕ). make_hand x b c) p ∙ ap (λ (x : ℕ). make_hand d x c) q ∙ ap (λ (x : ℕ). make_hand d e x) r
+numbers-back s t = no_forms t s.board refl
 
 -- a position is the setup of its numbers on the board and its digits
 pub setup_by-back : (set : PieceSet) (s : Setup) → HasParts set s → setup_by set (on_board s) (digits s) ≡ s
 setup_by-back set s h =
-    let a : count (order Chicks) (map layer s.board) + s.hands.mover.chicks + s.hands.enemy.chicks ≡ set.chicks = h.chicks in
-    let b : count (order Elephants) (map layer s.board) + s.hands.mover.elephants + s.hands.enemy.elephants ≡ set.elephants = h.elephants in
-    let c : count (order Giraffes) (map layer s.board) + s.hands.mover.giraffes + s.hands.enemy.giraffes ≡ set.giraffes = h.giraffes in
     let board : board_of (numbers_by (digits s)) (layers_by (on_board s) (digits s)) ≡ s.board
     = ap (board_of (numbers_by (digits s))) (layers_by-back set s h) ∙ board_of-back (numbers_by (digits s)) s.board (numbers-back s) in
-    let enemy : make_hand (set.chicks - count (order Chicks) (map layer s.board) - s.hands.mover.chicks)
-    (set.elephants - count (order Elephants) (map layer s.board) - s.hands.mover.elephants)
-    (set.giraffes - count (order Giraffes) (map layer s.board) - s.hands.mover.giraffes) ≡ s.hands.enemy
-    = make_hand-same (set.chicks - count (order Chicks) (map layer s.board) - s.hands.mover.chicks)
-    (set.elephants - count (order Elephants) (map layer s.board) - s.hands.mover.elephants)
-    (set.giraffes - count (order Giraffes) (map layer s.board) - s.hands.mover.giraffes) s.hands.enemy.chicks s.hands.enemy.elephants s.hands.enemy.giraffes
-    (omega arith) (omega arith) (omega arith) in
-    ap (λ (x : List Cell). make_setup x s.hands.mover (make_hand (set.chicks - count (order Chicks) (map layer s.board) - s.hands.mover.chicks)
-    (set.elephants - count (order Elephants) (map layer s.board) - s.hands.mover.elephants)
-    (set.giraffes - count (order Giraffes) (map layer s.board) - s.hands.mover.giraffes))) board
-    ∙ ap (λ (x : Hand). make_setup s.board s.hands.mover x) enemy
+    let chicks : set.chicks - count (order Chicks) (map layer s.board) - s.hands.mover.chicks ≡ s.hands.enemy.chicks = omega (arith, h.chicks) in
+    let elephants : set.elephants - count (order Elephants) (map layer s.board) - s.hands.mover.elephants ≡ s.hands.enemy.elephants = omega (arith, h.elephants) in
+    let giraffes : set.giraffes - count (order Giraffes) (map layer s.board) - s.hands.mover.giraffes ≡ s.hands.enemy.giraffes = omega (arith, h.giraffes) in
+    λ i. record {
+      board = board i;
+      hands = record { mover = s.hands.mover; enemy = record { chicks = chicks i; elephants = elephants i; giraffes = giraffes i } };
+    }

@@ -5,8 +5,8 @@ use Rattle.dob_rank.proofs.Common.{setup_in, sum_below, IsPositionOfSet, local_b
 use Rattle.dob_pieces.proofs.Boards.{total-mirrored, IsLegal-mirrored}
 use Rattle.dob_rank.proofs.Arithmetic.MixedRadix.{HasDigits-digits_of, digits_of-number_of, number_of-digits_of, number_of-below, number_of-append, parts-below}
 use Rattle.dob_rank.proofs.Positions.Digits.{HasParts-from_position, HasDigits-on_board, HasDigits-digits}
-use Rattle.dob_rank.proofs.Positions.Numbering.{HasBlock, place_of, HasBlock-setup_in, block_size-product, block_of-below, place_of-below, rank_of_set-place}
-use Rattle.dob_rank.proofs.Positions.Blocks.{block_size-small, run_bases-few}
+use Rattle.dob_rank.proofs.Positions.Numbering.{HasBlock, place_of, HasBlock-setup_in, block_of-below, place_of-below, rank_of_set-place}
+use Rattle.dob_rank.proofs.Positions.Blocks.{block_size-small, run_bases-few, block_size-product}
 
 pub HasDigits-same : (bs cs ds es : List ℕ) → bs ≡ cs → ds ≡ es → HasDigits cs es → HasDigits bs ds
 HasDigits-same bs cs ds es p q h = subst (λ (xs : List ℕ). HasDigits xs ds) (sym p) (subst (HasDigits cs) (sym q) h)
@@ -61,9 +61,7 @@ pub place_is_of : (set : PieceSet) (s : Setup) (nums : List ℕ) (run local plac
     place ≡ run * product (local_bases nums) + local → place ≡ place_of set s
 unfolding run_of local_of
 place_is_of set s nums run local place e r l is =
-    is ∙ ap (λ (xs : List ℕ). run * product (local_bases xs) + local) e ∙ ap (λ (n : ℕ). n * product (local_bases (on_board s)) + local) r
-    ∙ ap (λ (n : ℕ). run_of set s * product (local_bases (on_board s)) + n) l
-    ∙ sym (number_of-append (run_bases set (on_board s)) (local_bases (on_board s)) (take 5 (digits s)) (drop 5 (digits s)) refl)
+    rw (is, e, r, l) (sym (number_of-append (run_bases set (on_board s)) (local_bases (on_board s)) (take 5 (digits s)) (drop 5 (digits s)) refl))
 
 pub block_upto : (set : PieceSet) (s : Setup) (block : ℕ) → IsPositionOfSet set s → block ≡ block_of set s → block ≤ product (block_bases set)
 block_upto set s block p is = at_most block (block_of set s) (product (block_bases set)) is (block_of-below set s p)
@@ -83,9 +81,7 @@ rank_small set s start place p h is =
 pub ranked : (set : PieceSet) (s : Setup) (block place start : ℕ) → block ≡ block_of set s → place ≡ place_of set s →
     start ≡ sum_below (block_size set) block → start + place ≡ rank_of_set set s
 ranked set s block place start block_is place_is g =
-    ap (λ (x : ℕ). x + place) (g ∙ ap (sum_below (block_size set)) block_is)
-    ∙ ap (λ (x : ℕ). sum_below (block_size set) (block_of set s) + x) place_is
-    ∙ sym (rank_of_set-place set s)
+    rw (g, block_is, place_is) (sym (rank_of_set-place set s))
 
 -- ---- the position of a rank
 

@@ -2,6 +2,7 @@
 use Rattle.dob_rank.proofs.Common.{◌*◌, ◌+◌, ◌-◌, ◌/◌, ◌<◌, ◌^◌, ◌∙◌, ◌∷◌, ◌≡◌, ◌≤◌, List, [], ap, arith, drop, get_or, length, refl, suc, sym, zero, ℕ}
 use Rattle.dob_rank.proofs.Common.{mul_comm, pow-succ', pow-zero, drop_more, mul-le, All, HasDigits, choose, product}
 use Rattle.dob_rank.proofs.Arithmetic.MixedRadix.{digit_below}
+use Rattle.dob_rank.proofs.Boards.EmptySquares.{choose_one}
 
 -- ---- the rest of a list, one element further back
 
@@ -40,16 +41,14 @@ product_fits bs i w limit h low p q e =
 
 pub HasDigits-length : (bs ds : List ℕ) → HasDigits bs ds → length ds ≡ length bs
 HasDigits-length [] [] h = refl
-HasDigits-length [] (x ∷ ds) h = absurd h
-HasDigits-length (b ∷ bs) [] h = absurd h
 HasDigits-length (b ∷ bs) (x ∷ ds) h = ap suc (HasDigits-length bs ds h.1)
+HasDigits-length bs ds h = absurd h
 
 pub HasDigits-drop : (bs ds : List ℕ) (i : ℕ) → HasDigits bs ds → HasDigits (drop i bs) (drop i ds)
 HasDigits-drop bs ds zero h = h
 HasDigits-drop [] [] (suc i) h = tt
-HasDigits-drop [] (x ∷ ds) (suc i) h = absurd h
-HasDigits-drop (b ∷ bs) [] (suc i) h = absurd h
 HasDigits-drop (b ∷ bs) (x ∷ ds) (suc i) h = HasDigits-drop bs ds i h.1
+HasDigits-drop bs ds (suc i) h = absurd h
 
 pub digit-at : (bs ds : List ℕ) (k : ℕ) → HasDigits bs ds → k < length bs → get_or ds k 0 < get_or bs k 0
 digit-at [] ds k h l = absurd (omega arith)
@@ -58,10 +57,6 @@ digit-at (b ∷ bs) (x ∷ ds) zero h l = h.0
 digit-at (b ∷ bs) (x ∷ ds) (suc k) h l = digit-at bs ds k h.1 (omega arith)
 
 -- ---- small choices
-
-pub choose_one : (m : ℕ) → choose m 1 ≡ m
-choose_one zero = refl
-choose_one (suc m) = (let rest : choose m 1 ≡ m = choose_one m in omega arith)
 
 pub choose_two_twice : (m : ℕ) → 2 * choose m 2 + m ≡ m * m
 choose_two_twice zero = omega arith

@@ -1,218 +1,124 @@
 -- The setup made of digits that are below their bases: it is a position of the set, and has those digits.
-use Rattle.dob_rank.proofs.Common.{◌%◌, ◌+◌, ◌-◌, ◌<◌, ◌^◌, ◌∙◌, ◌∷◌, ◌≡◌, ◌≤◌, ◌⊎◌, List, [], ap, arith, get_or, inr, length, map, refl, subst, suc, sym, ℕ}
-use Rattle.dob_rank.proofs.Common.{mod-eq_of_lt, length-map, Cell, HasLionOffFarRow, HasLions, holds_kind, holds_lion, total, HandKind, Enemy, Mover, PieceSet}
-use Rattle.dob_rank.proofs.Common.{Setup, HasDigits, base_of, bases, block_bases, board_of, choice, choose, count, count_from, digits, empty_layers}
-use Rattle.dob_rank.proofs.Common.{enemy_squares, forms_number, free_squares, layer, numbers_by, on_board, order, own_squares, settle, setup_by}
-use Rattle.dob_rank.proofs.Common.{IsPositionOfSet, pieces_of, Chicks, Elephants, Empty, EnemyLion, Giraffes, OwnLion}
+use Rattle.dob_rank.proofs.Common.{◌%◌, ◌+◌, ◌-◌, ◌<◌, ◌^◌, ◌∙◌, ◌∷◌, ◌≡◌, ◌≤◌, List, [], ap, arith, get_or, length, map, subst, suc, sym, ℕ, mod-eq_of_lt}
+use Rattle.dob_rank.proofs.Common.{length-map, HasLionOffFarRow, HasLions, holds_kind, holds_lion, total, HandKind, Enemy, Mover, PieceSet, Setup, HasDigits}
+use Rattle.dob_rank.proofs.Common.{base_of, block_bases, board_of, choice, count, digits, empty_layers, enemy_squares, forms_number, free_squares, layer}
+use Rattle.dob_rank.proofs.Common.{numbers_by, on_board, order, own_squares, settle, setup_by, IsPositionOfSet, pieces_of, Chicks, Elephants, Empty, EnemyLion}
+use Rattle.dob_rank.proofs.Common.{Giraffes, OwnLion, AreChoices, bases_by, layers_by, slice_index}
 use Rattle.dob_pieces.specs.declared.kind.HandKind.TheVariants as hand
-use Rattle.dob_rank.proofs.Boards.Settled.{hide, hide-hide, AreLayers, AreShown, IsSettled, settle-settles, choice_hide_next, count_hide_next}
+use Rattle.dob_rank.proofs.Boards.Settled.{hide, hide-hide, AreLayers, IsSettled, choice_hide_next, count_hide_next}
 use Rattle.dob_rank.proofs.Boards.FormDigits.{layers-board_of, forms_number-board_of}
-use Rattle.dob_rank.proofs.Boards.LayerCounts.{count_from-next, count_five, AreLayers-shown, length-settle, lion_only, holds_mover_lion, holds_enemy_lion}
+use Rattle.dob_rank.proofs.Boards.LayerCounts.{AreLayers-shown, lion_only, holds_mover_lion, holds_enemy_lion}
 use Rattle.dob_rank.proofs.Boards.LayerCounts.{holds_kind-layer, count-layer, layer-at}
+use Rattle.dob_rank.proofs.Positions.Loops.{HasDigits-length, digit-at}
+use Rattle.dob_rank.proofs.Positions.Blocks.{AreChoices-digits}
+use Rattle.dob_rank.proofs.Boards.Stages.{IsStage, next_stage, first_stage}
 
--- all layers settled on an empty board, by the numbers of pieces and of choices
-abbrev pub all_settled : ℕ → ℕ → ℕ → ℕ → ℕ → ℕ → ℕ → ℕ → List ℕ
-all_settled i j k n0 n1 n2 n3 n4 =
-    settle (order Giraffes) k n4 (settle (order Elephants) j n3 (settle (order Chicks) i n2
-    (settle (order EnemyLion) 1 n1 (settle (order OwnLion) 1 n0 empty_layers))))
+-- a layer's number of squares and its choice
+record HasLayer (t p n : ℕ) (ls : List ℕ) : Type 0 where
+  count_is : count t ls ≡ p
+  choice_is : choice t ls ≡ n
 
--- what the layers settled by choices have: each layer its choice and its number of squares
-pub record AreChosen (i j k n0 n1 n2 n3 n4 : ℕ) (ls : List ℕ) : Type 0 where
-  pub squares : length ls ≡ 12
-  pub layers : AreLayers ls
-  pub own_lion : count (order OwnLion) ls ≡ 1
-  pub other_lion : count (order EnemyLion) ls ≡ 1
-  pub chicks : count (order Chicks) ls ≡ i
-  pub elephants : count (order Elephants) ls ≡ j
-  pub giraffes : count (order Giraffes) ls ≡ k
-  pub own_square : choice (order OwnLion) ls ≡ n0
-  pub other_square : choice (order EnemyLion) ls ≡ n1
-  pub chick_squares : choice (order Chicks) ls ≡ n2
-  pub elephant_squares : choice (order Elephants) ls ≡ n3
-  pub giraffe_squares : choice (order Giraffes) ls ≡ n4
+-- what the layers settled by choices have
+record AreChosen (ob ds ls : List ℕ) : Type 0 where
+  squares : length ls ≡ 12
+  layers : AreLayers ls
+  own_lion : HasLayer (order OwnLion) 1 (slice_index ds 3) ls
+  other_lion : HasLayer (order EnemyLion) 1 (slice_index ds 4) ls
+  chicks : HasLayer (order Chicks) (slice_index ob 0) (slice_index ds 5) ls
+  elephants : HasLayer (order Elephants) (slice_index ob 1) (slice_index ds 6) ls
+  giraffes : HasLayer (order Giraffes) (slice_index ob 2) (slice_index ds 7) ls
 
--- the squares that are left
-pub empty_after : (t p n : ℕ) (ls rs : List ℕ) → t < order Empty → IsSettled t p n ls rs → count (order Empty) rs + p ≡ count (order Empty) ls
-empty_after t p n ls rs h i =
-    let a : count (order Empty) rs ≡ count_from (suc t) rs = count_five (suc t) rs (omega arith) i.shown in
-    let b : count_from (suc t) rs + count t rs ≡ count_from t rs = count_from-next t rs in
-    let c : count t rs ≡ p = i.count_is in
-    let d : count_from t rs ≡ count (order Empty) ls = i.open_is in
-    omega arith
+-- later layers leave what a layer settled, and what was there before
+earlier : (s t : ℕ) (ls rs qs : List ℕ) → s ≤ t → t ≤ order Empty → hide t ls ≡ rs → hide s rs ≡ qs → hide s ls ≡ qs
+earlier s t ls rs qs h k e f = sym (hide-hide s t ls h k) ∙ ap (hide s) e ∙ f
 
-from_stages : (i j k n0 n1 n2 n3 n4 : ℕ) (r0 r1 r2 r3 r4 : List ℕ) → IsSettled (order OwnLion) 1 n0 empty_layers r0 → IsSettled (order EnemyLion) 1 n1 r0 r1
-    → IsSettled (order Chicks) i n2 r1 r2
-    → IsSettled (order Elephants) j n3 r2 r3 → IsSettled (order Giraffes) k n4 r3 r4 → length r4 ≡ 12 → AreChosen i j k n0 n1 n2 n3 n4 r4
-from_stages i j k n0 n1 n2 n3 n4 r0 r1 r2 r3 r4 s0 s1 s2 s3 s4 len =
-    let h4 : hide (order Giraffes) r4 ≡ r3 = s4.hide_is in
-    let h3 : hide (order Elephants) r4 ≡ r2 = sym (hide-hide (order Elephants) (order Giraffes) r4 (omega arith) (omega arith)) ∙ ap (hide (order Elephants)) h4
-    ∙ s3.hide_is in
-    let h2 : hide (order Chicks) r4 ≡ r1 = sym (hide-hide (order Chicks) (order Elephants) r4 (omega arith) (omega arith)) ∙ ap (hide (order Chicks)) h3
-    ∙ s2.hide_is in
-    let h1 : hide (order EnemyLion) r4 ≡ r0 = sym (hide-hide (order EnemyLion) (order Chicks) r4 (omega arith) (omega arith)) ∙ ap (hide (order EnemyLion)) h2
-    ∙ s1.hide_is in
+of_layer : (t p n : ℕ) (ls rs qs : List ℕ) → t < order Empty → hide (suc t) ls ≡ rs → IsSettled t p n qs rs → HasLayer t p n ls
+of_layer t p n ls rs qs h e s = record {
+  count_is = sym (count_hide_next t ls h) ∙ ap (count t) e ∙ s.count_is;
+  choice_is = sym (choice_hide_next t ls h) ∙ ap (choice t) e ∙ s.number_is;
+}
+
+from_stages : (ob ds r r0 r1 r2 r3 r4 : List ℕ) → IsSettled (order OwnLion) 1 (slice_index ds 3) r r0 → IsSettled (order EnemyLion) 1 (slice_index ds 4) r0 r1
+    → IsSettled (order Chicks) (slice_index ob 0) (slice_index ds 5) r1 r2 → IsSettled (order Elephants) (slice_index ob 1) (slice_index ds 6) r2 r3
+    → IsSettled (order Giraffes) (slice_index ob 2) (slice_index ds 7) r3 r4 → length r4 ≡ 12 → AreChosen ob ds r4
+from_stages ob ds r r0 r1 r2 r3 r4 s0 s1 s2 s3 s4 len =
+    let h3 = earlier (order Elephants) (order Giraffes) r4 r3 r2 (omega arith) (omega arith) s4.hide_is s3.hide_is in
+    let h2 = earlier (order Chicks) (order Elephants) r4 r2 r1 (omega arith) (omega arith) h3 s2.hide_is in
+    let h1 = earlier (order EnemyLion) (order Chicks) r4 r1 r0 (omega arith) (omega arith) h2 s1.hide_is in
     record {
       squares = len;
       layers = AreLayers-shown r4 s4.shown;
-      own_lion = sym (count_hide_next (order OwnLion) r4 (omega arith)) ∙ ap (count (order OwnLion)) h1 ∙ s0.count_is;
-      other_lion = sym (count_hide_next (order EnemyLion) r4 (omega arith)) ∙ ap (count (order EnemyLion)) h2 ∙ s1.count_is;
-      chicks = sym (count_hide_next (order Chicks) r4 (omega arith)) ∙ ap (count (order Chicks)) h3 ∙ s2.count_is;
-      elephants = sym (count_hide_next (order Elephants) r4 (omega arith)) ∙ ap (count (order Elephants)) h4 ∙ s3.count_is;
-      giraffes = s4.count_is;
-      own_square = sym (choice_hide_next (order OwnLion) r4 (omega arith)) ∙ ap (choice (order OwnLion)) h1 ∙ s0.number_is;
-      other_square = sym (choice_hide_next (order EnemyLion) r4 (omega arith)) ∙ ap (choice (order EnemyLion)) h2 ∙ s1.number_is;
-      chick_squares = sym (choice_hide_next (order Chicks) r4 (omega arith)) ∙ ap (choice (order Chicks)) h3 ∙ s2.number_is;
-      elephant_squares = sym (choice_hide_next (order Elephants) r4 (omega arith)) ∙ ap (choice (order Elephants)) h4 ∙ s3.number_is;
-      giraffe_squares = s4.number_is;
+      own_lion = of_layer (order OwnLion) 1 (slice_index ds 3) r4 r0 r (omega arith) h1 s0;
+      other_lion = of_layer (order EnemyLion) 1 (slice_index ds 4) r4 r1 r0 (omega arith) h2 s1;
+      chicks = of_layer (order Chicks) (slice_index ob 0) (slice_index ds 5) r4 r2 r1 (omega arith) h3 s2;
+      elephants = of_layer (order Elephants) (slice_index ob 1) (slice_index ds 6) r4 r3 r2 (omega arith) s4.hide_is s3;
+      giraffes = record { count_is = s4.count_is; choice_is = s4.number_is };
     }
 
-chosen : (i j k n0 n1 n2 n3 n4 : ℕ) (r0 r1 : List ℕ) → IsSettled (order OwnLion) 1 n0 empty_layers r0 → IsSettled (order EnemyLion) 1 n1 r0 r1 → length r1 ≡ 12
-    → count (order Empty) r1 ≡ free_squares
-    → n2 < choose free_squares i → n3 < choose (free_squares - i) j → n4 < choose (free_squares - i - j) k
-    → AreChosen i j k n0 n1 n2 n3 n4 (settle (order Giraffes) k n4 (settle (order Elephants) j n3 (settle (order Chicks) i n2 r1)))
-chosen i j k n0 n1 n2 n3 n4 r0 r1 s0 s1 len e1 b2 b3 b4 =
-    let s2 : IsSettled (order Chicks) i n2 r1 (settle (order Chicks) i n2 r1)
-    = settle-settles (order Chicks) i n2 r1 (omega arith) s1.shown (subst (λ (x : ℕ). n2 < choose x i) (sym e1) b2) in
-    let e2 : count (order Empty) (settle (order Chicks) i n2 r1) ≡ free_squares - i
-    = (let e : count (order Empty) (settle (order Chicks) i n2 r1) + i ≡ count (order Empty) r1
-    = empty_after (order Chicks) i n2 r1 (settle (order Chicks) i n2 r1) (omega arith) s2 in omega arith) in
-    let s3 : IsSettled (order Elephants) j n3 (settle (order Chicks) i n2 r1) (settle (order Elephants) j n3 (settle (order Chicks) i n2 r1))
-    = settle-settles (order Elephants) j n3 (settle (order Chicks) i n2 r1) (omega arith) s2.shown (subst (λ (x : ℕ). n3 < choose x j) (sym e2) b3) in
-    let e3 : count (order Empty) (settle (order Elephants) j n3 (settle (order Chicks) i n2 r1)) ≡ free_squares - i - j
-    = (let e : count (order Empty) (settle (order Elephants) j n3 (settle (order Chicks) i n2 r1)) + j ≡ count (order Empty) (settle (order Chicks) i n2 r1)
-    = empty_after (order Elephants) j n3 (settle (order Chicks) i n2 r1) (settle (order Elephants) j n3 (settle (order Chicks) i n2 r1))
-    (omega arith) s3 in omega arith) in
-    let s4 : IsSettled (order Giraffes) k n4 (settle (order Elephants) j n3 (settle (order Chicks) i n2 r1))
-    (settle (order Giraffes) k n4 (settle (order Elephants) j n3 (settle (order Chicks) i n2 r1)))
-    = settle-settles (order Giraffes) k n4 (settle (order Elephants) j n3 (settle (order Chicks) i n2 r1)) (omega arith) s3.shown
-    (subst (λ (x : ℕ). n4 < choose x k) (sym e3) b4) in
-    from_stages i j k n0 n1 n2 n3 n4 r0 r1 (settle (order Chicks) i n2 r1) (settle (order Elephants) j n3 (settle (order Chicks) i n2 r1))
-    (settle (order Giraffes) k n4 (settle (order Elephants) j n3 (settle (order Chicks) i n2 r1))) s0 s1 s2 s3 s4
-    (length-settle (order Giraffes) k n4 (settle (order Elephants) j n3 (settle (order Chicks) i n2 r1))
-    ∙ length-settle (order Elephants) j n3 (settle (order Chicks) i n2 r1) ∙ length-settle (order Chicks) i n2 r1 ∙ len)
+chosen : (ob ds ls : List ℕ) → IsStage (order OwnLion) 12 ls → AreChoices ob ds
+    → AreChosen ob ds (settle (order Giraffes) (slice_index ob 2) (slice_index ds 7) (settle (order Elephants) (slice_index ob 1) (slice_index ds 6)
+    (settle (order Chicks) (slice_index ob 0) (slice_index ds 5) (settle (order EnemyLion) 1 (slice_index ds 4) (settle (order OwnLion) 1 (slice_index ds 3) ls)))))
+chosen ob ds ls start c =
+    let home : slice_index ds 3 < 12 = (let low : slice_index ds 3 < own_squares = c.own_lion in omega arith) in
+    let one = next_stage (order OwnLion) 1 (slice_index ds 3) 12 ls (omega arith) home start in
+    let two = next_stage (order EnemyLion) 1 (slice_index ds 4) enemy_squares _ (omega arith) c.other_lion one.stage in
+    let three = next_stage (order Chicks) (slice_index ob 0) (slice_index ds 5) free_squares _ (omega arith) c.chick_squares two.stage in
+    let four = next_stage (order Elephants) (slice_index ob 1) (slice_index ds 6) _ _ (omega arith) c.elephant_squares three.stage in
+    let five = next_stage (order Giraffes) (slice_index ob 2) (slice_index ds 7) _ _ (omega arith) c.giraffe_squares four.stage in
+    from_stages ob ds ls _ _ _ _ _ one.settled two.settled three.settled four.settled five.settled five.stage.long
 
-later : (i j k n0 n1 n2 n3 n4 : ℕ) (r0 : List ℕ) → IsSettled (order OwnLion) 1 n0 empty_layers r0 → length r0 ≡ 12 → count (order Empty) r0 ≡ enemy_squares
-    → n1 < enemy_squares → n2 < choose free_squares i → n3 < choose (free_squares - i) j → n4 < choose (free_squares - i - j) k
-    → AreChosen i j k n0 n1 n2 n3 n4 (settle (order Giraffes) k n4
-    (settle (order Elephants) j n3 (settle (order Chicks) i n2 (settle (order EnemyLion) 1 n1 r0))))
-later i j k n0 n1 n2 n3 n4 r0 s0 len e0 b1 b2 b3 b4 =
-    let s1 : IsSettled (order EnemyLion) 1 n1 r0 (settle (order EnemyLion) 1 n1 r0)
-    = settle-settles (order EnemyLion) 1 n1 r0 (omega arith) s0.shown (subst (λ (x : ℕ). n1 < choose x 1) (sym e0) b1) in
-    let e1 : count (order Empty) (settle (order EnemyLion) 1 n1 r0) ≡ free_squares
-    = (let e : count (order Empty) (settle (order EnemyLion) 1 n1 r0) + 1 ≡ count (order Empty) r0
-    = empty_after (order EnemyLion) 1 n1 r0 (settle (order EnemyLion) 1 n1 r0) (omega arith) s1 in omega arith) in
-    chosen i j k n0 n1 n2 n3 n4 r0 (settle (order EnemyLion) 1 n1 r0) s0 s1 (length-settle (order EnemyLion) 1 n1 r0 ∙ len) e1 b2 b3 b4
+-- ---- a setup with such layers
 
-pub eleven : (a : ℕ) → a + 1 ≡ 12 → a ≡ enemy_squares
-eleven a h = omega arith
-
-pub below_twelve : (n : ℕ) → n < own_squares → n < choose (count (order Empty) empty_layers) 1
-below_twelve n h = (let b : n < 12 = omega arith in b)
-
-pub all_empty : AreShown (order OwnLion) empty_layers
-all_empty = (let f : (order Empty < order OwnLion) ⊎ (order Empty ≡ order Empty) = inr refl in (f, (f, (f, (f, (f, (f, (f, (f, (f, (f, (f, (f, tt)))))))))))))
-
-pub lion_before_empty : order OwnLion < order Empty
-lion_before_empty = omega arith
-
-pub AreChosen-settled : (i j k n0 n1 n2 n3 n4 : ℕ) → n0 < own_squares → n1 < enemy_squares → n2 < choose free_squares i → n3 < choose (free_squares - i) j
-    → n4 < choose (free_squares - i - j) k
-    → AreChosen i j k n0 n1 n2 n3 n4 (all_settled i j k n0 n1 n2 n3 n4)
-AreChosen-settled i j k n0 n1 n2 n3 n4 b0 b1 b2 b3 b4 =
-    let s0 : IsSettled (order OwnLion) 1 n0 empty_layers (settle (order OwnLion) 1 n0 empty_layers)
-    = settle-settles (order OwnLion) 1 n0 empty_layers lion_before_empty all_empty (below_twelve n0 b0) in
-    later i j k n0 n1 n2 n3 n4 (settle (order OwnLion) 1 n0 empty_layers) s0 (length-settle (order OwnLion) 1 n0 empty_layers)
-    (eleven (count (order Empty) (settle (order OwnLion) 1 n0 empty_layers))
-    (empty_after (order OwnLion) 1 n0 empty_layers (settle (order OwnLion) 1 n0 empty_layers) lion_before_empty s0)) b1 b2 b3 b4
-
--- ---- the setup of such layers
-
--- a setup whose board has those layers and those forms
-pub record IsMade (set : PieceSet) (i j k n0 n1 n2 n3 n4 : ℕ) (ls : List ℕ) (s : Setup) : Type 0 where
-  pub chosen_are : AreChosen i j k n0 n1 n2 n3 n4 ls
-  pub layers_are : map layer s.board ≡ ls
-  pub home : n0 < own_squares
-  pub chicks_are : i + s.hands.mover.chicks + s.hands.enemy.chicks ≡ set.chicks
-  pub elephants_are : j + s.hands.mover.elephants + s.hands.enemy.elephants ≡ set.elephants
-  pub giraffes_are : k + s.hands.mover.giraffes + s.hands.enemy.giraffes ≡ set.giraffes
-
-made_lions : (set : PieceSet) (i j k n0 n1 n2 n3 n4 : ℕ) (ls : List ℕ) (s : Setup) → IsMade set i j k n0 n1 n2 n3 n4 ls s → HasLions s
-made_lions set i j k n0 n1 n2 n3 n4 ls s m Mover = count-layer (holds_lion Mover) (order OwnLion) holds_mover_lion s.board
-    ∙ ap (count (order OwnLion)) m.layers_are ∙ m.chosen_are.own_lion
-made_lions set i j k n0 n1 n2 n3 n4 ls s m Enemy = count-layer (holds_lion Enemy) (order EnemyLion) holds_enemy_lion s.board
-    ∙ ap (count (order EnemyLion)) m.layers_are ∙ m.chosen_are.other_lion
-
-made_pieces : (set : PieceSet) (i j k n0 n1 n2 n3 n4 : ℕ) (ls : List ℕ) (s : Setup) → IsMade set i j k n0 n1 n2 n3 n4 ls s
-    → (kind : HandKind) → total kind s ≡ pieces_of set kind
-unfolding total
-made_pieces set i j k n0 n1 n2 n3 n4 ls s m hand.Chick =
-    ap (λ (n : ℕ). n + s.hands.mover.chicks + s.hands.enemy.chicks) (count-layer (holds_kind hand.Chick) (order Chicks) (holds_kind-layer hand.Chick) s.board
-    ∙ ap (count (order Chicks)) m.layers_are ∙ m.chosen_are.chicks) ∙ m.chicks_are
-made_pieces set i j k n0 n1 n2 n3 n4 ls s m hand.Elephant =
-    ap (λ (n : ℕ). n + s.hands.mover.elephants + s.hands.enemy.elephants)
-    (count-layer (holds_kind hand.Elephant) (order Elephants) (holds_kind-layer hand.Elephant) s.board ∙ ap (count (order Elephants)) m.layers_are
-    ∙ m.chosen_are.elephants) ∙ m.elephants_are
-made_pieces set i j k n0 n1 n2 n3 n4 ls s m hand.Giraffe =
-    ap (λ (n : ℕ). n + s.hands.mover.giraffes + s.hands.enemy.giraffes)
-    (count-layer (holds_kind hand.Giraffe) (order Giraffes) (holds_kind-layer hand.Giraffe) s.board
-    ∙ ap (count (order Giraffes)) m.layers_are ∙ m.chosen_are.giraffes) ∙ m.giraffes_are
+record IsMade (set : PieceSet) (ob ds : List ℕ) (s : Setup) : Type 0 where
+  choices : AreChoices ob ds
+  layers : AreChosen ob ds (map layer s.board)
+  chicks : slice_index ob 0 + s.hands.mover.chicks + s.hands.enemy.chicks ≡ set.chicks
+  elephants : slice_index ob 1 + s.hands.mover.elephants + s.hands.enemy.elephants ≡ set.elephants
+  giraffes : slice_index ob 2 + s.hands.mover.giraffes + s.hands.enemy.giraffes ≡ set.giraffes
 
 few_of : (set : PieceSet) (kind : HandKind) → pieces_of set kind ≤ 2
 few_of set hand.Chick = set.few_chicks
 few_of set hand.Elephant = set.few_elephants
 few_of set hand.Giraffe = set.few_giraffes
 
-made_home : (set : PieceSet) (i j k n0 n1 n2 n3 n4 : ℕ) (ls : List ℕ) (s : Setup) → IsMade set i j k n0 n1 n2 n3 n4 ls s → HasLionOffFarRow s
-made_home set i j k n0 n1 n2 n3 n4 ls s m square le e =
-    let here : get_or ls square (order Empty) ≡ order OwnLion = ap (λ (x : List ℕ). get_or x square (order Empty)) (sym m.layers_are) ∙ layer-at s.board square
-    ∙ ap layer e in
-    let only : square ≡ choice (order OwnLion) ls = lion_only ls square m.chosen_are.own_lion here in
-    let number : choice (order OwnLion) ls ≡ n0 = m.chosen_are.own_square in
-    let low : n0 < own_squares = m.home in
+made_lions : (set : PieceSet) (ob ds : List ℕ) (s : Setup) → IsMade set ob ds s → HasLions s
+made_lions set ob ds s m Mover = count-layer (holds_lion Mover) (order OwnLion) holds_mover_lion s.board ∙ m.layers.own_lion.count_is
+made_lions set ob ds s m Enemy = count-layer (holds_lion Enemy) (order EnemyLion) holds_enemy_lion s.board ∙ m.layers.other_lion.count_is
+
+made_pieces : (set : PieceSet) (ob ds : List ℕ) (s : Setup) → IsMade set ob ds s → (kind : HandKind) → total kind s ≡ pieces_of set kind
+unfolding total
+made_pieces set ob ds s m hand.Chick = ap (λ (n : ℕ). n + s.hands.mover.chicks + s.hands.enemy.chicks)
+    (count-layer (holds_kind hand.Chick) (order Chicks) (holds_kind-layer hand.Chick) s.board ∙ m.layers.chicks.count_is) ∙ m.chicks
+made_pieces set ob ds s m hand.Elephant = ap (λ (n : ℕ). n + s.hands.mover.elephants + s.hands.enemy.elephants)
+    (count-layer (holds_kind hand.Elephant) (order Elephants) (holds_kind-layer hand.Elephant) s.board ∙ m.layers.elephants.count_is) ∙ m.elephants
+made_pieces set ob ds s m hand.Giraffe = ap (λ (n : ℕ). n + s.hands.mover.giraffes + s.hands.enemy.giraffes)
+    (count-layer (holds_kind hand.Giraffe) (order Giraffes) (holds_kind-layer hand.Giraffe) s.board ∙ m.layers.giraffes.count_is) ∙ m.giraffes
+
+made_home : (set : PieceSet) (ob ds : List ℕ) (s : Setup) → IsMade set ob ds s → HasLionOffFarRow s
+made_home set ob ds s m square le e =
+    let only : square ≡ choice (order OwnLion) (map layer s.board) =
+    lion_only (map layer s.board) square m.layers.own_lion.count_is (layer-at s.board square ∙ ap layer e) in
+    let number : choice (order OwnLion) (map layer s.board) ≡ slice_index ds 3 = m.layers.own_lion.choice_is in
+    let low : slice_index ds 3 < own_squares = m.choices.own_lion in
     omega arith
 
-pub IsPositionOfSet-made : (set : PieceSet) (i j k n0 n1 n2 n3 n4 : ℕ) (ls : List ℕ) (s : Setup) → IsMade set i j k n0 n1 n2 n3 n4 ls s → IsPositionOfSet set s
-IsPositionOfSet-made set i j k n0 n1 n2 n3 n4 ls s m =
-    let pieces : (kind : HandKind) → total kind s ≡ pieces_of set kind = made_pieces set i j k n0 n1 n2 n3 n4 ls s m in
+position_made : (set : PieceSet) (ob ds : List ℕ) (s : Setup) → IsMade set ob ds s → IsPositionOfSet set s
+position_made set ob ds s m =
+    let pieces : (kind : HandKind) → total kind s ≡ pieces_of set kind = made_pieces set ob ds s m in
     record {
       legal = record {
-        squares = sym (length-map s.board layer) ∙ ap length m.layers_are ∙ m.chosen_are.squares;
-        lions = made_lions set i j k n0 n1 n2 n3 n4 ls s m;
+        squares = sym (length-map s.board layer) ∙ m.layers.squares;
+        lions = made_lions set ob ds s m;
         few = λ kind. subst (λ (x : ℕ). x ≤ 2) (sym (pieces kind)) (few_of set kind);
-        home = made_home set i j k n0 n1 n2 n3 n4 ls s m;
+        home = made_home set ob ds s m;
       };
       pieces = pieces;
     }
 
--- digits below their bases make a position that has them
-pub record HasPlace (set : PieceSet) (i j k : ℕ) (h1 h2 h3 n0 n1 n2 n3 n4 f2 f3 f4 : ℕ) : Type 0 where
-  pub on_board_below : HasDigits (block_bases set) (i ∷ j ∷ k ∷ [])
-  pub digits_below : HasDigits (bases set i j k) (h1 ∷ h2 ∷ h3 ∷ n0 ∷ n1 ∷ n2 ∷ n3 ∷ n4 ∷ f2 ∷ f3 ∷ f4 ∷ [])
-
-abbrev pub made : PieceSet → (i j k : ℕ) → (h1 h2 h3 n0 n1 n2 n3 n4 f2 f3 f4 : ℕ) → Setup
-made set i j k h1 h2 h3 n0 n1 n2 n3 n4 f2 f3 f4 =
-    setup_by set (i ∷ j ∷ k ∷ []) (h1 ∷ h2 ∷ h3 ∷ n0 ∷ n1 ∷ n2 ∷ n3 ∷ n4 ∷ f2 ∷ f3 ∷ f4 ∷ [])
+-- ---- the setup of digits
 
 rejoined : (c i h : ℕ) → i < c + 1 → h < c - i + 1 → i + h + (c - i - h) ≡ c
 rejoined c i h a b = omega arith
-
-pub IsMade-made : (set : PieceSet) (i j k h1 h2 h3 n0 n1 n2 n3 n4 f2 f3 f4 : ℕ) → HasPlace set i j k h1 h2 h3 n0 n1 n2 n3 n4 f2 f3 f4
-    → IsMade set i j k n0 n1 n2 n3 n4 (all_settled i j k n0 n1 n2 n3 n4)
-    (made set i j k h1 h2 h3 n0 n1 n2 n3 n4 f2 f3 f4)
-IsMade-made set i j k h1 h2 h3 n0 n1 n2 n3 n4 f2 f3 f4 p =
-    let b = p.on_board_below in
-    let d = p.digits_below in
-    let c : AreChosen i j k n0 n1 n2 n3 n4 (all_settled i j k n0 n1 n2 n3 n4)
-    = AreChosen-settled i j k n0 n1 n2 n3 n4 d.1.1.1.0 d.1.1.1.1.0 d.1.1.1.1.1.0 d.1.1.1.1.1.1.0 d.1.1.1.1.1.1.1.0 in
-    record {
-      chosen_are = c;
-      layers_are = layers-board_of (numbers_by (h1 ∷ h2 ∷ h3 ∷ n0 ∷ n1 ∷ n2 ∷ n3 ∷ n4 ∷ f2 ∷ f3 ∷ f4 ∷ []))
-          (all_settled i j k n0 n1 n2 n3 n4) c.layers;
-      home = d.1.1.1.0;
-      chicks_are = rejoined set.chicks i h1 b.0 d.0;
-      elephants_are = rejoined set.elephants j h2 b.1.0 d.1.0;
-      giraffes_are = rejoined set.giraffes k h3 b.1.1.0 d.1.1.0;
-    }
 
 -- the forms number of a layer of the board made
 made_forms : (numbers : ℕ → ℕ) (t n : ℕ) (ls : List ℕ) → t < order Empty → AreLayers ls → count t ls ≡ n
@@ -220,36 +126,41 @@ made_forms : (numbers : ℕ → ℕ) (t n : ℕ) (ls : List ℕ) → t < order E
 made_forms numbers t n ls h a c low =
     forms_number-board_of numbers t ls h a ∙ ap (λ (x : ℕ). numbers t % base_of t ^ x) c ∙ mod-eq_of_lt low
 
-pub on_board-made : (set : PieceSet) (i j k n0 n1 n2 n3 n4 : ℕ) (ls : List ℕ) (s : Setup) → IsMade set i j k n0 n1 n2 n3 n4 ls s → on_board s ≡ i ∷ j ∷ k ∷ []
-on_board-made set i j k n0 n1 n2 n3 n4 ls s m =
-    let a : count (order Chicks) (map layer s.board) ≡ i = ap (count (order Chicks)) m.layers_are ∙ m.chosen_are.chicks in
-    let b : count (order Elephants) (map layer s.board) ≡ j = ap (count (order Elephants)) m.layers_are ∙ m.chosen_are.elephants in
-    let c : count (order Giraffes) (map layer s.board) ≡ k = ap (count (order Giraffes)) m.layers_are ∙ m.chosen_are.giraffes in
-    ap (λ (x : ℕ). x ∷ count (order Elephants) (map layer s.board) ∷ count (order Giraffes) (map layer s.board) ∷ []) a
-    ∙ ap (λ (x : ℕ). i ∷ x ∷ count (order Giraffes) (map layer s.board) ∷ []) b
-    ∙ ap (λ (x : ℕ). i ∷ j ∷ x ∷ []) c
+three_same : (a b c : ℕ) (xs : List ℕ) → length xs ≡ 3 → a ≡ slice_index xs 0 → b ≡ slice_index xs 1 → c ≡ slice_index xs 2 → a ∷ b ∷ c ∷ [] ≡ xs
+three_same a b c (x ∷ y ∷ z ∷ []) long p q r = cc
+three_same a b c xs long p q r = absurd (omega arith)
 
-eight_same : (h1 h2 h3 a b c d e f g h a' b' c' d' e' f' g' h' : ℕ) → a ≡ a' → b ≡ b' → c ≡ c' → d ≡ d' → e ≡ e' → f ≡ f' → g ≡ g' → h ≡ h'
-    → h1 ∷ h2 ∷ h3 ∷ a ∷ b ∷ c ∷ d ∷ e ∷ f ∷ g ∷ h ∷ [] ≡ h1 ∷ h2 ∷ h3 ∷ a' ∷ b' ∷ c' ∷ d' ∷ e' ∷ f' ∷ g' ∷ h' ∷ []
-eight_same h1 h2 h3 a b c d e f g h a' b' c' d' e' f' g' h' p q r s t u v w = cc
+eleven_same : (a b c d e f g h : ℕ) (xs : List ℕ) → length xs ≡ 11 → a ≡ slice_index xs 3 → b ≡ slice_index xs 4 → c ≡ slice_index xs 5
+    → d ≡ slice_index xs 6 → e ≡ slice_index xs 7 → f ≡ slice_index xs 8 → g ≡ slice_index xs 9 → h ≡ slice_index xs 10
+    → slice_index xs 0 ∷ slice_index xs 1 ∷ slice_index xs 2 ∷ a ∷ b ∷ c ∷ d ∷ e ∷ f ∷ g ∷ h ∷ [] ≡ xs
+eleven_same a b c d e f g h (x0 ∷ x1 ∷ x2 ∷ x3 ∷ x4 ∷ x5 ∷ x6 ∷ x7 ∷ x8 ∷ x9 ∷ x10 ∷ []) long p q r s t u v w = cc
+eleven_same a b c d e f g h xs long p q r s t u v w = absurd (omega arith)
 
-pub digits-made : (set : PieceSet) (i j k h1 h2 h3 n0 n1 n2 n3 n4 f2 f3 f4 : ℕ) → HasPlace set i j k h1 h2 h3 n0 n1 n2 n3 n4 f2 f3 f4
-    → digits (made set i j k h1 h2 h3 n0 n1 n2 n3 n4 f2 f3 f4) ≡ h1 ∷ h2 ∷ h3 ∷ n0 ∷ n1 ∷ n2 ∷ n3 ∷ n4 ∷ f2 ∷ f3 ∷ f4 ∷ []
-digits-made set i j k h1 h2 h3 n0 n1 n2 n3 n4 f2 f3 f4 p =
-    let m = IsMade-made set i j k h1 h2 h3 n0 n1 n2 n3 n4 f2 f3 f4 p in
-    let d = p.digits_below in
-    let c = m.chosen_are in
-    let board : List Cell = (made set i j k h1 h2 h3 n0 n1 n2 n3 n4 f2 f3 f4).board in
-    eight_same h1 h2 h3
-    (choice (order OwnLion) (map layer board)) (choice (order EnemyLion) (map layer board)) (choice (order Chicks) (map layer board))
-    (choice (order Elephants) (map layer board)) (choice (order Giraffes) (map layer board))
-    (forms_number (order Chicks) board) (forms_number (order Elephants) board) (forms_number (order Giraffes) board) n0 n1 n2 n3 n4 f2 f3 f4
-    (ap (choice (order OwnLion)) m.layers_are ∙ c.own_square) (ap (choice (order EnemyLion)) m.layers_are ∙ c.other_square)
-    (ap (choice (order Chicks)) m.layers_are ∙ c.chick_squares)
-    (ap (choice (order Elephants)) m.layers_are ∙ c.elephant_squares) (ap (choice (order Giraffes)) m.layers_are ∙ c.giraffe_squares)
-    (made_forms (numbers_by (h1 ∷ h2 ∷ h3 ∷ n0 ∷ n1 ∷ n2 ∷ n3 ∷ n4 ∷ f2 ∷ f3 ∷ f4 ∷ [])) 2 i
-    (all_settled i j k n0 n1 n2 n3 n4) (omega arith) c.layers c.chicks d.1.1.1.1.1.1.1.1.0)
-    (made_forms (numbers_by (h1 ∷ h2 ∷ h3 ∷ n0 ∷ n1 ∷ n2 ∷ n3 ∷ n4 ∷ f2 ∷ f3 ∷ f4 ∷ [])) 3 j
-    (all_settled i j k n0 n1 n2 n3 n4) (omega arith) c.layers c.elephants d.1.1.1.1.1.1.1.1.1.0)
-    (made_forms (numbers_by (h1 ∷ h2 ∷ h3 ∷ n0 ∷ n1 ∷ n2 ∷ n3 ∷ n4 ∷ f2 ∷ f3 ∷ f4 ∷ [])) 4 k
-    (all_settled i j k n0 n1 n2 n3 n4) (omega arith) c.layers c.giraffes d.1.1.1.1.1.1.1.1.1.1.0)
+-- digits below their bases make a position that has them
+pub record HasBoth (set : PieceSet) (ob ds : List ℕ) (s : Setup) : Type 0 where
+  pub position : IsPositionOfSet set s
+  pub on_board_is : on_board s ≡ ob
+  pub digits_are : digits s ≡ ds
+
+pub made : (set : PieceSet) (ob ds : List ℕ) → HasDigits (block_bases set) ob → HasDigits (bases_by set ob) ds → HasBoth set ob ds (setup_by set ob ds)
+made set ob ds on has =
+    let choices = AreChoices-digits set ob ds on has in
+    let c = chosen ob ds empty_layers first_stage choices in
+    let l : AreChosen ob ds (map layer (board_of (numbers_by ds) (layers_by ob ds))) =
+    subst (AreChosen ob ds) (sym (layers-board_of (numbers_by ds) (layers_by ob ds) c.layers)) c in
+    let digit : (k : ℕ) → k < 11 → get_or ds k 0 < get_or (bases_by set ob) k 0 = λ k low. digit-at (bases_by set ob) ds k has low in
+    record {
+      position = position_made set ob ds (setup_by set ob ds) (record {
+        choices = choices;
+        layers = l;
+        chicks = rejoined set.chicks (slice_index ob 0) (slice_index ds 0) (digit-at (block_bases set) ob 0 on (omega arith)) (digit 0 (omega arith));
+        elephants = rejoined set.elephants (slice_index ob 1) (slice_index ds 1) (digit-at (block_bases set) ob 1 on (omega arith)) (digit 1 (omega arith));
+        giraffes = rejoined set.giraffes (slice_index ob 2) (slice_index ds 2) (digit-at (block_bases set) ob 2 on (omega arith)) (digit 2 (omega arith));
+      });
+      on_board_is = three_same _ _ _ ob (HasDigits-length (block_bases set) ob on) l.chicks.count_is l.elephants.count_is l.giraffes.count_is;
+      digits_are = eleven_same _ _ _ _ _ _ _ _ ds (HasDigits-length (bases_by set ob) ds has) l.own_lion.choice_is l.other_lion.choice_is l.chicks.choice_is
+          l.elephants.choice_is l.giraffes.choice_is
+          (made_forms (numbers_by ds) 2 (slice_index ob 0) (layers_by ob ds) (omega arith) c.layers c.chicks.count_is (digit 8 (omega arith)))
+          (made_forms (numbers_by ds) 3 (slice_index ob 1) (layers_by ob ds) (omega arith) c.layers c.elephants.count_is (digit 9 (omega arith)))
+          (made_forms (numbers_by ds) 4 (slice_index ob 2) (layers_by ob ds) (omega arith) c.layers c.giraffes.count_is (digit 10 (omega arith)));
+    }

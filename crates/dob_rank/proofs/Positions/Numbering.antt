@@ -1,24 +1,22 @@
 -- Ranks number the positions of a set, in their order.
-use Rattle.dob_rank.proofs.Common.{◌+◌, ◌-◌, ◌<◌, ◌∙◌, ◌∷◌, ◌≡◌, ◌≤◌, Bool, List, [], ap, arith, cond, inl, inr, refl, subst, suc, sym, zero, ℕ, cases_lt}
-use Rattle.dob_rank.proofs.Common.{le-ltb, lt-ltb, PieceSet, Setup, same_block, sum_below-rises, HasDigits, bases_by, block_bases, block_of, block_size, digits}
+use Rattle.dob_rank.proofs.Common.{◌+◌, ◌-◌, ◌<◌, ◌∙◌, ◌≡◌, ◌≤◌, Bool, List, ap, arith, cond, inl, inr, refl, subst, suc, sym, zero, ℕ, cases_lt, le-ltb}
+use Rattle.dob_rank.proofs.Common.{lt-ltb, PieceSet, Setup, same_block, sum_below-rises, HasDigits, bases_by, block_bases, block_of, block_size, digits}
 use Rattle.dob_rank.proofs.Common.{digits_of, find, nth, number_of, on_board, product, rank_of_set, setup_by, setup_in, size_of_set, sum_below, Before}
-use Rattle.dob_rank.proofs.Common.{IsPositionOfSet, key}
+use Rattle.dob_rank.proofs.Common.{IsPositionOfSet, key, Precedes}
 pub use Rattle.dob_rank.specs.Numbers.{place_of, HasBlock}
 use Rattle.dob_rank.proofs.Arithmetic.MixedRadix.{number_of-below, number_of-rises, HasDigits-digits_of, number_of-digits_of, digits_of-number_of}
+use Rattle.dob_rank.proofs.Arithmetic.MixedRadix.{number_of-upto}
 use Rattle.dob_rank.proofs.Positions.Digits.{HasParts, HasParts-from_position, HasDigits-on_board, HasDigits-digits, setup_by-back}
-use Rattle.dob_rank.proofs.Positions.Made.{HasPlace, made, IsMade-made, IsPositionOfSet-made, on_board-made, digits-made, all_settled}
-use Rattle.dob_rank.proofs.Positions.Keys.{Before-digits, key-same}
-use Rattle.dob_rank.proofs.Arithmetic.Order.{Precedes-total}
+use Rattle.dob_rank.proofs.Positions.Made.{made, HasBoth}
+use Rattle.dob_rank.proofs.Positions.Blocks.{block_size-product}
+use Rattle.dob_rank.proofs.Positions.Keys.{key-upto}
+use Rattle.dob_rank.proofs.Arithmetic.Order.{Upto, Upto-from, Precedes-irreflexive, Precedes-or}
 
 -- ---- a rank is the start of its block and the place there
 
 pub rank_of_set-place : (set : PieceSet) (s : Setup) → rank_of_set set s ≡ sum_below (block_size set) (block_of set s) + place_of set s
 unfolding rank_of_set
 rank_of_set-place set s = refl
-
-pub block_size-product : (set : PieceSet) (block : ℕ) → block_size set block ≡ product (bases_by set (digits_of (block_bases set) block))
-unfolding block_size
-block_size-product set block = refl
 
 pub block_of-below : (set : PieceSet) (s : Setup) → IsPositionOfSet set s → block_of set s < product (block_bases set)
 block_of-below set s p = number_of-below (block_bases set) (on_board s) (HasDigits-on_board set s (HasParts-from_position set s p))
@@ -58,49 +56,11 @@ pub record IsPlace (set : PieceSet) (block place : ℕ) : Type 0 where
 
 -- any place makes a position of the set that has that block and place
 
--- what the setup of digits has
-record HasBoth (set : PieceSet) (ob ds : List ℕ) (s : Setup) : Type 0 where
-  position : IsPositionOfSet set s
-  on_board_is : on_board s ≡ ob
-  digits_are : digits s ≡ ds
-
-from_digits : (set : PieceSet) (i j k : ℕ) (ds : List ℕ) → HasDigits (block_bases set) (i ∷ j ∷ k ∷ []) → HasDigits (bases_by set (i ∷ j ∷ k ∷ [])) ds
-    → HasBoth set (i ∷ j ∷ k ∷ []) ds (setup_by set (i ∷ j ∷ k ∷ []) ds)
-from_digits set i j k ([]) h d = absurd d
-from_digits set i j k (h1 ∷ []) h d = absurd d.1
-from_digits set i j k (h1 ∷ h2 ∷ []) h d = absurd d.1.1
-from_digits set i j k (h1 ∷ h2 ∷ h3 ∷ []) h d = absurd d.1.1.1
-from_digits set i j k (h1 ∷ h2 ∷ h3 ∷ n0 ∷ []) h d = absurd d.1.1.1.1
-from_digits set i j k (h1 ∷ h2 ∷ h3 ∷ n0 ∷ n1 ∷ []) h d = absurd d.1.1.1.1.1
-from_digits set i j k (h1 ∷ h2 ∷ h3 ∷ n0 ∷ n1 ∷ n2 ∷ []) h d = absurd d.1.1.1.1.1.1
-from_digits set i j k (h1 ∷ h2 ∷ h3 ∷ n0 ∷ n1 ∷ n2 ∷ n3 ∷ []) h d = absurd d.1.1.1.1.1.1.1
-from_digits set i j k (h1 ∷ h2 ∷ h3 ∷ n0 ∷ n1 ∷ n2 ∷ n3 ∷ n4 ∷ []) h d = absurd d.1.1.1.1.1.1.1.1
-from_digits set i j k (h1 ∷ h2 ∷ h3 ∷ n0 ∷ n1 ∷ n2 ∷ n3 ∷ n4 ∷ f2 ∷ []) h d = absurd d.1.1.1.1.1.1.1.1.1
-from_digits set i j k (h1 ∷ h2 ∷ h3 ∷ n0 ∷ n1 ∷ n2 ∷ n3 ∷ n4 ∷ f2 ∷ f3 ∷ []) h d = absurd d.1.1.1.1.1.1.1.1.1.1
-from_digits set i j k (h1 ∷ h2 ∷ h3 ∷ n0 ∷ n1 ∷ n2 ∷ n3 ∷ n4 ∷ f2 ∷ f3 ∷ f4 ∷ x ∷ xs) h d = absurd d.1.1.1.1.1.1.1.1.1.1.1
-from_digits set i j k (h1 ∷ h2 ∷ h3 ∷ n0 ∷ n1 ∷ n2 ∷ n3 ∷ n4 ∷ f2 ∷ f3 ∷ f4 ∷ []) h d =
-    let p : HasPlace set i j k h1 h2 h3 n0 n1 n2 n3 n4 f2 f3 f4 = record { on_board_below = h; digits_below = d } in
-    let m = IsMade-made set i j k h1 h2 h3 n0 n1 n2 n3 n4 f2 f3 f4 p in
-    record {
-      position = IsPositionOfSet-made set i j k n0 n1 n2 n3 n4
-          (all_settled i j k n0 n1 n2 n3 n4) (made set i j k h1 h2 h3 n0 n1 n2 n3 n4 f2 f3 f4) m;
-      on_board_is = on_board-made set i j k n0 n1 n2 n3 n4
-          (all_settled i j k n0 n1 n2 n3 n4) (made set i j k h1 h2 h3 n0 n1 n2 n3 n4 f2 f3 f4) m;
-      digits_are = digits-made set i j k h1 h2 h3 n0 n1 n2 n3 n4 f2 f3 f4 p;
-    }
-
-from_lists : (set : PieceSet) (ob ds : List ℕ) → HasDigits (block_bases set) ob → HasDigits (bases_by set ob) ds → HasBoth set ob ds (setup_by set ob ds)
-from_lists set [] ds h d = absurd h
-from_lists set (i ∷ []) ds h d = absurd h.1
-from_lists set (i ∷ j ∷ []) ds h d = absurd h.1.1
-from_lists set (i ∷ j ∷ k ∷ x ∷ xs) ds h d = absurd h.1.1.1
-from_lists set (i ∷ j ∷ k ∷ []) ds h d = from_digits set i j k ds h d
-
 pub HasBlock-setup_in : (set : PieceSet) (block place : ℕ) → IsPlace set block place → HasBlock set block place (setup_in set block place)
 HasBlock-setup_in set block place p =
     let low : place < product (bases_by set (digits_of (block_bases set) block)) = subst (λ (n : ℕ). place < n) (block_size-product set block) p.place_below in
     let b : HasBoth set (digits_of (block_bases set) block) (digits_of (bases_by set (digits_of (block_bases set) block)) place) (setup_in set block place)
-    = from_lists set (digits_of (block_bases set) block) (digits_of (bases_by set (digits_of (block_bases set) block)) place)
+    = made set (digits_of (block_bases set) block) (digits_of (bases_by set (digits_of (block_bases set) block)) place)
     (HasDigits-digits_of (block_bases set) block p.block_below)
     (HasDigits-digits_of (bases_by set (digits_of (block_bases set) block)) place low) in
     record {
@@ -112,10 +72,10 @@ HasBlock-setup_in set block place p =
     }
 
 -- sums of a start and a place
-lower : (rp rq a x w b y : ℕ) → rp ≡ a + x → rq ≡ b + y → x < w → a + w ≤ b → rp < rq
+lower : (rp rq a x w b y : ℕ) → rp ≡ a + x → rq ≡ b + y → x < w → a + w ≤ b → rp ≤ rq
 lower rp rq a x w b y h k l m = omega arith
 
-nearer : (rp rq a x z b y : ℕ) → rp ≡ a + x → rq ≡ b + y → z < y → x ≡ z → a ≡ b → rp < rq
+nearer : (rp rq a x z b y : ℕ) → rp ≡ a + x → rq ≡ b + y → z ≤ y → x ≡ z → a ≡ b → rp ≤ rq
 nearer rp rq a x z b y h k l m n = omega arith
 
 cancel : (a b x y : ℕ) → a ≡ b → a + x ≡ b + y → x ≡ y
@@ -123,28 +83,25 @@ cancel a b x y h k = omega arith
 
 -- ---- the order
 
-pub rank_of_set-rises : (set : PieceSet) (p q : Setup) → IsPositionOfSet set p → IsPositionOfSet set q → Before p q → rank_of_set set p < rank_of_set set q
-rank_of_set-rises set p q hp hq h =
+-- a position with a key that is no later has no higher rank
+rank_of_set-upto : (set : PieceSet) (p q : Setup) → IsPositionOfSet set p → IsPositionOfSet set q → Upto (key p) (key q) → rank_of_set set p ≤ rank_of_set set q
+rank_of_set-upto set p q hp hq h =
     let rp : rank_of_set set p ≡ sum_below (block_size set) (block_of set p) + place_of set p = rank_of_set-place set p in
     let rq : rank_of_set set q ≡ sum_below (block_size set) (block_of set q) + place_of set q = rank_of_set-place set q in
-    elim (Before-digits set p q hp hq h) [
+    elim (key-upto set p q hp hq h) [
       | inl lt ↦ (let a : block_of set p < block_of set q
           = number_of-rises (block_bases set) (on_board p) (on_board q) (HasDigits-on_board set p (HasParts-from_position set p hp))
           (HasDigits-on_board set q (HasParts-from_position set q hq)) lt in
-          let b : place_of set p < block_size set (block_of set p) = place_of-below set p hp in
-          let c : sum_below (block_size set) (block_of set p) + block_size set (block_of set p) ≤ sum_below (block_size set) (block_of set q)
-          = sum_below-rises (block_size set) (block_of set p) (block_of set q) a in
           lower (rank_of_set set p) (rank_of_set set q) (sum_below (block_size set) (block_of set p)) (place_of set p) (block_size set (block_of set p))
-          (sum_below (block_size set) (block_of set q)) (place_of set q) rp rq b c)
+          (sum_below (block_size set) (block_of set q)) (place_of set q) rp rq (place_of-below set p hp)
+          (sum_below-rises (block_size set) (block_of set p) (block_of set q) a))
       | inr r ↦ (let dp : HasDigits (bases_by set (on_board q)) (digits p)
           = subst (λ (xs : List ℕ). HasDigits (bases_by set xs) (digits p)) r.0 (HasDigits-digits set p (HasParts-from_position set p hp)) in
-          let a : number_of (bases_by set (on_board q)) (digits p) < place_of set q
-          = number_of-rises (bases_by set (on_board q)) (digits p) (digits q) dp (HasDigits-digits set q (HasParts-from_position set q hq)) r.1 in
-          let b : place_of set p ≡ number_of (bases_by set (on_board q)) (digits p) = ap (λ (xs : List ℕ). number_of (bases_by set xs) (digits p)) r.0 in
-          let c : sum_below (block_size set) (block_of set p) ≡ sum_below (block_size set) (block_of set q)
-          = ap (λ (xs : List ℕ). sum_below (block_size set) (number_of (block_bases set) xs)) r.0 in
           nearer (rank_of_set set p) (rank_of_set set q) (sum_below (block_size set) (block_of set p)) (place_of set p)
-          (number_of (bases_by set (on_board q)) (digits p)) (sum_below (block_size set) (block_of set q)) (place_of set q) rp rq a b c)
+          (number_of (bases_by set (on_board q)) (digits p)) (sum_below (block_size set) (block_of set q)) (place_of set q) rp rq
+          (number_of-upto (bases_by set (on_board q)) (digits p) (digits q) refl dp (HasDigits-digits set q (HasParts-from_position set q hq)) r.1)
+          (ap (λ (xs : List ℕ). number_of (bases_by set xs) (digits p)) r.0)
+          (ap (λ (xs : List ℕ). sum_below (block_size set) (number_of (block_bases set) xs)) r.0))
     ]
 
 -- positions of one set with one rank are one
@@ -160,26 +117,22 @@ rank_of_set-same set p q hp hq e =
     = cancel (sum_below (block_size set) (block_of set p)) (sum_below (block_size set) (block_of set q)) (place_of set p) (place_of set q) start sums in
     sym (setup_in-back set p hp) ∙ ap (λ (b : ℕ). setup_in set b (place_of set p)) block ∙ ap (setup_in set (block_of set q)) place ∙ setup_in-back set q hq
 
--- positions of one key have one rank
-same_key : (set : PieceSet) (p q : Setup) → IsPositionOfSet set p → IsPositionOfSet set q → rank_of_set set p < rank_of_set set q → key p ≡ key q → ⊥
-same_key set p q hp hq lt e =
-    let k = key-same set p q hp hq e in
-    let same : rank_of_set set p ≡ rank_of_set set q
-    = rank_of_set-place set p
-    ∙ ap (λ (xs : List ℕ). sum_below (block_size set) (number_of (block_bases set) xs) + number_of (bases_by set xs) (digits p)) k.0
-    ∙ ap (λ (xs : List ℕ). sum_below (block_size set) (block_of set q) + number_of (bases_by set (on_board q)) xs) k.1
-    ∙ sym (rank_of_set-place set q) in
-    omega arith
+pub rank_of_set-rises : (set : PieceSet) (p q : Setup) → IsPositionOfSet set p → IsPositionOfSet set q → Before p q → rank_of_set set p < rank_of_set set q
+unfolding Before
+rank_of_set-rises set p q hp hq h =
+    let upto = rank_of_set-upto set p q hp hq (Upto-from (key p) (key q) h) in
+    elim (cases_lt (rank_of_set set p) (rank_of_set set q)) [
+      | inl lt ↦ lt
+      | inr ge ↦ absurd (Precedes-irreflexive (key q)
+          (subst (λ (s : Setup). Precedes (key s) (key q)) (rank_of_set-same set p q hp hq (omega (arith, upto, ge))) h))
+    ]
 
 -- a lower rank stands before
 pub Before-from_rank : (set : PieceSet) (p q : Setup) → IsPositionOfSet set p → IsPositionOfSet set q → rank_of_set set p < rank_of_set set q → Before p q
 unfolding Before
-Before-from_rank set p q hp hq lt = elim (Precedes-total (key p) (key q)) [
+Before-from_rank set p q hp hq lt = elim (Precedes-or (key p) (key q)) [
   | inl h ↦ h
-  | inr o ↦ absurd (elim o [
-    | inl e ↦ same_key set p q hp hq lt e
-    | inr h ↦ (let up : rank_of_set set q < rank_of_set set p = rank_of_set-rises set q p hq hp h in omega arith)
-  ])
+  | inr u ↦ absurd (let up : rank_of_set set q ≤ rank_of_set set p = rank_of_set-upto set q p hq hp u in omega arith)
 ]
 
 -- ---- the numbering

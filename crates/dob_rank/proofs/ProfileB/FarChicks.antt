@@ -1,21 +1,16 @@
 -- Which boards a profile allows, by the forms of their chicks.
 use Rattle.dob_rank.proofs.Common.{◌%◌, ◌&&◌, ◌/◌, ◌^◌, ◌∙◌, ◌∷◌, ◌≡◌, ◌≤◌, Bool, List, [], ap, arith, inl, inr, refl, subst, suc, sym, true, zero, ℕ, cases_eq}
-use Rattle.dob_rank.proofs.Common.{ne_eqb, may_all_stand, Profile, A, B, base_of, board_of, cell_of, count, order, are_allowed, may_have, Chicks, Empty}
+use Rattle.dob_rank.proofs.Common.{ne_eqb, may_all_stand, Profile, B, base_of, board_of, cell_of, count, order, are_allowed, may_have, Chicks, Empty}
 use Rattle.dob_pieces.specs.Profiles.{may_stand}
 use Rattle.dob_rank.proofs.Boards.Settled.{AreLayers}
 
 -- what isn't a chick may stand anywhere
 others_stand : (profile : Profile) (square l form : ℕ) → l ≤ order Empty → (l ≡ order Chicks → ⊥) → may_stand profile square (cell_of l form) ≡ true
-others_stand A square l form h n = refl
-others_stand B square zero form h n = refl
-others_stand B square (suc zero) form h n = refl
 others_stand B square (suc (suc zero)) form h n = absurd (n refl)
-others_stand B square (suc (suc (suc zero))) zero h n = refl
 others_stand B square (suc (suc (suc zero))) (suc form) h n = refl
-others_stand B square (suc (suc (suc (suc zero)))) zero h n = refl
 others_stand B square (suc (suc (suc (suc zero)))) (suc form) h n = refl
-others_stand B square (suc (suc (suc (suc (suc zero))))) form h n = refl
 others_stand B square (suc (suc (suc (suc (suc (suc l)))))) form h n = absurd (omega arith)
+others_stand profile square l form h n = refl
 
 -- a board is allowed just where its chicks' forms are
 pub board_allowed : (profile : Profile) (numbers : ℕ → ℕ) (square : ℕ) (ls : List ℕ) → AreLayers ls

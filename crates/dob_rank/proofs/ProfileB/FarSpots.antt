@@ -26,19 +26,18 @@ hand_size_is chicks = refl
 pub next_above : (f : ℕ → ℕ) (low high number : ℕ) → low < high → high - low ≤ 1 → number < f high → number < f (low + 1)
 next_above f low high number apart close above = subst (λ (x : ℕ). number < f x) (let e : high ≡ low + 1 = omega (arith, apart, close) in e) above
 
+marks_next : (mark : ℕ → Bool) (n : ℕ) → marks_below mark (n + 1) ≡ marks_below mark n + one_if (mark n)
+marks_next mark n = ap (marks_below mark) (let e : n + 1 ≡ suc n = omega arith in e) ∙ marks_below_more mark n
+
 pub one_counted : (mark : ℕ → Bool) (n before : ℕ) → before ≡ marks_below mark n → mark n ≡ true → before + 1 ≡ marks_below mark (n + 1)
 one_counted mark n before is on =
-    let more = marks_below_more mark n in
     let one : one_if (mark n) ≡ 1 = ap one_if on in
-    let next : marks_below mark (suc n) ≡ marks_below mark (n + 1) = ap (marks_below mark) (let e : suc n ≡ n + 1 = omega arith in e) in
-    omega (arith, is, more, one, next)
+    omega (arith, is, one, marks_next mark n)
 
 pub none_counted : (mark : ℕ → Bool) (n before : ℕ) → before ≡ marks_below mark n → mark n ≡ false → before ≡ marks_below mark (n + 1)
 none_counted mark n before is off =
-    let more = marks_below_more mark n in
     let none : one_if (mark n) ≡ 0 = ap one_if off in
-    let next : marks_below mark (suc n) ≡ marks_below mark (n + 1) = ap (marks_below mark) (let e : suc n ≡ n + 1 = omega arith in e) in
-    omega (arith, is, more, none, next)
+    omega (arith, is, none, marks_next mark n)
 
 -- ---- the forms of a choice
 
@@ -98,10 +97,6 @@ in_run : (set : PieceSet) (block run c q d g f number : ℕ) → block < product
     * (4 ^ slice_index (digits_of (block_bases set) block) 0 * others_forms (digits_of (block_bases set) block))
     + (g * others_forms (digits_of (block_bases set) block) + f))
 in_run set block run c q d g f number within below p =
-    let ob : List ℕ = digits_of (block_bases set) block in
-    let i : ℕ = slice_index (digits_of (block_bases set) block) 0 in
-    let n : ℕ = others_squares (digits_of (block_bases set) block) in
-    let r : ℕ = others_forms (digits_of (block_bases set) block) in
     let some : 0 < others_forms (digits_of (block_bases set) block) = others_forms-some (digits_of (block_bases set) block) in
     let inside : g * others_forms (digits_of (block_bases set) block) + f
     < 4 ^ slice_index (digits_of (block_bases set) block) 0 * others_forms (digits_of (block_bases set) block)
@@ -286,25 +281,14 @@ pub record AreSmall (c q g n r a number : ℕ) : Type 0 where
   pub square : (c * n + q) * (a * r) ≤ 45 * 2025 * 256
   pub form : g * r + number % r < 256
 
-pub small_parts : (chicks lions m number' c q g r number : ℕ) → chicks ≤ 2 → AreChickParts chicks lions m number' c q g → m ≤ 2025 → 0 < r → r ≤ 16
-    → AreSmall c q g m r (4 ^ chicks) number
-small_parts chicks lions m number' c q g r number few p n_few some r_few =
+pub small_parts : (chicks lions m number' c q g r number a : ℕ) → a ≡ 4 ^ chicks → chicks ≤ 2 → AreChickParts chicks lions m number' c q g → m ≤ 2025 → 0 < r → r ≤ 16
+    → AreSmall c q g m r a number
+small_parts chicks lions m number' c q g r number a a_is few p n_few some r_few =
     let choices = square_small c q m (choose free_squares chicks) p.choice_below (choose_ten chicks few) p.squares_below n_few in
     let all = forms_small (4 ^ chicks) r (four_small chicks few) r_few in
-    record {
+    subst (λ (n : ℕ). AreSmall c q g m r n number) (sym a_is) (record {
       choices = choices;
       all_forms = all;
       square = place_small (c * m + q) (4 ^ chicks * r) choices all;
       form = form_small g (number % r) (4 ^ chicks) r p.forms_below (four_small chicks few) (mod_below number r some) r_few;
-    }
-
-pub in_all_forms : (a r p : ℕ) → p ≡ a → a * r ≤ 256 → p * r < 2 ^ 64
-in_all_forms a r p e h = (let all : p * r ≤ 256 = subst (λ (x : ℕ). x * r ≤ 256) (sym e) h in omega (arith, all))
-
-pub in_square : (square a r p : ℕ) → p ≡ a → square * (a * r) ≤ 45 * 2025 * 256 → square * (p * r) < 2 ^ 64
-in_square square a r p e h = (let all : square * (p * r) ≤ 45 * 2025 * 256 = subst (λ (x : ℕ). square * (x * r) ≤ 45 * 2025 * 256) (sym e) h in omega (arith, all))
-
-pub in_place : (square a r p form : ℕ) → p ≡ a → square * (a * r) ≤ 45 * 2025 * 256 → form < 256 → square * (p * r) + form < 2 ^ 64
-in_place square a r p form e h k =
-    let all : square * (p * r) ≤ 45 * 2025 * 256 = subst (λ (x : ℕ). square * (x * r) ≤ 45 * 2025 * 256) (sym e) h in
-    omega (arith, all, k)
+    })

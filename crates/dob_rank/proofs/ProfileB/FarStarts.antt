@@ -3,7 +3,7 @@ use Rattle.dob_rank.proofs.Common.{◌*◌, ◌+◌, ◌-◌, ◌<◌, ◌∙◌
 use Rattle.dob_rank.proofs.Common.{sum_same, family_of, is_present, marks_below, block_bases, digits_of, product, start_of, lion_pairs, others_forms}
 use Rattle.dob_rank.proofs.Common.{others_squares}
 use Rattle.dob_rank.proofs.Positions.Blocks.{few_in_block}
-use Rattle.dob_rank.proofs.InRuns.DigitParts.{AreFewOnBoard-digits}
+use Rattle.dob_rank.proofs.Positions.Blocks.{AreFewOnBoard-digits}
 use Rattle.dob_rank.proofs.Positions.BlockStarts.{bases_of, on_all, agrees, start_at, entry_is, start_is}
 use Rattle.dob_rank.proofs.ProfileB.FarTables.{lions_entry, before_lions}
 use Rattle.dob_rank.proofs.OfFamilies.Present.{all_present}
@@ -23,7 +23,6 @@ computed = refl
 
 size_is : (set : PieceSet) (block : ℕ) → block < product (block_bases set) → size_by set.chicks set.elephants set.giraffes block ≡ present_size (family_of set B) block
 size_is set block within =
-    let ob : List ℕ = digits_of (block_bases set) block in
     ap (λ (x : ℕ). product ((set.chicks - slice_index (digits_of (block_bases set) block) 0 + 1) ∷ (set.elephants - slice_index (digits_of (block_bases set) block) 1 + 1)
     ∷ (set.giraffes - slice_index (digits_of (block_bases set) block) 2 + 1) ∷ []) * x
     * (others_squares (digits_of (block_bases set) block) * others_forms (digits_of (block_bases set) block)))

@@ -1,25 +1,21 @@
 -- The position of a rank of profile B: its block, its spot there, and that it is the one of that rank.
 use Rattle.dob_rank.proofs.Common.{◌%◌, ◌*◌, ◌+◌, ◌-◌, ◌/◌, ◌<◌, ◌^◌, ◌∙◌, ◌≡◌, ◌≤◌, List, ap, arith, refl, slice_index, subst, sym, true, ℕ, mul-le-mul}
 use Rattle.dob_rank.proofs.Common.{mul-pos, mul_comm, div-add-mod', div_below, is_allowed, PieceSet, Family, Profile, A, B, Setup, HasRank, IsPositionOf}
-use Rattle.dob_rank.proofs.Common.{IsRanked, family_of, is_present, rank_of, size_of, marks_below, HasBlock, block_bases, digits_of, free_squares, nth}
-use Rattle.dob_rank.proofs.Common.{number_of, product, rank_of_set, size_of_set, start_of, IsPositionOfSet, IsPlaceFor, IsPresentIn, IsSpotFor, AreFewOnBoard}
-use Rattle.dob_rank.proofs.Common.{lion_pairs, local_bases, run_size, run_start, runs_in, forms_in, hand_size, lions_before, others_forms, others_squares}
-use Rattle.dob_rank.proofs.Positions.Blocks.{sum_below_more, choose-positive, room_left}
+use Rattle.dob_rank.proofs.Common.{IsRanked, family_of, is_present, rank_of, size_of, marks_below, HasBlock, block_bases, digits_of, nth, number_of, product}
+use Rattle.dob_rank.proofs.Common.{rank_of_set, size_of_set, start_of, IsPositionOfSet, IsPlaceFor, IsPresentIn, IsSpotFor, AreFewOnBoard, lion_pairs}
+use Rattle.dob_rank.proofs.Common.{local_bases, run_size, run_start, runs_in, forms_in, hand_size, lions_before, others_forms, others_squares, drop}
+use Rattle.dob_rank.proofs.Common.{square_bases}
+use Rattle.dob_rank.proofs.Positions.Blocks.{sum_below_more, hand_bases, positive_product, squares_positive}
 use Rattle.dob_rank.proofs.Marked.Words.{marks_below-le}
 use Rattle.dob_rank.proofs.InRuns.RunMarks.{start_small}
 use Rattle.dob_rank.proofs.Positions.Numbering.{rank_of_set-block, nth-rank_of_set}
 use Rattle.dob_rank.proofs.Positions.Found.{made_in_block}
-use Rattle.dob_rank.proofs.InRuns.RunPlaces.{run_start-is, hand_bases, in_set}
+use Rattle.dob_rank.proofs.InRuns.RunPlaces.{run_start-is, in_set}
 use Rattle.dob_rank.proofs.InRuns.RunSums.{runs_by_hand}
 use Rattle.dob_rank.proofs.OfFamilies.Present.{size_of-whole, rank_of-whole, HasRank-rank_of}
 use Rattle.dob_rank.proofs.OfFamilies.FamilyOrder.{ranked_at}
 use Rattle.dob_rank.proofs.OfFamilies.FamilyRuns.{present_before_run, block_present}
 use Rattle.dob_rank.proofs.ProfileB.FarSpots.{in_choice, hand_size_is}
-
--- ---- the block
-
-pub reached : (start rank number : ℕ) → start ≤ rank → number ≡ rank - start → start + number ≡ rank
-reached start rank number h e = omega (arith, h, e)
 
 -- ---- the spot in it
 
@@ -180,16 +176,7 @@ pub product_small : (a b x y : ℕ) → a ≡ x → b ≡ y → x ≤ 2025 → y
 product_small a b x y e f h k = subst (λ (n : ℕ). n ≤ 2025 * 16) (sym (product_is a b x y e f)) (mul-le-mul h k)
 
 pub squares_some : (ob : List ℕ) → AreFewOnBoard ob → 0 < others_squares ob
-squares_some ob few =
-    let room = room_left (slice_index ob 0) (slice_index ob 1) few.chicks few.elephants in
-    mul-pos (choose-positive (free_squares - slice_index ob 0) (slice_index ob 1) (left_two (slice_index ob 0) few.chicks) few.elephants)
-    (mul-pos (choose-positive (free_squares - slice_index ob 0 - slice_index ob 1) (slice_index ob 2) room.1 few.giraffes) one_some)
-  where
-    left_two : (i : ℕ) → i ≤ 2 → 2 ≤ free_squares - i
-    left_two i h = omega (arith, h)
-
-    one_some : 0 < 1
-    one_some = omega arith
+squares_some ob few = positive_product (drop 1 (square_bases ob)) (squares_positive ob few).1
 
 size_small : (set : PieceSet) → size_of (family_of set B) < 2 ^ 42
 unfolding size_of size_of_set

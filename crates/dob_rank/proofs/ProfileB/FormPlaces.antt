@@ -1,13 +1,13 @@
 -- How many allowed numbers of forms stand before that of a board's pieces.
 use Rattle.dob_rank.proofs.Common.{◌&&◌, ◌*◌, ◌+◌, ◌-◌, ◌<◌, ◌^◌, ◌∙◌, ◌∷◌, ◌≡◌, Bool, List, None, [], ap, arith, bit_and, get_or, inl, inr, length, map, refl}
-use Rattle.dob_rank.proofs.Common.{subst, suc, sym, true, ℕ, mul_comm, and_parts, cases_eq, eq-eqb, ne_eqb, Cell, sum_blocks, sum_same, sum_times, marks_below}
-use Rattle.dob_rank.proofs.Common.{one_if, layer_mask, base_of, count, forms_number, layer, sum_below, form, allowed_number, are_allowed, weight}
+use Rattle.dob_rank.proofs.Common.{subst, suc, sym, true, ℕ, and_parts, cases_eq, eq-eqb, ne_eqb, Cell, sum_blocks, sum_same, marks_below, one_if, layer_mask}
+use Rattle.dob_rank.proofs.Common.{base_of, count, forms_number, layer, sum_below, form, allowed_number, are_allowed, weight}
 use Rattle.dob_rank.proofs.Marked.Words.{marks_below_none}
 use Rattle.dob_rank.proofs.InRuns.RunMarks.{marks_agree}
-use Rattle.dob_rank.proofs.Boards.Choices.{count_same, count_other}
+use Rattle.dob_rank.proofs.Boards.Choices.{count_other, count_rest, no_first}
 use Rattle.dob_rank.proofs.Boards.FormDigits.{form-below, forms_number-below, forms_number_same, forms_number_other}
 use Rattle.dob_rank.proofs.Boards.Planes.{lowest, first_square, second_square, first_found, second_found}
-use Rattle.dob_rank.proofs.ProfileB.Weights.{one_more, one_if-and, allowed_other, forms_weigh, weight_same, weight_other}
+use Rattle.dob_rank.proofs.ProfileB.Weights.{one_more, allowed_other, forms_weigh, weight_other, lower_forms}
 
 -- ---- the allowed numbers before one
 
@@ -19,15 +19,7 @@ unfolding marks_below
 forms_before_one ok base t q r s ls h lq lr on =
     sum_blocks (λ (n : ℕ). one_if (are_allowed ok base t n s (t ∷ ls))) (base ^ count t ls) q r
     ∙ ap (λ (x : ℕ). x + sum_below (λ k. one_if (are_allowed ok base t (q * base ^ count t ls + k) s (t ∷ ls))) r)
-    (sum_same (λ p. sum_below (λ k. one_if (are_allowed ok base t (p * base ^ count t ls + k) s (t ∷ ls))) (base ^ count t ls))
-    (λ p. sum_below (λ (k : ℕ). one_if (are_allowed ok base t k (suc s) ls)) (base ^ count t ls) * one_if (ok s p)) q
-    (λ p lp. sum_same (λ k. one_if (are_allowed ok base t (p * base ^ count t ls + k) s (t ∷ ls)))
-    (λ k. one_if (ok s p) * one_if (are_allowed ok base t k (suc s) ls)) (base ^ count t ls)
-    (λ k lk. ap one_if (one_more ok base t p k s ls h (omega (arith, lp, lq)) lk) ∙ one_if-and (ok s p) (are_allowed ok base t k (suc s) ls))
-    ∙ sum_times (one_if (ok s p)) (λ k. one_if (are_allowed ok base t k (suc s) ls)) (base ^ count t ls)
-    ∙ mul_comm (one_if (ok s p)) (sum_below (λ (k : ℕ). one_if (are_allowed ok base t k (suc s) ls)) (base ^ count t ls)))
-    ∙ sum_times (sum_below (λ (k : ℕ). one_if (are_allowed ok base t k (suc s) ls)) (base ^ count t ls)) (λ p. one_if (ok s p)) q
-    ∙ mul_comm (sum_below (λ (k : ℕ). one_if (are_allowed ok base t k (suc s) ls)) (base ^ count t ls)) (sum_below (λ p. one_if (ok s p)) q)
+    (lower_forms ok base t q s ls h (omega (arith, lq))
     ∙ ap (λ (x : ℕ). sum_below (λ p. one_if (ok s p)) q * x) (forms_weigh ok base t (suc s) ls h))
     ∙ ap (λ (x : ℕ). sum_below (λ p. one_if (ok s p)) q * weight (λ square. sum_below (λ (k : ℕ). one_if (ok square k)) base) t (suc s) ls + x)
     (sum_same (λ k. one_if (are_allowed ok base t (q * base ^ count t ls + k) s (t ∷ ls))) (λ k. one_if (are_allowed ok base t k (suc s) ls)) r
@@ -78,73 +70,49 @@ allowed_before ok t s (cell ∷ cells) some all = elim (cases_eq (layer cell) t)
 
 weight_none : (w : ℕ → ℕ) (t s : ℕ) (ls : List ℕ) → count t ls ≡ 0 → weight w t s ls ≡ 1
 weight_none w t s [] none = refl
-weight_none w t s (l ∷ ls) none = elim (cases_eq l t) [
-  | inl e ↦ absurd (let one : count t (l ∷ ls) ≡ suc (count t ls) = ap (λ (x : ℕ). count t (x ∷ ls)) e ∙ count_same t ls in omega arith)
-  | inr n ↦ weight_other w t s l ls n ∙ weight_none w t (suc s) ls (sym (count_other t l ls n) ∙ none)
-]
+weight_none w t s (l ∷ ls) none = (let rest = no_first t l ls none in weight_other w t s l ls rest.0 ∙ weight_none w t (suc s) ls rest.1)
+
+next_square : (s k : ℕ) → suc s + k ≡ s + suc k
+next_square s k = omega arith
+
+at_start : (s : ℕ) → s + 0 ≡ s
+at_start s = omega arith
+
+at_zero : (k : ℕ) → 0 + k ≡ k
+at_zero k = omega arith
 
 weight_one : (w : ℕ → ℕ) (t s : ℕ) (ls : List ℕ) → count t ls ≡ 1 → weight w t s ls ≡ w (s + first_square t ls)
 weight_one w t s [] one = absurd (omega arith)
 weight_one w t s (l ∷ ls) one = elim (cases_eq l t) [
-  | inl e ↦
-      let more : count t (l ∷ ls) ≡ suc (count t ls) = ap (λ (x : ℕ). count t (x ∷ ls)) e ∙ count_same t ls in
-      ap (λ (x : ℕ). weight w t s (x ∷ ls)) e ∙ weight_same w t s ls ∙ ap (λ (x : ℕ). w s * x) (weight_none w t (suc s) ls (omega arith))
-      ∙ times_one (w s) ∙ ap w (let z : s ≡ s + 0 = omega arith in z) ∙ ap (λ (x : ℕ). w (s + x)) (sym (first_at e))
-  | inr n ↦ weight_other w t s l ls n ∙ weight_one w t (suc s) ls (sym (count_other t l ls n) ∙ one)
-      ∙ ap w (let z : suc s + first_square t ls ≡ s + suc (first_square t ls) = omega arith in z) ∙ ap (λ (x : ℕ). w (s + x)) (sym (first_after n))
+  | inl e ↦ rw (eq-eqb l t e, weight_none w t (suc s) ls (count_rest t l 0 ls e one), at_start s) (omega arith)
+  | inr n ↦ rw (weight_other w t s l ls n, ne_eqb l t n, ← next_square s (first_square t ls)) (weight_one w t (suc s) ls (sym (count_other t l ls n) ∙ one))
 ]
-  where
-    times_one : (n : ℕ) → n * 1 ≡ n
-    times_one n = omega arith
-
-    first_at : l ≡ t → first_square t (l ∷ ls) ≡ 0
-    first_at e = rw (eq-eqb l t e) refl
-
-    first_after : (l ≡ t → ⊥) → first_square t (l ∷ ls) ≡ suc (first_square t ls)
-    first_after n = rw (ne_eqb l t n) refl
 
 pub no_number : (ok : ℕ → ℕ → Bool) (base t s : ℕ) (cells : List Cell) → count t (map layer cells) ≡ 0 → allowed_number ok base t s cells ≡ 0
 no_number ok base t s [] none = refl
-no_number ok base t s (cell ∷ cells) none = elim (cases_eq (layer cell) t) [
-  | inl e ↦ absurd (let one : count t (layer cell ∷ map layer cells) ≡ suc (count t (map layer cells))
-      = ap (λ (x : ℕ). count t (x ∷ map layer cells)) e ∙ count_same t (map layer cells) in omega arith)
-  | inr n ↦ allowed_other_cell ok base t s cell cells n ∙ no_number ok base t (suc s) cells (sym (count_other t (layer cell) (map layer cells) n) ∙ none)
-]
+no_number ok base t s (cell ∷ cells) none =
+    let rest = no_first t (layer cell) (map layer cells) none in allowed_other_cell ok base t s cell cells rest.0 ∙ no_number ok base t (suc s) cells rest.1
 
 -- how many allowed forms are before that of the piece on a square
 abbrev pub form_place : (ℕ → ℕ → Bool) → ℕ → List Cell → ℕ → ℕ
 form_place ok s cells k = marks_below (ok (s + k)) (form (get_or cells k None))
-
-further : (ok : ℕ → ℕ → Bool) (s k : ℕ) (cell : Cell) (cells : List Cell) → form_place ok (suc s) cells k ≡ form_place ok s (cell ∷ cells) (suc k)
-further ok s k cell cells = ap (λ (x : ℕ). marks_below (ok x) (form (get_or cells k None))) (let z : suc s + k ≡ s + suc k = omega arith in z)
 
 pub number_of_one : (ok : ℕ → ℕ → Bool) (base t s : ℕ) (cells : List Cell) → count t (map layer cells) ≡ 1
     → allowed_number ok base t s cells ≡ form_place ok s cells (first_square t (map layer cells))
 number_of_one ok base t s [] one = absurd (omega arith)
 number_of_one ok base t s (cell ∷ cells) one = elim (cases_eq (layer cell) t) [
   | inl e ↦
-      let more : count t (layer cell ∷ map layer cells) ≡ suc (count t (map layer cells))
-      = ap (λ (x : ℕ). count t (x ∷ map layer cells)) e ∙ count_same t (map layer cells) in
-      let none : count t (map layer cells) ≡ 0 = omega arith in
-      allowed_same_cell ok base t s cell cells e
-      ∙ ap (λ (x : ℕ). marks_below (ok s) (form cell) * x + allowed_number ok base t (suc s) cells)
-      (weight_none (λ square. marks_below (ok square) base) t (suc s) (map layer cells) none)
-      ∙ ap (λ (x : ℕ). marks_below (ok s) (form cell) * 1 + x) (no_number ok base t (suc s) cells none)
-      ∙ alone (marks_below (ok s) (form cell)) ∙ ap (λ (x : ℕ). marks_below (ok x) (form cell)) (let z : s ≡ s + 0 = omega arith in z)
-      ∙ ap (form_place ok s (cell ∷ cells)) (sym (first_at e))
-  | inr n ↦ allowed_other_cell ok base t s cell cells n
-      ∙ number_of_one ok base t (suc s) cells (sym (count_other t (layer cell) (map layer cells) n) ∙ one)
-      ∙ further ok s (first_square t (map layer cells)) cell cells ∙ ap (form_place ok s (cell ∷ cells)) (sym (first_after n))
+      let none = count_rest t (layer cell) 0 (map layer cells) e one in
+      rw (
+        eq-eqb (layer cell) t e,
+        weight_none (λ square. marks_below (ok square) base) t (suc s) (map layer cells) none,
+        no_number ok base t (suc s) cells none,
+        at_start s,
+      ) (omega arith)
+  | inr n ↦
+      rw (allowed_other_cell ok base t s cell cells n, ne_eqb (layer cell) t n, ← next_square s (first_square t (map layer cells)))
+      (number_of_one ok base t (suc s) cells (sym (count_other t (layer cell) (map layer cells) n) ∙ one))
 ]
-  where
-    alone : (n : ℕ) → n * 1 + 0 ≡ n
-    alone n = omega arith
-
-    first_at : layer cell ≡ t → first_square t (layer cell ∷ map layer cells) ≡ 0
-    first_at e = rw (eq-eqb (layer cell) t e) refl
-
-    first_after : (layer cell ≡ t → ⊥) → first_square t (layer cell ∷ map layer cells) ≡ suc (first_square t (map layer cells))
-    first_after n = rw (ne_eqb (layer cell) t n) refl
 
 pub number_of_two : (ok : ℕ → ℕ → Bool) (base t s : ℕ) (cells : List Cell) → count t (map layer cells) ≡ 2
     → allowed_number ok base t s cells
@@ -153,64 +121,30 @@ pub number_of_two : (ok : ℕ → ℕ → Bool) (base t s : ℕ) (cells : List C
 number_of_two ok base t s [] two = absurd (omega arith)
 number_of_two ok base t s (cell ∷ cells) two = elim (cases_eq (layer cell) t) [
   | inl e ↦
-      let more : count t (layer cell ∷ map layer cells) ≡ suc (count t (map layer cells))
-      = ap (λ (x : ℕ). count t (x ∷ map layer cells)) e ∙ count_same t (map layer cells) in
-      let one : count t (map layer cells) ≡ 1 = omega arith in
-      let k : ℕ = first_square t (map layer cells) in
-      allowed_same_cell ok base t s cell cells e
-      ∙ ap (λ (x : ℕ). marks_below (ok s) (form cell) * x + allowed_number ok base t (suc s) cells)
-      (weight_one (λ square. marks_below (ok square) base) t (suc s) (map layer cells) one)
-      ∙ ap (λ (x : ℕ). marks_below (ok s) (form cell) * marks_below (ok (suc s + first_square t (map layer cells))) base + x)
-      (number_of_one ok base t (suc s) cells one ∙ further ok s (first_square t (map layer cells)) cell cells)
-      ∙ ap (λ (x : ℕ). marks_below (ok s) (form cell) * marks_below (ok x) base + form_place ok s (cell ∷ cells) (suc (first_square t (map layer cells))))
-      (let z : suc s + first_square t (map layer cells) ≡ s + suc (first_square t (map layer cells)) = omega arith in z)
-      ∙ ap (λ (x : ℕ). marks_below (ok x) (form cell) * marks_below (ok (s + suc (first_square t (map layer cells)))) base
-      + form_place ok s (cell ∷ cells) (suc (first_square t (map layer cells)))) (let z : s ≡ s + 0 = omega arith in z)
-      ∙ ap (λ (x : ℕ). form_place ok s (cell ∷ cells) x * marks_below (ok (s + suc (first_square t (map layer cells)))) base
-      + form_place ok s (cell ∷ cells) (suc (first_square t (map layer cells)))) (sym (first_at e))
-      ∙ ap (λ (x : ℕ). form_place ok s (cell ∷ cells) (first_square t (layer cell ∷ map layer cells)) * marks_below (ok (s + x)) base
-      + form_place ok s (cell ∷ cells) x) (sym (second_at e))
-  | inr n ↦ allowed_other_cell ok base t s cell cells n
-      ∙ number_of_two ok base t (suc s) cells (sym (count_other t (layer cell) (map layer cells) n) ∙ two)
-      ∙ ap (λ (x : ℕ). x * marks_below (ok (suc s + second_square t (map layer cells))) base + form_place ok (suc s) cells (second_square t (map layer cells)))
-      (further ok s (first_square t (map layer cells)) cell cells)
-      ∙ ap (λ (x : ℕ). form_place ok s (cell ∷ cells) (suc (first_square t (map layer cells))) * marks_below (ok x) base
-      + form_place ok (suc s) cells (second_square t (map layer cells)))
-      (let z : suc s + second_square t (map layer cells) ≡ s + suc (second_square t (map layer cells)) = omega arith in z)
-      ∙ ap (λ (x : ℕ). form_place ok s (cell ∷ cells) (suc (first_square t (map layer cells)))
-      * marks_below (ok (s + suc (second_square t (map layer cells)))) base + x)
-      (further ok s (second_square t (map layer cells)) cell cells)
-      ∙ ap (λ (x : ℕ). form_place ok s (cell ∷ cells) x * marks_below (ok (s + suc (second_square t (map layer cells)))) base
-      + form_place ok s (cell ∷ cells) (suc (second_square t (map layer cells)))) (sym (first_after n))
-      ∙ ap (λ (x : ℕ). form_place ok s (cell ∷ cells) (first_square t (layer cell ∷ map layer cells)) * marks_below (ok (s + x)) base
-      + form_place ok s (cell ∷ cells) x) (sym (second_after n))
+      let one = count_rest t (layer cell) 1 (map layer cells) e two in
+      rw (
+        eq-eqb (layer cell) t e,
+        weight_one (λ square. marks_below (ok square) base) t (suc s) (map layer cells) one,
+        number_of_one ok base t (suc s) cells one,
+        next_square s (first_square t (map layer cells)),
+        at_start s,
+      ) refl
+  | inr n ↦
+      rw (
+        allowed_other_cell ok base t s cell cells n,
+        ne_eqb (layer cell) t n,
+        ← next_square s (first_square t (map layer cells)),
+        ← next_square s (second_square t (map layer cells)),
+      )
+      (number_of_two ok base t (suc s) cells (sym (count_other t (layer cell) (map layer cells) n) ∙ two))
 ]
-  where
-    first_at : layer cell ≡ t → first_square t (layer cell ∷ map layer cells) ≡ 0
-    first_at e = rw (eq-eqb (layer cell) t e) refl
-
-    second_at : layer cell ≡ t → second_square t (layer cell ∷ map layer cells) ≡ suc (first_square t (map layer cells))
-    second_at e = rw (eq-eqb (layer cell) t e) refl
-
-    first_after : (layer cell ≡ t → ⊥) → first_square t (layer cell ∷ map layer cells) ≡ suc (first_square t (map layer cells))
-    first_after n = rw (ne_eqb (layer cell) t n) refl
-
-    second_after : (layer cell ≡ t → ⊥) → second_square t (layer cell ∷ map layer cells) ≡ suc (second_square t (map layer cells))
-    second_after n = rw (ne_eqb (layer cell) t n) refl
 
 -- ---- the same by the squares that a mask has
-
-place_at : (ok : ℕ → ℕ → Bool) (cells : List Cell) (found square place : ℕ) → found ≡ square → place ≡ marks_below (ok found) (form (get_or cells found None))
-    → place ≡ form_place ok 0 cells square
-place_at ok cells found square place e is =
-    is ∙ ap (λ (k : ℕ). marks_below (ok k) (form (get_or cells k None))) e
-    ∙ ap (λ (k : ℕ). marks_below (ok k) (form (get_or cells square None))) (let z : square ≡ 0 + square = omega arith in z)
 
 pub one_found : (ok : ℕ → ℕ → Bool) (base t : ℕ) (cells : List Cell) (mask place : ℕ) → length cells ≡ 12 → mask ≡ layer_mask t (map layer cells)
     → count t (map layer cells) ≡ 1 → place ≡ marks_below (ok (lowest mask)) (form (get_or cells (lowest mask) None)) → place ≡ allowed_number ok base t 0 cells
 one_found ok base t cells mask place long is one found =
-    place_at ok cells (lowest mask) (first_square t (map layer cells)) place (first_found t cells mask long is (omega (arith, one))) found
-    ∙ sym (number_of_one ok base t 0 cells one)
+    rw (found, first_found t cells mask long is (omega (arith, one))) (sym (rw (at_zero (first_square t (map layer cells))) at (number_of_one ok base t 0 cells one)))
 
 pub two_found : (ok : ℕ → ℕ → Bool) (base t : ℕ) (cells : List Cell) (mask less first forms second : ℕ) → length cells ≡ 12
     → mask ≡ layer_mask t (map layer cells) → less ≡ mask - 1 → count t (map layer cells) ≡ 2
@@ -219,12 +153,5 @@ pub two_found : (ok : ℕ → ℕ → Bool) (base t : ℕ) (cells : List Cell) (
     → second ≡ marks_below (ok (lowest (bit_and mask less))) (form (get_or cells (lowest (bit_and mask less)) None))
     → first * forms + second ≡ allowed_number ok base t 0 cells
 two_found ok base t cells mask less first forms second long is less_is two first_is forms_is second_is =
-    let next = second_found t cells mask less long is less_is two in
-    let w : forms ≡ marks_below (ok (0 + second_square t (map layer cells))) base =
-    forms_is ∙ ap (λ (k : ℕ). marks_below (ok k) base) (next ∙ (let z : second_square t (map layer cells) ≡ 0 + second_square t (map layer cells) = omega arith in z)) in
-    let one = place_at ok cells (lowest mask) (first_square t (map layer cells)) first (first_found t cells mask long is (omega (arith, two))) first_is in
-    let other = place_at ok cells (lowest (bit_and mask less)) (second_square t (map layer cells)) second next second_is in
-    ap (λ (x : ℕ). x * forms + second) one
-    ∙ ap (λ (x : ℕ). form_place ok 0 cells (first_square t (map layer cells)) * x + second) w
-    ∙ ap (λ (x : ℕ). form_place ok 0 cells (first_square t (map layer cells)) * marks_below (ok (0 + second_square t (map layer cells))) base + x) other
-    ∙ sym (number_of_two ok base t 0 cells two)
+    rw (first_is, forms_is, second_is, first_found t cells mask long is (omega (arith, two)), second_found t cells mask less long is less_is two)
+    (sym (rw (at_zero (first_square t (map layer cells)), at_zero (second_square t (map layer cells))) at (number_of_two ok base t 0 cells two)))

@@ -4,19 +4,13 @@ use Rattle.dob_rank.proofs.Common.{sym, true, zero, ℕ, pow-succ', pow-zero, ca
 use Rattle.dob_rank.proofs.Common.{settle, first_place, higher_of, lower_of, past, second_place, lion_pairs, are_allowed, forms_stand, lions_in, may_have}
 use Rattle.dob_rank.proofs.Common.{Chicks, Empty, EnemyLion, OwnLion}
 use Rattle.std.proofs.Math.ListN.{set}
-use Rattle.dob_rank.proofs.Boards.Choices.{count_same, count_other}
+use Rattle.dob_rank.proofs.Boards.Choices.{count_same, count_other, no_first, count_at}
 use Rattle.dob_rank.proofs.ProfileB.Weights.{allowed_other, allowed_same}
 use Rattle.dob_rank.proofs.Boards.EmptySquares.{empty_place, empty_place-below, kept, settle_none, settle_one, settle_two, choose_one}
 use Rattle.dob_rank.proofs.Boards.Placed.{choice_of, lions_stand}
 use Rattle.dob_rank.proofs.ProfileB.LionBoards.{lion_board, no_chicks}
 
 -- ---- pieces of a layer on written-out squares
-
-no_first : (t l : ℕ) (ls : List ℕ) → count t (l ∷ ls) ≡ 0 → (l ≡ t → ⊥) × (count t ls ≡ 0)
-no_first t l ls h = elim (cases_eq l t) [
-  | inl e ↦ absurd (let one : count t (l ∷ ls) ≡ suc (count t ls) = ap (λ (x : ℕ). count t (x ∷ ls)) e ∙ count_same t ls in omega arith)
-  | inr n ↦ (n, sym (count_other t l ls n) ∙ h)
-]
 
 pub allowed_none : (ok : ℕ → ℕ → Bool) (base t n s : ℕ) (ls : List ℕ) → count t ls ≡ 0 → are_allowed ok base t n s ls ≡ true
 allowed_none ok base t n s [] none = refl
@@ -34,8 +28,11 @@ one_set t (suc k) (l ∷ ls) none low =
 next_square : (s k : ℕ) → suc s + k ≡ s + suc k
 next_square s k = omega arith
 
-at_start : (s : ℕ) → s ≡ s + 0
+at_start : (s : ℕ) → s + 0 ≡ s
 at_start s = omega arith
+
+zero_more : (x : ℕ) → 0 + x ≡ x
+zero_more x = omega arith
 
 always : (b : Bool) → b && true ≡ b
 always true = refl
@@ -60,9 +57,7 @@ allowed_one ok base t n s k [] none low = absurd (omega (arith, low))
 allowed_one ok base t n s zero (l ∷ ls) none low =
     let rest = no_first t l ls none in
     allowed_same ok base t n s ls
-    ∙ ap (λ (x : ℕ). ok s x && are_allowed ok base t n (suc s) ls) (lowest_digit base n (count t ls) rest.1)
-    ∙ ap (λ (b : Bool). ok s (n % base) && b) (allowed_none ok base t n (suc s) ls rest.1)
-    ∙ always (ok s (n % base)) ∙ ap (λ (x : ℕ). ok x (n % base)) (at_start s)
+    ∙ rw (lowest_digit base n (count t ls) rest.1, allowed_none ok base t n (suc s) ls rest.1, at_start s) (always (ok s (n % base)))
 allowed_one ok base t n s (suc k) (l ∷ ls) none low =
     let rest = no_first t l ls none in
     allowed_other ok base t n s l (set ls k t) rest.0 ∙ allowed_one ok base t n (suc s) k ls rest.1 (omega (arith, low))
@@ -76,10 +71,7 @@ allowed_two ok base t n s zero (suc b) (l ∷ ls) none less low =
     let rest = no_first t l ls none in
     let under : b < length ls = omega (arith, low) in
     allowed_same ok base t n s (set ls b t)
-    ∙ ap (λ (x : ℕ). ok s x && are_allowed ok base t n (suc s) (set ls b t)) (next_digit base n (count t (set ls b t)) (one_set t b ls rest.1 under))
-    ∙ ap (λ (x : Bool). ok s (n / base % base) && x) (allowed_one ok base t n (suc s) b ls rest.1 under)
-    ∙ ap (λ (x : ℕ). ok x (n / base % base) && ok (suc s + b) (n % base)) (at_start s)
-    ∙ ap (λ (x : ℕ). ok (s + 0) (n / base % base) && ok x (n % base)) (next_square s b)
+    ∙ rw (next_digit base n (count t (set ls b t)) (one_set t b ls rest.1 under), allowed_one ok base t n (suc s) b ls rest.1 under, next_square s b, at_start s) refl
 allowed_two ok base t n s (suc a) (suc b) (l ∷ ls) none less low =
     let rest = no_first t l ls none in
     allowed_other ok base t n s l (set (set ls b t) a t) rest.0
@@ -116,16 +108,13 @@ lions_left lions chicks c low few below =
       giraffe_squares = omega arith;
     }) in
     subst (IsLeft lions) (sym (ap (λ (m : ℕ). settle (order EnemyLion) 1 (m % enemy_squares) (settle (order OwnLion) 1 (m / enemy_squares) empty_layers)) same))
-    (record { long = stand.long; place_is = stand.place_is })
+    (record { long = stand.stage.long; place_is = stand.place_is })
 
 empty_rises : (a b : ℕ) (ls : List ℕ) → a < b → b < count (order Empty) ls → empty_place ls a < empty_place ls b
 empty_rises a b [] less low = absurd (omega (arith, low))
 empty_rises a b (l ∷ ls) less low = elim (cases_eq l (order Empty)) [
-  | inl e ↦ subst (λ (x : ℕ). empty_place (x ∷ ls) a < empty_place (x ∷ ls) b) (sym e)
-      (of_empty a b less (subst (λ (m : ℕ). b < m) (ap (λ (x : ℕ). count (order Empty) (x ∷ ls)) e ∙ count_same (order Empty) ls) low)
-      (λ i j less' low'. empty_rises i j ls less' low'))
-  | inr ne ↦ (let rest = empty_rises a b ls less (subst (λ (m : ℕ). b < m) (count_other (order Empty) l ls ne) low) in
-      let one = kept l ls a ne in let two = kept l ls b ne in omega (arith, rest, one, two))
+  | inl e ↦ rw e (of_empty a b less (rw (count_at (order Empty) l ls e) at low) (λ i j less' low'. empty_rises i j ls less' low'))
+  | inr ne ↦ (let rest = empty_rises a b ls less (rw (count_other (order Empty) l ls ne) at low) in omega (arith, rest, kept l ls a ne, kept l ls b ne))
 ]
   where
     of_empty : (a b : ℕ) → a < b → b < suc (count (order Empty) ls) → ((i j : ℕ) → i < j → j < count (order Empty) ls → empty_place ls i < empty_place ls j)
@@ -134,51 +123,27 @@ empty_rises a b (l ∷ ls) less low = elim (cases_eq l (order Empty)) [
     of_empty zero (suc b) less low again = omega arith
     of_empty (suc a) (suc b) less low again = (let rest = again a b (omega (arith, less)) (omega (arith, low)) in omega (arith, rest))
 
--- what the code finds of a choice
-pub record AreChickSquares (lions chicks c first second : ℕ) : Type 0 where
-  pub first_below : 0 < chicks → first < 12
-  pub second_below : 1 < chicks → second < 12
-  pub forms : (n : ℕ) → are_allowed (may_have B) 4 (order Chicks) n 0 (settle (order Chicks) chicks c (lions_in lions)) ≡ forms_stand chicks first second n
-
+-- the forms that chicks on the squares of a choice may have
 pub chick_squares_are : (lions chicks c first second : ℕ) → lions < lion_pairs → chicks ≤ 2 → c < choose free_squares chicks
     → first ≡ past (lions / enemy_squares) (past (lions % enemy_squares) (first_place free_squares chicks c))
     → second ≡ past (lions / enemy_squares) (past (lions % enemy_squares) (second_place free_squares chicks c))
-    → AreChickSquares lions chicks c first second
-chick_squares_are lions zero c first second low few below a b = record {
-  first_below = λ h. absurd (not_one h);
-  second_below = λ h. absurd (none h);
-  forms = λ n. ap (are_allowed (may_have B) 4 (order Chicks) n 0) (settle_none (order Chicks) c (lions_in lions))
-      ∙ allowed_none (may_have B) 4 (order Chicks) n 0 (lions_in lions) (no_chicks lions);
-}
-  where
-    not_one : 0 < 0 → ⊥
-    not_one h = omega (arith, h)
-
-    none : 1 < 0 → ⊥
-    none h = omega (arith, h)
-chick_squares_are lions (suc zero) c first second low few below a b =
+    → (n : ℕ) → are_allowed (may_have B) 4 (order Chicks) n 0 (settle (order Chicks) chicks c (lions_in lions)) ≡ forms_stand chicks first second n
+chick_squares_are lions zero c first second low few below a b n =
+    ap (are_allowed (may_have B) 4 (order Chicks) n 0) (settle_none (order Chicks) c (lions_in lions))
+    ∙ allowed_none (may_have B) 4 (order Chicks) n 0 (lions_in lions) (no_chicks lions)
+chick_squares_are lions (suc zero) c first second low few below a b n =
     let left = lions_left lions 1 c low few below in
     let room : c < free_squares = subst (λ (x : ℕ). c < x) (choose_one free_squares) below in
-    let here : c < count (order Empty) (lions_in lions) = subst (λ (x : ℕ). c < x) (sym (lion_board lions).empty) room in
+    let here : c < count (order Empty) (lions_in lions) = subst (λ (x : ℕ). c < x) (sym (lion_board lions).empty_is) room in
     let is : empty_place (lions_in lions) c ≡ first = left.place_is c room ∙ sym a in
     let inside : first < length (lions_in lions) = subst (λ (x : ℕ). x < length (lions_in lions)) is (empty_place-below (lions_in lions) c here) in
-    record {
-      first_below = λ h. subst (λ (x : ℕ). first < x) left.long inside;
-      second_below = λ h. absurd (not_two h);
-      forms = λ n. ap (are_allowed (may_have B) 4 (order Chicks) n 0)
-          (settle_one (order Chicks) c (lions_in lions) here ∙ ap (λ (x : ℕ). set (lions_in lions) x (order Chicks)) is)
-          ∙ allowed_one (may_have B) 4 (order Chicks) n 0 first (lions_in lions) (no_chicks lions) inside
-          ∙ ap (λ (x : ℕ). may_have B x (n % 4)) (zero_more first);
-    }
-  where
-    not_two : 1 < 1 → ⊥
-    not_two h = omega (arith, h)
-
-    zero_more : (x : ℕ) → 0 + x ≡ x
-    zero_more x = omega arith
-chick_squares_are lions (suc (suc zero)) c first second low few below a b =
+    ap (are_allowed (may_have B) 4 (order Chicks) n 0)
+    (settle_one (order Chicks) c (lions_in lions) here ∙ ap (λ (x : ℕ). set (lions_in lions) x (order Chicks)) is)
+    ∙ allowed_one (may_have B) 4 (order Chicks) n 0 first (lions_in lions) (no_chicks lions) inside
+    ∙ ap (λ (x : ℕ). may_have B x (n % 4)) (zero_more first)
+chick_squares_are lions (suc (suc zero)) c first second low few below a b n =
     let left = lions_left lions 2 c low few below in
-    let empty = (lion_board lions).empty in
+    let empty = (lion_board lions).empty_is in
     let two = choice_of free_squares c below in
     let lower_room : lower_of free_squares c < free_squares = between (lower_of free_squares c) (higher_of free_squares c) free_squares two.rising two.below in
     let lower_is : empty_place (lions_in lions) (lower_of free_squares c) ≡ first = left.place_is (lower_of free_squares c) lower_room ∙ sym a in
@@ -193,22 +158,14 @@ chick_squares_are lions (suc (suc zero)) c first second low few below a b =
     ∙ ap (λ (m : ℕ). set (set (lions_in lions) (empty_place (lions_in lions) (higher_of m c)) (order Chicks)) (empty_place (lions_in lions) (lower_of m c)) (order Chicks)) empty
     ∙ ap (λ (x : ℕ). set (set (lions_in lions) x (order Chicks)) (empty_place (lions_in lions) (lower_of free_squares c)) (order Chicks)) higher_is
     ∙ ap (λ (x : ℕ). set (set (lions_in lions) second (order Chicks)) x (order Chicks)) lower_is in
-    let below_twelve : second < 12 = subst (λ (x : ℕ). second < x) left.long inside in
-    record {
-      first_below = λ h. between first second 12 less below_twelve;
-      second_below = λ h. below_twelve;
-      forms = λ n. ap (are_allowed (may_have B) 4 (order Chicks) n 0) settled
-          ∙ allowed_two (may_have B) 4 (order Chicks) n 0 first second (lions_in lions) (no_chicks lions) less inside
-          ∙ ap (λ (x : ℕ). may_have B x (n / 4 % 4) && may_have B (0 + second) (n % 4)) (zero_more first)
-          ∙ ap (λ (x : ℕ). may_have B first (n / 4 % 4) && may_have B x (n % 4)) (zero_more second);
-    }
+    ap (are_allowed (may_have B) 4 (order Chicks) n 0) settled
+    ∙ allowed_two (may_have B) 4 (order Chicks) n 0 first second (lions_in lions) (no_chicks lions) less inside
+    ∙ ap (λ (x : ℕ). may_have B x (n / 4 % 4) && may_have B (0 + second) (n % 4)) (zero_more first)
+    ∙ ap (λ (x : ℕ). may_have B first (n / 4 % 4) && may_have B x (n % 4)) (zero_more second)
   where
     between : (x y z : ℕ) → x < y → y < z → x < z
     between x y z h k = omega (arith, h, k)
-
-    zero_more : (x : ℕ) → 0 + x ≡ x
-    zero_more x = omega arith
-chick_squares_are lions (suc (suc (suc p))) c first second low few below a b = absurd (too_many p few)
+chick_squares_are lions (suc (suc (suc p))) c first second low few below a b n = absurd (too_many p few)
   where
     too_many : (p : ℕ) → suc (suc (suc p)) ≤ 2 → ⊥
     too_many p h = omega (arith, h)

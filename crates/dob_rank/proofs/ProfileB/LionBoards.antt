@@ -1,56 +1,25 @@
 -- The board of two lions alone: ten squares are left, and the weight of a choice among them follows from their weights.
-use Rattle.dob_rank.proofs.Common.{◌%◌, ◌*◌, ◌+◌, ◌-◌, ◌/◌, ◌<◌, ◌∙◌, ◌∷◌, ◌≡◌, ◌≤◌, ◌⊎◌, List, [], ap, arith, inl, inr, length, refl, subst, suc, sym, zero, ℕ}
-use Rattle.dob_rank.proofs.Common.{cases_eq, cases_lt, le-ltb, lt-ltb, ne_eqb, choose, count, empty_layers, enemy_squares, free_squares, order, own_squares}
-use Rattle.dob_rank.proofs.Common.{settle, with_first, lion_pairs, chosen, free_weights, lions_in, weight, Chicks, Empty, EnemyLion, OwnLion}
-use Rattle.dob_rank.proofs.Boards.Choices.{count_same, count_other}
-use Rattle.dob_rank.proofs.Boards.Settled.{AreShown, IsSettled, settle-settles, settle_kept, settle_taken, settle_left}
-use Rattle.dob_rank.proofs.Positions.Made.{empty_after, eleven, below_twelve, all_empty, lion_before_empty}
+use Rattle.dob_rank.proofs.Common.{◌%◌, ◌*◌, ◌-◌, ◌/◌, ◌<◌, ◌∙◌, ◌∷◌, ◌≡◌, ◌≤◌, List, [], ap, arith, inl, inr, length, refl, subst, suc, sym, zero, ℕ, cases_eq}
+use Rattle.dob_rank.proofs.Common.{cases_lt, le-ltb, lt-ltb, ne_eqb, choose, count, empty_layers, enemy_squares, free_squares, order, settle, with_first}
+use Rattle.dob_rank.proofs.Common.{lion_pairs, chosen, free_weights, lions_in, weight, Chicks, Empty}
+use Rattle.dob_rank.proofs.Boards.Choices.{count_same, count_other, no_first}
+use Rattle.dob_rank.proofs.Boards.Settled.{settle_kept, settle_taken, settle_left}
 use Rattle.dob_rank.proofs.ProfileB.Weights.{weight_same, weight_other}
+use Rattle.dob_rank.proofs.Boards.Stages.{IsStage, none_shown, next_stage, first_stage, lions_stage}
 
 -- ---- ten squares are left
 
-pub record IsLionBoard (ls : List ℕ) : Type 0 where
-  pub shown : AreShown (order Chicks) ls
-  pub empty : count (order Empty) ls ≡ free_squares
-
-with_enemy : (n : ℕ) (r0 : List ℕ) → AreShown (order EnemyLion) r0 → count (order Empty) r0 ≡ enemy_squares → n < enemy_squares
-    → IsLionBoard (settle (order EnemyLion) 1 n r0)
-with_enemy n r0 shown e0 below =
-    let s1 : IsSettled (order EnemyLion) 1 n r0 (settle (order EnemyLion) 1 n r0)
-    = settle-settles (order EnemyLion) 1 n r0 (omega arith) shown (subst (λ (x : ℕ). n < choose x 1) (sym e0) below) in
-    record {
-      shown = s1.shown;
-      empty = (let e : count (order Empty) (settle (order EnemyLion) 1 n r0) + 1 ≡ count (order Empty) r0
-          = empty_after (order EnemyLion) 1 n r0 (settle (order EnemyLion) 1 n r0) (omega arith) s1 in omega arith);
-    }
-
-pub lion_board : (run : ℕ) → IsLionBoard (lions_in run)
-lion_board run =
-    let own : ℕ = run % lion_pairs / enemy_squares in
-    let home : run % lion_pairs / enemy_squares < own_squares = omega arith in
-    let s0 : IsSettled (order OwnLion) 1 (run % lion_pairs / enemy_squares) empty_layers (settle (order OwnLion) 1 (run % lion_pairs / enemy_squares) empty_layers)
-    = settle-settles (order OwnLion) 1 (run % lion_pairs / enemy_squares) empty_layers lion_before_empty all_empty (below_twelve _ home) in
-    with_enemy (run % lion_pairs % enemy_squares) (settle (order OwnLion) 1 (run % lion_pairs / enemy_squares) empty_layers) s0.shown
-    (eleven (count (order Empty) (settle (order OwnLion) 1 (run % lion_pairs / enemy_squares) empty_layers))
-    (empty_after (order OwnLion) 1 (run % lion_pairs / enemy_squares) empty_layers
-    (settle (order OwnLion) 1 (run % lion_pairs / enemy_squares) empty_layers) lion_before_empty s0))
-    (below_eleven run)
+pub lion_board : (run : ℕ) → IsStage (order Chicks) free_squares (lions_in run)
+lion_board run = lions_stage (run % lion_pairs / enemy_squares) (run % lion_pairs % enemy_squares) empty_layers (home run) (below_eleven run) first_stage
   where
+    home : (n : ℕ) → n % lion_pairs / enemy_squares < 12
+    home n = omega arith
+
     below_eleven : (n : ℕ) → n % lion_pairs % enemy_squares < enemy_squares
     below_eleven n = omega arith
 
--- a layer that isn't there yet has no square
-pub none_of_layer : (t : ℕ) (ls : List ℕ) → AreShown t ls → t < order Empty → count t ls ≡ 0
-none_of_layer t [] a low = refl
-none_of_layer t (l ∷ ls) a low =
-    count_other t l ls (other a.0) ∙ none_of_layer t ls a.1 low
-  where
-    other : (l < t) ⊎ (l ≡ order Empty) → (l ≡ t → ⊥)
-    other (inl lt) e = omega arith
-    other (inr is) e = omega (arith, is, e)
-
 pub no_chicks : (run : ℕ) → count (order Chicks) (lions_in run) ≡ 0
-no_chicks run = none_of_layer (order Chicks) (lions_in run) (lion_board run).shown before_empty
+no_chicks run = none_shown (order Chicks) (lions_in run) before_empty (lion_board run).shown
   where
     before_empty : order Chicks < order Empty
     before_empty = omega arith
@@ -58,8 +27,7 @@ no_chicks run = none_of_layer (order Chicks) (lions_in run) (lion_board run).sho
 -- a choice settles as many chicks as it is of
 pub chicks_settled : (run chicks c : ℕ) → c < choose free_squares chicks → count (order Chicks) (settle (order Chicks) chicks c (lions_in run)) ≡ chicks
 chicks_settled run chicks c below =
-    (settle-settles (order Chicks) chicks c (lions_in run) before_empty (lion_board run).shown
-    (subst (λ (x : ℕ). c < choose x chicks) (sym (lion_board run).empty) below)).count_is
+    (next_stage (order Chicks) chicks c free_squares (lions_in run) before_empty below (lion_board run)).settled.count_is
   where
     before_empty : order Chicks < order Empty
     before_empty = omega arith
@@ -89,8 +57,8 @@ pub weight_chosen : (w : ℕ → ℕ) (t s pieces c : ℕ) (ls : List ℕ) → t
 weight_chosen w t s zero c [] low none = refl
 weight_chosen w t s (suc pieces) c [] low none = refl
 weight_chosen w t s pieces c (l ∷ ls) low none =
-    let other : l ≡ t → ⊥ = not_there t l ls none in
-    let rest_none : count t ls ≡ 0 = sym (count_other t l ls other) ∙ none in
+    let other : l ≡ t → ⊥ = (no_first t l ls none).0 in
+    let rest_none : count t ls ≡ 0 = (no_first t l ls none).1 in
     elim (cases_eq l (order Empty)) [
       | inr full ↦ ap (weight w t s) (settle_kept t pieces c l ls full) ∙ weight_other w t s l (settle t pieces c ls) other
           ∙ weight_chosen w t (suc s) pieces c ls low rest_none ∙ ap (chosen pieces c) (sym (free_kept w s l ls full))
@@ -98,9 +66,6 @@ weight_chosen w t s pieces c (l ∷ ls) low none =
           (of_empty pieces (λ p d. weight_chosen w t (suc s) p d ls low rest_none))
     ]
   where
-    not_there : (t l : ℕ) (ls : List ℕ) → count t (l ∷ ls) ≡ 0 → (l ≡ t → ⊥)
-    not_there t l ls h e = (let one : count t (l ∷ ls) ≡ suc (count t ls) = ap (λ (x : ℕ). count t (x ∷ ls)) e ∙ count_same t ls in omega arith)
-
     free : order Empty ≡ t → ⊥
     free q = (let same : order Empty ≡ t = q in omega arith)
 

@@ -1,8 +1,8 @@
 -- The parts of a place of profile B as the code finds them, and that they are small.
 use Rattle.dob_rank.proofs.Common.{◌*◌, ◌+◌, ◌-◌, ◌<◌, ◌^◌, ◌∙◌, ◌∷◌, ◌≡◌, ◌≤◌, List, [], ap, arith, get_or, slice_index, subst, sym, ℕ, mul-le-mul, B, choose}
 use Rattle.dob_rank.proofs.Common.{free_squares, number_of, product, AreFewOnBoard, square_bases, choice_weight, forms_before, hand_size, lions_before}
-use Rattle.dob_rank.proofs.Common.{local_in, others_by, others_forms, others_squares, place_behind, place_in, squares_by}
-use Rattle.dob_rank.proofs.Positions.Blocks.{product-at_most, choose-small, two_small, most_choices}
+use Rattle.dob_rank.proofs.Common.{local_in, others_by, others_forms, others_squares, place_behind, place_in, squares_by, drop, form_bases, refl}
+use Rattle.dob_rank.proofs.Positions.Blocks.{product-at_most, most_choices, squares_at_most, forms_at_most}
 
 two_digits : (b c x y : ℕ) → x * c + y ≡ number_of (b ∷ c ∷ []) (x ∷ y ∷ [])
 two_digits b c x y = (let one : x * (c * 1) ≡ x * c = ap (λ (n : ℕ). x * n) (once c) in omega (arith, one))
@@ -24,25 +24,14 @@ pub record AreOthersSquares (ob ds choices : List ℕ) : Type 0 where
 
 pub others_squares_are : (ob ds choices : List ℕ) → AreFewOnBoard ob → choices ≡ square_bases ob → AreOthersSquares ob ds choices
 others_squares_are ob ds choices few is =
-    let i : ℕ = slice_index ob 0 in
     record {
       number_is = ap (λ (cs : List ℕ). get_or ds 6 0 * get_or cs 2 0 + get_or ds 7 0) is
           ∙ two_digits (choose (free_squares - slice_index ob 0) (slice_index ob 1)) (choose (free_squares - slice_index ob 0 - slice_index ob 1) (slice_index ob 2))
           (slice_index ds 6) (slice_index ds 7);
       count_is = ap (λ (cs : List ℕ). get_or cs 1 0 * get_or cs 2 0) is
           ∙ two_bases (choose (free_squares - slice_index ob 0) (slice_index ob 1)) (choose (free_squares - slice_index ob 0 - slice_index ob 1) (slice_index ob 2));
-      count_few = product-at_most (choose (free_squares - slice_index ob 0) (slice_index ob 1)
-          ∷ choose (free_squares - slice_index ob 0 - slice_index ob 1) (slice_index ob 2) ∷ []) (most_choices ∷ most_choices ∷ []) (
-            choose-small (free_squares - slice_index ob 0) (slice_index ob 1) (less (slice_index ob 0)) few.elephants,
-            (choose-small (free_squares - slice_index ob 0 - slice_index ob 1) (slice_index ob 2) (less_still (slice_index ob 0) (slice_index ob 1)) few.giraffes, tt),
-          );
+      count_few = product-at_most (drop 1 (square_bases ob)) (most_choices ∷ most_choices ∷ []) (squares_at_most ob few).1;
     }
-  where
-    less : (i : ℕ) → free_squares - i ≤ free_squares
-    less i = omega arith
-
-    less_still : (i j : ℕ) → free_squares - i - j ≤ free_squares
-    less_still i j = omega arith
 
 -- and their forms
 pub record AreOthersForms (ob ds : List ℕ) (elephants giraffes : ℕ) : Type 0 where
@@ -55,8 +44,7 @@ pub others_forms_are : (ob ds : List ℕ) (elephants giraffes : ℕ) → AreFewO
 others_forms_are ob ds elephants giraffes few e g = record {
   number_is = ap (λ (n : ℕ). get_or ds 9 0 * n + get_or ds 10 0) g ∙ two_digits (2 ^ slice_index ob 1) (2 ^ slice_index ob 2) (slice_index ds 9) (slice_index ds 10);
   count_is = ap (λ (n : ℕ). n * giraffes) e ∙ ap (λ (n : ℕ). 2 ^ slice_index ob 1 * n) g ∙ two_bases (2 ^ slice_index ob 1) (2 ^ slice_index ob 2);
-  count_few = product-at_most ((2 ^ slice_index ob 1) ∷ (2 ^ slice_index ob 2) ∷ []) (4 ∷ 4 ∷ [])
-      (two_small (slice_index ob 1) few.elephants, (two_small (slice_index ob 2) few.giraffes, tt));
+  count_few = product-at_most (drop 1 (form_bases ob)) (4 ∷ 4 ∷ []) (forms_at_most ob few).1;
 }
 
 -- products of small numbers
@@ -91,7 +79,7 @@ place_in_run ob ds lions chosen forms is = ap (λ (n : ℕ). place_behind B ob d
 
 pub sum_of_three : (h a b c x y z : ℕ) → a ≡ x → b ≡ y → c ≡ z → h * a + b + c ≡ h * x + y + z
 sum_of_three h a b c x y z e f g =
-    ap (λ (n : ℕ). h * n + b + c) e ∙ ap (λ (n : ℕ). h * x + n + c) f ∙ ap (λ (n : ℕ). h * x + y + n) g
+    rw (e, f, g) refl
 
 pub one_step : (now next before more : ℕ) → now ≡ before → next ≡ before + more → next - now ≡ more
 one_step now next before more a b = omega arith

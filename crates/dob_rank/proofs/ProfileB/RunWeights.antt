@@ -1,10 +1,11 @@
 -- How many of a run's places are of the family, before each of them.
-use Rattle.dob_rank.proofs.Common.{◌%◌, ◌&&◌, ◌*◌, ◌+◌, ◌-◌, ◌/◌, ◌<◌, ◌^◌, ◌∙◌, ◌∷◌, ◌≡◌, ◌≤◌, Bool, List, [], ap, arith, cond, eqb, inl, inr, refl, subst}
-use Rattle.dob_rank.proofs.Common.{suc, sym, true, ℕ, mul_comm, cases_eq, cases_lt, ne_eqb, sum_alike, sum_blocks, sum_same, sum_times, marks_below, one_if}
-use Rattle.dob_rank.proofs.Common.{count, order, settle, sum_below, with_first, are_allowed, Empty}
+use Rattle.dob_rank.proofs.Common.{◌*◌, ◌+◌, ◌-◌, ◌<◌, ◌∙◌, ◌∷◌, ◌≡◌, ◌≤◌, Bool, List, [], ap, arith, cond, eqb, inl, inr, refl, suc, sym, ℕ, mul_comm}
+use Rattle.dob_rank.proofs.Common.{cases_eq, cases_lt, sum_alike, sum_blocks, sum_same, sum_times, marks_below, one_if, count, order, settle, sum_below}
+use Rattle.dob_rank.proofs.Common.{with_first, are_allowed, Empty}
 use Rattle.dob_rank.proofs.Arithmetic.MixedRadix.{digit_below}
 use Rattle.dob_rank.proofs.Boards.Choices.{count_other}
 use Rattle.dob_rank.proofs.Boards.Settled.{settle_kept, settle_taken, settle_left}
+use Rattle.dob_rank.proofs.ProfileB.Weights.{allowed_other}
 
 -- ---- marks that a part of the place gives
 
@@ -47,43 +48,31 @@ middle_alike mark ok n m c s f h ls lf =
 
 -- ---- layers settled later
 
-allowed_kept : (ok : ℕ → ℕ → Bool) (base t n s l : ℕ) (ls rs : List ℕ) → count t rs ≡ count t ls
-    → are_allowed ok base t n (suc s) rs ≡ are_allowed ok base t n (suc s) ls → are_allowed ok base t n s (l ∷ rs) ≡ are_allowed ok base t n s (l ∷ ls)
-allowed_kept ok base t n s l ls rs e f =
-    ap (λ (x : ℕ). cond (eqb l t) (ok s (n / base ^ x % base)) true && are_allowed ok base t n (suc s) rs) e
-    ∙ ap (λ (x : Bool). cond (eqb l t) (ok s (n / base ^ count t ls % base)) true && x) f
-
-allowed_other : (ok : ℕ → ℕ → Bool) (base t n s l : ℕ) (ls : List ℕ) → (l ≡ t → ⊥) → are_allowed ok base t n s (l ∷ ls) ≡ are_allowed ok base t n (suc s) ls
-allowed_other ok base t n s l ls h = rw (ne_eqb l t h) refl
-
 -- what a later layer's pieces leave of an earlier one
 pub record LeavesLayer (ok : ℕ → ℕ → Bool) (base t n s : ℕ) (ls rs : List ℕ) : Type 0 where
   pub counted : count t rs ≡ count t ls
   pub allowed_is : are_allowed ok base t n s rs ≡ are_allowed ok base t n s ls
 
+kept_layer : (ok : ℕ → ℕ → Bool) (base t n s l : ℕ) (ls rs : List ℕ) → LeavesLayer ok base t n (suc s) ls rs → LeavesLayer ok base t n s (l ∷ ls) (l ∷ rs)
+kept_layer ok base t n s l ls rs rest = record { counted = ap (λ (x : ℕ). cond (eqb l t) 1 0 + x) rest.counted; allowed_is = rw (rest.counted, rest.allowed_is) refl }
+
 pub settled_later : (ok : ℕ → ℕ → Bool) (base t n u s pieces number : ℕ) (ls : List ℕ) → t < u → u < order Empty
     → LeavesLayer ok base t n s ls (settle u pieces number ls)
 settled_later ok base t n u s pieces number [] h k = record { counted = refl; allowed_is = refl }
 settled_later ok base t n u s pieces number (l ∷ ls) h k = elim (cases_eq l (order Empty)) [
-  | inl e ↦ subst (λ (x : ℕ). LeavesLayer ok base t n s (x ∷ ls) (settle u pieces number (x ∷ ls))) (sym e)
+  | inl e ↦ rw e
       (let free : order Empty ≡ t → ⊥ = (λ (q : order Empty ≡ t). (let same : order Empty ≡ t = q in omega arith)) in
       let other : u ≡ t → ⊥ = omega arith in
       elim (cases_lt number (with_first (count (order Empty) ls) pieces)) [
         | inl lt ↦ (let rest = settled_later ok base t n u (suc s) (pieces - 1) number ls h k in
-            subst (LeavesLayer ok base t n s (order Empty ∷ ls)) (sym (settle_taken u pieces number ls lt)) (record {
+            rw (settle_taken u pieces number ls lt) (record {
               counted = count_other t u (settle u (pieces - 1) number ls) other ∙ rest.counted ∙ sym (count_other t (order Empty) ls free);
               allowed_is = allowed_other ok base t n s u (settle u (pieces - 1) number ls) other ∙ rest.allowed_is
                   ∙ sym (allowed_other ok base t n s (order Empty) ls free);
             }))
-        | inr le ↦ (let rest = settled_later ok base t n u (suc s) pieces (number - with_first (count (order Empty) ls) pieces) ls h k in
-            subst (LeavesLayer ok base t n s (order Empty ∷ ls)) (sym (settle_left u pieces number ls le)) (record {
-              counted = ap (λ (x : ℕ). cond (eqb (order Empty) t) 1 0 + x) rest.counted;
-              allowed_is = allowed_kept ok base t n s (order Empty) ls (settle u pieces (number - with_first (count (order Empty) ls) pieces) ls) rest.counted rest.allowed_is;
-            }))
+        | inr le ↦ rw (settle_left u pieces number ls le)
+            (kept_layer ok base t n s (order Empty) ls (settle u pieces (number - with_first (count (order Empty) ls) pieces) ls)
+            (settled_later ok base t n u (suc s) pieces (number - with_first (count (order Empty) ls) pieces) ls h k))
       ])
-  | inr full ↦ (let rest = settled_later ok base t n u (suc s) pieces number ls h k in
-      subst (LeavesLayer ok base t n s (l ∷ ls)) (sym (settle_kept u pieces number l ls full)) (record {
-        counted = ap (λ (x : ℕ). cond (eqb l t) 1 0 + x) rest.counted;
-        allowed_is = allowed_kept ok base t n s l ls (settle u pieces number ls) rest.counted rest.allowed_is;
-      }))
+  | inr full ↦ rw (settle_kept u pieces number l ls full) (kept_layer ok base t n s l ls (settle u pieces number ls) (settled_later ok base t n u (suc s) pieces number ls h k))
 ]

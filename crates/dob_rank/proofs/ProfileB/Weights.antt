@@ -1,10 +1,8 @@
--- Weighted counts: the sum of the weights of all choices, and how many numbers stand for allowed forms.
-use Rattle.dob_rank.proofs.Common.{◌%◌, ◌&&◌, ◌*◌, ◌+◌, ◌-◌, ◌/◌, ◌<◌, ◌^◌, ◌∙◌, ◌∷◌, ◌≡◌, Bool, List, [], ap, arith, false, inl, inr, refl, subst, suc, sym}
-use Rattle.dob_rank.proofs.Common.{true, ℕ, mod-mul, mod-eq_of_lt, mul_comm, pow-succ', pow-zero, cases_eq, eq-eqb, ne_eqb, div-mul-add, mod-mul-add, mod_below}
-use Rattle.dob_rank.proofs.Common.{same_from_place, sum_blocks, sum_same, sum_times, marks_below, one_if, choose, count, order, settle, sum_below, with_first}
-use Rattle.dob_rank.proofs.Common.{are_allowed, weight, Empty}
-use Rattle.dob_rank.proofs.Boards.Choices.{count_same, count_other}
-use Rattle.dob_rank.proofs.Boards.Settled.{settle_kept, settle_taken, settle_left}
+-- Weighted counts: the weight of a choice, and how many numbers stand for allowed forms.
+use Rattle.dob_rank.proofs.Common.{◌%◌, ◌&&◌, ◌*◌, ◌+◌, ◌/◌, ◌<◌, ◌^◌, ◌∙◌, ◌∷◌, ◌≡◌, Bool, List, [], ap, arith, false, inl, inr, refl, subst, suc, sym, true}
+use Rattle.dob_rank.proofs.Common.{ℕ, mod-mul, mod-eq_of_lt, mul_comm, pow-succ', pow-zero, cases_eq, eq-eqb, ne_eqb, div-mul-add, mod-mul-add, mod_below}
+use Rattle.dob_rank.proofs.Common.{same_from_place, sum_blocks, sum_same, sum_times, marks_below, one_if, count, sum_below, are_allowed, weight, ◌≤◌}
+use Rattle.dob_rank.proofs.Boards.Choices.{count_same, count_other, count_at}
 use Rattle.dob_rank.proofs.Boards.FormDigits.{power_positive}
 
 -- ---- choices
@@ -14,42 +12,6 @@ weight_same w t s ls = rw (eq-eqb t t refl) refl
 
 pub weight_other : (w : ℕ → ℕ) (t s l : ℕ) (ls : List ℕ) → (l ≡ t → ⊥) → weight w t s (l ∷ ls) ≡ weight w t (suc s) ls
 weight_other w t s l ls h = rw (ne_eqb l t h) (omega arith)
-
-not_first : (t l : ℕ) (ls : List ℕ) → count t (l ∷ ls) ≡ 0 → (l ≡ t → ⊥)
-not_first t l ls h e = (let one : count t (l ∷ ls) ≡ suc (count t ls) = ap (λ (x : ℕ). count t (x ∷ ls)) e ∙ count_same t ls in omega arith)
-
--- the sum of the weights of all choices, from square s on
-abbrev pub summed : (ℕ → ℕ) → ℕ → ℕ → ℕ → List ℕ → ℕ
-summed w t s pieces ls = sum_below (λ c. weight w t s (settle t pieces c ls)) (choose (count (order Empty) ls) pieces)
-
--- a square that isn't order Empty adds nothing
-kept : (w : ℕ → ℕ) (t s pieces l : ℕ) (ls : List ℕ) → (l ≡ order Empty → ⊥) → (l ≡ t → ⊥) → summed w t s pieces (l ∷ ls) ≡ summed w t (suc s) pieces ls
-kept w t s pieces l ls full other =
-    ap (λ (n : ℕ). sum_below (λ c. weight w t s (settle t pieces c (l ∷ ls))) (choose n pieces)) (count_other (order Empty) l ls full)
-    ∙ sum_same (λ c. weight w t s (settle t pieces c (l ∷ ls))) (λ c. weight w t (suc s) (settle t pieces c ls)) (choose (count (order Empty) ls) pieces)
-    (λ c lt. ap (weight w t s) (settle_kept t pieces c l ls full) ∙ weight_other w t s l (settle t pieces c ls) other)
-
--- of an order Empty square the choices that leave it
-left : (w : ℕ → ℕ) (t s pieces : ℕ) (ls : List ℕ) → t < order Empty
-    → sum_below (λ k. weight w t s (settle t pieces (with_first (count (order Empty) ls) pieces + k) (order Empty ∷ ls))) (choose (count (order Empty) ls) pieces)
-    ≡ summed w t (suc s) pieces ls
-left w t s pieces ls low =
-    sum_same (λ k. weight w t s (settle t pieces (with_first (count (order Empty) ls) pieces + k) (order Empty ∷ ls))) (λ c. weight w t (suc s) (settle t pieces c ls))
-    (choose (count (order Empty) ls) pieces)
-    (λ k lt. ap (weight w t s) (settle_left t pieces (with_first (count (order Empty) ls) pieces + k) ls (omega arith))
-    ∙ weight_other w t s (order Empty) (settle t pieces (with_first (count (order Empty) ls) pieces + k - with_first (count (order Empty) ls) pieces) ls)
-    (λ (e : order Empty ≡ t). (let same : order Empty ≡ t = e in omega arith))
-    ∙ ap (λ (x : ℕ). weight w t (suc s) (settle t pieces x ls)) (let e : with_first (count (order Empty) ls) pieces + k - with_first (count (order Empty) ls) pieces ≡ k = omega arith in e))
-
--- and those that take it
-taken : (w : ℕ → ℕ) (t s pieces : ℕ) (ls : List ℕ)
-    → sum_below (λ c. weight w t s (settle t (suc pieces) c (order Empty ∷ ls))) (choose (count (order Empty) ls) pieces) ≡ w s * summed w t (suc s) pieces ls
-taken w t s pieces ls =
-    sum_same (λ c. weight w t s (settle t (suc pieces) c (order Empty ∷ ls))) (λ c. w s * weight w t (suc s) (settle t pieces c ls)) (choose (count (order Empty) ls) pieces)
-    (λ c lt. ap (weight w t s) (settle_taken t (suc pieces) c ls lt)
-    ∙ ap (λ (x : ℕ). weight w t s (t ∷ settle t x c ls)) (let e : suc pieces - 1 ≡ pieces = omega arith in e)
-    ∙ weight_same w t s (settle t pieces c ls))
-    ∙ sum_times (w s) (λ c. weight w t (suc s) (settle t pieces c ls)) (choose (count (order Empty) ls) pieces)
 
 -- ---- forms
 
@@ -77,29 +39,37 @@ pub allowed_low : (ok : ℕ → ℕ → Bool) (base t n m s : ℕ) (ls : List �
     → are_allowed ok base t n s ls ≡ are_allowed ok base t m s ls
 allowed_low ok base t n m s [] h e = refl
 allowed_low ok base t n m s (l ∷ ls) h e = elim (cases_eq l t) [
-  | inl i ↦ subst (λ (x : ℕ). are_allowed ok base t n s (x ∷ ls) ≡ are_allowed ok base t m s (x ∷ ls)) (sym i)
-      (let e' : n % base ^ count t (t ∷ ls) ≡ m % base ^ count t (t ∷ ls) = subst (λ (x : ℕ). n % base ^ count t (x ∷ ls) ≡ m % base ^ count t (x ∷ ls)) i e in
-      let two = low_digits n m base (base ^ count t ls) h (power_positive base (count t ls) h)
-      (subst (λ (x : ℕ). n % x ≡ m % x) (more_digits base t ls) e') in
-      allowed_same ok base t n s ls
-      ∙ ap (λ (x : ℕ). ok s x && are_allowed ok base t n (suc s) ls) two.0
-      ∙ ap (λ (x : Bool). ok s (m / base ^ count t ls % base) && x) (allowed_low ok base t n m (suc s) ls h two.1)
-      ∙ sym (allowed_same ok base t m s ls))
-  | inr o ↦ allowed_other ok base t n s l ls o
-      ∙ allowed_low ok base t n m (suc s) ls h (subst (λ (x : ℕ). n % base ^ x ≡ m % base ^ x) (count_other t l ls o) e)
-      ∙ sym (allowed_other ok base t m s l ls o)
+  | inl i ↦ (let two = low_digits n m base (base ^ count t ls) h (power_positive base (count t ls) h)
+      (rw (count_at t l ls i, pow-succ' base (count t ls)) at e) in
+      rw (eq-eqb l t i, two.0, allowed_low ok base t n m (suc s) ls h two.1) refl)
+  | inr o ↦ rw (ne_eqb l t o) (allowed_low ok base t n m (suc s) ls h (rw (count_other t l ls o) at e))
 ]
 
 -- of one more piece its own form and those of the others
 pub one_more : (ok : ℕ → ℕ → Bool) (base t q r s : ℕ) (ls : List ℕ) → 0 < base → q < base → r < base ^ count t ls
     → are_allowed ok base t (q * base ^ count t ls + r) s (t ∷ ls) ≡ ok s q && are_allowed ok base t r (suc s) ls
 one_more ok base t q r s ls h lq lr =
-    let w : ℕ = base ^ count t ls in
-    allowed_same ok base t (q * base ^ count t ls + r) s ls
-    ∙ ap (λ (x : ℕ). ok s (x % base) && are_allowed ok base t (q * base ^ count t ls + r) (suc s) ls) (div-mul-add q (base ^ count t ls) r lr)
-    ∙ ap (λ (x : ℕ). ok s x && are_allowed ok base t (q * base ^ count t ls + r) (suc s) ls) (mod-eq_of_lt lq)
-    ∙ ap (λ (x : Bool). ok s q && x) (allowed_low ok base t (q * base ^ count t ls + r) r (suc s) ls h
-    (mod-mul-add q (base ^ count t ls) r lr ∙ sym (mod-eq_of_lt lr)))
+    rw (
+      allowed_same ok base t (q * base ^ count t ls + r) s ls,
+      div-mul-add q (base ^ count t ls) r lr,
+      mod-eq_of_lt lq,
+      allowed_low ok base t (q * base ^ count t ls + r) r (suc s) ls h (mod-mul-add q (base ^ count t ls) r lr ∙ sym (mod-eq_of_lt lr)),
+    ) refl
+
+-- the allowed numbers whose first piece has a lower form
+pub lower_forms : (ok : ℕ → ℕ → Bool) (base t q s : ℕ) (ls : List ℕ) → 0 < base → q ≤ base
+    → sum_below (λ p. sum_below (λ k. one_if (are_allowed ok base t (p * base ^ count t ls + k) s (t ∷ ls))) (base ^ count t ls)) q
+    ≡ sum_below (λ p. one_if (ok s p)) q * sum_below (λ (k : ℕ). one_if (are_allowed ok base t k (suc s) ls)) (base ^ count t ls)
+lower_forms ok base t q s ls h upto =
+    sum_same (λ p. sum_below (λ k. one_if (are_allowed ok base t (p * base ^ count t ls + k) s (t ∷ ls))) (base ^ count t ls))
+    (λ p. sum_below (λ (k : ℕ). one_if (are_allowed ok base t k (suc s) ls)) (base ^ count t ls) * one_if (ok s p)) q
+    (λ p lp. sum_same (λ k. one_if (are_allowed ok base t (p * base ^ count t ls + k) s (t ∷ ls)))
+    (λ k. one_if (ok s p) * one_if (are_allowed ok base t k (suc s) ls)) (base ^ count t ls)
+    (λ k lk. ap one_if (one_more ok base t p k s ls h (omega (arith, lp, upto)) lk) ∙ one_if-and (ok s p) (are_allowed ok base t k (suc s) ls))
+    ∙ sum_times (one_if (ok s p)) (λ k. one_if (are_allowed ok base t k (suc s) ls)) (base ^ count t ls)
+    ∙ mul_comm (one_if (ok s p)) (sum_below (λ (k : ℕ). one_if (are_allowed ok base t k (suc s) ls)) (base ^ count t ls)))
+    ∙ sum_times (sum_below (λ (k : ℕ). one_if (are_allowed ok base t k (suc s) ls)) (base ^ count t ls)) (λ p. one_if (ok s p)) q
+    ∙ mul_comm (sum_below (λ (k : ℕ). one_if (are_allowed ok base t k (suc s) ls)) (base ^ count t ls)) (sum_below (λ p. one_if (ok s p)) q)
 
 -- how many of the numbers of forms are allowed
 pub forms_weigh : (ok : ℕ → ℕ → Bool) (base t s : ℕ) (ls : List ℕ) → 0 < base
@@ -115,16 +85,7 @@ forms_weigh ok base t s (l ∷ ls) h =
           (ap (λ (x : ℕ). sum_below (λ (n : ℕ). one_if (are_allowed ok base t n s (t ∷ ls))) x)
           (more_digits base t ls ∙ (let z : base * base ^ count t ls ≡ base * base ^ count t ls + 0 = omega arith in z))
           ∙ sum_blocks (λ (n : ℕ). one_if (are_allowed ok base t n s (t ∷ ls))) (base ^ count t ls) base 0
-          ∙ ap (λ (x : ℕ). x + 0)
-          (sum_same (λ q. sum_below (λ r. one_if (are_allowed ok base t (q * base ^ count t ls + r) s (t ∷ ls))) (base ^ count t ls))
-          (λ q. sum_below (λ (r : ℕ). one_if (are_allowed ok base t r (suc s) ls)) (base ^ count t ls) * one_if (ok s q)) base
-          (λ q lq. sum_same (λ r. one_if (are_allowed ok base t (q * base ^ count t ls + r) s (t ∷ ls)))
-          (λ r. one_if (ok s q) * one_if (are_allowed ok base t r (suc s) ls)) (base ^ count t ls)
-          (λ r lr. ap one_if (one_more ok base t q r s ls h lq lr) ∙ one_if-and (ok s q) (are_allowed ok base t r (suc s) ls))
-          ∙ sum_times (one_if (ok s q)) (λ r. one_if (are_allowed ok base t r (suc s) ls)) (base ^ count t ls)
-          ∙ mul_comm (one_if (ok s q)) (sum_below (λ (r : ℕ). one_if (are_allowed ok base t r (suc s) ls)) (base ^ count t ls)))
-          ∙ sum_times (sum_below (λ (r : ℕ). one_if (are_allowed ok base t r (suc s) ls)) (base ^ count t ls)) (λ q. one_if (ok s q)) base
-          ∙ mul_comm (sum_below (λ (r : ℕ). one_if (are_allowed ok base t r (suc s) ls)) (base ^ count t ls)) (sum_below (λ q. one_if (ok s q)) base))
+          ∙ ap (λ (x : ℕ). x + 0) (lower_forms ok base t base s ls h (omega arith))
           ∙ (let z : sum_below (λ q. one_if (ok s q)) base * sum_below (λ (r : ℕ). one_if (are_allowed ok base t r (suc s) ls)) (base ^ count t ls) + 0
           ≡ sum_below (λ q. one_if (ok s q)) base * sum_below (λ (r : ℕ). one_if (are_allowed ok base t r (suc s) ls)) (base ^ count t ls) = omega arith in z)
           ∙ ap (λ (x : ℕ). sum_below (λ q. one_if (ok s q)) base * x) rest

@@ -11,11 +11,7 @@ nonzero_div-result c = (split_place c.args.set c.args.on_board.now c.args.place 
 pub nonzero_rem-result : goal.nonzero_rem-result
 nonzero_rem-result c = (split_place c.args.set c.args.on_board.now c.args.place _ c.requires.place c.size_of_runs-size.ensures.value).some
 
-pub returns-clause-run : goal.returns-clause-run
-returns-clause-run c = (split_place c.args.set c.args.on_board.now c.args.place _ c.requires.place c.size_of_runs-size.ensures.value).run_low
-
-pub returns-clause-local : goal.returns-clause-local
-returns-clause-local c = (split_place c.args.set c.args.on_board.now c.args.place _ c.requires.place c.size_of_runs-size.ensures.value).local_low
-
-pub returns-clause-place : goal.returns-clause-place
-returns-clause-place c = (split_place c.args.set c.args.on_board.now c.args.place _ c.requires.place c.size_of_runs-size.ensures.value).whole
+pub returns : goal.returns
+returns c =
+    let split = split_place c.args.set c.args.on_board.now c.args.place _ c.requires.place c.size_of_runs-size.ensures.value in
+    record { run = split.run_low; local = split.local_low; place = split.whole }

@@ -1,10 +1,10 @@
 -- The parts join to a place, each of them small.
-use Rattle.dob_rank.proofs.Common.{◌*◌, ◌<◌, ◌^◌, ◌≤◌, [], arith, refl, slice_index, subst, sym, B, forms_in, others_forms, others_squares}
+use Rattle.dob_rank.proofs.Common.{◌*◌, ◌<◌, ◌≤◌, [], arith, refl, slice_index, subst, sym, B, forms_in, others_forms, others_squares}
 use Rattle.dob_rank.proofs.OfFamilies.FamilyRuns.{others_forms-some}
 use Rattle.dob_rank.proofs.ProfileB.PlaceParts.{AreOthersSquares, AreOthersForms, others_squares_are, others_forms_are}
-use Rattle.dob_rank.proofs.ProfileB.FarSpots.{AreSmall, small_parts, forms_out_of, place_found, in_all_forms, in_square, in_place}
+use Rattle.dob_rank.proofs.ProfileB.FarSpots.{AreSmall, small_parts, forms_out_of, place_found}
 use Rattle.dob_rank.proofs.far_places.local_at.Goals as goal
-use Rattle.dob_rank.proofs.far_places.local_at.Goals.{After-choices_in-choices, After-power-2, After-parts_at-parts}
+use Rattle.dob_rank.proofs.far_places.local_at.Goals.{After-choices_in-choices, After-power-2, After-power-3}
 
 squares_in : (c : After-choices_in-choices) → AreOthersSquares c.args.on_board.now [] c.choices_in-choices.result
 squares_in c = others_squares_are c.args.on_board.now [] c.choices_in-choices.result c.requires.few c.choices_in-choices.ensures
@@ -15,13 +15,13 @@ forms_in_all c = others_forms_are c.args.on_board.now [] c.power.result c.power-
 some_forms : (c : After-power-2) → 0 < c.power.result * c.power-2.result
 some_forms c = subst (λ n. 0 < n) (sym (forms_in_all c).count_is) (others_forms-some c.args.on_board.now)
 
-small : (c : After-parts_at-parts) → AreSmall c.parts_at-parts.result.choice c.parts_at-parts.result.squares c.parts_at-parts.result.forms
+small : (c : After-power-3) → AreSmall c.parts_at-parts.result.choice c.parts_at-parts.result.squares c.parts_at-parts.result.forms
     (slice_index c.choices_in-choices.result 1 * slice_index c.choices_in-choices.result 2) (c.power.result * c.power-2.result)
-    (4 ^ slice_index c.args.on_board.now 0) c.args.number
+    c.power-3.result c.args.number
 small c =
     let of_squares = others_squares_are c.args.on_board.now [] c.choices_in-choices.result c.requires.few c.choices_in-choices.ensures in
     let of_forms = others_forms_are c.args.on_board.now [] c.power.result c.power-2.result c.requires.few c.power.ensures c.power-2.ensures in
-    small_parts _ c.args.lions _ _ _ _ _ (c.power.result * c.power-2.result) c.args.number c.requires.few.chicks c.parts_at-parts.ensures
+    small_parts _ c.args.lions _ _ _ _ _ (c.power.result * c.power-2.result) c.args.number c.power-3.result c.power-3.ensures c.requires.few.chicks c.parts_at-parts.ensures
     (subst (λ n. n ≤ 2025) (sym of_squares.count_is) of_squares.count_few)
     (subst (λ n. 0 < n) (sym of_forms.count_is) (others_forms-some c.args.on_board.now)) (subst (λ n. n ≤ 16) (sym of_forms.count_is) of_forms.count_few)
 
@@ -43,34 +43,33 @@ parts_at-parts-requires-clause-number c =
 
 pub overflow_mul-all_forms : goal.overflow_mul-all_forms
 overflow_mul-all_forms c =
-    let low = in_all_forms _ _ _ c.power-3.ensures (small (goal.at.overflow_mul-all_forms c).After-parts_at-parts).all_forms in
+    let low = (small (goal.at.overflow_mul-all_forms c).After-power-3).all_forms in
     omega (arith, low)
 
 pub overflow_mul-result : goal.overflow_mul-result
-overflow_mul-result c = let low = (small (goal.at.overflow_mul-result c).After-parts_at-parts).choices in omega (arith, low)
+overflow_mul-result c = let low = (small (goal.at.overflow_mul-result c).After-power-3).choices in omega (arith, low)
 
 pub overflow_add-result : goal.overflow_add-result
-overflow_add-result c = let low = (small (goal.at.overflow_add-result c).After-parts_at-parts).choices in omega (arith, low)
+overflow_add-result c = let low = (small (goal.at.overflow_add-result c).After-power-3).choices in omega (arith, low)
 
 pub overflow_mul-result-2 : goal.overflow_mul-result-2
 overflow_mul-result-2 c =
-    let low = in_square _ _ _ _ c.power-3.ensures (small (goal.at.overflow_mul-result-2 c).After-parts_at-parts).square in
+    let low = (small (goal.at.overflow_mul-result-2 c).After-power-3).square in
     omega (arith, low)
 
 pub overflow_mul-result-3 : goal.overflow_mul-result-3
-overflow_mul-result-3 c = let low = (small (goal.at.overflow_mul-result-3 c).After-parts_at-parts).form in omega (arith, low)
+overflow_mul-result-3 c = let low = (small (goal.at.overflow_mul-result-3 c).After-power-3).form in omega (arith, low)
 
 pub nonzero_rem-result : goal.nonzero_rem-result
 nonzero_rem-result c = some_forms (goal.at.nonzero_rem-result c).After-power-2
 
 pub overflow_add-result-2 : goal.overflow_add-result-2
-overflow_add-result-2 c = let low = (small (goal.at.overflow_add-result-2 c).After-parts_at-parts).form in omega (arith, low)
+overflow_add-result-2 c = let low = (small (goal.at.overflow_add-result-2 c).After-power-3).form in omega (arith, low)
 
 pub overflow_add-result-3 : goal.overflow_add-result-3
 overflow_add-result-3 c =
-    let few = small (goal.at.overflow_add-result-3 c).After-parts_at-parts in
-    let low = in_place _ _ _ _ _ c.power-3.ensures few.square few.form in
-    omega (arith, low)
+    let few = small (goal.at.overflow_add-result-3 c).After-power-3 in
+    omega (arith, few.square, few.form)
 
 pub returns : goal.returns
 returns c =

@@ -4,14 +4,10 @@ use Rattle.dob_rank.proofs.ProfileB.FarTables.{before_choice, shape_few}
 use Rattle.dob_rank.proofs.Positions.Blocks.{choose_ten}
 use Rattle.dob_rank.proofs.far_rows.before_choice.Goals as goal
 
-pub returns-clause-value : goal.returns-clause-value
-returns-clause-value c =
-    c.from.ensures ∙ (before_choice c.args.lions c.args.chicks c.args.choice c.requires.chicks c.requires.lions c.requires.choice).value_is
-
-pub returns-clause-bound : goal.returns-clause-bound
-returns-clause-bound c =
-    let few = (before_choice c.args.lions c.args.chicks c.args.choice c.requires.chicks c.requires.lions c.requires.choice).few in
-    omega (arith, few, c.from.ensures)
+pub returns : goal.returns
+returns c =
+    let read = before_choice c.args.lions c.args.chicks c.args.choice c.requires.chicks c.requires.lions c.requires.choice in
+    record { value = c.from.ensures ∙ read.value_is; bound = omega (arith, read.few, c.from.ensures) }
 
 pub bounds-shape : goal.bounds-shape
 bounds-shape c = shape_few c.args.lions c.requires.lions

@@ -16,22 +16,13 @@ overflow_add-planes c =
     let bit = c.plane_of.ensures.bound in
     omega (arith, low, is)
 
-pub returns-clause-own_lion : goal.returns-clause-own_lion
-returns-clause-own_lion c = c.plane_at.ensures ∙ (planes_all c.args.board.now c.loop-square.square c.loop-square.planes c.told-board
-    (omega arith) c.loop-square.invariant.planes_are).own_lion
-
-pub returns-clause-enemy_lion : goal.returns-clause-enemy_lion
-returns-clause-enemy_lion c = c.plane_at-2.ensures ∙ (planes_all c.args.board.now c.loop-square.square c.loop-square.planes c.told-board
-    (omega arith) c.loop-square.invariant.planes_are).enemy_lion
-
-pub returns-clause-chicks : goal.returns-clause-chicks
-returns-clause-chicks c = c.plane_at-3.ensures ∙ (planes_all c.args.board.now c.loop-square.square c.loop-square.planes c.told-board
-    (omega arith) c.loop-square.invariant.planes_are).chicks
-
-pub returns-clause-elephants : goal.returns-clause-elephants
-returns-clause-elephants c = c.plane_at-4.ensures ∙ (planes_all c.args.board.now c.loop-square.square c.loop-square.planes c.told-board
-    (omega arith) c.loop-square.invariant.planes_are).elephants
-
-pub returns-clause-giraffes : goal.returns-clause-giraffes
-returns-clause-giraffes c = c.plane_at-5.ensures ∙ (planes_all c.args.board.now c.loop-square.square c.loop-square.planes c.told-board
-    (omega arith) c.loop-square.invariant.planes_are).giraffes
+pub returns : goal.returns
+returns c =
+    let are = planes_all c.args.board.now c.loop-square.square c.loop-square.planes c.told-board (omega arith) c.loop-square.invariant.planes_are in
+    record {
+      own_lion = c.plane_at.ensures ∙ are.own_lion;
+      enemy_lion = c.plane_at-2.ensures ∙ are.enemy_lion;
+      chicks = c.plane_at-3.ensures ∙ are.chicks;
+      elephants = c.plane_at-4.ensures ∙ are.elephants;
+      giraffes = c.plane_at-5.ensures ∙ are.giraffes;
+    }

@@ -1,7 +1,7 @@
 -- The digits are below their bases, and the place that they write is the position's.
 use Rattle.dob_rank.proofs.Common.{◌%◌, ◌/◌, ◌∙◌, arith, refl, lion_pairs}
 use Rattle.dob_rank.proofs.Positions.Found.{HasDigits-board, HasDigits-place, run_is_of}
-use Rattle.dob_rank.proofs.InRuns.DigitParts.{AreFewOnBoard-digits}
+use Rattle.dob_rank.proofs.Positions.Blocks.{AreFewOnBoard-digits}
 use Rattle.dob_rank.proofs.ProfileB.FarPlaces.{far_parts, far_place_is, chicks_on_board}
 use Rattle.dob_rank.proofs.ProfileB.PlaceParts.{place_in_block}
 use Rattle.dob_rank.proofs.ranks.far_place.Goals as goal

@@ -1,6 +1,8 @@
 -- The parts are found one by one, and each of them is small.
+use Rattle.dob_rank.proofs.Common.{get_or}
 use Rattle.std.proofs.Common.{◌+◌, ◌*◌, ◌≤◌, ◌∙◌, slice_index, arith}
-use Rattle.dob_rank.proofs.ProfileB.PlaceParts.{AreOthersSquares, AreOthersForms, others_squares_are, others_forms_are, few_squares, product_within, place_found}
+use Rattle.dob_rank.proofs.ProfileB.PlaceParts.{AreOthersSquares, AreOthersForms, others_squares_are, others_forms_are, few_squares, product_within}
+use Rattle.dob_rank.proofs.ProfileB.PlaceParts.{place_found}
 use Rattle.dob_rank.proofs.ranks.place_behind.Goals as goal
 use Rattle.dob_rank.proofs.ranks.place_behind.Goals.{After-choices_in-choices, After-weight_of, After-power}
 
@@ -16,20 +18,23 @@ weighed c =
 forms_in : (c : After-power) → AreOthersForms c.args.on_board.now c.args.digits.now c.power.result c.power-giraffes.result
 forms_in c = others_forms_are c.args.on_board.now c.args.digits.now c.power.result c.power-giraffes.result c.requires.few c.power.ensures c.power-giraffes.ensures
 
+number_few : (c : After-choices_in-choices) → get_or c.args.digits.now 6 0 * get_or c.choices_in-choices.result 2 0 + get_or c.args.digits.now 7 0 ≤ 2025
+number_few c = omega (arith, (squares_in c).number_is, (squares_in c).count_few, c.requires.squares)
+
+count_few : (c : After-choices_in-choices) → get_or c.choices_in-choices.result 1 0 * get_or c.choices_in-choices.result 2 0 ≤ 2025
+count_few c = omega (arith, (squares_in c).count_is, (squares_in c).count_few)
+
+digits_few : (c : After-power) → get_or c.args.digits.now 9 0 * c.power-giraffes.result + get_or c.args.digits.now 10 0 ≤ 16
+digits_few c = omega (arith, (forms_in c).number_is, (forms_in c).count_few, c.requires.others)
+
 pub overflow_mul-squares : goal.overflow_mul-squares
-overflow_mul-squares c =
-    let is = squares_in (goal.at.overflow_mul-squares c).After-choices_in-choices in
-    omega (arith, is.number_is, is.count_few, c.requires.squares)
+overflow_mul-squares c = omega (arith, number_few (goal.at.overflow_mul-squares c).After-choices_in-choices)
 
 pub overflow_add-squares : goal.overflow_add-squares
-overflow_add-squares c =
-    let is = squares_in (goal.at.overflow_add-squares c).After-choices_in-choices in
-    omega (arith, is.number_is, is.count_few, c.requires.squares)
+overflow_add-squares c = omega (arith, number_few (goal.at.overflow_add-squares c).After-choices_in-choices)
 
 pub overflow_mul-choices : goal.overflow_mul-choices
-overflow_mul-choices c =
-    let is = squares_in (goal.at.overflow_mul-choices c).After-choices_in-choices in
-    omega (arith, is.count_is, is.count_few)
+overflow_mul-choices c = omega (arith, count_few (goal.at.overflow_mul-choices c).After-choices_in-choices)
 
 pub overflow_mul-squares-2 : goal.overflow_mul-squares-2
 overflow_mul-squares-2 c =
@@ -42,9 +47,7 @@ overflow_add-squares-2 c =
     omega (arith, few, c.requires.forms)
 
 pub add_product-placed-requires-clause-b : goal.add_product-placed-requires-clause-b
-add_product-placed-requires-clause-b c =
-    let is = squares_in (goal.at.add_product-placed-requires-clause-b c).After-choices_in-choices in
-    omega (arith, is.count_is, is.count_few)
+add_product-placed-requires-clause-b c = omega (arith, count_few (goal.at.add_product-placed-requires-clause-b c).After-choices_in-choices)
 
 pub add_product-placed-requires-clause-c : goal.add_product-placed-requires-clause-c
 add_product-placed-requires-clause-c c =
@@ -52,14 +55,10 @@ add_product-placed-requires-clause-c c =
     omega (arith, few, c.requires.forms)
 
 pub overflow_mul-digits : goal.overflow_mul-digits
-overflow_mul-digits c =
-    let is = forms_in (goal.at.overflow_mul-digits c).After-power in
-    omega (arith, is.number_is, is.count_few, c.requires.others)
+overflow_mul-digits c = omega (arith, digits_few (goal.at.overflow_mul-digits c).After-power)
 
 pub overflow_add-digits : goal.overflow_add-digits
-overflow_add-digits c =
-    let is = forms_in (goal.at.overflow_add-digits c).After-power in
-    omega (arith, is.number_is, is.count_few, c.requires.others)
+overflow_add-digits c = omega (arith, digits_few (goal.at.overflow_add-digits c).After-power)
 
 pub add_product-requires-clause-a : goal.add_product-requires-clause-a
 add_product-requires-clause-a c =
@@ -74,9 +73,7 @@ add_product-requires-clause-b c =
     omega (arith, is.count_is, is.count_few)
 
 pub add_product-requires-clause-c : goal.add_product-requires-clause-c
-add_product-requires-clause-c c =
-    let is = forms_in (goal.at.add_product-requires-clause-c c).After-power in
-    omega (arith, is.number_is, is.count_few, c.requires.others)
+add_product-requires-clause-c c = omega (arith, digits_few (goal.at.add_product-requires-clause-c c).After-power)
 
 pub returns-clause-value : goal.returns-clause-value
 returns-clause-value c =

@@ -1,6 +1,6 @@
 -- The spot is one of the block of those numbers on the board.
 use Rattle.dob_rank.proofs.Positions.Blocks.{HasDigits-numbers}
-use Rattle.dob_rank.proofs.InRuns.DigitParts.{AreFewOnBoard-digits}
+use Rattle.dob_rank.proofs.Positions.Blocks.{AreFewOnBoard-digits}
 use Rattle.dob_rank.proofs.Positions.Found.{run_in_bases, local_in_bases, made_in_block}
 use Rattle.dob_rank.proofs.set_ranks.position_at.Goals as goal
 

@@ -1,6 +1,6 @@
 -- A rank is the start of the position's block and its place there, and the same under each set of the position.
 use Rattle.dob_rank.proofs.Common.{◌∙◌, arith, refl, IsPositionOfSet}
-use Rattle.dob_rank.proofs.InRuns.DigitParts.{AreFewOnBoard-digits}
+use Rattle.dob_rank.proofs.Positions.Blocks.{AreFewOnBoard-digits}
 use Rattle.dob_rank.proofs.Positions.Sets.{IsPositionOfSet-totals, rank_of_set-sets}
 use Rattle.dob_rank.proofs.Positions.Found.{HasDigits-board, block_upto, spot_small, place_is_of, ranked, rank_small}
 use Rattle.dob_rank.proofs.set_ranks.rank_in_set.Goals as goal

@@ -1,7 +1,7 @@
 -- The position at the place of the rank has that rank.
 use Rattle.dob_rank.proofs.Common.{◌<◌, ◌∙◌, refl, subst, sym, A, family_of, HasBlock}
 use Rattle.dob_rank.proofs.Positions.Blocks.{HasDigits-numbers}
-use Rattle.dob_rank.proofs.InRuns.DigitParts.{AreFewOnBoard-digits}
+use Rattle.dob_rank.proofs.Positions.Blocks.{AreFewOnBoard-digits}
 use Rattle.dob_rank.proofs.Positions.Found.{place_in, made_at_place}
 use Rattle.dob_rank.proofs.Positions.Numbering.{rank_of_set-block}
 use Rattle.dob_rank.proofs.OfFamilies.Present.{size_of-whole, in_whole_block}

@@ -7,17 +7,7 @@ use Rattle.dob_rank.proofs.starts.find_block.Goals as goal
 pub loop-block-init : goal.loop-block-init
 loop-block-init c = record { start_is = sym (marks_below_none (is_present c.args.family)); upto = omega arith }
 
-pub returns-clause-block : goal.returns-clause-block
-returns-clause-block c =
-    absurd (none_beyond c.args.family c.args.rank c.loop-block.start c.loop-block.block _ c.requires c.blocks-blocks.ensures.value c.loop-block-test.false
-    c.loop-block.auto.block-end c.loop-block.invariant.start_is c.loop-block.invariant.upto)
-
-pub returns-clause-number : goal.returns-clause-number
-returns-clause-number c =
-    absurd (none_beyond c.args.family c.args.rank c.loop-block.start c.loop-block.block _ c.requires c.blocks-blocks.ensures.value c.loop-block-test.false
-    c.loop-block.auto.block-end c.loop-block.invariant.start_is c.loop-block.invariant.upto)
-
-pub returns-clause-within : goal.returns-clause-within
-returns-clause-within c =
+pub returns : goal.returns
+returns c =
     absurd (none_beyond c.args.family c.args.rank c.loop-block.start c.loop-block.block _ c.requires c.blocks-blocks.ensures.value c.loop-block-test.false
     c.loop-block.auto.block-end c.loop-block.invariant.start_is c.loop-block.invariant.upto)
