@@ -1,7 +1,7 @@
 -- What has been opened: it grows by a slot with its run, and is in order.
 use Rattle.dob_share.proofs.Common.{◌++◌, ◌+◌, ◌-◌, ◌<◌, ◌∙◌, ◌∷◌, ◌≡◌, ◌≤◌, List, [], add-one, ap, arith, inl, inr, length, refl, replicate, subst, suc, sym}
 use Rattle.dob_share.proofs.Common.{zero, ℕ, cases_eq, cases_lt, get_or_append_left, get_or_default, get_or_past, get_or_push, length-replicate, length_push}
-use Rattle.dob_share.proofs.Common.{Status, Caught, Open, Stuck, Tried, SameCell, fresh, AreOpened, settled_among, settles, moves_at, tally, vacant, wins_in}
+use Rattle.dob_share.proofs.Common.{Status, SameCell, fresh, AreOpened, settled_among, settles, moves_at, tally, vacant, wins_in}
 use Rattle.dob_share.proofs.Common.{ArePooled, IsShortCell, beyond, cell_in, least_of, room_at, slot_at, start_at, Slot}
 use Rattle.dob_share.proofs.Keeping.{cell_is, same_short}
 
@@ -137,10 +137,7 @@ none_opened slots pool no_slot no_count =
     }
 
 pub settles_most : (status : Status) → settles status ≤ 1
-settles_most Open = omega arith
-settles_most Caught = omega arith
-settles_most Tried = omega arith
-settles_most Stuck = omega arith
+settles_most status = grind arith
 
 pub settled_more : (status : ℕ → Status) (place settled more : ℕ) → settled ≡ settled_among status place → more ≡ settles (status place) →
     settled + more ≡ settled_among status (place + 1)

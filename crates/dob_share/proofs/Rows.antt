@@ -1,7 +1,7 @@
 -- The rows of the table of items: what each makes of its cell, and of the cell's value.
-use Rattle.dob_share.proofs.Common.{◌+◌, ◌-◌, ◌<◌, ◌∙◌, ◌≡◌, ◌≤◌, Err, List, MatchOption, None, Ok, Option, Some, ap, arith, get_or, inl, inr, length, refl}
+use Rattle.dob_share.proofs.Common.{◌+◌, ◌-◌, ◌<◌, ◌∙◌, ◌≡◌, ◌≤◌, Err, List, MatchOption, None, Ok, Option, Some, ap, arith, inl, inr, length, refl}
 use Rattle.dob_share.proofs.Common.{subst, suc, sym, zero, ℕ, set, cases_eq, set-get_or, greater_of, lesser_of, Value, Draw, Loss, Win, CellValue, IsGreatestIn}
-use Rattle.dob_share.proofs.Common.{less_at, more_at, ChangesRun, wins_in, ArePooled, IsShortCell, cell_by, cell_of, least_of, room_at, IsApplied, IsChange}
+use Rattle.dob_share.proofs.Common.{less_at, more_at, ChangesRun, wins_in, IsShortCell, cell_by, cell_of, least_of, room_at, IsApplied, IsChange}
 use Rattle.dob_share.proofs.Common.{Slot, Contradiction, TooDeep}
 use Rattle.dob_share.proofs.Changing.{misfits, least_some, greatest_more, win_most, win_deep, win_step, loss_deep, loss_step, better_win_step, better_loss_step}
 use Rattle.dob_share.proofs.Changing.{better_loss_misfits}

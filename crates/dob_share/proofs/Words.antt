@@ -1,7 +1,7 @@
 -- Words of statuses: the number of a cell, which is how many classes are open before its place, and the status of a place.
 use Rattle.dob_share.proofs.Common.{◌%◌, ◌*◌, ◌++◌, ◌+◌, ◌/◌, ◌<◌, ◌^◌, ◌∙◌, ◌∷◌, ◌≡◌, ◌≤◌, List, Some, [], ap, arith, get_or, inl, inr, length, refl}
-use Rattle.dob_share.proofs.Common.{slice_get, subst, suc, sym, zero, ℕ, mod-eq_of_lt, cases_eq, cases_lt, cases_order, cond_below, get_or_append_left}
-use Rattle.dob_share.proofs.Common.{length_push, ones, Status, Caught, Open, Stuck, Tried, opening_of, class_of_place, AreCounted, IsStatusOf, bit, bits_below}
+use Rattle.dob_share.proofs.Common.{slice_get, subst, suc, sym, zero, ℕ, mod-eq_of_lt, cases_eq, cases_lt, cond_below, get_or_append_left}
+use Rattle.dob_share.proofs.Common.{length_push, ones, Status, Open, Stuck, opening_of, class_of_place, AreCounted, IsStatusOf, bit, bits_below}
 use Rattle.dob_share.proofs.Common.{catches, open_at, opens, opens_below, status_in, status_listed, tries, word_of, Opening, StatusWord}
 use Rattle.std.proofs.lemmas.Option.{slice_get_within, get_or_from_slice_get}
 use Rattle.std.proofs.Math.Seq.{get_or-append_seam}
@@ -14,10 +14,7 @@ pub by_bits : (a b c x y z : ℕ) → a ≡ x → b ≡ y → c ≡ z → status
 by_bits a b c x y z p q r = ap (λ (k : ℕ). status_of_bits k b c) p ∙ ap (λ (k : ℕ). status_of_bits x k c) q ∙ ap (λ (k : ℕ). status_of_bits x y k) r
 
 bits_back : (status : Status) → status_of_bits (opens status) (catches status) (tries status) ≡ status
-bits_back Open = refl
-bits_back Caught = refl
-bits_back Tried = refl
-bits_back Stuck = refl
+bits_back status = grind arith
 
 -- what a word says of a class
 pub status_told : (word : StatusWord) (place : ℕ) (status : Status) → IsStatusOf word place status →
@@ -26,16 +23,8 @@ status_told word place status is =
     by_bits (bit word.opens place) (bit word.caught place) (bit word.tried place) (opens status) (catches status) (tries status) is.opens_is is.caught_is is.tried_is
     ∙ bits_back status
 
-open_bit : (a b c : ℕ) → a < 2 → status_of_bits a b c ≡ Open → a ≡ 1
-open_bit zero zero zero low e = absurd (cc)
-open_bit zero zero (suc c) low e = absurd (cc)
-open_bit zero (suc b) c low e = absurd (cc)
-open_bit (suc zero) b c low e = refl
-open_bit (suc (suc a)) b c low e = absurd (omega arith)
-
 pub open_at_open : (words : List StatusWord) (place : ℕ) → status_in words place ≡ Open → open_at words place ≡ 1
-open_at_open words place is = open_bit (open_at words place) (bit (word_of words place).caught (place % 64)) (bit (word_of words place).tried (place % 64))
-    (let low : open_at words place < 2 = omega arith in low) is
+open_at_open words place is = let low : open_at words place < 2 = omega arith in grind arith
 
 -- ---- how many are open before a place
 
@@ -78,28 +67,16 @@ rank_read words place before word counted there is =
 
 pub opens_few : (words : List StatusWord) (k : ℕ) → opens_below words k ≤ k
 opens_few words zero = omega arith
-opens_few words (suc k) = let rest : opens_below words k ≤ k = opens_few words k in
-    let one : open_at words k < 2 = omega arith in
-    omega arith
+opens_few words (suc k) = grind (arith, opens_few words k)
 
 -- later places have later cells
 pub rank_less : (words : List StatusWord) (a b : ℕ) → a < b → open_at words a ≡ 1 → opens_below words a < opens_below words b
 rank_less words a zero less set = absurd (omega arith)
-rank_less words a (suc b) less set = elim (cases_eq a b) [
-  | inl same ↦ let last : open_at words b ≡ 1 = ap (open_at words) (sym same) ∙ set in
-      let count : opens_below words a ≡ opens_below words b = ap (opens_below words) same in omega arith
-  | inr other ↦ let rest : opens_below words a < opens_below words b = rank_less words a b (omega arith) set in omega arith
-]
+rank_less words a (suc b) less set = grind (arith, rank_less words a b)
 
 -- no two open classes have one cell
 pub rank_same : (words : List StatusWord) (a b : ℕ) → open_at words a ≡ 1 → open_at words b ≡ 1 → opens_below words a ≡ opens_below words b → a ≡ b
-rank_same words a b one other same = elim (cases_order a b) [
-  | inl e ↦ e
-  | inr order ↦ elim order [
-    | inl less ↦ let apart : opens_below words a < opens_below words b = rank_less words a b less one in absurd (omega arith)
-    | inr more ↦ let apart : opens_below words b < opens_below words a = rank_less words b a more other in absurd (omega arith)
-  ]
-]
+rank_same words a b one other same = grind (arith, rank_less words a b, rank_less words b a)
 
 -- ---- one word more
 
@@ -196,10 +173,7 @@ pub digits_more : (digit : Status → ℕ) (status : ℕ → Status) (k word new
     ((other : ℕ) → other < k → bit new other ≡ bit word other) → new < 2 ^ (k + 1) → AreDigits digit status (k + 1) new
 digits_more digit status k word new old here before low = record {
   low = low;
-  each = λ j less. elim (cases_eq j k) [
-    | inl same ↦ subst (λ (m : ℕ). bit new m ≡ digit (status m)) (sym same) here
-    | inr other ↦ before j (omega arith) ∙ old.each j (omega arith)
-  ];
+  each = λ j less. elim (cases_eq j k) [ inl same ↦ rw same here | inr other ↦ before j (omega arith) ∙ old.each j (omega arith) ];
 }
 
 -- what is listed of the owner's classes
