@@ -72,9 +72,8 @@ module _ (family : Family) (share after : Share) (history grown : HistoryView) (
 
   are_after : AreAfter item (cells_below (classes_of family) share) (cells_below (classes_of family) after) (value_of h) (value_of g)
   are_after = record {
-    cell_is = subst (λ c. SameCell c (changed item.was item.now (cells_below (classes_of family) share item.to))) (sym (cell_below (classes_of family) after item.to low))
-        (subst (λ c. SameCell (cell_at after item.to) (changed item.was item.now c)) (sym (cell_below (classes_of family) share item.to low)) taken.cell);
-    gives = subst (λ c. CellValue c (value_of g item.to)) (sym (cell_below (classes_of family) after item.to low)) changes.gives;
+    cell_is = rw (cell_below (classes_of family) after item.to low, cell_below (classes_of family) share item.to low) taken.cell;
+    gives = rw (cell_below (classes_of family) after item.to low) changes.gives;
     short = short_value (cell_at after item.to) (value_of g item.to) (cell_short after item.to there_after) changes.gives;
     better = changes.better;
     others = λ p other. (cells_after p other, changes.others p other);

@@ -34,10 +34,7 @@ module _ (node : NodeView) (steps : ℕ) (made : HasMade steps node) (item : Ite
   pub next_fits : Fits node.share item
   unfolding Fits
   next_fits = (
-    (made.1.sound.kept.owned item.to).1 (
-      subst (λ (m : ℕ). item.to % m ≡ node.id) (sym made.1.alone.0) (one_owner item.to ∙ sym made.1.alone.1),
-      can.below,
-    ),
+    (made.1.sound.kept.owned item.to).1 (rw (made.1.alone.0, made.1.alone.1) (one_owner item.to, can.below)),
     one_status node.family.profile (class_setup node.family item.to) (status_at node.share item.to) Open (made.1.statuses item.to can.below) can.is_open,
     subst (λ c. CellCanTake item.was item.now c) (cell_below (classes_of node.family) node.share item.to can.below) can.takes,
   )

@@ -9,42 +9,26 @@ use Rattle.dob_node.proofs.Parity.{parities_same, parities_changed, entry_now}
 
 -- ---- what is not refused fits
 
-sure_less : (a b : ℕ) → ¬ ¬ (a < b) → a < b
-sure_less a b sure = elim (cases_lt a b) [ inl less ↦ less | inr more ↦ absurd (sure (λ less. omega arith)) ]
-
-sure_same : (a b : ℕ) → ¬ ¬ (a ≡ b) → a ≡ b
-sure_same a b sure = elim (cases_eq a b) [ inl same ↦ same | inr other ↦ absurd (sure other) ]
-
 sure_within : (plies : ℕ) (least : Option ℕ) → ¬ ¬ KnowsLossWithin plies least → KnowsLossWithin plies least
 sure_within plies None sure = absurd (sure (λ none. none))
-sure_within plies (Some least) sure =
-    let less : least < plies + 1 = sure_less least (plies + 1) (λ no. sure (λ yes. no (omega arith))) in omega arith
+sure_within plies (Some least) sure = grind arith
 
 sure_takes : (was now : Value) (cell : Cell) → ¬ ¬ CellCanTake was now cell → CellCanTake was now cell
-sure_takes Draw (Win now) cell sure = sure_less 0 cell.left sure
-sure_takes Draw (Loss now) cell sure = sure_less 0 cell.left sure
-sure_takes (Win was) (Win now) cell sure =
-    (sure_less now was (λ no. sure (λ yes. no yes.0)), sure_less 0 (cell.wins was) (λ no. sure (λ yes. no yes.1)))
-sure_takes (Loss was) (Loss now) cell sure =
-    (sure_less now was (λ no. sure (λ yes. no yes.0)), sure_within was cell.least (λ no. sure (λ yes. no yes.1)))
-sure_takes (Win was) (Loss now) cell sure = absurd (sure (λ none. none))
-sure_takes (Loss was) (Win now) cell sure = absurd (sure (λ none. none))
-sure_takes (Win was) Draw cell sure = absurd (sure (λ none. none))
-sure_takes (Loss was) Draw cell sure = absurd (sure (λ none. none))
-sure_takes Draw Draw cell sure = absurd (sure (λ none. none))
+sure_takes Draw (Win now) cell sure = grind arith
+sure_takes Draw (Loss now) cell sure = grind arith
+sure_takes (Win was) (Win now) cell sure = (grind arith, grind arith)
+sure_takes (Loss was) (Loss now) cell sure = (grind arith, sure_within was cell.least (λ no. sure (λ yes. no yes.1)))
+sure_takes was now cell sure = absurd (sure (λ none. none))
 
 sure_open : (status : Status) → ¬ ¬ (status ≡ Open) → status ≡ Open
-sure_open Open sure = refl
-sure_open Caught sure = absurd (sure (λ same. cc))
-sure_open Tried sure = absurd (sure (λ same. cc))
-sure_open Stuck sure = absurd (sure (λ same. cc))
+sure_open status sure = grind arith
 
 pub sure_fits : (share : Share) (item : Item) → ¬ ¬ Fits share item → Fits share item
 unfolding Fits IsOwn
 sure_fits share item sure = (
   (
-    sure_same (item.to % share.nodes) share.id (λ no. sure (λ fits. no fits.0.0)),
-    sure_less (item.to / share.nodes) (share.statuses.places) (λ no. sure (λ fits. no fits.0.1)),
+    (let once : ¬ ¬ (item.to % share.nodes ≡ share.id) = λ no. sure (λ fits. no fits.0.0) in grind arith),
+    (let within : ¬ ¬ (item.to / share.nodes < share.statuses.places) = λ no. sure (λ fits. no fits.0.1) in grind arith),
   ),
   sure_open (status_at share item.to) (λ no. sure (λ fits. no fits.1)),
   sure_takes item.was item.now (cell_at share item.to) (λ no. sure (λ fits. no fits.2)),

@@ -12,21 +12,19 @@ use Rattle.dob_node.proofs.Parity.{parities_same}
 -- ---- the settlements
 
 one_settles : (status : Status) (number class : ℕ) → settles status ≡ length (opening_settlement number class (opening_value status))
-one_settles Caught number class = refl
-one_settles Tried number class = refl
-one_settles Stuck number class = refl
-one_settles Open number class = refl
+one_settles status number class = grind arith
 
 -- as many as a share counts
 pub start_length : (status : ℕ → Status) (n id k : ℕ) → length (start_settlements status n id k) ≡ settled_among status k
 start_length status n id zero = refl
 start_length status n id (suc k) =
     let before = start_settlements status n id k in
-    let more = opening_settlement (length before) (class_of_place n id k) (opening_value (status k)) in
-    let sum : length (before ++ more) ≡ length before + length more = length-append before more in
-    let same : length before ≡ settled_among status k = start_length status n id k in
-    let one : settles (status k) ≡ length more = one_settles (status k) (length before) (class_of_place n id k) in
-    omega arith
+    omega (
+      arith,
+      length-append before (opening_settlement (length before) (class_of_place n id k) (opening_value (status k))),
+      start_length status n id k,
+      one_settles (status k) (length before) (class_of_place n id k),
+    )
 
 -- what each of them has
 pub all_started : (P : Settlement → Type 0) (status : ℕ → Status) (n id k : ℕ) →
@@ -108,7 +106,7 @@ opened_cells family openings share n id are owned cells class own =
     (cells class own)
 
 fresh_parities : (moves : ℕ) → HasParities (fresh moves)
-fresh_parities moves = record { wins = λ plies some. absurd (omega arith); least = λ plies is. absurd cc }
+fresh_parities moves = grind arith
 
 pub opened_kept : (family : Family) (openings : List Opening) (n id : ℕ) (share : Share) (history : HistoryView) → AreOpenings family openings →
     id < n → length openings ≤ 2 ^ 32 → (share.id ≡ id) × (share.nodes ≡ n) →

@@ -1,9 +1,9 @@
 -- The outboxes of a node: empty ones, and what one settlement more adds to them.
-use Rattle.dob_node.proofs.Common.{◌++◌, ◌+◌, ◌<◌, ◌==◌, ◌∙◌, ◌∷◌, ◌≡◌, ◌≢◌, List, None, Option, Some, [], ap, arith, drop, get_or, inl, inr, length, refl, set}
+use Rattle.dob_node.proofs.Common.{◌++◌, ◌+◌, ◌<◌, ◌==◌, ◌∙◌, ◌∷◌, ◌≡◌, ◌≢◌, ◌≤◌, List, None, Option, Some, [], ap, arith, drop, get_or, inl, inr, length, refl, set}
 use Rattle.dob_node.proofs.Common.{subst, sym, ℕ, get_or-eq_default, drop-nil, cases_eq, cases_lt, cases_order, get_or-set_other, get_or-set_same}
 use Rattle.dob_node.proofs.Common.{get_or_append_left, get_or_default, length-append, length-set, All-append, All-drop, All-nil, All-take, All, filter, IfSome}
 use Rattle.dob_node.proofs.Common.{IsNone, Family, IsEntry, predecessors, owner_of, Item, Settlement, BatchView, IsCut, OutboxView, added, empty_outbox}
-use Rattle.dob_node.proofs.Common.{items_of, AreAdded, IsCutFrom, IsOutboxTo, outbox_in, HasItemEntries}
+use Rattle.dob_node.proofs.Common.{items_of, AreAdded, IsCutFrom, IsOutboxTo, outbox_in, HasItemEntries, NodeView, IsSound}
 use Rattle.std.proofs.lemmas.List.{get_or_push}
 use Rattle.dob_node.proofs.Sounds.{entries_of}
 
@@ -192,31 +192,31 @@ nothing_cut family n from own to size batch old new cut none = elim (cases_eq ow
   | inr apart ↦ ap (λ (o : OutboxView). o.items) (cut.others own (empty_outbox family n from own) apart) ∙ none
 ]
 
--- ---- all of them
+-- ---- a node that stays sound
 
--- an outbox for each of n nodes, and nothing in that for the node itself
-pub record AreReady (family : Family) (n from : ℕ) (outboxes : List OutboxView) : Type 0 where
-  pub receivers : length outboxes ≡ n
-  pub addressed : (to : ℕ) → IsOutboxTo family n from to (outbox_in family n from outboxes to)
-  pub nothing_to_self : (outbox_in family n from outboxes from).items ≡ []
-
-pub ready_added : (family : Family) (targets : List ℕ) (s : Settlement) (n from : ℕ) (old new : List OutboxView) → IsEntry s.was → IsEntry s.now →
-    AreAdded targets s (length old) from (length old) old new → AreReady family n from old → AreReady family n from new
-ready_added family targets s n from old new was now are ready = record {
-  receivers = are.whole ∙ ready.receivers;
-  addressed = addressed_added family targets s n from old new was now (subst (λ (m : ℕ). AreAdded targets s m from m old new) ready.receivers are) ready.addressed;
-  nothing_to_self = ap (λ (o : OutboxView). o.items) (are.unsent (empty_outbox family n from from)) ∙ ready.nothing_to_self;
+-- with one more settlement expanded
+pub sound_expanded : (node : NodeView) (targets : List ℕ) (s : Settlement) (own : List Item) (outboxes : List OutboxView) → IsSound node →
+    node.expanded + 1 ≤ length node.history.settlements → All HasItemEntries own → IsEntry s.was → IsEntry s.now →
+    AreAdded targets s (length node.outboxes) node.id (length node.outboxes) node.outboxes outboxes →
+    IsSound (record node { expanded = node.expanded + 1; own = own; outboxes = outboxes })
+sound_expanded node targets s own outboxes sound emitted entries was now are = record {
+  kept = sound.kept;
+  emitted = emitted;
+  entries = entries;
+  receivers = are.whole ∙ sound.receivers;
+  addressed = addressed_added node.family targets s node.n node.id node.outboxes outboxes was now (rw sound.receivers at are) sound.addressed;
+  nothing_to_self = ap (λ (o : OutboxView). o.items) (are.unsent (empty_outbox node.family node.n node.id node.id)) ∙ sound.nothing_to_self;
 }
 
--- outboxes as they were
-pub ready_same : (family : Family) (n from : ℕ) (old new : List OutboxView) → new ≡ old → AreReady family n from old → AreReady family n from new
-ready_same family n from old new same ready = subst (λ xs. AreReady family n from xs) (sym same) ready
-
-pub ready_cut : (family : Family) (n from to size : ℕ) (given : Option BatchView) (old new : List OutboxView) →
-    IfSome given (λ batch. IsCutFrom to size batch old new) → (IsNone given → new ≡ old) → AreReady family n from old → AreReady family n from new
-ready_cut family n from to size None old new cut nothing ready = subst (λ xs. AreReady family n from xs) (sym (nothing refl)) ready
-ready_cut family n from to size (Some batch) old new cut nothing ready = record {
-  receivers = cut.whole ∙ ready.receivers;
-  addressed = addressed_cut family n from to size batch old new cut ready.addressed;
-  nothing_to_self = nothing_cut family n from from to size batch old new cut ready.nothing_to_self;
+-- with a batch cut
+pub sound_cut : (node : NodeView) (to size : ℕ) (given : Option BatchView) (outboxes : List OutboxView) → IsSound node →
+    IfSome given (λ batch. IsCutFrom to size batch node.outboxes outboxes) → (IsNone given → ⊥) → IsSound (record node { outboxes = outboxes })
+sound_cut node to size None outboxes sound cut some = absurd (some refl)
+sound_cut node to size (Some batch) outboxes sound cut some = record {
+  kept = sound.kept;
+  emitted = sound.emitted;
+  entries = sound.entries;
+  receivers = cut.whole ∙ sound.receivers;
+  addressed = addressed_cut node.family node.n node.id to size batch node.outboxes outboxes cut sound.addressed;
+  nothing_to_self = nothing_cut node.family node.n node.id node.id to size batch node.outboxes outboxes cut sound.nothing_to_self;
 }
