@@ -1,10 +1,10 @@
 -- One node that owns all classes, as it is opened: it is lawful.
-use Rattle.dob_node.proofs.Common.{◌%◌, ◌*◌, ◌++◌, ◌+◌, ◌<◌, ◌∙◌, ◌≡◌, Err, IfOk, List, Ok, Result, [], ap, arith, get_or, inl, inr, length, refl, subst, suc}
-use Rattle.dob_node.proofs.Common.{sym, take, zero, ℕ, cases_order, slice_get-get_or, All, Family, one_status, moves_of, HasStatus, Status, Open, Stuck}
-use Rattle.dob_node.proofs.Common.{class_setup, classes_of, IsEntry, Draw, predecessors, CellValue-same, CellValue, SameCell, fresh, opening_of, owner_of}
-use Rattle.dob_node.proofs.Common.{IsOwn, cell_at, places_of, status_at, Item, Settlement, Opening, items_from, HasCome, HasMade, IsAlone, alone_applied}
-use Rattle.dob_node.proofs.Common.{alone_history, alone_items, cells_below, HaveFalls, IsFirst, IsChained, value_of, AreLawfulNodes, known_of, NodeView}
-use Rattle.dob_node.proofs.Common.{IsOpened, IsSound, opening_settlements, opening_status, opening_value, AreOpenings, IsOpening, FollowsAtStatus}
+use Rattle.dob_node.proofs.Common.{◌*◌, ◌++◌, ◌+◌, ◌<◌, ◌∙◌, ◌≡◌, Err, IfOk, List, Ok, Result, [], ap, arith, get_or, inl, inr, length, refl, subst, suc}
+use Rattle.dob_node.proofs.Common.{sym, zero, ℕ, cases_order, slice_get-get_or, All, Family, one_status, moves_of, HasStatus, Status, Open, Stuck}
+use Rattle.dob_node.proofs.Common.{class_setup, classes_of, IsEntry, Draw, predecessors, CellValue-same, SameCell, fresh, opening_of, owner_of}
+use Rattle.dob_node.proofs.Common.{IsOwn, places_of, Item, Settlement, Opening, items_from, HasCome, HasMade, IsAlone, alone_applied}
+use Rattle.dob_node.proofs.Common.{alone_history, cells_below, HaveFalls, IsFirst, IsChained, value_of, AreLawfulNodes, known_of, NodeView}
+use Rattle.dob_node.proofs.Common.{IsOpened, IsSound, opening_settlements, opening_status, opening_value, AreOpenings, IsOpening}
 use Rattle.dob_node.proofs.Beginnings.{or_else, closed_follows, opened_value, opened_chained, opened_entries}
 use Rattle.dob_node.proofs.ValuesFollow.{SumsUp-same}
 use Rattle.dob_node.proofs.Totals.{start_sums}

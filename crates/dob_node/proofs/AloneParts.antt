@@ -1,6 +1,6 @@
 -- The steps of one node that owns all classes.
-use Rattle.dob_node.proofs.Common.{◌%◌, ◌++◌, ◌<◌, ◌∷◌, ◌≡◌, ◌≢◌, List, [], ap, arith, cond, lit<, nat_lt, refl, subst, suc, sym, zero, ℕ, lt-ltb, ltb-true}
-use Rattle.dob_node.proofs.Common.{Family, classes_of, cell_short, CellValue, SameCell, changed, fresh, IsOwn, cell_at, Item, Settlement, Share, alone_applied}
+use Rattle.dob_node.proofs.Common.{◌%◌, ◌++◌, ◌<◌, ◌∷◌, ◌≡◌, ◌≢◌, List, [], ap, arith, cond, lit<, nat_lt, refl, subst, suc, zero, ℕ, lt-ltb, ltb-true}
+use Rattle.dob_node.proofs.Common.{Family, classes_of, cell_short, CellValue, SameCell, fresh, IsOwn, cell_at, Item, Settlement, Share, alone_applied}
 use Rattle.dob_node.proofs.Common.{alone_history, alone_items, cells_below, HaveFalls, value_of, AreAfter, AreLawfulNodes, AreSettled, CanApply, IsNextItem}
 use Rattle.dob_node.proofs.Common.{IsOneMore, HistoryView, AreKept, IsTaken}
 use Rattle.dob_share.proofs.Changing.{short_value}

@@ -1,7 +1,7 @@
 -- The steps of one node that owns all classes: it stays lawful, and makes one step more.
-use Rattle.dob_node.proofs.Common.{◌++◌, ◌+◌, ◌<◌, ◌∙◌, ◌∷◌, ◌≡◌, List, [], add-one, ap, append_assoc, arith, drop, inl, inr, length, subst, sym, take, ℕ, length-append, Family}
-use Rattle.dob_node.proofs.Common.{classes_of, predecessors, Item, items_of, HasCome, HasMade, IsAlone, alone_applied, alone_history, alone_items, cells_below, HaveFalls, value_of}
-use Rattle.dob_node.proofs.Common.{Settlement, AreLawfulNodes, NodeView, HasApplied, IsExpanded, IsSound, HistoryView, AreKept, listed}
+use Rattle.dob_node.proofs.Common.{◌++◌, ◌+◌, ◌∙◌, ◌∷◌, ◌≡◌, List, [], add-one, ap, append_assoc, arith, drop, inl, inr, length, subst, sym, take, ℕ, length-append, Family}
+use Rattle.dob_node.proofs.Common.{predecessors, Item, items_of, HasCome, HasMade, IsAlone, alone_items}
+use Rattle.dob_node.proofs.Common.{Settlement, NodeView, HasApplied, IsExpanded, IsSound, HistoryView, AreKept, listed}
 use Rattle.dob_node.proofs.Settles.{emitted_more, emitted_grown, emitted_all}
 use Rattle.dob_node.proofs.AloneParts.{still_lawful, still_falls}
 

@@ -1,5 +1,5 @@
 -- One node that owns all classes: where it stops, and when it has nothing left to do.
-use Rattle.dob_node.proofs.Common.{◌%◌, ◌++◌, ◌<◌, ◌∙◌, ◌∷◌, ◌≡◌, List, [], ap, arith, drop, inl, inr, length, lit<, refl, subst, sym, ℕ, get_or-eq_default}
+use Rattle.dob_node.proofs.Common.{◌++◌, ◌<◌, ◌∙◌, ◌∷◌, ◌≡◌, List, [], ap, arith, drop, inl, inr, length, lit<, refl, subst, sym, ℕ, get_or-eq_default}
 use Rattle.dob_node.proofs.Common.{cases_eq, Family, one_status, Open, class_setup, classes_of, CellCanTake, changed, Fits, GoesTooDeep, status_at, IsTooDeep}
 use Rattle.dob_node.proofs.Common.{Item, Settlement, OutboxView, empty_outbox, Cause, HasMade, HasStoppedAlone, IsDone, IsTooDeepWithin, alone_applied}
 use Rattle.dob_node.proofs.Common.{alone_history, alone_items, cells_below, value_of, CanApply, IsNextItem, NodeView, HasItemFault, IsIdle, outbox_to}

@@ -1,8 +1,8 @@
 -- The histories of nodes at their opening.
 use Rattle.dob_node.proofs.Common.{nat_tests}
-use Rattle.dob_node.proofs.Common.{◌%◌, ◌*◌, ◌++◌, ◌+◌, ◌<◌, ◌∙◌, ◌≡◌, ◌≢◌, ◌≤◌, Bool, List, None, Option, Some, [], ap, arith, cond, eqb, false, inl, inr}
-use Rattle.dob_node.proofs.Common.{length, lit≤, refl, subst, suc, sym, true, zero, ℕ, mod-eq_of_lt, mul-add-mod_self_right, cases_eq, eq-eqb, ne_eqb}
-use Rattle.dob_node.proofs.Common.{append-nil, same_from_place, All, Status, Caught, Open, Stuck, Tried, IsEntry, Value, Draw, Better, Settlement, IsChained}
+use Rattle.dob_node.proofs.Common.{◌%◌, ◌*◌, ◌++◌, ◌+◌, ◌<◌, ◌∙◌, ◌≡◌, ◌≢◌, ◌≤◌, Bool, List, None, Option, Some, [], ap, arith, cond, eqb, inl, inr}
+use Rattle.dob_node.proofs.Common.{length, refl, subst, suc, sym, zero, ℕ, mod-eq_of_lt, mul-add-mod_self_right, cases_eq, eq-eqb, ne_eqb}
+use Rattle.dob_node.proofs.Common.{append-nil, same_from_place, All, Status, Open, IsEntry, Value, Draw, Better, Settlement, IsChained}
 use Rattle.dob_node.proofs.Common.{value_of, opening_settlement, opening_settlements, opening_value, FollowsAtStatus}
 use Rattle.dob_node.proofs.Opens.{all_started}
 use Rattle.dob_node.proofs.Settles.{chained_more, chained_none, value_of-more}

@@ -1,7 +1,7 @@
 -- What the copies of an edge know.
 use Rattle.dob_node.proofs.Common.{nat_tests}
-use Rattle.dob_node.proofs.Common.{◌&&◌, ◌++◌, ◌+◌, ◌<◌, ◌∙◌, ◌∷◌, ◌≡◌, ◌≤◌, Bool, List, [], ap, append_assoc, arith, cond, eqb, false, inl, inr, ltb, refl}
-use Rattle.dob_node.proofs.Common.{subst, sym, ℕ, cases_Bool, eqb-true, lt-ltb, Value, Draw, owner_of, Item, Settlement, items_from, items_of, copies, items_to}
+use Rattle.dob_node.proofs.Common.{◌&&◌, ◌++◌, ◌<◌, ◌∙◌, ◌∷◌, ◌≡◌, ◌≤◌, Bool, List, [], ap, append_assoc, arith, cond, eqb, false, ltb, refl}
+use Rattle.dob_node.proofs.Common.{subst, ℕ, Value, Draw, owner_of, Item, Settlement, items_from, items_of, copies, items_to}
 use Rattle.dob_node.proofs.Common.{known, last_now, value_of}
 use Rattle.dob_node.proofs.Counts.{items_to-append, items_to-items_of}
 

@@ -1,7 +1,7 @@
 -- How many items of each settlement a list of items has for a class.
 use Rattle.dob_node.proofs.Common.{nat_tests}
-use Rattle.dob_node.proofs.Common.{◌&&◌, ◌++◌, ◌+◌, ◌∙◌, ◌∷◌, ◌≡◌, ◌≢◌, Bool, List, [], ap, arith, cond, eqb, false, map, refl, subst, sym, true, ℕ, both_ways}
-use Rattle.dob_node.proofs.Common.{eq-eqb, ne_eqb, count_by, filter, owner_of, Item, Settlement, item_for, items_of, copies, items_to}
+use Rattle.dob_node.proofs.Common.{◌&&◌, ◌++◌, ◌+◌, ◌∙◌, ◌∷◌, ◌≡◌, ◌≢◌, Bool, List, [], arith, cond, eqb, false, map, refl, sym, true, ℕ}
+use Rattle.dob_node.proofs.Common.{eq-eqb, count_by, filter, owner_of, Item, Settlement, item_for, items_of, copies, items_to}
 use Rattle.std.proofs.lemmas.List.Sums.{sum_by-cons, sum_by-append}
 
 pub items_to-append : (xs ys : List Item) (number to : ℕ) → items_to (xs ++ ys) number to ≡ items_to xs number to + items_to ys number to

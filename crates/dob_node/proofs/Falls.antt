@@ -1,7 +1,7 @@
 -- Falls: how far they go, and what goes before one. A settlement is no better than its class's present value.
 use Rattle.dob_node.proofs.Common.{◌++◌, ◌+◌, ◌<◌, ◌∙◌, ◌∷◌, ◌≡◌, ◌≢◌, ◌≤◌, Contains, List, [], ap, append_assoc, arith, cond, get_or, inl, inr, length, map}
 use Rattle.dob_node.proofs.Common.{refl, subst, sym, ℕ, cases_eq, eq-eqb, ne_eqb, append-nil, length-map, All-cons, All-contains, All-head, All-nil, All-tail}
-use Rattle.dob_node.proofs.Common.{range_with_len, cons_cases, none_in_empty, plies_of, Value, Draw, Loss, Win, owner_of, Better, NoWorse, Settlement, Falls}
+use Rattle.dob_node.proofs.Common.{range_with_len, cons_cases, none_in_empty, plies_of, Value, Draw, owner_of, Better, NoWorse, Settlement, Falls}
 use Rattle.dob_node.proofs.Common.{IsFall, IsFirst, IsSettlement, RestsOn, IsChained, IsNext, value_of}
 use Rattle.std.proofs.Common.{All, AllPairs}
 use Rattle.std.proofs.lemmas.List.FromFn.{length-range_with_len, get_or-range_with_len}

@@ -1,7 +1,7 @@
 -- What an item that a share takes changes: the value of its class, told by the settlement that is listed, and no other value.
-use Rattle.dob_node.proofs.Common.{◌++◌, ◌+◌, ◌<◌, ◌∙◌, ◌∷◌, ◌≡◌, ◌≢◌, ◌≤◌, ◌⊎◌, Bool, List, None, Option, Some, [], ap, arith, cond, eqb, false, inl, inr}
-use Rattle.dob_node.proofs.Common.{length, refl, subst, sym, true, ℕ, eq-eqb, ne_eqb, append-nil, same_Some, Status, Open, Value, Draw, Loss, Win, Cell}
-use Rattle.dob_node.proofs.Common.{CellValue, IsGreatest, SameCell, Fits, HasSettled, HasValueNow, IsValue, cell_at, status_at, Better, NoWorse, Item}
+use Rattle.dob_node.proofs.Common.{◌++◌, ◌∙◌, ◌∷◌, ◌≡◌, ◌≢◌, Bool, List, None, Option, Some, [], ap, arith, cond, eqb, false, inl, inr}
+use Rattle.dob_node.proofs.Common.{length, refl, subst, sym, true, ℕ, eq-eqb, ne_eqb, append-nil, Status, Open, Value, Cell}
+use Rattle.dob_node.proofs.Common.{CellValue, SameCell, Fits, HasSettled, HasValueNow, IsValue, cell_at, status_at, Better, NoWorse, Item}
 use Rattle.dob_node.proofs.Common.{Settlement, Share, value_of, HistoryView, IsTaken, listed}
 use Rattle.dob_node.proofs.Settles.{value_of-more}
 use Rattle.dob_node.proofs.Kept.{better_apart}

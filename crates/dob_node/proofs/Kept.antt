@@ -1,5 +1,5 @@
 -- What the copies know, where histories or the items applied are the same, and which values they can know.
-use Rattle.dob_node.proofs.Common.{◌%◌, ◌&&◌, ◌+◌, ◌<◌, ◌∙◌, ◌∷◌, ◌≡◌, Bool, Contains, List, [], ap, arith, cond, eqb, ltb, subst, ℕ, cond_both, All-head}
+use Rattle.dob_node.proofs.Common.{◌&&◌, ◌<◌, ◌∙◌, ◌∷◌, ◌≡◌, Bool, Contains, List, [], ap, arith, cond, eqb, ltb, subst, ℕ, cond_both, All-head}
 use Rattle.dob_node.proofs.Common.{All-tail, All, each_below, IsShort, IsEntry, Value, Draw, Loss, Win, owner_of, Better, Item, Settlement, all_known, copies}
 use Rattle.dob_node.proofs.Common.{items_to, known, last_now, FollowsFromKnown}
 use Rattle.dob_node.proofs.Runs.{each_below-same, from_each_below, only_one}

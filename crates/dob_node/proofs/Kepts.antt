@@ -1,7 +1,7 @@
 -- What an item taken makes of a node's cells and of its history.
-use Rattle.dob_node.proofs.Common.{◌%◌, ◌++◌, ◌+◌, ◌/◌, ◌<◌, ◌^◌, ◌∙◌, ◌∷◌, ◌≡◌, ◌≢◌, ◌≤◌, List, None, Ok, Option, Some, [], ap, arith, inl, inr, length, refl}
-use Rattle.dob_node.proofs.Common.{subst, sym, take, ℕ, div-le_self, cases_eq, cases_lt, append-nil, length-append, All-append, All-cons, All-nil, All, Family}
-use Rattle.dob_node.proofs.Common.{Status, Caught, Open, Stuck, Tried, classes_of, IsEntry, Value, Draw, Loss, Win, Cell, CellCanTake, KnowsLossWithin, changed}
+use Rattle.dob_node.proofs.Common.{◌%◌, ◌++◌, ◌+◌, ◌/◌, ◌<◌, ◌^◌, ◌∙◌, ◌∷◌, ◌≡◌, ◌≤◌, List, None, Ok, Option, Some, [], ap, arith, inl, inr, length}
+use Rattle.dob_node.proofs.Common.{subst, sym, take, ℕ, div-le_self, cases_eq, append-nil, length-append, All-append, All-cons, All-nil, All, Family}
+use Rattle.dob_node.proofs.Common.{Status, Open, classes_of, IsEntry, Value, Draw, Loss, Win, Cell, CellCanTake, KnowsLossWithin, changed}
 use Rattle.dob_node.proofs.Common.{owner_of, Fits, HasSettled, IsApplication, IsOwn, SameClasses, cell_at, places_of, status_at, StatusesView, Item, Settlement}
 use Rattle.dob_node.proofs.Common.{Share, HistoryView, starts_count, AreKept, HasItemEntries, HasParities, IsTaken, listed, Stored}
 use Rattle.dob_node.proofs.Stored.{seen, count_is}

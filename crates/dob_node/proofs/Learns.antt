@@ -1,7 +1,7 @@
 -- The next item of a history teaches one copy of an edge, and no other.
 use Rattle.dob_node.proofs.Common.{nat_tests}
 use Rattle.dob_node.proofs.Common.{◌&&◌, ◌++◌, ◌+◌, ◌<◌, ◌∙◌, ◌∷◌, ◌≡◌, ◌≢◌, ◌≤◌, ◌⊎◌, Bool, List, [], ap, append_assoc, arith, cond, eqb, inl, inr, length}
-use Rattle.dob_node.proofs.Common.{ltb, refl, subst, suc, sym, true, ℕ, and_left, and_right, cases_eq, cases_lt, eq-eqb, le-ltb, lt-ltb, ne_eqb, filter}
+use Rattle.dob_node.proofs.Common.{ltb, refl, subst, suc, sym, true, ℕ, and_right, cases_eq, eq-eqb, le-ltb, lt-ltb, filter}
 use Rattle.dob_node.proofs.Common.{each_below, Value, Draw, Changes, owner_of, Item, Settlement, items_from, items_of, IsChained, IsNext, all_known, copies}
 use Rattle.dob_node.proofs.Common.{items_to, known, last_now, value_of}
 use Rattle.dob_node.proofs.Runs.{Changes-one, Changes-each_below, each_below-same}

@@ -1,6 +1,6 @@
 -- What holds of a node's core holds of the node, whatever has failed of it.
 use Rattle.dob_node.proofs.Common.{◌≡◌, Err, List, None, Ok, Option, Result, subst, sym, Item, Cause, AppliesAll, AppliesEveryOwn, NodeView, going, node_of}
-use Rattle.dob_node.proofs.Common.{HasTaken, HasTakenBefore, IsSound, IsUnchanged}
+use Rattle.dob_node.proofs.Common.{HasTaken, HasTakenBefore, IsSound}
 use Rattle.dob_node.specs.declared.node_core.Core.{Core}
 
 sound_noted : (core : Core) (was failed : Option Cause) → IsSound (node_of core was) → IsSound (node_of core failed)

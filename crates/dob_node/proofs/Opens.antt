@@ -1,5 +1,5 @@
 -- A node as it is opened.
-use Rattle.dob_node.proofs.Common.{◌%◌, ◌*◌, ◌++◌, ◌+◌, ◌/◌, ◌<◌, ◌^◌, ◌↔◌, ◌∙◌, ◌≡◌, ◌≤◌, List, None, Option, Some, [], ap, arith, get_or, length, refl, subst}
+use Rattle.dob_node.proofs.Common.{◌%◌, ◌*◌, ◌+◌, ◌/◌, ◌<◌, ◌^◌, ◌↔◌, ◌∙◌, ◌≡◌, ◌≤◌, List, None, Option, Some, [], ap, arith, get_or, length, refl, subst}
 use Rattle.dob_node.proofs.Common.{suc, sym, zero, ℕ, length-append, All-append, All-cons, All-nil, div-mul-add, mod-mul-add, slice_get-get_or, All, Family}
 use Rattle.dob_node.proofs.Common.{Profile, Setup, moves_of, HasStatus, Status, Caught, Open, Stuck, Tried, HasClasses-classes_of, class_setup, classes_of}
 use Rattle.dob_node.proofs.Common.{class_setup_is, Value, Draw, SameCell, fresh, cell_moves, moves_where, opening_of, settled_among, settles, class_of_place}

@@ -1,9 +1,8 @@
 -- Values at odd and even distances: what cells count and know keeps its parity, and so do their values.
 use Rattle.dob_node.proofs.Common.{nat_tests}
-use Rattle.dob_node.proofs.Common.{if◌then◌else◌, ◌%◌, ◌+◌, ◌-◌, ◌<◌, ◌==◌, ◌∙◌, ◌≡◌, Bool, None, Option, Some, arith, false, lit≤, refl, subst, sym, true, ℕ}
-use Rattle.dob_node.proofs.Common.{same_Some, Status, Caught, Open, Stuck, Tried, lesser_of, IsEntry, Value, Draw, Loss, Win, cell_short, Cell, CellValue}
-use Rattle.dob_node.proofs.Common.{SameCell, changed, less_at, HasValueNow, IsOwn, IsValue, cell_at, status_at, Share, HasParities}
-use Rattle.dob_value.specs.declared.sweep.TheConstants.{MAX_DISTANCE}
+use Rattle.dob_node.proofs.Common.{arith, ℕ}
+use Rattle.dob_node.proofs.Common.{Status, Open, IsEntry, Value, Draw, Loss, Win, cell_short, Cell, CellValue}
+use Rattle.dob_node.proofs.Common.{SameCell, changed, HasValueNow, IsOwn, IsValue, cell_at, status_at, Share, HasParities}
 use Rattle.dob_share.specs.Slots.{IsShortCell}
 
 -- cells that say the same

@@ -1,16 +1,15 @@
 -- What the next item makes of a class has a fall: so each settlement keeps one, and no distance exceeds the classes.
 use Rattle.dob_node.proofs.Common.{nat_tests}
-use Rattle.dob_node.proofs.Common.{◌&&◌, ◌++◌, ◌<◌, ◌∙◌, ◌∷◌, ◌≡◌, ◌≢◌, ◌≤◌, ◌⊎◌, Bool, Contains, List, Option, Some, [], ap, arith, cond, eqb, get_or, inl}
-use Rattle.dob_node.proofs.Common.{inr, length, ltb, refl, subst, suc, sym, zero, ℕ, and_left, and_right, cases_Bool, cases_eq, eq-eqb, ne_eqb, All-contains}
-use Rattle.dob_node.proofs.Common.{All-nil, Contains-append_cases, Contains-append_left, Contains-append_right, head_in, each_below, Family, Status, Caught}
-use Rattle.dob_node.proofs.Common.{Open, Stuck, Tried, classes_of, plies_of, IsShort, IsLeastLoss, Value, Draw, Loss, Win, predecessors, CellValue-same}
+use Rattle.dob_node.proofs.Common.{◌&&◌, ◌++◌, ◌<◌, ◌∙◌, ◌∷◌, ◌≡◌, ◌≢◌, ◌≤◌, ◌⊎◌, Bool, Contains, List, Some, [], ap, arith, cond, eqb, get_or, inl}
+use Rattle.dob_node.proofs.Common.{inr, length, ltb, refl, subst, sym, ℕ, cases_Bool, cases_eq, All-contains}
+use Rattle.dob_node.proofs.Common.{All-nil, Contains-append_cases, Contains-append_left, Contains-append_right, head_in, each_below, Family, Status}
+use Rattle.dob_node.proofs.Common.{classes_of, plies_of, IsShort, IsLeastLoss, Value, Draw, Loss, Win, predecessors, CellValue-same}
 use Rattle.dob_node.proofs.Common.{counted, sums_up_after, Cell, CellValue, SameCell, SumsUp, changed, fresh, class_of_place, owner_of, IsTooDeep, NoWorse}
 use Rattle.dob_node.proofs.Common.{is_win_in, Item, Settlement, HaveFalls, IsCellWithin, IsFall, IsFirst, IsSettlement, RestsOn, IsChained, all_known, copies}
 use Rattle.dob_node.proofs.Common.{items_to, known, last_now, value_of, AreAfter, AreLawfulNodes, AreSettled, CanApply, IsNextItem, IsOneMore, known_of}
 use Rattle.dob_node.proofs.Common.{opening_settlements, opening_value, FollowsFromKnown}
 use Rattle.std.proofs.Common.{All}
 use Rattle.dob_share.proofs.Growing.{no_worse}
-use Rattle.dob_node.proofs.Beginnings.{or_else}
 use Rattle.dob_node.proofs.Opens.{all_started}
 use Rattle.dob_node.proofs.Runs.{from_each_below, only_one}
 use Rattle.dob_node.proofs.Rest.{below_owner}

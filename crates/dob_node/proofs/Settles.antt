@@ -1,7 +1,7 @@
 -- One more settlement of a history: what it leaves, and what it makes.
 use Rattle.dob_node.proofs.Common.{nat_tests}
 use Rattle.dob_node.proofs.Common.{◌&&◌, ◌++◌, ◌+◌, ◌∙◌, ◌∷◌, ◌≡◌, ◌≢◌, ◌≤◌, ◌⊎◌, List, Some, [], add-one, ap, append_assoc, arith, cond, drop, eqb, inl, inr}
-use Rattle.dob_node.proofs.Common.{length, ltb, refl, slice_get, subst, sym, take, ℕ, take-suc, and_right, cases_eq, le-ltb, append-nil, take-append-drop}
+use Rattle.dob_node.proofs.Common.{length, ltb, refl, slice_get, subst, sym, take, ℕ, take-suc, cases_eq, append-nil, take-append-drop}
 use Rattle.dob_node.proofs.Common.{take-append-le, get_or_from_slice_get, slice_get_within, each_below, Draw, owner_of, Item, Settlement, items_from, items_of}
 use Rattle.dob_node.proofs.Common.{IsChained, IsNext, all_known, copies, items_to, known, value_of}
 use Rattle.dob_node.proofs.Runs.{each_below-same}

@@ -1,12 +1,11 @@
 -- The settlements of the start: how many there are, where each stands, and that they are those of the opening.
-use Rattle.dob_node.proofs.Common.{◌*◌, ◌++◌, ◌+◌, ◌<◌, ◌∙◌, ◌∷◌, ◌≡◌, ◌≤◌, List, Option, Some, [], ap, arith, get_or, inl, inr, length, max, refl, slice_get}
-use Rattle.dob_node.proofs.Common.{subst, suc, sym, zero, ℕ, cases_eq, get_or_append_left, length-append, get_or_from_slice_get, All, get_front, middle, Status}
-use Rattle.dob_node.proofs.Common.{Caught, Open, Stuck, Tried, IsEntry, Value, Draw, opening_of, settled_among, settles, class_of_place, IsOwn, places_of}
+use Rattle.dob_node.proofs.Common.{◌*◌, ◌++◌, ◌+◌, ◌<◌, ◌∙◌, ◌∷◌, ◌≡◌, ◌≤◌, List, Some, [], ap, arith, get_or, inl, inr, length, max, refl, slice_get}
+use Rattle.dob_node.proofs.Common.{subst, suc, sym, zero, ℕ, cases_eq, get_or_append_left, get_or_from_slice_get, get_front, middle, Status}
+use Rattle.dob_node.proofs.Common.{IsEntry, Value, Draw, opening_of, settled_among, class_of_place, IsOwn, places_of}
 use Rattle.dob_node.proofs.Common.{status_at, StatusesView, Settlement, Opening, Share, opening_settlement, opening_settlements, opening_status, opening_value}
 use Rattle.dob_node.proofs.Common.{start_settlements, start_status, starts_count, starts_of}
 use Rattle.dob_share.proofs.Opened.{settles_most}
 use Rattle.dob_node.specs.Levels.{plies_of, level_of}
-use Rattle.dob_node.proofs.Beginnings.{or_else, entry_opened}
 use Rattle.dob_node.proofs.Opens.{start_length, all_started, status_listed}
 
 -- ---- how many there are

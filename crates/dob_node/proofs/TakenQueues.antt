@@ -1,5 +1,5 @@
 -- A queue of items, of which the first ones are taken and gone.
-use Rattle.dob_node.proofs.Common.{◌++◌, ◌+◌, ◌-◌, ◌<◌, ◌∙◌, ◌∷◌, ◌≡◌, ◌≢◌, Err, List, Ok, Result, [], ap, append_assoc, arith, drop, length, refl, subst, sym}
+use Rattle.dob_node.proofs.Common.{◌++◌, ◌<◌, ◌∙◌, ◌∷◌, ◌≡◌, ◌≢◌, Err, List, Ok, Result, [], ap, append_assoc, arith, drop, length, refl, subst, sym}
 use Rattle.dob_node.proofs.Common.{take, ℕ, drop-append_seam, take-append_seam, All-drop, All-take, All, OnOk, IfErr, Item, Share, Cause, NodeView}
 use Rattle.dob_node.proofs.Common.{HasItemFault, HistoryView, AreTaken, AreTakenBefore, HasItemEntries, StopsFirst, TakesFirst}
 use Rattle.std.proofs.Common.{length-append}

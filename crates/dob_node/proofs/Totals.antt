@@ -1,7 +1,7 @@
 -- How many copies a class's moves have in all: one each. Before anything is settled they know nothing.
 use Rattle.dob_node.proofs.Common.{nat_tests}
-use Rattle.dob_node.proofs.Common.{◌&&◌, ◌++◌, ◌+◌, ◌<◌, ◌∙◌, ◌∷◌, ◌≡◌, ◌≤◌, Contains, List, None, [], ap, arith, cond, eqb, false, inl, inr, length, ltb, refl}
-use Rattle.dob_node.proofs.Common.{suc, sym, zero, ℕ, and_right, cases_eq, eq-eqb, false≢true, le-ltb, ne_eqb, length-append, All-contains_itself, All-head}
+use Rattle.dob_node.proofs.Common.{◌&&◌, ◌+◌, ◌<◌, ◌∙◌, ◌∷◌, ◌≡◌, ◌≤◌, Contains, List, None, [], ap, arith, cond, eqb, false, length, ltb, refl}
+use Rattle.dob_node.proofs.Common.{suc, sym, zero, ℕ, and_right, false≢true, le-ltb, length-append, All-contains_itself, All-head}
 use Rattle.dob_node.proofs.Common.{All-tail, Contains-append_right, All, count_by, head_in, each_below, Family, Setup, AreMoves-moves_of, moves_of, HasStatus}
 use Rattle.dob_node.proofs.Common.{Move, Open, HasClasses-classes_of, RepresentsClass, class_number, class_setup, classes_of, class_setup_is, not_draw_loss}
 use Rattle.dob_node.proofs.Common.{moves_keep_the_family, is_draw, Value, Draw, Loss, times-predecessors, predecessors, counted, SumsUp, owner_of, is_win_in}

@@ -1,6 +1,6 @@
 -- Cells that sum up what is known: their value follows.
 use Rattle.dob_node.proofs.Common.{nat_tests}
-use Rattle.dob_node.proofs.Common.{◌<◌, ◌∙◌, ◌∷◌, ◌≡◌, Contains, List, None, Some, [], ap, arith, inl, inr, length, refl, subst, sym, true, ℕ, eq-eqb, eqb-true}
+use Rattle.dob_node.proofs.Common.{◌<◌, ◌∙◌, ◌∷◌, ◌≡◌, Contains, List, None, Some, [], arith, inl, inr, length, refl, subst, sym, true, ℕ, eq-eqb}
 use Rattle.dob_node.proofs.Common.{count_by, head_in, not_draw_win, IsLeastLoss, is_draw, Value, Draw, Loss, Win, counted, counts, Cell, CellValue, IsGreatest}
 use Rattle.dob_node.proofs.Common.{SameCell, SumsUp, is_win_in, FollowsFromKnown}
 use Rattle.dob_value.proofs.Tables.{draw_is}

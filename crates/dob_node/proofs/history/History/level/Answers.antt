@@ -1,5 +1,5 @@
 -- The settlements of the start are on the first level.
-use Rattle.dob_node.proofs.Common.{◌<◌, ◌∙◌, ◌≡◌, ap, arith, length, max, slice_get, sym, take, ℕ, same_Some, HistoryView, settlements_from, starts_count, starts_of}
+use Rattle.dob_node.proofs.Common.{◌<◌, ◌∙◌, ap, arith, length, max, slice_get, sym, take, ℕ, same_Some, HistoryView, settlements_from, starts_count, starts_of}
 use Rattle.dob_node.specs.Levels.{level_of}
 use Rattle.dob_node.proofs.StartLists.{start_level}
 use Rattle.dob_node.proofs.history.History.level.Goals as goal
