@@ -1,26 +1,27 @@
 -- The items of parts, of which only the classes are listed that they are for.
+use Rattle.dob_update.proofs.Common.{nat_tests}
 use Rattle.dob_update.proofs.Common.{◌++◌, ◌+◌, ◌-◌, ◌<◌, ◌∙◌, ◌∷◌, ◌≡◌, ◌≤◌, List, [], ap, arith, drop, get_or, inl, inr, length, length-append, length-drop}
-use Rattle.dob_update.proofs.Common.{length-take-le, min, refl, subst, sym, take, ℕ, cases_eq, cases_lt, append-nil, append_assoc, drop-append-le, drop-drop}
+use Rattle.dob_update.proofs.Common.{length-take-le, refl, subst, sym, take, ℕ, cases_lt, append-nil, append_assoc, drop-append-le, drop-drop}
 use Rattle.dob_update.proofs.Common.{drop_at, drop_more, length-map, map-append, take-append-le, take-take, take_all, filter, map, Family, predecessors}
 use Rattle.dob_update.proofs.Common.{owner_of, Item, Settlement, OutboxView, added, with_items, item_for, items_of, behind, front, items_in_all, items_of_parts}
 use Rattle.dob_update.proofs.Common.{settlement_of, settlements_of, skip_behind, target_of, AreListed, IsRest, Part}
 use Rattle.std.specs.Prelude.{◌==◌, ◌^◌}
 use Rattle.std.proofs.lemmas.List.{take-append-drop, drop-take, take_at, map_more, get_or-drop, nil_from_length}
 use Rattle.dob_value.specs.declared.value.Value.TheVariants.{Win}
-use Rattle.dob_update.proofs.PartLists.{front-zero, front-cons, behind-within, behind-past}
+use Rattle.dob_update.proofs.PartLists.{front-zero, behind-within, behind-past}
 use Rattle.dob_update.proofs.Runs.{total-front, rest_many, rest_added, rest_cut}
 
 -- there are as many as the parts say
 pub items_of_parts-length : (parts : List Part) (classes : List ℕ) → items_in_all parts ≤ length classes → length (items_of_parts parts classes) ≡ items_in_all parts
 items_of_parts-length [] classes within = refl
 items_of_parts-length (part ∷ parts) classes within =
-    let own = map (item_for part.settlement) (take part.items classes) in
-    let taken : length own ≡ part.items =
-    length-map (take part.items classes) (item_for part.settlement) ∙ length-take-le part.items classes (omega (arith, within)) in
-    let left = length-drop part.items classes in
-    let later = items_of_parts-length parts (drop part.items classes) (omega (arith, within, left)) in
-    let both = length-append own (items_of_parts parts (drop part.items classes)) in
-    omega (arith, taken, later, both)
+    omega (
+      arith,
+      length-append (map (item_for part.settlement) (take part.items classes)) (items_of_parts parts (drop part.items classes)),
+      length-map (take part.items classes) (item_for part.settlement),
+      length-take-le part.items classes (omega (arith, within)),
+      items_of_parts-length parts (drop part.items classes) (omega (arith, within, length-drop part.items classes)),
+    )
 
 -- one part more, with its classes
 pub items_of_parts-push : (parts : List Part) (part : Part) (classes more : List ℕ) → items_in_all parts ≡ length classes → part.items ≡ length more
@@ -41,32 +42,12 @@ items_of_parts-push (first ∷ parts) part classes more all m =
 
 front_within : (k : ℕ) (part : Part) (parts : List Part) (classes : List ℕ) → k ≤ part.items →
     items_of_parts (front k (part ∷ parts)) classes ≡ map (item_for part.settlement) (take k classes)
-front_within k part parts classes within = elim (cases_eq k 0) [
-  | inl none ↦
-      ap (λ m. items_of_parts (front m (part ∷ parts)) classes) none ∙ sym (ap (λ m. map (item_for part.settlement) (take m classes)) none)
-  | inr some ↦
-      let least : min k part.items ≡ k = omega (arith, within) in
-      let over : k - part.items ≡ 0 = omega (arith, within) in
-      ap (λ (ps : List Part). items_of_parts ps classes) (front-cons k part parts (omega (arith, some)))
-      ∙ ap (λ m. map (item_for part.settlement) (take m classes) ++ items_of_parts (front (k - part.items) parts) (drop m classes)) least
-      ∙ ap (λ (ps : List Part). map (item_for part.settlement) (take k classes) ++ items_of_parts ps (drop k classes)) (ap (λ m. front m parts) over ∙ front-zero parts)
-      ∙ append-nil (map (item_for part.settlement) (take k classes))
-]
+front_within k part parts classes within =
+    grind (arith, nat_tests, front-zero parts, append-nil (map (item_for part.settlement) (take k classes)))
 
 front_past : (k : ℕ) (part : Part) (parts : List Part) (classes : List ℕ) → part.items ≤ k →
     items_of_parts (front k (part ∷ parts)) classes ≡ map (item_for part.settlement) (take part.items classes) ++ items_of_parts (front (k - part.items) parts) (drop part.items classes)
-front_past k part parts classes past = elim (cases_eq k 0) [
-  | inl none ↦
-      let empty : part.items ≡ 0 = omega (arith, none, past) in
-      let over : k - part.items ≡ 0 = omega (arith, none) in
-      ap (λ m. items_of_parts (front m (part ∷ parts)) classes) none
-      ∙ sym (ap (λ m. map (item_for part.settlement) (take m classes) ++ items_of_parts (front (k - part.items) parts) (drop m classes)) empty
-      ∙ ap (λ (ps : List Part). items_of_parts ps classes) (ap (λ m. front m parts) over ∙ front-zero parts))
-  | inr some ↦
-      let least : min k part.items ≡ part.items = omega (arith, past) in
-      ap (λ (ps : List Part). items_of_parts ps classes) (front-cons k part parts (omega (arith, some)))
-      ∙ ap (λ m. map (item_for part.settlement) (take m classes) ++ items_of_parts (front (k - part.items) parts) (drop m classes)) least
-]
+front_past k part parts classes past = grind (arith, nat_tests, front-zero parts)
 
 -- the classes of a part, in two pieces
 two_pieces : (k m : ℕ) (classes : List ℕ) → k ≤ m → take k classes ++ take (m - k) (drop k classes) ≡ take m classes

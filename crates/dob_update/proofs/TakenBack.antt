@@ -1,6 +1,6 @@
 -- An outbox without the settlement that was added last.
 use Rattle.dob_update.proofs.Common.{◌++◌, ◌+◌, ◌-◌, ◌<◌, ◌∙◌, ◌∷◌, ◌≡◌, ◌≤◌, List, [], ap, arith, drop, get_or, length, length-append, length-drop}
-use Rattle.dob_update.proofs.Common.{length-take-le, refl, subst, sym, take, ℕ, append-nil, drop-append-le, length-map, map-append, take_all, map, Item}
+use Rattle.dob_update.proofs.Common.{length-take-le, subst, sym, take, ℕ, append-nil, drop-append-le, length-map, map-append, take_all, map, Item}
 use Rattle.dob_update.proofs.Common.{Settlement, HasOneMore, OutboxView, added, items_for, with_items, item_for, AreWhole, items_in_all, items_of_parts}
 use Rattle.dob_update.proofs.Common.{settlement_of, settlements_of, AreListed, count_for, Part}
 use Rattle.std.proofs.lemmas.List.{take_at, take_more, take-append-drop, nil_from_length, same_from_push}
