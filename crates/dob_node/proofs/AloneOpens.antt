@@ -1,6 +1,6 @@
 -- One node that owns all classes, as it is opened: it is lawful.
-use Rattle.dob_node.proofs.Common.{◌*◌, ◌++◌, ◌+◌, ◌<◌, ◌∙◌, ◌≡◌, Err, IfOk, List, Ok, Result, [], ap, arith, get_or, inl, inr, length, refl, subst, suc}
-use Rattle.dob_node.proofs.Common.{sym, zero, ℕ, cases_order, slice_get-get_or, All, Family, one_status, moves_of, HasStatus, Status, Open, Stuck}
+use Rattle.dob_node.proofs.Common.{◌*◌, ◌++◌, ◌+◌, ◌<◌, ◌∙◌, ◌≡◌, Err, IfOk, List, Ok, Result, [], ap, arith, get_or, inr, length, refl, subst, suc}
+use Rattle.dob_node.proofs.Common.{sym, zero, ℕ, slice_get-get_or, All, Family, one_status, moves_of, HasStatus, Status, Open, Stuck}
 use Rattle.dob_node.proofs.Common.{class_setup, classes_of, IsEntry, Draw, predecessors, CellValue-same, SameCell, fresh, opening_of, owner_of}
 use Rattle.dob_node.proofs.Common.{IsOwn, places_of, Item, Settlement, Opening, items_from, HasCome, HasMade, IsAlone, alone_applied}
 use Rattle.dob_node.proofs.Common.{alone_history, cells_below, HaveFalls, IsFirst, IsChained, value_of, AreLawfulNodes, known_of, NodeView}
@@ -50,15 +50,7 @@ module _ (family : Family) (openings : List Opening) (node : NodeView) (are : Ar
 
   -- as many places as classes
   all_places : places_of node.share ≡ classes
-  all_places =
-      let whole = are.whole in
-      elim (cases_order (places_of node.share) classes) [
-        | inl same ↦ same
-        | inr order ↦ elim order [
-          | inl less ↦ let low = (opened.places (places_of node.share)).1 (omega arith) in absurd (omega arith)
-          | inr more ↦ let there = (opened.places classes).0 more in absurd (omega arith)
-        ]
-      ]
+  all_places = grind (arith, opened.places (places_of node.share), opened.places classes, are.whole)
 
   history_is : node.history.settlements ≡ h
   history_is = opened.history ∙ ap (λ k. opening_settlements status 1 0 k) all_places
@@ -71,8 +63,7 @@ module _ (family : Family) (openings : List Opening) (node : NodeView) (are : Ar
       ∙ ap (λ st. or_else (opening_value st) Draw) (one_status family.profile (class_setup family p) (status p) s (is_opening p low).status is)
 
   none_applied : (i : ℕ) → alone_applied [] i 0 ≡ []
-  none_applied zero = refl
-  none_applied (suc i) = refl
+  none_applied i = grind arith
 
   at_zero : (P : ℕ → List Settlement → Type 0) → P 0 h → (i : ℕ) → i < 1 → P i (alone_history h i)
   at_zero P base zero low = base

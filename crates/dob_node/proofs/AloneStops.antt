@@ -64,18 +64,11 @@ stopped_alone node steps limit cause.Counts made low fault = fault.reason
 pub fault_deep : (why : Cause) (given : Fault) (family : Family) (limit : ℕ) → IsFaultOf why given → HasStoppedAlone family limit why → given ≡ fault.TooDeep →
     IsTooDeepWithin family limit
 fault_deep cause.TooDeep given family limit is stopped same = stopped
-fault_deep (cause.Contradiction class) given family limit is stopped same = absurd stopped
-fault_deep cause.Memory given family limit is stopped same = absurd cc
-fault_deep cause.Held given family limit is stopped same = absurd stopped
-fault_deep cause.Counts given family limit is stopped same = absurd stopped
+fault_deep why given family limit is stopped same = absurd (grind arith)
 
 pub fault_fits : (why : Cause) (given : Fault) (family : Family) (limit class : ℕ) → IsFaultOf why given → HasStoppedAlone family limit why →
     given ≡ fault.Contradiction class → ⊥
-fault_fits cause.TooDeep given family limit class is stopped same = cc
-fault_fits (cause.Contradiction other) given family limit class is stopped same = stopped
-fault_fits cause.Memory given family limit class is stopped same = cc
-fault_fits cause.Held given family limit class is stopped same = stopped
-fault_fits cause.Counts given family limit class is stopped same = stopped
+fault_fits why given family limit class is stopped same = grind arith
 
 -- ---- nothing left to do
 

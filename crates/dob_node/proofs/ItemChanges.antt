@@ -1,6 +1,6 @@
 -- What an item that a share takes changes: the value of its class, told by the settlement that is listed, and no other value.
-use Rattle.dob_node.proofs.Common.{◌++◌, ◌∙◌, ◌∷◌, ◌≡◌, ◌≢◌, Bool, List, None, Option, Some, [], ap, arith, cond, eqb, false, inl, inr}
-use Rattle.dob_node.proofs.Common.{length, refl, subst, sym, true, ℕ, eq-eqb, ne_eqb, append-nil, Status, Open, Value, Cell}
+use Rattle.dob_node.proofs.Common.{◌++◌, ◌∙◌, ◌∷◌, ◌≡◌, ◌≢◌, Bool, List, None, Option, Some, [], ap, arith, cond, eqb, inl, inr}
+use Rattle.dob_node.proofs.Common.{length, subst, sym, true, ℕ, eq-eqb, ne_eqb, append-nil, Status, Open, Value, Cell}
 use Rattle.dob_node.proofs.Common.{CellValue, SameCell, Fits, HasSettled, HasValueNow, IsValue, cell_at, status_at, Better, NoWorse, Item}
 use Rattle.dob_node.proofs.Common.{Settlement, Share, value_of, HistoryView, IsTaken, listed}
 use Rattle.dob_node.proofs.Settles.{value_of-more}
@@ -14,13 +14,9 @@ one_value cell v w one other = grind arith
 
 -- ---- cells that say the same
 
-same_cell : (a b : Cell) → a ≡ b → SameCell a b
-same_cell a b is = subst (λ c. SameCell a c) is (record { left = refl; wins = λ plies. refl; least = refl })
-
 -- of one class or of another, by a test
 pub same_by : (b : Bool) (x y z : Cell) → (b ≡ true → SameCell x y) → SameCell (cond b x z) (cond b y z)
-same_by true x y z same = same refl
-same_by false x y z same = same_cell z z refl
+same_by b x y z same = grind arith
 
 -- ---- a class that is open
 

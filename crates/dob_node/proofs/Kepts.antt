@@ -1,5 +1,5 @@
 -- What an item taken makes of a node's cells and of its history.
-use Rattle.dob_node.proofs.Common.{◌%◌, ◌++◌, ◌+◌, ◌/◌, ◌<◌, ◌^◌, ◌∙◌, ◌∷◌, ◌≡◌, ◌≤◌, List, None, Ok, Option, Some, [], ap, arith, inl, inr, length}
+use Rattle.dob_node.proofs.Common.{◌%◌, ◌++◌, ◌+◌, ◌/◌, ◌<◌, ◌^◌, ◌∙◌, ◌≡◌, ◌≤◌, List, None, Ok, Option, Some, [], ap, arith, inl, inr, length}
 use Rattle.dob_node.proofs.Common.{subst, sym, take, ℕ, div-le_self, cases_eq, append-nil, length-append, All-append, All-cons, All-nil, All, Family}
 use Rattle.dob_node.proofs.Common.{Status, Open, classes_of, IsEntry, Value, Draw, Loss, Win, Cell, CellCanTake, KnowsLossWithin, changed}
 use Rattle.dob_node.proofs.Common.{owner_of, Fits, HasSettled, IsApplication, IsOwn, SameClasses, cell_at, places_of, status_at, StatusesView, Item, Settlement}
@@ -106,12 +106,7 @@ module _ (family : Family) (n id : ℕ) (share after : Share) (history grown : H
     own = subst (λ (k : ℕ). owner_of history.n k ≡ history.id) (sym settled.2)
         (subst (λ (m : ℕ). owner_of m item.to ≡ history.id) (sym kept.history_is.0) (mine.0 ∙ sym kept.history_is.1));
     place =
-        let low : item.to < classes_of family = mine.1 in
-        let few : classes_of family ≤ 2 ^ 32 = kept.few in
-        let less : s.class / history.n ≤ s.class = div-le_self s.class history.n in
-        let is : s.class ≡ item.to = settled.2 in
-        let both : s.class < 2 ^ 32 = omega arith in
-        omega arith;
+        omega (arith, mine.1, kept.few, div-le_self s.class history.n, settled.2);
     was = entry_now share item.to s.was own (kept.parities item.to own) settled.3;
     now = entry_now after item.to s.now (taken.classes.owned item.to own) parities_there settled.4;
   }
@@ -119,12 +114,7 @@ module _ (family : Family) (n id : ℕ) (share after : Share) (history grown : H
   -- what is kept
   settled_count : (given : Option Settlement) → HasSettled share after item.to given →
       after.settled ≡ length (history.settlements ++ listed given)
-  settled_count None settled = settled.0 ∙ kept.counted ∙ ap length (sym (append-nil history.settlements))
-  settled_count (Some s) settled =
-      let longer : length (history.settlements ++ s ∷ []) ≡ length history.settlements + 1 = length-append history.settlements (s ∷ []) in
-      let more : after.settled ≡ share.settled + 1 = settled.0 in
-      let before : share.settled ≡ length history.settlements = kept.counted in
-      omega arith
+  settled_count given settled = grind (arith, kept.counted, length-append)
 
   settled_classes : (given : Option Settlement) → HasSettled share after item.to given →
       All (λ (s : Settlement). s.class < classes_of family) (listed given)

@@ -44,17 +44,11 @@ all_started P status n id (suc k) each =
 
 place_own : (share : Share) (n id place : ℕ) → share.nodes ≡ n → share.id ≡ id → id < n → place < places_of share → IsOwn share (place * n + id)
 unfolding IsOwn places_of
-place_own share n id place n_is id_is less low =
-    subst (λ (m : ℕ). ((place * n + id) % m ≡ share.id) × ((place * n + id) / m < share.statuses.places)) (sym n_is) (
-      mod-mul-add place n id less ∙ sym id_is,
-      subst (λ (k : ℕ). k < share.statuses.places) (sym (div-mul-add place n id less)) low,
-    )
+place_own share n id place n_is id_is less low = rw (n_is, id_is, div-mul-add place n id less) (mod-mul-add place n id less, low)
 
 own_place : (share : Share) (n id place : ℕ) → share.nodes ≡ n → id < n → IsOwn share (place * n + id) → place < places_of share
 unfolding IsOwn places_of
-own_place share n id place n_is less own =
-    subst (λ (k : ℕ). k < share.statuses.places) (div-mul-add place n id less)
-    (subst (λ (m : ℕ). (place * n + id) / m < share.statuses.places) n_is own.1)
+own_place share n id place n_is less own = rw (n_is, div-mul-add place n id less) at own.1
 
 -- the places are those of the owner's classes
 pub places_are : (share : Share) (openings : List Opening) (n id : ℕ) → (share.id ≡ id) × (share.nodes ≡ n) → id < n →

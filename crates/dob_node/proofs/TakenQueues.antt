@@ -66,8 +66,7 @@ module _ (queue front back : List Item) (count : ℕ) (share after : Share) (his
 
   pub fewer : (result : Result (Unit {0}) Cause) → OnOk result (count ≡ length front) → (queue ≢ [] → 0 < length front) →
       OnOk result (queue ≢ [] → length (drop count queue) < length queue)
-  fewer (Ok done) all some = λ busy. (let more = some busy in
-      let rest = ap length (dropped all) in let whole = ap length (sym is) ∙ length-append front back in omega (arith, more, rest, whole))
+  fewer (Ok done) all some = λ busy. omega (arith, some busy, ap length (dropped all), ap length (sym is), length-append front back)
   fewer (Err why) all some = tt
 
 -- ---- the own items of a node

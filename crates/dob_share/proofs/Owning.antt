@@ -120,7 +120,7 @@ open_id share class own = own.0.0
 improved : (was now : Value) (cell after : Cell) (v w : Value) → CellCanTake was now cell → SameCell after (changed was now cell) →
     CellValue cell v → CellValue after w → (v ≡ w → ⊥) → Better v w
 improved was now cell after v w takes same is then differs =
-    elim (no_worse was now cell v w takes is (CellValue-same (changed was now cell) after w (record { left = sym same.left; wins = λ plies. sym (same.wins plies); least = sym same.least }) then)) [
+    elim (no_worse was now cell v w takes is (CellValue-same (changed was now cell) after w (grind (arith, same)) then)) [
       | inl e ↦ absurd (differs e)
       | inr better ↦ better
     ]

@@ -36,25 +36,15 @@ in_word words w (suc k) few =
     let next : w * 64 + suc k ≡ suc (w * 64 + k) = omega arith in
     let number : (w * 64 + k) / 64 ≡ w = omega arith in
     let place : (w * 64 + k) % 64 ≡ k = omega arith in
-    let rest : opens_below words (w * 64 + k) ≡ opens_below words (w * 64) + bits_below (get_or words w no_word).opens k
-    = in_word words w k (omega arith) in
-    let here : open_at words (w * 64 + k) ≡ bit (get_or words w no_word).opens k
-    = ap (λ (m : ℕ). bit (get_or words m no_word).opens ((w * 64 + k) % 64)) number ∙ ap (λ (m : ℕ). bit (get_or words w no_word).opens m) place in
-    let all : opens_below words (w * 64 + suc k) ≡ opens_below words (w * 64 + k) + open_at words (w * 64 + k) = ap (opens_below words) next in
-    omega arith
+    grind (arith, in_word words w k (omega arith))
 
 -- what a word says, and how many bits are set in it before the place
 rank_is : (words : List StatusWord) (place before : ℕ) → AreCounted words → place / 64 < length words →
     before ≡ bits_below (get_or words (place / 64) no_word).opens (place % 64) →
     (get_or words (place / 64) no_word).before + before ≡ opens_below words place
 rank_is words place before counted within is =
-    let w : ℕ = place / 64 in
-    let k : ℕ = place % 64 in
-    let whole : w * 64 + k ≡ place = omega arith in
-    let sum : opens_below words (w * 64 + k) ≡ opens_below words (w * 64) + bits_below (get_or words w no_word).opens k = in_word words w k (omega arith) in
-    let told : (get_or words w no_word).before ≡ opens_below words (w * 64) = counted w within in
-    let there : opens_below words (w * 64 + k) ≡ opens_below words place = ap (opens_below words) whole in
-    omega arith
+    let whole : place / 64 * 64 + place % 64 ≡ place = omega arith in
+    grind (arith, in_word words (place / 64) (place % 64) (omega arith), counted (place / 64) within)
 
 -- the same of a word read at the place
 pub rank_read : (words : List StatusWord) (place before : ℕ) (word : StatusWord) → AreCounted words → slice_get words (place / 64) ≡ Some word →
@@ -90,10 +80,7 @@ module _ (status : ℕ → Status) (number count : ℕ) (last : StatusWord) (wor
 
   same_below : (k : ℕ) → k ≤ number * 64 → opens_below longer k ≡ opens_below words k
   same_below zero low = refl
-  same_below (suc k) low =
-      let rest : opens_below longer k ≡ opens_below words k = same_below k (omega arith) in
-      let one : open_at longer k ≡ open_at words k = ap (λ (w : StatusWord). bit w.opens (k % 64)) (word_before k (omega arith)) in
-      omega arith
+  same_below (suc k) low = grind (arith, same_below k (omega arith), word_before k (omega arith))
 
   last_is : get_or longer number no_word ≡ last
   last_is = ap (λ (k : ℕ). get_or longer k no_word) (sym whole) ∙ get_or-append_seam words last [] no_word
@@ -112,13 +99,8 @@ module _ (status : ℕ → Status) (number count : ℕ) (last : StatusWord) (wor
   count_more : last.opens < 2 ^ 64 → count + ones last.opens ≡ opens_below longer ((number + 1) * 64)
   count_more fits =
       let end : number * 64 + 64 ≡ (number + 1) * 64 = omega arith in
-      let sum : opens_below longer (number * 64 + 64) ≡ opens_below longer (number * 64) + bits_below (get_or longer number no_word).opens 64
-      = in_word longer number 64 (omega arith) in
-      let all : opens_below longer (number * 64 + 64) ≡ opens_below longer ((number + 1) * 64) = ap (opens_below longer) end in
-      let before : opens_below longer (number * 64) ≡ opens_below words (number * 64) = same_below (number * 64) (omega arith) in
-      let here : bits_below (get_or longer number no_word).opens 64 ≡ bits_below last.opens 64 = ap (λ (x : StatusWord). bits_below x.opens 64) last_is in
       let set : ones last.opens ≡ bits_below last.opens 64 = ap ones (sym (mod-eq_of_lt fits)) ∙ ones_below last.opens 64 in
-      omega arith
+      grind (arith, in_word longer number 64 (omega arith), same_below (number * 64) (omega arith), last_is)
 
   each_more : ((k : ℕ) → k < 64 → IsStatusOf last k (status (number * 64 + k))) →
       ((place : ℕ) → place < number * 64 → IsStatusOf (word_of words place) (place % 64) (status place)) →
