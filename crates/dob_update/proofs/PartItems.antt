@@ -33,10 +33,13 @@ items_of_parts-push (first ∷ parts) part classes more all m =
     let within : first.items ≤ length classes = omega (arith, all) in
     let left = length-drop first.items classes in
     let own = map (item_for first.settlement) (take first.items classes) in
-    ap (λ (xs : List ℕ). map (item_for first.settlement) xs ++ items_of_parts (parts ++ part ∷ []) (drop first.items (classes ++ more))) (take-append-le first.items classes more within)
-    ∙ ap (λ (xs : List ℕ). own ++ items_of_parts (parts ++ part ∷ []) xs) (drop-append-le first.items classes more within)
-    ∙ ap (λ (xs : List Item). own ++ xs) (items_of_parts-push parts part (drop first.items classes) more (omega (arith, all, left)) m)
-    ∙ sym (append_assoc own (items_of_parts parts (drop first.items classes)) (map (item_for part.settlement) more))
+    grind (
+      arith,
+      take-append-le first.items classes more within,
+      drop-append-le first.items classes more within,
+      items_of_parts-push parts part (drop first.items classes) more (omega (arith, all, left)) m,
+      append_assoc own (items_of_parts parts (drop first.items classes)) (map (item_for part.settlement) more),
+    )
 
 -- ---- the items in front, and those behind them
 
@@ -53,9 +56,7 @@ front_past k part parts classes past = grind (arith, nat_tests, front-zero parts
 two_pieces : (k m : ℕ) (classes : List ℕ) → k ≤ m → take k classes ++ take (m - k) (drop k classes) ≡ take m classes
 two_pieces k m classes within =
     let whole : k + (m - k) ≡ m = omega (arith, within) in
-    sym (ap (λ (xs : List ℕ). xs ++ take (m - k) (drop k classes)) (take-take k m classes within))
-    ∙ ap (λ (xs : List ℕ). take k (take m classes) ++ xs) (sym (drop-take k (m - k) classes) ∙ ap (λ j. drop k (take j classes)) whole)
-    ∙ take-append-drop k (take m classes)
+    grind (arith, take-take k m classes within, drop-take k (m - k) classes, whole, take-append-drop k (take m classes))
 
 items_of_parts-split : (k : ℕ) (parts : List Part) (classes : List ℕ) → items_of_parts (front k parts) classes ++ items_of_parts (behind k parts) (drop k classes) ≡ items_of_parts parts classes
 items_of_parts-split k [] classes = refl
@@ -65,23 +66,29 @@ items_of_parts-split k (part ∷ parts) classes = elim (cases_lt k part.items) [
       let within : k ≤ part.items = omega (arith, lt) in
       let tail = items_of_parts parts (drop part.items classes) in
       let whole : k + (part.items - k) ≡ part.items = omega (arith, lt) in
-      ap (λ (xs : List Item). xs ++ items_of_parts (behind k (part ∷ parts)) (drop k classes)) (front_within k part parts classes within)
-      ∙ ap (λ (ps : List Part). map f (take k classes) ++ items_of_parts ps (drop k classes)) (behind-within k part parts lt)
-      ∙ ap (λ (xs : List ℕ). map f (take k classes) ++ (map f (take (part.items - k) (drop k classes)) ++ items_of_parts parts xs))
-      (drop-drop (part.items - k) k classes ∙ ap (λ m. drop m classes) whole)
-      ∙ sym (append_assoc (map f (take k classes)) (map f (take (part.items - k) (drop k classes))) tail)
-      ∙ ap (λ (xs : List Item). xs ++ tail) (sym (map-append f (take k classes) (take (part.items - k) (drop k classes)))
-      ∙ ap (λ (xs : List ℕ). map f xs) (two_pieces k part.items classes within))
+      grind (
+        arith,
+        front_within k part parts classes within,
+        behind-within k part parts lt,
+        drop-drop (part.items - k) k classes,
+        whole,
+        append_assoc (map f (take k classes)) (map f (take (part.items - k) (drop k classes))) tail,
+        map-append f (take k classes) (take (part.items - k) (drop k classes)),
+        two_pieces k part.items classes within,
+      )
   | inr le ↦
       let own = map (item_for part.settlement) (take part.items classes) in
       let before = items_of_parts (front (k - part.items) parts) (drop part.items classes) in
       let whole : part.items + (k - part.items) ≡ k = omega (arith, le) in
-      ap (λ (xs : List Item). xs ++ items_of_parts (behind k (part ∷ parts)) (drop k classes)) (front_past k part parts classes le)
-      ∙ ap (λ (ps : List Part). (own ++ before) ++ items_of_parts ps (drop k classes)) (behind-past k part parts le)
-      ∙ ap (λ (xs : List ℕ). (own ++ before) ++ items_of_parts (behind (k - part.items) parts) xs)
-      (sym (drop-drop (k - part.items) part.items classes ∙ ap (λ m. drop m classes) whole))
-      ∙ append_assoc own before (items_of_parts (behind (k - part.items) parts) (drop (k - part.items) (drop part.items classes)))
-      ∙ ap (λ (xs : List Item). own ++ xs) (items_of_parts-split (k - part.items) parts (drop part.items classes))
+      grind (
+        arith,
+        front_past k part parts classes le,
+        behind-past k part parts le,
+        drop-drop (k - part.items) part.items classes,
+        whole,
+        append_assoc own before (items_of_parts (behind (k - part.items) parts) (drop k classes)),
+        items_of_parts-split (k - part.items) parts (drop part.items classes),
+      )
 ]
 
 long : (k : ℕ) (parts : List Part) (classes : List ℕ) → items_in_all parts ≤ length classes → k ≤ items_in_all parts → length (items_of_parts (front k parts) classes) ≡ k
