@@ -86,7 +86,8 @@ module _ (family : Family) (openings : List Opening) (node : NodeView) (are : Ar
     sums = λ p low is. SumsUp-same (known_of family 1 (alone_history h) (alone_applied []) p) (cells_below classes node.share p)
         (fresh (length (moves_of family.profile (class_setup family p)))) (cell_is p low)
         (start_sums family p low 1 (alone_history h) (λ i. alone_applied [] i (owner_of 1 p)) (λ i. rw (one_owner p) (none_applied i)));
-    cell_values = λ p low is. rw (value_is p Open low is) (CellValue-same (cells_below classes node.share p) _ Draw (cell_is p low) (refl, inr (λ plies. refl)));
+    cell_values = λ p low is. rw (value_is p Open low is) (CellValue-same (cells_below classes node.share p) _ Draw (cell_is p low)
+        (refl, inr (λ plies. refl)));
     over = λ p s low is closed. rw (value_is p s low is) (closed_follows s closed);
     values = λ p low. ap (λ k. value_of (alone_history h k) p) (sym (one_owner p));
   }

@@ -1,5 +1,6 @@
 -- The steps of one node that owns all classes: it stays lawful, and makes one step more.
-use Rattle.dob_node.proofs.Common.{◌++◌, ◌+◌, ◌∙◌, ◌∷◌, ◌≡◌, List, [], add-one, ap, append_assoc, arith, drop, inl, inr, length, subst, sym, take, ℕ, length-append, Family}
+use Rattle.dob_node.proofs.Common.{◌++◌, ◌+◌, ◌∙◌, ◌∷◌, ◌≡◌, List, [], add-one, ap, append_assoc, arith, drop, inl, inr, length, subst, sym, take, ℕ}
+use Rattle.dob_node.proofs.Common.{length-append, Family}
 use Rattle.dob_node.proofs.Common.{predecessors, Item, items_of, HasCome, HasMade, IsAlone, alone_items}
 use Rattle.dob_node.proofs.Common.{Settlement, NodeView, HasApplied, IsExpanded, IsSound, HistoryView, AreKept, listed}
 use Rattle.dob_node.proofs.Settles.{emitted_more, emitted_grown, emitted_all}
@@ -38,19 +39,27 @@ module _ (old new : NodeView) (applied : List Item) (alone : IsAlone old applied
     sound = sound;
     alone = (step.same.2 ∙ alone.alone.0, step.same.1 ∙ alone.alone.1);
     statuses = λ class low. rw (step.same.0, step.taken.classes.statuses class) (alone.statuses class (rw step.same.0 at low));
-    emitted = rw (step.same.0, step.same.3) (emitted_grown (predecessors old.family) 1 0 old.history.settlements (listed step.taken.settled.0) new.history.settlements
+    emitted = rw (step.same.0, step.same.3) (emitted_grown (predecessors old.family) 1 0 old.history.settlements (listed step.taken.settled.0)
+        new.history.settlements
         old.expanded alone.sound.emitted (ap (λ (v : HistoryView). v.settlements) step.taken.settled.2)
         ∙ alone.emitted ∙ ap (λ xs. applied ++ xs) step.first ∙ sym (append_assoc applied (step.item ∷ []) new.own));
-    lawful = rw step.same.0 (still_lawful old.family old.share new.share old.history new.history applied step.item later kept kept_now step.taken alone.lawful next);
-    falls = rw step.same.0 (still_falls old.family old.share new.share old.history new.history applied step.item later kept kept_now step.taken alone.lawful next alone.falls);
+    lawful = rw step.same.0 (still_lawful old.family old.share new.share old.history new.history applied step.item later kept kept_now step.taken
+        alone.lawful next);
+    falls = rw step.same.0 (still_falls old.family old.share new.share old.history new.history applied step.item later kept kept_now step.taken alone.lawful
+        next alone.falls);
   }
 
 pub made_applied : (old new : NodeView) → IsSound new → HasApplied old new → (steps : ℕ) → HasMade steps old → HasMade (steps + 1) new
 made_applied old new sound step steps made =
     let longer : length (made.0 ++ step.item ∷ []) ≡ length made.0 + 1 = length-append made.0 (step.item ∷ []) in
     let same : new.expanded ≡ old.expanded = step.same.3 in
-    let count : old.expanded + length made.0 ≡ steps = made.2 in
-    (made.0 ++ step.item ∷ [], alone_after old new made.0 made.1 sound step, omega arith, subst (λ st. HasCome st (steps + 1) new) (sym step.same.0) (rw add-one (old, made.3, inl step)))
+    let count : old.expanded + length made.0 ≡ steps = made.2 in (
+      made.0 ++ step.item ∷ [],
+      alone_after old new made.0 made.1 sound step,
+      omega arith,
+      subst (λ st. HasCome st (steps + 1) new) (sym step.same.0)
+          (rw add-one (old, made.3, inl step)),
+    )
 
 -- ---- a settlement expanded
 
@@ -63,7 +72,8 @@ module _ (old new : NodeView) (applied : List Item) (alone : IsAlone old applied
     sound = sound;
     alone = (step.same.2 ∙ alone.alone.0, step.same.1 ∙ alone.alone.1);
     statuses = λ class low. rw (step.same.0, step.same.3) (alone.statuses class (rw step.same.0 at low));
-    emitted = rw (step.same.0, step.expanded, step.same.4) (emitted_more (predecessors old.family) 1 0 old.history.settlements old.expanded step.settlement step.first
+    emitted = rw (step.same.0, step.expanded, step.same.4) (emitted_more (predecessors old.family) 1 0 old.history.settlements old.expanded step.settlement
+        step.first
         ∙ ap (λ xs. xs ++ items_of (predecessors old.family) 1 0 step.settlement) alone.emitted
         ∙ append_assoc applied old.own (items_of (predecessors old.family) 1 0 step.settlement) ∙ ap (λ xs. applied ++ xs) (sym own_same));
     lawful = rw (step.same.0, step.same.3, step.same.4) alone.lawful;
@@ -74,5 +84,10 @@ pub made_expanded : (old new : NodeView) → IsSound new → old.own ≡ [] → 
     HasMade (steps + 1) new
 made_expanded old new sound none step steps made =
     let same : new.expanded ≡ old.expanded + 1 = step.expanded in
-    let count : old.expanded + length made.0 ≡ steps = made.2 in
-    (made.0, alone_expanded old new made.0 made.1 sound step, omega arith, subst (λ st. HasCome st (steps + 1) new) (sym step.same.0) (rw add-one (old, made.3, inr (none, step))))
+    let count : old.expanded + length made.0 ≡ steps = made.2 in (
+      made.0,
+      alone_expanded old new made.0 made.1 sound step,
+      omega arith,
+      subst (λ st. HasCome st (steps + 1) new) (sym step.same.0)
+          (rw add-one (old, made.3, inr (none, step))),
+    )

@@ -66,8 +66,12 @@ pub addressed_still : (targets : List ℕ) (settlement : Settlement) (n from k m
     ((get_or mid k default).n ≡ many) × ((get_or mid k default).to ≡ k) × (targets ≡ predecessors (get_or mid k default).family settlement.class)
 addressed_still targets settlement n from k many old mid so_far count many_is of low default =
     let whom = (of.2 k).of in
-    let there = so_far.later k default (omega arith) ∙ get_or_default old k default (empty_outbox of.0 (length old) from k) (omega arith) in
-    (grind (arith, there, whom, so_far.whole), grind (arith, there, whom), of.1 ∙ ap (λ st. predecessors st settlement.class) (sym (ap (λ (o : OutboxView). o.family) there ∙ whom.0)))
+    let there = so_far.later k default (omega arith) ∙ get_or_default old k default (empty_outbox of.0 (length old) from k) (omega arith) in (
+      grind (arith, there, whom, so_far.whole),
+      grind (arith, there, whom),
+      of.1 ∙ ap (λ st. predecessors st settlement.class)
+          (sym (ap (λ (o : OutboxView). o.family) there ∙ whom.0)),
+    )
 
 -- ---- what the outboxes are for
 
@@ -89,7 +93,8 @@ pub addressed_added : (family : Family) (targets : List ℕ) (s : Settlement) (n
 addressed_added family targets s n from old new was now are all to = elim (cases_eq to from) [
   | inl own ↦ rw (own, are.unsent (empty_outbox family n from from)) (all from)
   | inr apart ↦ elim (cases_lt to n) [
-    | inl low ↦ rw (are.sent to (empty_outbox family n from to) low apart) (added_to family n from to (outbox_in family n from old to) s targets was now (all to))
+    | inl low ↦ rw (are.sent to (empty_outbox family n from to) low apart) (added_to family n from to (outbox_in family n from old to) s targets was now
+        (all to))
     | inr high ↦ rw (are.later to (empty_outbox family n from to) high) (all to)
   ]
 ]

@@ -33,13 +33,15 @@ module _ (targets : List ℕ) (from upto : ℕ) (before outboxes : List OutboxVi
   }
 
   -- the outbox for the next node, of as many, has one settlement more
-  pub one_more : (k many count : ℕ) (now : List OutboxView) (default : OutboxView) → AreBack k before outboxes now → k < upto → upto ≤ many → many ≡ length outboxes →
+  pub one_more : (k many count : ℕ) (now : List OutboxView) (default : OutboxView) → AreBack k before outboxes now → k < upto → upto ≤ many →
+      many ≡ length outboxes →
       k ≢ from → count ≡ length (items_of (λ _. targets) many k more.settlement) → HasOneMore (get_or before k default) count (get_or now k default)
   one_more k many count now default so_far low within many_is other count_is =
       let inside : k < length before = omega (arith, low, within, many_is, more.are_added.whole) in record {
         settlement = more.settlement;
         items = items_of (λ _. targets) (length before) k more.settlement;
-        items_are = asked_of targets more.settlement (length before) from k more.family (get_or before k default) (items_of (λ _. targets) (length before) k more.settlement)
+        items_are = asked_of targets more.settlement (length before) from k more.family (get_or before k default)
+            (items_of (λ _. targets) (length before) k more.settlement)
             (rw (get_or_default before k (empty_outbox more.family (length before) from k) default inside) at (more.addressed k)) more.targets_are refl;
         many = rw (← more.are_added.whole, ← many_is) (sym count_is);
         outbox_is = so_far.later k default (omega arith) ∙ more.are_added.sent k default low other;

@@ -1,5 +1,6 @@
 -- Items taken one after the other.
-use Rattle.dob_node.proofs.Common.{AppliesAll, Err, Ok, ◌≢◌, ◌++◌, ◌+◌, ◌<◌, ◌∙◌, ◌∷◌, ◌≡◌, ◌≤◌, List, Result, [], add-one, ap, arith, drop, get_or, length, refl, subst, sym, take, ℕ}
+use Rattle.dob_node.proofs.Common.{AppliesAll, Err, Ok, ◌≢◌, ◌++◌, ◌+◌, ◌<◌, ◌∙◌, ◌∷◌, ◌≡◌, ◌≤◌, List, Result, [], add-one, ap, arith, drop, get_or, length}
+use Rattle.dob_node.proofs.Common.{refl, subst, sym, take, ℕ}
 use Rattle.dob_node.proofs.Common.{drop-cons, take-suc, take-append-drop, err_from_is_err_and, All, IfErr, IsErrAnd, Family, Item, Share, Cause, NodeView}
 use Rattle.dob_node.proofs.Common.{HasTaken, HasTakenBefore, IsSound, IsUnchanged, HistoryView, AreKept, AreTaken, AreTakenBefore, HasItemEntries, IsHistory}
 use Rattle.dob_node.proofs.Common.{IsReason, IsTaken, StayKept, StopsAt}
@@ -154,7 +155,8 @@ module _ (node : NodeView) (after : Share) (mid grown : HistoryView) (same : IsH
     outboxes = refl;
   }
 
-  pub applies_err : (items : List Item) (count : ℕ) (why : Cause) → StopsAt items node.share mid why → AreTakenBefore items count node.share after mid grown why →
+  pub applies_err : (items : List Item) (count : ℕ) (why : Cause) → StopsAt items node.share mid why →
+      AreTakenBefore items count node.share after mid grown why →
       why ≢ cause.Memory → AppliesAll items (Err why) node (record node { share = after; history = grown; taken = count })
   applies_err items count why stops before other = record {
     taken = tt;

@@ -76,7 +76,13 @@ module _ (slots : List Slot) (pool : List ℕ) (opened : AreOpened slots pool) w
     pub one_more : AreOpened (slots ++ next ∷ []) new_pool
     one_more = record {
       runs = λ place inside. elim (cases_lt place (length slots)) [
-        | inl old ↦ omega (arith, old_start place (omega arith), old_start (place + 1) (omega arith), ap (λ s. s.left) (before place old), opened.runs place old)
+        | inl old ↦ omega (
+          arith,
+          old_start place (omega arith),
+          old_start (place + 1) (omega arith),
+          ap (λ s. s.left) (before place old),
+          opened.runs place old,
+        )
         | inr last ↦
             let long = length_push slots next in
             let e : length slots ≡ place = omega arith in

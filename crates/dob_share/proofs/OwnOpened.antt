@@ -117,7 +117,8 @@ module _ (share : Share) (listed : ℕ → Opening) (entries : ℕ) (opened : Is
   unfolding IsOwn
   here class own = each (class / share.nodes) own.1 ∙ ap (opening_of openings) (class_back class share.nodes share.id own.0)
 
-  told : (class : ℕ) → IsOwn share class → IsStatusOf (word_of share.statuses.words (class / share.nodes)) (class / share.nodes % 64) (opening_of openings class).status
+  told : (class : ℕ) → IsOwn share class → IsStatusOf (word_of share.statuses.words (class / share.nodes)) (class / share.nodes % 64)
+      (opening_of openings class).status
   unfolding IsOwn
   told class own = subst (λ (o : Opening). IsStatusOf (word_of share.statuses.words (class / share.nodes)) (class / share.nodes % 64) o.status) (here class own)
       (opened.statuses (class / share.nodes) own.1)
@@ -143,9 +144,11 @@ module _ (share : Share) (listed : ℕ → Opening) (entries : ℕ) (opened : Is
       λ own. (own.0, subst (λ (k : ℕ). k < length openings) (class_back class share.nodes share.id own.0) ((places (class / share.nodes)).0 own.1)),
       λ both. (both.0, (places (class / share.nodes)).1 (subst (λ (k : ℕ). k < length openings) (sym (class_back class share.nodes share.id both.0)) both.1)),
     );
-    statuses = λ class own. status_told (word_of share.statuses.words (class / share.nodes)) (class / share.nodes % 64) (opening_of openings class).status (told class own);
+    statuses = λ class own. status_told (word_of share.statuses.words (class / share.nodes)) (class / share.nodes % 64) (opening_of openings class).status
+        (told class own);
     cells = λ class own. cell_by_status (open_at share.statuses.words (class / share.nodes))
-        (cell_in share.slots share.pool (opens_below share.statuses.words (class / share.nodes))) (opening_of openings class).status (opening_of openings class).moves
+        (cell_in share.slots share.pool (opens_below share.statuses.words (class / share.nodes))) (opening_of openings class).status
+        (opening_of openings class).moves
         (told class own).opens_is (open_cell class own);
     settled = opened.settled ∙ settled_same (λ place. (listed place).status) (λ place. (opening_of openings (class_of_place share.nodes share.id place)).status)
         share.statuses.places (λ place low. ap (λ (o : Opening). o.status) (each place low));
@@ -159,7 +162,8 @@ placed_itself openings n id = record { places = λ place. (λ low. low, λ low. 
 -- those of its classes alone
 pub placed_own : (openings own : List Opening) (one n id : ℕ) → one ≡ 1 → AreOwn openings n id own → ArePlaced own one 0 openings n id
 placed_own openings own one n id is are =
-    let at : (place : ℕ) → place ≡ class_of_place one 0 place = λ place. (let e : place ≡ place * 1 + 0 = omega arith in e ∙ ap (λ (k : ℕ). place * k + 0) (sym is)) in
+    let at : (place : ℕ) → place ≡ class_of_place one 0 place = λ place. (let e : place ≡ place * 1 + 0 = omega arith in e ∙ ap (λ (k : ℕ). place * k + 0)
+    (sym is)) in
     record {
       places = λ place. subst (λ (k : ℕ). (k < length own) ↔ (class_of_place n id place < length openings)) (at place) (are.places place);
       each = λ place inside. subst (λ (k : ℕ). opening_of own k ≡ opening_of openings (class_of_place n id place)) (at place)

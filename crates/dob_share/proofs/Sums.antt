@@ -94,7 +94,8 @@ least_more known after was plies change (Some least) greater is = (
 least_after : (known after : List Value) (was now : Value) (cell : Cell) → Better was now → Changes known after was now → IsLeastLoss known cell.least →
     IsLeastLoss after (changed was now cell).least
 least_after known after Draw (Win plies) cell better change is = least_stays known after Draw (Win plies) change cell.least (λ k same. cc) (λ k same. cc) is
-least_after known after (Win was) (Win now) cell better change is = least_stays known after (Win was) (Win now) change cell.least (λ k same. cc) (λ k same. cc) is
+least_after known after (Win was) (Win now) cell better change is = least_stays known after (Win was) (Win now) change cell.least (λ k same. cc)
+    (λ k same. cc) is
 least_after known after Draw (Loss plies) cell better change is = least_more known after Draw plies change cell.least (λ k same. absurd (cc)) is
 least_after known after (Loss was) (Loss now) cell better change is =
     least_more known after (Loss was) now change cell.least (λ k same. let e : was ≡ k = cc in let less : now < was = better in omega arith) is

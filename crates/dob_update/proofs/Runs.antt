@@ -39,7 +39,13 @@ module _ (count : Settlement → ℕ) where
     at : (none : Bool) → (k == 0) ≡ none → AreParts count 0 (front (k - part.items) parts)
         → AreParts count skip (cond none [] (with_number part (min k part.items) ∷ front (k - part.items) parts))
     at true e later = tt
-    at false e later = (grind (arith, nat_tests), omega (arith, h.1), (λ more. omega (arith, some_in_front (k - part.items) parts more, h.2 (some_in_front (k - part.items) parts more).1)), later)
+    at false e later = (
+      grind (arith, nat_tests),
+      omega (arith, h.1),
+      (λ more.
+          omega (arith, some_in_front (k - part.items) parts more, h.2 (some_in_front (k - part.items) parts more).1)),
+      later,
+    )
 
   -- one more settlement at the end, with all its items
   AreWhole-push : (parts : List Part) (skip : ℕ) (part : Part) → AreWhole count skip parts → 0 < part.items → part.items ≡ count part.settlement

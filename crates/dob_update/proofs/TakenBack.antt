@@ -75,7 +75,13 @@ module _ (old before : OutboxView) (left : List Part) (part : Part) (classes : L
       let tail = drop k classes in
       let long_front : length front ≡ k = length-take-le k classes within in
       ap (take k) (items_are ∙ ap (λ (cs : List ℕ). items_of_parts (left ++ part ∷ []) cs) (sym (take-append-drop k classes))
-      ∙ items_of_parts-push left part front tail (left_is ∙ sym long_front) (omega (arith, length-drop k classes, left_is, listed.counted, total-push left part)))
+      ∙ items_of_parts-push left part front tail (left_is ∙ sym long_front) (omega (
+        arith,
+        length-drop k classes,
+        left_is,
+        listed.counted,
+        total-push left part,
+      )))
       ∙ take_at (items_of_parts left front) (map (item_for part.settlement) tail) k (items_of_parts-length left front (omega (arith, left_is, long_front)) ∙ left_is)
 
   before_is : take (length classes - count) old.items ≡ before.items

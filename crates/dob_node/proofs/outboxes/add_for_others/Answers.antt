@@ -12,12 +12,14 @@ loop-to-init c = added_none c.args.targets.now c.args.settlement c.len-nodes.res
 pub add_to-requires-clause-of : goal.add_to-requires-clause-of
 add_to-requires-clause-of c =
     addressed_still c.args.targets.now c.args.settlement c.len-nodes.result c.args.from c.loop-to.to (vec_len c.loop-to.outboxes) c.args.outboxes.now.items
-    c.loop-to.outboxes.items c.loop-to.invariant (c.len-nodes.ensures ∙ c.args.outboxes.now.ok.0) c.loop-to.outboxes.ok.0 c.requires.addressed c.loop-to-test.true
+    c.loop-to.outboxes.items c.loop-to.invariant (c.len-nodes.ensures ∙ c.args.outboxes.now.ok.0) c.loop-to.outboxes.ok.0 c.requires.addressed
+    c.loop-to-test.true
 
 pub loop-to-preserved : goal.loop-to-preserved
 loop-to-preserved c = elim c.if-to-from.branch [
   | then-to-from+in-Ok w ↦
-      rw w.outboxes-is (added_one c.args.targets.now c.args.settlement c.len-nodes.result c.args.from c.loop-to.to c.args.outboxes.now.items c.loop-to.outboxes.items
+      rw w.outboxes-is (added_one c.args.targets.now c.args.settlement c.len-nodes.result c.args.from c.loop-to.to c.args.outboxes.now.items
+      c.loop-to.outboxes.items
       c.loop-to.invariant (vec_len c.loop-to.outboxes) (empty_outbox c.requires.addressed.0 0 0 0) w.add_to.new.outboxes.items
       (c.len-nodes.ensures ∙ c.args.outboxes.now.ok.0) c.loop-to.outboxes.ok.0 w.if-to-from.true c.loop-to-test.true w.in-Ok.ensures.added)
   | else-to-from w ↦

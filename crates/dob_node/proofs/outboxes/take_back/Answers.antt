@@ -11,7 +11,8 @@ loop-to-init c = λ before more. back_none c.args.targets.now c.args.from c.args
 next : (c : After-count_items-count) (before : List OutboxView) → HaveOneMore c.args.targets.now c.args.from c.args.upto before c.args.outboxes.now.items →
     (default : OutboxView) → HasOneMore (get_or before c.loop-to.to default) c.count_items-count.result (get_or c.loop-to.outboxes.items c.loop-to.to default)
 next c before more default =
-    one_more c.args.targets.now c.args.from c.args.upto before c.args.outboxes.now.items more c.loop-to.to (vec_len c.args.outboxes.now) c.count_items-count.result
+    one_more c.args.targets.now c.args.from c.args.upto before c.args.outboxes.now.items more c.loop-to.to (vec_len c.args.outboxes.now)
+    c.count_items-count.result
     c.loop-to.outboxes.items default (c.loop-to.invariant before more) c.loop-to-test.true c.requires.upto c.args.outboxes.now.ok.0 c.if-to-from.true
     (rw c.len-nodes.ensures at (c.count_items-count.ensures more.settlement))
 
@@ -28,8 +29,11 @@ take_back_at-requires-clause-there c =
     )
 
 pub take_back_at-requires-clause-added : goal.take_back_at-requires-clause-added
-take_back_at-requires-clause-added c = λ default.
-    (get_or c.requires.added.0 c.loop-to.to default, next (goal.at.take_back_at-requires-clause-added c).After-count_items-count c.requires.added.0 c.requires.added.1 default)
+take_back_at-requires-clause-added c = λ default. (
+  get_or c.requires.added.0 c.loop-to.to default,
+  next (goal.at.take_back_at-requires-clause-added c).After-count_items-count c.requires.added.0
+      c.requires.added.1 default,
+)
 
 pub loop-to-preserved : goal.loop-to-preserved
 loop-to-preserved c = λ before more. elim c.if-to-from.branch [
@@ -38,7 +42,8 @@ loop-to-preserved c = λ before more. elim c.if-to-from.branch [
       rw w.outboxes-is (back_one c.args.targets.now c.args.from c.args.upto before c.args.outboxes.now.items more c.loop-to.to c.loop-to.outboxes.items
       w.take_back_at.new.outboxes.items (c.loop-to.invariant before more) inside
       (λ default. w.take_back_at.ensures default (get_or before c.loop-to.to default)
-      (one_more c.args.targets.now c.args.from c.args.upto before c.args.outboxes.now.items more c.loop-to.to (vec_len c.args.outboxes.now) w.count_items-count.result
+      (one_more c.args.targets.now c.args.from c.args.upto before c.args.outboxes.now.items more c.loop-to.to (vec_len c.args.outboxes.now)
+      w.count_items-count.result
       c.loop-to.outboxes.items default (c.loop-to.invariant before more) c.loop-to-test.true c.requires.upto c.args.outboxes.now.ok.0 w.if-to-from.true
       (rw c.len-nodes.ensures at (w.count_items-count.ensures more.settlement)))))
   | else-to-from w ↦
@@ -49,4 +54,5 @@ loop-to-preserved c = λ before more. elim c.if-to-from.branch [
 pub returns : goal.returns
 returns c = λ before more.
     let at_end : c.loop-to.to ≡ c.args.upto = omega (arith, c.loop-to-test.false, c.loop-to.auto.to-end) in
-    back_all c.args.targets.now c.args.from c.args.upto before c.args.outboxes.now.items more c.loop-to.outboxes.items (rw at_end at (c.loop-to.invariant before more))
+    back_all c.args.targets.now c.args.from c.args.upto before c.args.outboxes.now.items more c.loop-to.outboxes.items
+    (rw at_end at (c.loop-to.invariant before more))

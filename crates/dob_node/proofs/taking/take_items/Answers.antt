@@ -25,7 +25,8 @@ returns-in_err-take_seen-clause-stopped c =
 pub returns-in_err-take_seen-clause-before : goal.returns-in_err-take_seen-clause-before
 returns-in_err-take_seen-clause-before c =
     let given = err_from_is_err_and c.from_residual.result c.from_residual.ensures.1 in
-    rw (given.1, given.2, c.loop-item.invariant.counted) (taken_before c.args.items.now c.loop-item.item-index _ c.args.share.now c.loop-item.share c.take_seen.new.share
+    rw (given.1, given.2, c.loop-item.invariant.counted) (taken_before c.args.items.now c.loop-item.item-index _ c.args.share.now c.loop-item.share
+    c.take_seen.new.share
     c.args.history.now c.loop-item.history c.take_seen.new.self _ c.loop-item-test.true c.loop-item.invariant.taken c.in_err-take_seen.ensures.unchanged
     c.in_err-take_seen.ensures.why)
 
@@ -36,7 +37,8 @@ loop-item-preserved c =
     record {
       counted = omega (arith, so_far.counted);
       room = omega (arith, so_far.room, out.room);
-      taken = taken_next c.args.items.now c.loop-item.item-index _ c.args.share.now c.loop-item.share c.take_seen.new.share c.args.history.now c.loop-item.history
+      taken = taken_next c.args.items.now c.loop-item.item-index _ c.args.share.now c.loop-item.share c.take_seen.new.share c.args.history.now
+          c.loop-item.history
           c.take_seen.new.self c.loop-item-test.true so_far.taken out.taken;
       kept = λ family kept. kept_back family c.args.share.now.nodes c.args.share.now.id c.loop-item.share c.take_seen.new.share c.loop-item.history
           c.take_seen.new.self (so_far.kept family kept) out.kept;

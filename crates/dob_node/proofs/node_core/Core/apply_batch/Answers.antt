@@ -27,7 +27,8 @@ pub returns-in_err-take_items-clause-step : goal.returns-in_err-take_items-claus
 returns-in_err-take_items-clause-step c =
     let given = err_from_is_err_and c.from_residual-in_err-take_items.result c.from_residual-in_err-take_items.ensures.1 in
     let out = rw c.items-items.ensures.items at c.in_err-take_items.ensures in
-    rw (given.1, given.2) (applies_err (going c.args.self.now) c.take_items.new.share c.reserve.new.self c.take_items.new.history c.reserve.ensures.same c.args.batch.now.items
+    rw (given.1, given.2) (applies_err (going c.args.self.now) c.take_items.new.share c.reserve.new.self c.take_items.new.history c.reserve.ensures.same
+    c.args.batch.now.items
     c.take_items.new.taken _ out.stopped out.before (λ memory. let few = c.take_items.ensures.memory in let room = c.in_ok-reserve.ensures in search rules))
 
 pub returns-in_err-take_items-clause-sound : goal.returns-in_err-take_items-clause-sound
@@ -39,7 +40,8 @@ returns-in_err-take_items-clause-sound c =
 pub returns-clause-step : goal.returns-clause-step
 returns-clause-step c =
     applies_ok (going c.args.self.now) c.take_items.new.share c.reserve.new.self c.take_items.new.history c.reserve.ensures.same c.args.batch.now.items
-    c.take_items.new.taken (rw c.items-items.ensures.items at c.in_ok-take_items.ensures.taken) (rw c.items-items.ensures.items at c.in_ok-take_items.ensures.all)
+    c.take_items.new.taken (rw c.items-items.ensures.items at c.in_ok-take_items.ensures.taken)
+    (rw c.items-items.ensures.items at c.in_ok-take_items.ensures.all)
 
 pub returns-clause-sound : goal.returns-clause-sound
 returns-clause-sound c =

@@ -1,5 +1,6 @@
 -- The outboxes that are left are sound.
-use Rattle.dob_node.proofs.Common.{◌≡◌, ◌≢◌, None, Option, [], ap, refl, rules, set, subst, sym, BatchView, IfSome, OutboxView, empty_outbox, going, outbox_in, IsCutFrom}
+use Rattle.dob_node.proofs.Common.{◌≡◌, ◌≢◌, None, Option, [], ap, refl, rules, set, subst, sym, BatchView, IfSome, OutboxView, empty_outbox, going}
+use Rattle.dob_node.proofs.Common.{outbox_in, IsCutFrom}
 use Rattle.std.proofs.Common.{IsNone}
 use Rattle.std.proofs.lemmas.Option.{IfSome_then}
 use Rattle.dob_node.proofs.Sends.{outbox_read, cut_read, sound_cut, cut_of, cut_entries}
@@ -32,7 +33,8 @@ returns-clause-step c =
     let read = c.index_mut-outbox.result.now in
     let given = c.in_ok-batch.batch in
     let outbox = outbox_in node.family node.nodes node.id node.outboxes.items to in
-    let is : outbox ≡ read = outbox_read node.family node.nodes node.id to node.outboxes.items read (rw c.requires.sound.receivers c.requires.to) c.index_mut-outbox.ensures.value in
+    let is : outbox ≡ read = outbox_read node.family node.nodes node.id to node.outboxes.items read (rw c.requires.sound.receivers c.requires.to)
+    c.index_mut-outbox.ensures.value in
     let whom = c.requires.sound.addressed to in
     record {
       none = (

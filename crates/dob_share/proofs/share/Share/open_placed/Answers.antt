@@ -28,7 +28,8 @@ loop-place-preserved c =
     = c.opening_at-opening.ensures ∙ ap (λ (k : ℕ). opening_of c.args.listed.now (class_of_place k c.args.first l.place)) c.get.ensures.value in
     record {
       slots = subst (λ (k : ℕ). AreSlotsBelow words listed (l.place + 1) c.push_slot.new.slots (l.moves + k)) (sym out.moves)
-          (slots_more words listed l.place l.moves l.slots l.invariant.slots c.opening_at-opening.result c.push_slot.new.slots opening_is status_is out.few out.slots);
+          (slots_more words listed l.place l.moves l.slots l.invariant.slots c.opening_at-opening.result c.push_slot.new.slots opening_is status_is out.few
+          out.slots);
       moves = subst (λ (k : ℕ). l.moves + k < 2 ^ 33) (sym out.moves) out.small;
       settled = settled_more (λ place. (listed place).status) l.place l.settled c.settlements_of-settled.result l.invariant.settled
           (c.settlements_of-settled.ensures ∙ ap (λ o. settles o.status) opening_is);
@@ -41,7 +42,8 @@ open-requires-clause-few_places c = places_few c.len-count.result c.args.first c
     (let first = c.requires.first in omega arith) (omega arith) c.places_among-places.ensures
 
 -- the slots of all places
-all_slots : (c : In_ok-pool) → AreSlotsBelow c.in_ok-statuses.statuses.words (λ place. opening_of c.args.listed.now (class_of_place c.args.step c.args.first place))
+all_slots : (c : In_ok-pool) → AreSlotsBelow c.in_ok-statuses.statuses.words (λ place. opening_of c.args.listed.now
+    (class_of_place c.args.step c.args.first place))
     c.places_among-places.result c.loop-place.slots c.loop-place.moves
 all_slots c =
     let listed : ℕ → Opening = λ place. opening_of c.args.listed.now (class_of_place c.args.step c.args.first place) in
@@ -64,7 +66,8 @@ returns c = λ openings are.
     let listed : ℕ → Opening = λ place. opening_of c.args.listed.now (class_of_place c.args.step c.args.first place) in
     let all = c.in_ok-statuses.ensures.places in
     let end : c.loop-place.place ≡ c.places_among-places.result = omega arith in
-    let inside = λ (place : ℕ) (low : place < c.in_ok-statuses.statuses.places). (c.places_among-places.ensures place).0 (subst (λ (k : ℕ). place < k) all low) in
+    let inside = λ (place : ℕ) (low : place < c.in_ok-statuses.statuses.places). (c.places_among-places.ensures place).0
+    (subst (λ (k : ℕ). place < k) all low) in
     is_new _ listed c.loop-place.moves (record {
       statuses = λ place low. c.in_ok-statuses.ensures.statuses place (subst (λ (k : ℕ). place < k) all low);
       slots = subst (λ (k : ℕ). AreSlotsBelow c.in_ok-statuses.statuses.words listed k c.loop-place.slots c.loop-place.moves) (sym all)
@@ -77,4 +80,5 @@ returns c = λ openings are.
       λ low. subst (λ (k : ℕ). place < k) (sym all) ((c.places_among-places.ensures place).1
           (subst (λ (k : ℕ). place * c.args.step + c.args.first < k) (sym c.len-count.ensures.count) ((are.places place).1 low))),
     ))
-    (λ place low. are.each place ((are.places place).0 (subst (λ (k : ℕ). place * c.args.step + c.args.first < k) c.len-count.ensures.count (inside place low))))
+    (λ place low. are.each place ((are.places place).0 (subst (λ (k : ℕ). place * c.args.step + c.args.first < k) c.len-count.ensures.count
+    (inside place low))))
