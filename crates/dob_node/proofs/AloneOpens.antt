@@ -1,10 +1,10 @@
 -- One node that owns all classes, as it is opened: it is lawful.
-use Rattle.dob_node.proofs.Common.{◌%◌, ◌*◌, ◌++◌, ◌+◌, ◌<◌, ◌∙◌, ◌≡◌, Err, IfOk, List, Ok, Result, [], ap, arith, get_or, inl, inr, length, refl, subst, suc}
-use Rattle.dob_node.proofs.Common.{sym, take, zero, ℕ, cases_order, slice_get-get_or, All, Family, one_status, moves_of, HasStatus, Status, Open, Stuck}
-use Rattle.dob_node.proofs.Common.{class_setup, classes_of, IsEntry, Draw, predecessors, CellValue-same, CellValue, SameCell, fresh, opening_of, owner_of}
-use Rattle.dob_node.proofs.Common.{IsOwn, cell_at, places_of, status_at, Item, Settlement, Opening, items_from, HasCome, HasMade, IsAlone, alone_applied}
-use Rattle.dob_node.proofs.Common.{alone_history, alone_items, cells_below, HaveFalls, IsFirst, IsChained, value_of, AreLawfulNodes, known_of, NodeView}
-use Rattle.dob_node.proofs.Common.{IsOpened, IsSound, opening_settlements, opening_status, opening_value, AreOpenings, IsOpening, FollowsAtStatus}
+use Rattle.dob_node.proofs.Common.{◌*◌, ◌++◌, ◌+◌, ◌<◌, ◌∙◌, ◌≡◌, Err, IfOk, List, Ok, Result, [], ap, arith, get_or, inr, length, refl, subst, suc}
+use Rattle.dob_node.proofs.Common.{sym, zero, ℕ, slice_get-get_or, All, Family, one_status, moves_of, HasStatus, Status, Open, Stuck}
+use Rattle.dob_node.proofs.Common.{class_setup, classes_of, IsEntry, Draw, predecessors, CellValue-same, SameCell, fresh, opening_of, owner_of}
+use Rattle.dob_node.proofs.Common.{IsOwn, places_of, Item, Settlement, Opening, items_from, HasCome, HasMade, IsAlone, alone_applied}
+use Rattle.dob_node.proofs.Common.{alone_history, cells_below, HaveFalls, IsFirst, IsChained, value_of, AreLawfulNodes, known_of, NodeView}
+use Rattle.dob_node.proofs.Common.{IsOpened, IsSound, opening_settlements, opening_status, opening_value, AreOpenings, IsOpening}
 use Rattle.dob_node.proofs.Beginnings.{or_else, closed_follows, opened_value, opened_chained, opened_entries}
 use Rattle.dob_node.proofs.ValuesFollow.{SumsUp-same}
 use Rattle.dob_node.proofs.Totals.{start_sums}
@@ -31,9 +31,6 @@ value_opened status k p low =
 
 -- ---- the node
 
-fresh_draw : (moves : ℕ) → CellValue (fresh moves) Draw
-fresh_draw moves = (refl, inr (λ plies. refl))
-
 module _ (family : Family) (openings : List Opening) (node : NodeView) (are : AreOpenings family openings) (opened : IsOpened openings family 0 1 node)
     (sound : IsSound node) where
   abbrev pub classes : ℕ
@@ -46,40 +43,27 @@ module _ (family : Family) (openings : List Opening) (node : NodeView) (are : Ar
   h = opening_settlements status 1 0 classes
 
   own : (class : ℕ) → class < classes → IsOwn node.share class
-  own class low = (sound.kept.owned class).1 (
-    subst (λ (m : ℕ). class % m ≡ node.id) (sym opened.of.2) (one_owner class ∙ sym opened.of.1),
-    subst (λ (st : Family). class < classes_of st) (sym opened.of.0) low,
-  )
+  own class low = (sound.kept.owned class).1 (rw (opened.of.2, opened.of.1, opened.of.0) (one_owner class, low))
 
   is_opening : (class : ℕ) → class < classes → IsOpening family.profile (class_setup family class) (opening_of openings class)
   is_opening class low = listed_opening family openings class are low
 
   -- as many places as classes
   all_places : places_of node.share ≡ classes
-  all_places =
-      let whole = are.whole in
-      elim (cases_order (places_of node.share) classes) [
-        | inl same ↦ same
-        | inr order ↦ elim order [
-          | inl less ↦ let low = (opened.places (places_of node.share)).1 (omega arith) in absurd (omega arith)
-          | inr more ↦ let there = (opened.places classes).0 more in absurd (omega arith)
-        ]
-      ]
+  all_places = grind (arith, opened.places (places_of node.share), opened.places classes, are.whole)
 
   history_is : node.history.settlements ≡ h
   history_is = opened.history ∙ ap (λ k. opening_settlements status 1 0 k) all_places
 
   cell_is : (p : ℕ) → p < classes → SameCell (cells_below classes node.share p) (fresh (length (moves_of family.profile (class_setup family p))))
-  cell_is p low = subst (λ c. SameCell c (fresh (length (moves_of family.profile (class_setup family p))))) (sym (cell_below classes node.share p low))
-      (subst (λ m. SameCell (cell_at node.share p) (fresh m)) (is_opening p low).moves (opened.cells p (own p low)))
+  cell_is p low = rw (cell_below classes node.share p low) (rw (is_opening p low).moves at (opened.cells p (own p low)))
 
   value_is : (p : ℕ) (s : Status) → p < classes → HasStatus family.profile (class_setup family p) s → value_of h p ≡ or_else (opening_value s) Draw
   value_is p s low is = value_opened status classes p low
       ∙ ap (λ st. or_else (opening_value st) Draw) (one_status family.profile (class_setup family p) (status p) s (is_opening p low).status is)
 
   none_applied : (i : ℕ) → alone_applied [] i 0 ≡ []
-  none_applied zero = refl
-  none_applied (suc i) = refl
+  none_applied i = grind arith
 
   at_zero : (P : ℕ → List Settlement → Type 0) → P 0 h → (i : ℕ) → i < 1 → P i (alone_history h i)
   at_zero P base zero low = base
@@ -101,10 +85,10 @@ module _ (family : Family) (openings : List Opening) (node : NodeView) (are : Ar
     begun = begun;
     sums = λ p low is. SumsUp-same (known_of family 1 (alone_history h) (alone_applied []) p) (cells_below classes node.share p)
         (fresh (length (moves_of family.profile (class_setup family p)))) (cell_is p low)
-        (start_sums family p low 1 (alone_history h) (λ i. alone_applied [] i (owner_of 1 p)) (λ i. subst (λ k. alone_applied [] i k ≡ []) (sym (one_owner p)) (none_applied i)));
-    cell_values = λ p low is. subst (λ v. CellValue (cells_below classes node.share p) v) (sym (value_is p Open low is))
-        (CellValue-same (cells_below classes node.share p) (fresh (length (moves_of family.profile (class_setup family p)))) Draw (cell_is p low) (fresh_draw (length (moves_of family.profile (class_setup family p)))));
-    over = λ p s low is closed. subst (λ v. FollowsAtStatus s [] v) (sym (value_is p s low is)) (closed_follows s closed);
+        (start_sums family p low 1 (alone_history h) (λ i. alone_applied [] i (owner_of 1 p)) (λ i. rw (one_owner p) (none_applied i)));
+    cell_values = λ p low is. rw (value_is p Open low is) (CellValue-same (cells_below classes node.share p) _ Draw (cell_is p low)
+        (refl, inr (λ plies. refl)));
+    over = λ p s low is closed. rw (value_is p s low is) (closed_follows s closed);
     values = λ p low. ap (λ k. value_of (alone_history h k) p) (sym (one_owner p));
   }
     where
@@ -117,18 +101,11 @@ module _ (family : Family) (openings : List Opening) (node : NodeView) (are : Ar
   alone_opened = record {
     sound = sound;
     alone = (opened.of.2, opened.of.1);
-    statuses = λ class low. subst (λ st. HasStatus st.profile (class_setup st class) (status_at node.share class)) (sym opened.of.0)
-        (at class (subst (λ (st : Family). class < classes_of st) opened.of.0 low));
-    emitted = ap (λ k. alone_items node.family (take k node.history.settlements)) opened.nothing.0 ∙ sym opened.nothing.1;
-    lawful = subst (λ st. AreLawfulNodes st 1 (alone_history node.history.settlements) (alone_applied []) (cells_below (classes_of st) node.share)
-        (value_of node.history.settlements)) (sym opened.of.0)
-        (subst (λ xs. AreLawfulNodes family 1 (alone_history xs) (alone_applied []) (cells_below classes node.share) (value_of xs)) (sym history_is) lawful);
-    falls = subst (λ st. HaveFalls st 1 (alone_history node.history.settlements) (cells_below (classes_of st) node.share)) (sym opened.of.0)
-        (subst (λ xs. HaveFalls family 1 (alone_history xs) (cells_below classes node.share)) (sym history_is) falls);
+    statuses = λ class low. rw (opened.of.0, opened.statuses class (own class (rw opened.of.0 at low))) (is_opening class (rw opened.of.0 at low)).status;
+    emitted = rw (opened.nothing.0, opened.nothing.1) refl;
+    lawful = rw (opened.of.0, history_is) lawful;
+    falls = rw (opened.of.0, history_is) falls;
   }
-    where
-      at : (class : ℕ) → class < classes → HasStatus family.profile (class_setup family class) (status_at node.share class)
-      at class low = subst (λ s. HasStatus family.profile (class_setup family class) s) (sym (opened.statuses class (own class low))) (is_opening class low).status
 
   pub made_none : HasMade 0 node
   made_none = (

@@ -1,6 +1,6 @@
 -- The steps of one node that owns all classes.
-use Rattle.dob_node.proofs.Common.{◌%◌, ◌++◌, ◌<◌, ◌∷◌, ◌≡◌, ◌≢◌, List, [], ap, arith, cond, lit<, nat_lt, refl, subst, suc, sym, zero, ℕ, lt-ltb, ltb-true}
-use Rattle.dob_node.proofs.Common.{Family, classes_of, cell_short, CellValue, SameCell, changed, fresh, IsOwn, cell_at, Item, Settlement, Share, alone_applied}
+use Rattle.dob_node.proofs.Common.{◌%◌, ◌++◌, ◌<◌, ◌∷◌, ◌≡◌, ◌≢◌, List, [], ap, arith, cond, lit<, nat_lt, subst, ℕ, lt-ltb, ltb-true}
+use Rattle.dob_node.proofs.Common.{Family, classes_of, cell_short, CellValue, SameCell, fresh, IsOwn, cell_at, Item, Settlement, Share, alone_applied}
 use Rattle.dob_node.proofs.Common.{alone_history, alone_items, cells_below, HaveFalls, value_of, AreAfter, AreLawfulNodes, AreSettled, CanApply, IsNextItem}
 use Rattle.dob_node.proofs.Common.{IsOneMore, HistoryView, AreKept, IsTaken}
 use Rattle.dob_share.proofs.Changing.{short_value}
@@ -47,24 +47,14 @@ module _ (family : Family) (share after : Share) (history grown : HistoryView) (
       item is_next
 
   is_applied : IsOneMore 0 0 item (alone_applied applied) (alone_applied (applied ++ item ∷ []))
-  is_applied = record { one_more = refl; same_sender = senders; same_receiver = receivers }
-    where
-      senders : (k : ℕ) → k ≢ 0 → alone_applied (applied ++ item ∷ []) k 0 ≡ alone_applied applied k 0
-      senders zero other = absurd (other refl)
-      senders (suc k) other = refl
-
-      receivers : (k m : ℕ) → m ≢ 0 → alone_applied (applied ++ item ∷ []) k m ≡ alone_applied applied k m
-      receivers k zero other = absurd (other refl)
-      receivers zero (suc m) other = refl
-      receivers (suc k) (suc m) other = refl
+  is_applied = grind arith
 
   changes : Change item after h g
   changes = item_changes item share after history grown taken kept.counted
       (subst (λ c. CellValue c (value_of h item.to)) (cell_below (classes_of family) share item.to low) (lawful.cell_values item.to low can.is_open))
 
   same_history : (xs : List Settlement) → (k : ℕ) → k ≢ 0 → alone_history xs k ≡ alone_history h k
-  same_history xs zero other = absurd (other refl)
-  same_history xs (suc k) other = refl
+  same_history xs k other = grind arith
 
   cells_after : (p : ℕ) → p ≢ item.to → SameCell (cells_below (classes_of family) after p) (cells_below (classes_of family) share p)
   cells_after p other = same_by (nat_lt p (classes_of family)) (cell_at after p) (cell_at share p) (fresh 0)
@@ -72,9 +62,8 @@ module _ (family : Family) (share after : Share) (history grown : HistoryView) (
 
   are_after : AreAfter item (cells_below (classes_of family) share) (cells_below (classes_of family) after) (value_of h) (value_of g)
   are_after = record {
-    cell_is = subst (λ c. SameCell c (changed item.was item.now (cells_below (classes_of family) share item.to))) (sym (cell_below (classes_of family) after item.to low))
-        (subst (λ c. SameCell (cell_at after item.to) (changed item.was item.now c)) (sym (cell_below (classes_of family) share item.to low)) taken.cell);
-    gives = subst (λ c. CellValue c (value_of g item.to)) (sym (cell_below (classes_of family) after item.to low)) changes.gives;
+    cell_is = rw (cell_below (classes_of family) after item.to low, cell_below (classes_of family) share item.to low) taken.cell;
+    gives = rw (cell_below (classes_of family) after item.to low) changes.gives;
     short = short_value (cell_at after item.to) (value_of g item.to) (cell_short after item.to there_after) changes.gives;
     better = changes.better;
     others = λ p other. (cells_after p other, changes.others p other);

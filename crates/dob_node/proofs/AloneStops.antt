@@ -1,5 +1,5 @@
 -- One node that owns all classes: where it stops, and when it has nothing left to do.
-use Rattle.dob_node.proofs.Common.{◌%◌, ◌++◌, ◌<◌, ◌∙◌, ◌∷◌, ◌≡◌, List, [], ap, arith, drop, inl, inr, length, lit<, refl, subst, sym, ℕ, get_or-eq_default}
+use Rattle.dob_node.proofs.Common.{◌++◌, ◌<◌, ◌∙◌, ◌∷◌, ◌≡◌, List, [], ap, arith, drop, inl, inr, length, lit<, refl, subst, sym, ℕ, get_or-eq_default}
 use Rattle.dob_node.proofs.Common.{cases_eq, Family, one_status, Open, class_setup, classes_of, CellCanTake, changed, Fits, GoesTooDeep, status_at, IsTooDeep}
 use Rattle.dob_node.proofs.Common.{Item, Settlement, OutboxView, empty_outbox, Cause, HasMade, HasStoppedAlone, IsDone, IsTooDeepWithin, alone_applied}
 use Rattle.dob_node.proofs.Common.{alone_history, alone_items, cells_below, value_of, CanApply, IsNextItem, NodeView, HasItemFault, IsIdle, outbox_to}
@@ -34,10 +34,7 @@ module _ (node : NodeView) (steps : ℕ) (made : HasMade steps node) (item : Ite
   pub next_fits : Fits node.share item
   unfolding Fits
   next_fits = (
-    (made.1.sound.kept.owned item.to).1 (
-      subst (λ (m : ℕ). item.to % m ≡ node.id) (sym made.1.alone.0) (one_owner item.to ∙ sym made.1.alone.1),
-      can.below,
-    ),
+    (made.1.sound.kept.owned item.to).1 (rw (made.1.alone.0, made.1.alone.1) (one_owner item.to, can.below)),
     one_status node.family.profile (class_setup node.family item.to) (status_at node.share item.to) Open (made.1.statuses item.to can.below) can.is_open,
     subst (λ c. CellCanTake item.was item.now c) (cell_below (classes_of node.family) node.share item.to can.below) can.takes,
   )
@@ -67,18 +64,11 @@ stopped_alone node steps limit cause.Counts made low fault = fault.reason
 pub fault_deep : (why : Cause) (given : Fault) (family : Family) (limit : ℕ) → IsFaultOf why given → HasStoppedAlone family limit why → given ≡ fault.TooDeep →
     IsTooDeepWithin family limit
 fault_deep cause.TooDeep given family limit is stopped same = stopped
-fault_deep (cause.Contradiction class) given family limit is stopped same = absurd stopped
-fault_deep cause.Memory given family limit is stopped same = absurd cc
-fault_deep cause.Held given family limit is stopped same = absurd stopped
-fault_deep cause.Counts given family limit is stopped same = absurd stopped
+fault_deep why given family limit is stopped same = absurd (grind arith)
 
 pub fault_fits : (why : Cause) (given : Fault) (family : Family) (limit class : ℕ) → IsFaultOf why given → HasStoppedAlone family limit why →
     given ≡ fault.Contradiction class → ⊥
-fault_fits cause.TooDeep given family limit class is stopped same = cc
-fault_fits (cause.Contradiction other) given family limit class is stopped same = stopped
-fault_fits cause.Memory given family limit class is stopped same = cc
-fault_fits cause.Held given family limit class is stopped same = stopped
-fault_fits cause.Counts given family limit class is stopped same = stopped
+fault_fits why given family limit class is stopped same = grind arith
 
 -- ---- nothing left to do
 

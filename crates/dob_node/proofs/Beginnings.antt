@@ -1,7 +1,8 @@
 -- The histories of nodes at their opening.
-use Rattle.dob_node.proofs.Common.{◌%◌, ◌*◌, ◌++◌, ◌+◌, ◌<◌, ◌∙◌, ◌≡◌, ◌≢◌, ◌≤◌, Bool, List, None, Option, Some, [], ap, arith, cond, eqb, false, inl, inr}
-use Rattle.dob_node.proofs.Common.{length, lit≤, refl, subst, suc, sym, true, zero, ℕ, mod-eq_of_lt, mul-add-mod_self_right, cases_eq, eq-eqb, ne_eqb}
-use Rattle.dob_node.proofs.Common.{append-nil, same_from_place, All, Status, Caught, Open, Stuck, Tried, IsEntry, Value, Draw, Better, Settlement, IsChained}
+use Rattle.dob_node.proofs.Common.{nat_tests}
+use Rattle.dob_node.proofs.Common.{◌%◌, ◌*◌, ◌++◌, ◌+◌, ◌<◌, ◌∙◌, ◌≡◌, ◌≢◌, ◌≤◌, Bool, List, None, Option, Some, [], ap, arith, cond, eqb, inl, inr}
+use Rattle.dob_node.proofs.Common.{length, refl, subst, suc, sym, zero, ℕ, mod-eq_of_lt, mul-add-mod_self_right, cases_eq, eq-eqb, ne_eqb}
+use Rattle.dob_node.proofs.Common.{append-nil, same_from_place, All, Status, Open, IsEntry, Value, Draw, Better, Settlement, IsChained}
 use Rattle.dob_node.proofs.Common.{value_of, opening_settlement, opening_settlements, opening_value, FollowsAtStatus}
 use Rattle.dob_node.proofs.Opens.{all_started}
 use Rattle.dob_node.proofs.Settles.{chained_more, chained_none, value_of-more}
@@ -11,32 +12,19 @@ abbrev pub or_else : Option Value → Value → Value
 or_else None v = v
 or_else (Some now) v = now
 
-either_same : (b : Bool) (v : Value) → v ≡ cond b v v
-either_same true v = refl
-either_same false v = refl
-
 one_more : (xs : List Settlement) (number class p : ℕ) (o : Option Value) →
     value_of (xs ++ opening_settlement number class o) p ≡ cond (eqb class p) (or_else o (value_of xs p)) (value_of xs p)
-one_more xs number class p None = ap (λ ys. value_of ys p) (append-nil xs) ∙ either_same (eqb class p) (value_of xs p)
+one_more xs number class p None = rw append-nil (grind (arith, nat_tests))
 one_more xs number class p (Some now) = value_of-more xs (record { number = number; class = class; was = Draw; now = now }) p
 
 better_draw : (status : Status) (now : Value) → opening_value status ≡ Some now → Better Draw now
-better_draw Caught now is = subst (λ (o : Option Value). Better Draw (or_else o Draw)) is tt
-better_draw Tried now is = subst (λ (o : Option Value). Better Draw (or_else o Draw)) is tt
-better_draw Stuck now is = subst (λ (o : Option Value). Better Draw (or_else o Draw)) is tt
-better_draw Open now is = absurd cc
+better_draw status now is = grind arith
 
 pub entry_opened : (status : Status) → IsEntry (or_else (opening_value status) Draw)
-entry_opened Caught = (refl, lit≤ tt)
-entry_opened Tried = (refl, lit≤ tt)
-entry_opened Stuck = (refl, lit≤ tt)
-entry_opened Open = tt
+entry_opened status = grind arith
 
 pub closed_follows : (status : Status) → status ≢ Open → FollowsAtStatus status [] (or_else (opening_value status) Draw)
-closed_follows Caught closed = refl
-closed_follows Tried closed = refl
-closed_follows Stuck closed = refl
-closed_follows Open closed = absurd (closed refl)
+closed_follows status closed = grind arith
 
 module _ (n id : ℕ) (one_of_n : id < n) (status : ℕ → Status) where
   abbrev class : ℕ → ℕ

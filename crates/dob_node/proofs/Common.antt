@@ -8,6 +8,7 @@ pub use Rattle.std.proofs.Math.Nat.{div-add-mod, div-le_self, mod-eq_of_lt, mul-
 pub use Rattle.std.proofs.Math.Seq.{drop-append_seam, drop-cons, drop-nil, take-append_seam, take-suc}
 pub use Rattle.std.proofs.lemmas.Bool.{and_left, and_right, both_ways, cases_Bool, cases_eq, cases_lt, cases_order, cond_both, eq-eqb, eqb-true, false≢true}
 pub use Rattle.std.proofs.lemmas.Bool.{le-ltb, lt-ltb, ltb-true, ne_eqb}
+pub use Rattle.std.proofs.lemmas.Bool.Decides.{nat_tests}
 pub use Rattle.std.proofs.lemmas.List.{append-nil, get_or-set_other, get_or-set_same, get_or_append_left, get_or_default, length-append, length-map, length-set}
 pub use Rattle.std.proofs.lemmas.List.{same_lists, take-append-drop, take-append-le, take_all}
 pub use Rattle.std.proofs.lemmas.List.Elements.{All-append, All-cons, All-contains, All-contains_itself, All-drop, All-head, All-nil, All-tail, All-take}

@@ -1,6 +1,7 @@
 -- What the copies of an edge know.
-use Rattle.dob_node.proofs.Common.{◌&&◌, ◌++◌, ◌+◌, ◌<◌, ◌∙◌, ◌∷◌, ◌≡◌, ◌≤◌, Bool, List, [], ap, append_assoc, arith, cond, eqb, false, inl, inr, ltb, refl}
-use Rattle.dob_node.proofs.Common.{subst, sym, ℕ, cases_Bool, eqb-true, lt-ltb, Value, Draw, owner_of, Item, Settlement, items_from, items_of, copies, items_to}
+use Rattle.dob_node.proofs.Common.{nat_tests}
+use Rattle.dob_node.proofs.Common.{◌&&◌, ◌++◌, ◌<◌, ◌∙◌, ◌∷◌, ◌≡◌, ◌≤◌, Bool, List, [], ap, append_assoc, arith, cond, eqb, false, ltb, refl}
+use Rattle.dob_node.proofs.Common.{subst, ℕ, Value, Draw, owner_of, Item, Settlement, items_from, items_of, copies, items_to}
 use Rattle.dob_node.proofs.Common.{known, last_now, value_of}
 use Rattle.dob_node.proofs.Counts.{items_to-append, items_to-items_of}
 
@@ -37,14 +38,12 @@ pub full_after : (targets : ℕ → List ℕ) (n node p : ℕ) (before : List It
     AreFull targets (before ++ items_from targets n node ss) p ss
 full_after targets n node p before [] own = tt
 full_after targets n node p before (s ∷ ss) own = (
-  (let block = items_of targets n node s in
-      let rest = items_from targets n node ss in
-      let whole : items_to (before ++ (block ++ rest)) s.number p ≡ items_to before s.number p + items_to (block ++ rest) s.number p =
-      items_to-append before (block ++ rest) s.number p in
-      let parts : items_to (block ++ rest) s.number p ≡ items_to block s.number p + items_to rest s.number p =
-      items_to-append block rest s.number p in
-      let here : items_to block s.number p ≡ copies targets p s.class = items_to-items_of targets n node s p own in
-      omega arith),
+  omega (
+    arith,
+    items_to-append before (items_of targets n node s ++ items_from targets n node ss) s.number p,
+    items_to-append (items_of targets n node s) (items_from targets n node ss) s.number p,
+    items_to-items_of targets n node s p own,
+  ),
   subst (λ items. AreFull targets items p ss) (append_assoc before (items_of targets n node s) (items_from targets n node ss))
       (full_after targets n node p (before ++ items_of targets n node s) ss own),
 )
@@ -53,17 +52,7 @@ pub full_agree : (targets : ℕ → List ℕ) (items : List Item) (p q copy : �
     AreFull targets items p ss →
     Agree (λ s. eqb s.class q && ltb copy (items_to items s.number p)) (λ s. eqb s.class q) ss
 full_agree targets items p q copy [] below full = tt
-full_agree targets items p q copy (s ∷ ss) below full = (
-  (elim (cases_Bool (eqb s.class q)) [
-    | inl is ↦
-        let same : s.class ≡ q = eqb-true s.class q is in
-        let many : copies targets p q ≤ items_to items s.number p = subst (λ c. copies targets p c ≤ items_to items s.number p) same full.0 in
-        subst (λ b. (b && ltb copy (items_to items s.number p)) ≡ b) (sym is)
-        (lt-ltb copy (items_to items s.number p) (omega arith))
-    | inr isnt ↦ subst (λ b. (b && ltb copy (items_to items s.number p)) ≡ b) (sym isnt) refl
-  ]),
-  full_agree targets items p q copy ss below full.1,
-)
+full_agree targets items p q copy (s ∷ ss) below full = (grind (arith, nat_tests), full_agree targets items p q copy ss below full.1)
 
 -- where all items of the settlements are applied, each copy knows the value
 pub full_known : (targets : ℕ → List ℕ) (n node : ℕ) (before : List Item) (history : List Settlement) (p q copy : ℕ) → owner_of n p ≡ node →

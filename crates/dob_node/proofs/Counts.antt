@@ -1,6 +1,7 @@
 -- How many items of each settlement a list of items has for a class.
-use Rattle.dob_node.proofs.Common.{◌&&◌, ◌++◌, ◌+◌, ◌∙◌, ◌∷◌, ◌≡◌, ◌≢◌, Bool, List, [], ap, arith, cond, eqb, false, map, refl, subst, sym, true, ℕ, both_ways}
-use Rattle.dob_node.proofs.Common.{eq-eqb, ne_eqb, count_by, filter, owner_of, Item, Settlement, item_for, items_of, copies, items_to}
+use Rattle.dob_node.proofs.Common.{nat_tests}
+use Rattle.dob_node.proofs.Common.{◌&&◌, ◌++◌, ◌+◌, ◌∙◌, ◌∷◌, ◌≡◌, ◌≢◌, Bool, List, [], arith, cond, eqb, false, map, refl, sym, true, ℕ}
+use Rattle.dob_node.proofs.Common.{eq-eqb, count_by, filter, owner_of, Item, Settlement, item_for, items_of, copies, items_to}
 use Rattle.std.proofs.lemmas.List.Sums.{sum_by-cons, sum_by-append}
 
 pub items_to-append : (xs ys : List Item) (number to : ℕ) → items_to (xs ++ ys) number to ≡ items_to xs number to + items_to ys number to
@@ -17,16 +18,8 @@ block test s ts = map (item_for s) (filter test ts)
 block_step : (test : ℕ → Bool) (s : Settlement) (p t : ℕ) (ts : List ℕ) (b : Bool) → test t ≡ b → test p ≡ true →
     items_to (block test s ts) s.number p ≡ count_by (λ (to : ℕ). eqb to p) ts →
     items_to (map (item_for s) (cond b (t ∷ filter test ts) (filter test ts))) s.number p ≡ cond (eqb t p) 1 0 + count_by (λ (to : ℕ). eqb to p) ts
-block_step test s p t ts true is own rest =
-    items_to-cons (item_for s t) (block test s ts) s.number p
-    ∙ subst (λ b. cond (b && eqb t p) 1 0 + items_to (block test s ts) s.number p ≡ cond (eqb t p) 1 0 + count_by (λ (to : ℕ). eqb to p) ts)
-    (sym (eq-eqb s.number s.number refl)) (ap (λ m. cond (eqb t p) 1 0 + m) rest)
-block_step test s p t ts false is own rest =
-    subst (λ b. items_to (block test s ts) s.number p ≡ cond b 1 0 + count_by (λ (to : ℕ). eqb to p) ts)
-    (sym (ne_eqb t p (λ same. both_ways (test t) is (ap test same ∙ own)))) (rest ∙ sym (zero_more (count_by (λ (to : ℕ). eqb to p) ts)))
-  where
-    zero_more : (m : ℕ) → 0 + m ≡ m
-    zero_more m = omega arith
+block_step test s p t ts true is own rest = grind (arith, nat_tests, items_to-cons (item_for s t) (block test s ts) s.number p)
+block_step test s p t ts false is own rest = grind (arith, nat_tests)
 
 -- as many of them are for a class that passes the test as it stands among the targets
 pub items_to-block : (test : ℕ → Bool) (s : Settlement) (p : ℕ) (ts : List ℕ) → test p ≡ true →
@@ -46,9 +39,4 @@ items_to-items_of targets n node s p own =
 pub no_other : (s : Settlement) (number p : ℕ) (ts : List ℕ) → s.number ≢ number → items_to (map (item_for s) ts) number p ≡ 0
 no_other s number p [] other = refl
 no_other s number p (t ∷ ts) other =
-    items_to-cons (item_for s t) (map (item_for s) ts) number p
-    ∙ subst (λ b. cond (b && eqb t p) 1 0 + items_to (map (item_for s) ts) number p ≡ 0)
-    (sym (ne_eqb s.number number other)) (zero_more (items_to (map (item_for s) ts) number p) (no_other s number p ts other))
-  where
-    zero_more : (m : ℕ) → m ≡ 0 → 0 + m ≡ 0
-    zero_more m is = omega arith
+    grind (arith, nat_tests, items_to-cons (item_for s t) (map (item_for s) ts) number p, no_other s number p ts other)

@@ -1,7 +1,7 @@
 -- Falls: how far they go, and what goes before one. A settlement is no better than its class's present value.
 use Rattle.dob_node.proofs.Common.{◌++◌, ◌+◌, ◌<◌, ◌∙◌, ◌∷◌, ◌≡◌, ◌≢◌, ◌≤◌, Contains, List, [], ap, append_assoc, arith, cond, get_or, inl, inr, length, map}
 use Rattle.dob_node.proofs.Common.{refl, subst, sym, ℕ, cases_eq, eq-eqb, ne_eqb, append-nil, length-map, All-cons, All-contains, All-head, All-nil, All-tail}
-use Rattle.dob_node.proofs.Common.{range_with_len, cons_cases, none_in_empty, plies_of, Value, Draw, Loss, Win, owner_of, Better, NoWorse, Settlement, Falls}
+use Rattle.dob_node.proofs.Common.{range_with_len, cons_cases, none_in_empty, plies_of, Value, Draw, owner_of, Better, NoWorse, Settlement, Falls}
 use Rattle.dob_node.proofs.Common.{IsFall, IsFirst, IsSettlement, RestsOn, IsChained, IsNext, value_of}
 use Rattle.std.proofs.Common.{All, AllPairs}
 use Rattle.std.proofs.lemmas.List.FromFn.{length-range_with_len, get_or-range_with_len}
@@ -11,57 +11,14 @@ use Rattle.dob_node.proofs.Settles.{value_of-more}
 
 -- ---- better values
 
-better_trans : (a b c : Value) → Better a b → Better b c → Better a c
-better_trans Draw Draw c one two = absurd one
-better_trans Draw (Win b) (Win c) one two = tt
-better_trans Draw (Win b) (Loss c) one two = absurd two
-better_trans Draw (Win b) Draw one two = absurd two
-better_trans Draw (Loss b) (Win c) one two = absurd two
-better_trans Draw (Loss b) (Loss c) one two = tt
-better_trans Draw (Loss b) Draw one two = absurd two
-better_trans (Win a) Draw c one two = absurd one
-better_trans (Win a) (Loss b) c one two = absurd one
-better_trans (Win a) (Win b) (Win c) one two =
-    let first : b < a = one in let then : c < b = two in let both : c < a = omega arith in both
-better_trans (Win a) (Win b) (Loss c) one two = absurd two
-better_trans (Win a) (Win b) Draw one two = absurd two
-better_trans (Loss a) Draw c one two = absurd one
-better_trans (Loss a) (Win b) c one two = absurd one
-better_trans (Loss a) (Loss b) (Win c) one two = absurd two
-better_trans (Loss a) (Loss b) (Loss c) one two =
-    let first : b < a = one in let then : c < b = two in let both : c < a = omega arith in both
-better_trans (Loss a) (Loss b) Draw one two = absurd two
-
 no_worse_trans : (a b c : Value) → NoWorse a b → NoWorse b c → NoWorse a c
-no_worse_trans a b c one two = elim one [
-  | inl same ↦ subst (λ v. NoWorse v c) (sym same) two
-  | inr first ↦ elim two [
-    | inl same ↦ subst (λ v. NoWorse a v) same (inr first)
-    | inr then ↦ inr (better_trans a b c first then)
-  ]
-]
-
-better_plies : (a b : Value) → a ≢ Draw → Better a b → plies_of b ≤ plies_of a
-better_plies Draw b settled better = absurd (settled refl)
-better_plies (Win a) Draw settled better = absurd better
-better_plies (Win a) (Loss b) settled better = absurd better
-better_plies (Win a) (Win b) settled better = let less : b < a = better in let e : b ≤ a = omega arith in e
-better_plies (Loss a) Draw settled better = absurd better
-better_plies (Loss a) (Win b) settled better = absurd better
-better_plies (Loss a) (Loss b) settled better = let less : b < a = better in let e : b ≤ a = omega arith in e
+no_worse_trans a b c one two = grind arith
 
 no_more_plies : (a b : Value) → a ≢ Draw → NoWorse a b → plies_of b ≤ plies_of a
-no_more_plies a b settled no_worse = elim no_worse [
-  | inl same ↦ let e : plies_of a ≡ plies_of b = ap plies_of same in omega (arith, e)
-  | inr better ↦ better_plies a b settled better
-]
+no_more_plies a b settled no_worse = grind arith
 
 pub better_settled : (a b : Value) → Better a b → b ≢ Draw
-better_settled Draw Draw better same = absurd better
-better_settled (Win a) Draw better same = absurd better
-better_settled (Loss a) Draw better same = absurd better
-better_settled a (Win b) better same = cc
-better_settled a (Loss b) better same = cc
+better_settled a b better same = grind arith
 
 -- ---- present values
 
@@ -108,25 +65,13 @@ own_settlement classes n node history t chained there =
 -- ---- how far a fall goes
 
 rests_more : (a b : Value) → RestsOn a b → plies_of a ≡ plies_of b + 1
-rests_more (Win a) (Loss b) rests = rests
-rests_more (Loss a) (Win b) rests = rests
-rests_more (Win a) (Win b) rests = absurd rests
-rests_more (Win a) Draw rests = absurd rests
-rests_more (Loss a) (Loss b) rests = absurd rests
-rests_more (Loss a) Draw rests = absurd rests
-rests_more Draw (Win b) rests = absurd rests
-rests_more Draw (Loss b) rests = absurd rests
-rests_more Draw Draw rests = absurd rests
+rests_more a b rests = grind arith
 
 draw_rests : (b : Value) → RestsOn Draw b → ⊥
-draw_rests (Win b) rests = rests
-draw_rests (Loss b) rests = rests
-draw_rests Draw rests = rests
+draw_rests b rests = grind arith
 
 first_near : (v : Value) → IsFirst v → plies_of v ≤ 1
-first_near (Win plies) first = let one : plies ≡ 1 = first in let e : plies ≤ 1 = omega arith in e
-first_near (Loss plies) first = let none : plies ≡ 0 = first in let e : plies ≤ 1 = omega arith in e
-first_near Draw first = absurd first
+first_near v first = grind arith
 
 not_draw : (s : Settlement) (others : List Settlement) → Falls s others → s.now ≢ Draw
 not_draw s [] falls same = subst IsFirst same falls
@@ -134,10 +79,7 @@ not_draw s (t ∷ others) falls same = draw_rests t.now (subst (λ v. RestsOn v 
 
 how_far : (s : Settlement) (others : List Settlement) → Falls s others → plies_of s.now ≤ length (s ∷ others)
 how_far s [] falls = first_near s.now falls
-how_far s (t ∷ others) falls =
-    let more = rests_more s.now t.now falls.0 in
-    let rest : plies_of t.now ≤ length (t ∷ others) = how_far t others falls.1 in
-    omega (arith, more, rest)
+how_far s (t ∷ others) falls = omega (arith, rests_more s.now t.now falls.0, how_far t others falls.1)
 
 -- the others have lesser distances
 abbrev IsNearer : Settlement → Settlement → Type 0

@@ -1,7 +1,7 @@
 -- What an item that a share takes changes: the value of its class, told by the settlement that is listed, and no other value.
-use Rattle.dob_node.proofs.Common.{◌++◌, ◌+◌, ◌<◌, ◌∙◌, ◌∷◌, ◌≡◌, ◌≢◌, ◌≤◌, ◌⊎◌, Bool, List, None, Option, Some, [], ap, arith, cond, eqb, false, inl, inr}
-use Rattle.dob_node.proofs.Common.{length, refl, subst, sym, true, ℕ, eq-eqb, ne_eqb, append-nil, same_Some, Status, Open, Value, Draw, Loss, Win, Cell}
-use Rattle.dob_node.proofs.Common.{CellValue, IsGreatest, SameCell, Fits, HasSettled, HasValueNow, IsValue, cell_at, status_at, Better, NoWorse, Item}
+use Rattle.dob_node.proofs.Common.{◌++◌, ◌∙◌, ◌∷◌, ◌≡◌, ◌≢◌, Bool, List, None, Option, Some, [], ap, arith, cond, eqb, inl, inr}
+use Rattle.dob_node.proofs.Common.{length, subst, sym, true, ℕ, eq-eqb, ne_eqb, append-nil, Status, Open, Value, Cell}
+use Rattle.dob_node.proofs.Common.{CellValue, SameCell, Fits, HasSettled, HasValueNow, IsValue, cell_at, status_at, Better, NoWorse, Item}
 use Rattle.dob_node.proofs.Common.{Settlement, Share, value_of, HistoryView, IsTaken, listed}
 use Rattle.dob_node.proofs.Settles.{value_of-more}
 use Rattle.dob_node.proofs.Kept.{better_apart}
@@ -9,39 +9,14 @@ use Rattle.dob_node.proofs.Stored.{same_settlement}
 
 -- ---- a cell has one value
 
-greatest_same : (wins : ℕ → ℕ) (a b : ℕ) → IsGreatest wins a → IsGreatest wins b → a ≡ b
-greatest_same wins a b one other =
-    let less : a ≤ b = other.1 a one.0 in
-    let more : b ≤ a = one.1 b other.0 in
-    omega arith
-
-nothing_counted : (cell : Cell) (greatest : ℕ) → cell.left ≡ 0 → 0 < cell.wins greatest → (0 < cell.left) ⊎ ((plies : ℕ) → cell.wins plies ≡ 0) → ⊥
-nothing_counted cell greatest none some (inl left) = omega arith
-nothing_counted cell greatest none some (inr all) = let is : cell.wins greatest ≡ 0 = all greatest in omega arith
-
 pub one_value : (cell : Cell) (v w : Value) → CellValue cell v → CellValue cell w → v ≡ w
-one_value cell (Win a) (Win b) one other =
-    let same : one.0 ≡ other.0 = same_Some one.0 other.0 (sym one.1 ∙ other.1) in
-    ap Win (one.2 ∙ ap (λ (k : ℕ). k + 1) same ∙ sym other.2)
-one_value cell (Win a) (Loss b) one other = absurd (let is = sym one.1 ∙ other.0 in cc)
-one_value cell (Win a) Draw one other = absurd (let is = sym one.1 ∙ other.0 in cc)
-one_value cell (Loss a) (Win b) one other = absurd (let is = sym one.0 ∙ other.1 in cc)
-one_value cell (Loss a) (Loss b) one other =
-    ap Loss (one.4 ∙ ap (λ (k : ℕ). k + 1) (greatest_same cell.wins one.2 other.2 one.3 other.3) ∙ sym other.4)
-one_value cell (Loss a) Draw one other = absurd (nothing_counted cell one.2 one.1 one.3.0 other.1)
-one_value cell Draw (Win b) one other = absurd (let is = sym one.0 ∙ other.1 in cc)
-one_value cell Draw (Loss b) one other = absurd (nothing_counted cell other.2 other.1 other.3.0 one.1)
-one_value cell Draw Draw one other = refl
+one_value cell v w one other = grind arith
 
 -- ---- cells that say the same
 
-same_cell : (a b : Cell) → a ≡ b → SameCell a b
-same_cell a b is = subst (λ c. SameCell a c) is (record { left = refl; wins = λ plies. refl; least = refl })
-
 -- of one class or of another, by a test
 pub same_by : (b : Bool) (x y z : Cell) → (b ≡ true → SameCell x y) → SameCell (cond b x z) (cond b y z)
-same_by true x y z same = same refl
-same_by false x y z same = same_cell z z refl
+same_by b x y z same = grind arith
 
 -- ---- a class that is open
 

@@ -1,5 +1,5 @@
 -- What the copies know, where histories or the items applied are the same, and which values they can know.
-use Rattle.dob_node.proofs.Common.{◌%◌, ◌&&◌, ◌+◌, ◌<◌, ◌∙◌, ◌∷◌, ◌≡◌, Bool, Contains, List, [], ap, arith, cond, eqb, ltb, subst, ℕ, cond_both, All-head}
+use Rattle.dob_node.proofs.Common.{◌&&◌, ◌<◌, ◌∙◌, ◌∷◌, ◌≡◌, Bool, Contains, List, [], ap, arith, cond, eqb, ltb, subst, ℕ, cond_both, All-head}
 use Rattle.dob_node.proofs.Common.{All-tail, All, each_below, IsShort, IsEntry, Value, Draw, Loss, Win, owner_of, Better, Item, Settlement, all_known, copies}
 use Rattle.dob_node.proofs.Common.{items_to, known, last_now, FollowsFromKnown}
 use Rattle.dob_node.proofs.Runs.{each_below-same, from_each_below, only_one}
@@ -44,27 +44,11 @@ known_entries targets classes n histories applied p some entries v there =
 
 -- a value that follows from such values, and is short, is one
 pub follows_entry : (known : List Value) (v : Value) → ((u : Value) → Contains known u → IsEntry u) → FollowsFromKnown known v → IsShort v → IsEntry v
-follows_entry known (Win plies) entries follows short =
-    let least = follows.0 in
-    let even : least % 2 ≡ 0 = (entries (Loss least) follows.2).0 in
-    let more : plies ≡ least + 1 = follows.1 in
-    (omega arith, short)
-follows_entry known (Loss plies) entries follows short =
-    let greatest = follows.0 in
-    let odd : greatest % 2 ≡ 1 = (entries (Win greatest) follows.2).0 in
-    let more : plies ≡ greatest + 1 = follows.1 in
-    (omega arith, short)
+follows_entry known (Win plies) entries follows short = grind (arith, entries (Loss follows.0) follows.2)
+follows_entry known (Loss plies) entries follows short = grind (arith, entries (Win follows.0) follows.2)
 follows_entry known Draw entries follows short = tt
 
 -- ---- better values differ
 
 pub better_apart : (was now : Value) → Better was now → was ≡ now → ⊥
-better_apart Draw (Win plies) better same = cc
-better_apart Draw (Loss plies) better same = cc
-better_apart (Win was) (Win now) better same = let e : was ≡ now = cc in let less : now < was = better in omega arith
-better_apart (Loss was) (Loss now) better same = let e : was ≡ now = cc in let less : now < was = better in omega arith
-better_apart Draw Draw better same = absurd better
-better_apart (Win was) Draw better same = absurd better
-better_apart (Win was) (Loss now) better same = absurd better
-better_apart (Loss was) Draw better same = absurd better
-better_apart (Loss was) (Win now) better same = absurd better
+better_apart was now better same = grind arith

@@ -1,7 +1,7 @@
 -- What an item taken makes of a node's cells and of its history.
-use Rattle.dob_node.proofs.Common.{◌%◌, ◌++◌, ◌+◌, ◌/◌, ◌<◌, ◌^◌, ◌∙◌, ◌∷◌, ◌≡◌, ◌≢◌, ◌≤◌, List, None, Ok, Option, Some, [], ap, arith, inl, inr, length, refl}
-use Rattle.dob_node.proofs.Common.{subst, sym, take, ℕ, div-le_self, cases_eq, cases_lt, append-nil, length-append, All-append, All-cons, All-nil, All, Family}
-use Rattle.dob_node.proofs.Common.{Status, Caught, Open, Stuck, Tried, classes_of, IsEntry, Value, Draw, Loss, Win, Cell, CellCanTake, KnowsLossWithin, changed}
+use Rattle.dob_node.proofs.Common.{◌%◌, ◌++◌, ◌+◌, ◌/◌, ◌<◌, ◌^◌, ◌∙◌, ◌≡◌, ◌≤◌, List, None, Ok, Option, Some, [], ap, arith, inl, inr, length}
+use Rattle.dob_node.proofs.Common.{subst, sym, take, ℕ, div-le_self, cases_eq, append-nil, length-append, All-append, All-cons, All-nil, All, Family}
+use Rattle.dob_node.proofs.Common.{Status, Open, classes_of, IsEntry, Value, Draw, Loss, Win, Cell, CellCanTake, KnowsLossWithin, changed}
 use Rattle.dob_node.proofs.Common.{owner_of, Fits, HasSettled, IsApplication, IsOwn, SameClasses, cell_at, places_of, status_at, StatusesView, Item, Settlement}
 use Rattle.dob_node.proofs.Common.{Share, HistoryView, starts_count, AreKept, HasItemEntries, HasParities, IsTaken, listed, Stored}
 use Rattle.dob_node.proofs.Stored.{seen, count_is}
@@ -9,42 +9,26 @@ use Rattle.dob_node.proofs.Parity.{parities_same, parities_changed, entry_now}
 
 -- ---- what is not refused fits
 
-sure_less : (a b : ℕ) → ¬ ¬ (a < b) → a < b
-sure_less a b sure = elim (cases_lt a b) [ inl less ↦ less | inr more ↦ absurd (sure (λ less. omega arith)) ]
-
-sure_same : (a b : ℕ) → ¬ ¬ (a ≡ b) → a ≡ b
-sure_same a b sure = elim (cases_eq a b) [ inl same ↦ same | inr other ↦ absurd (sure other) ]
-
 sure_within : (plies : ℕ) (least : Option ℕ) → ¬ ¬ KnowsLossWithin plies least → KnowsLossWithin plies least
 sure_within plies None sure = absurd (sure (λ none. none))
-sure_within plies (Some least) sure =
-    let less : least < plies + 1 = sure_less least (plies + 1) (λ no. sure (λ yes. no (omega arith))) in omega arith
+sure_within plies (Some least) sure = grind arith
 
 sure_takes : (was now : Value) (cell : Cell) → ¬ ¬ CellCanTake was now cell → CellCanTake was now cell
-sure_takes Draw (Win now) cell sure = sure_less 0 cell.left sure
-sure_takes Draw (Loss now) cell sure = sure_less 0 cell.left sure
-sure_takes (Win was) (Win now) cell sure =
-    (sure_less now was (λ no. sure (λ yes. no yes.0)), sure_less 0 (cell.wins was) (λ no. sure (λ yes. no yes.1)))
-sure_takes (Loss was) (Loss now) cell sure =
-    (sure_less now was (λ no. sure (λ yes. no yes.0)), sure_within was cell.least (λ no. sure (λ yes. no yes.1)))
-sure_takes (Win was) (Loss now) cell sure = absurd (sure (λ none. none))
-sure_takes (Loss was) (Win now) cell sure = absurd (sure (λ none. none))
-sure_takes (Win was) Draw cell sure = absurd (sure (λ none. none))
-sure_takes (Loss was) Draw cell sure = absurd (sure (λ none. none))
-sure_takes Draw Draw cell sure = absurd (sure (λ none. none))
+sure_takes Draw (Win now) cell sure = grind arith
+sure_takes Draw (Loss now) cell sure = grind arith
+sure_takes (Win was) (Win now) cell sure = (grind arith, grind arith)
+sure_takes (Loss was) (Loss now) cell sure = (grind arith, sure_within was cell.least (λ no. sure (λ yes. no yes.1)))
+sure_takes was now cell sure = absurd (sure (λ none. none))
 
 sure_open : (status : Status) → ¬ ¬ (status ≡ Open) → status ≡ Open
-sure_open Open sure = refl
-sure_open Caught sure = absurd (sure (λ same. cc))
-sure_open Tried sure = absurd (sure (λ same. cc))
-sure_open Stuck sure = absurd (sure (λ same. cc))
+sure_open status sure = grind arith
 
 pub sure_fits : (share : Share) (item : Item) → ¬ ¬ Fits share item → Fits share item
 unfolding Fits IsOwn
 sure_fits share item sure = (
   (
-    sure_same (item.to % share.nodes) share.id (λ no. sure (λ fits. no fits.0.0)),
-    sure_less (item.to / share.nodes) (share.statuses.places) (λ no. sure (λ fits. no fits.0.1)),
+    (let once : ¬ ¬ (item.to % share.nodes ≡ share.id) = λ no. sure (λ fits. no fits.0.0) in grind arith),
+    (let within : ¬ ¬ (item.to / share.nodes < share.statuses.places) = λ no. sure (λ fits. no fits.0.1) in grind arith),
   ),
   sure_open (status_at share item.to) (λ no. sure (λ fits. no fits.1)),
   sure_takes item.was item.now (cell_at share item.to) (λ no. sure (λ fits. no fits.2)),
@@ -122,12 +106,7 @@ module _ (family : Family) (n id : ℕ) (share after : Share) (history grown : H
     own = subst (λ (k : ℕ). owner_of history.n k ≡ history.id) (sym settled.2)
         (subst (λ (m : ℕ). owner_of m item.to ≡ history.id) (sym kept.history_is.0) (mine.0 ∙ sym kept.history_is.1));
     place =
-        let low : item.to < classes_of family = mine.1 in
-        let few : classes_of family ≤ 2 ^ 32 = kept.few in
-        let less : s.class / history.n ≤ s.class = div-le_self s.class history.n in
-        let is : s.class ≡ item.to = settled.2 in
-        let both : s.class < 2 ^ 32 = omega arith in
-        omega arith;
+        omega (arith, mine.1, kept.few, div-le_self s.class history.n, settled.2);
     was = entry_now share item.to s.was own (kept.parities item.to own) settled.3;
     now = entry_now after item.to s.now (taken.classes.owned item.to own) parities_there settled.4;
   }
@@ -135,12 +114,7 @@ module _ (family : Family) (n id : ℕ) (share after : Share) (history grown : H
   -- what is kept
   settled_count : (given : Option Settlement) → HasSettled share after item.to given →
       after.settled ≡ length (history.settlements ++ listed given)
-  settled_count None settled = settled.0 ∙ kept.counted ∙ ap length (sym (append-nil history.settlements))
-  settled_count (Some s) settled =
-      let longer : length (history.settlements ++ s ∷ []) ≡ length history.settlements + 1 = length-append history.settlements (s ∷ []) in
-      let more : after.settled ≡ share.settled + 1 = settled.0 in
-      let before : share.settled ≡ length history.settlements = kept.counted in
-      omega arith
+  settled_count given settled = grind (arith, kept.counted, length-append)
 
   settled_classes : (given : Option Settlement) → HasSettled share after item.to given →
       All (λ (s : Settlement). s.class < classes_of family) (listed given)

@@ -1,6 +1,7 @@
 -- The next item of a history teaches one copy of an edge, and no other.
+use Rattle.dob_node.proofs.Common.{nat_tests}
 use Rattle.dob_node.proofs.Common.{◌&&◌, ◌++◌, ◌+◌, ◌<◌, ◌∙◌, ◌∷◌, ◌≡◌, ◌≢◌, ◌≤◌, ◌⊎◌, Bool, List, [], ap, append_assoc, arith, cond, eqb, inl, inr, length}
-use Rattle.dob_node.proofs.Common.{ltb, refl, subst, suc, sym, true, ℕ, and_left, and_right, cases_eq, cases_lt, eq-eqb, le-ltb, lt-ltb, ne_eqb, filter}
+use Rattle.dob_node.proofs.Common.{ltb, refl, subst, suc, sym, true, ℕ, and_right, cases_eq, eq-eqb, le-ltb, lt-ltb, filter}
 use Rattle.dob_node.proofs.Common.{each_below, Value, Draw, Changes, owner_of, Item, Settlement, items_from, items_of, IsChained, IsNext, all_known, copies}
 use Rattle.dob_node.proofs.Common.{items_to, known, last_now, value_of}
 use Rattle.dob_node.proofs.Runs.{Changes-one, Changes-each_below, each_below-same}
@@ -11,22 +12,13 @@ use Rattle.dob_node.proofs.Splits.{IsMade, IsFrom, made_from, AreNumbered, AreNu
 more_full : (targets : ℕ → List ℕ) (items more : List Item) (p : ℕ) (ss : List Settlement) → AreFull targets items p ss →
     AreFull targets (items ++ more) p ss
 more_full targets items more p [] full = tt
-more_full targets items more p (s ∷ ss) full = (
-  (let sum : items_to (items ++ more) s.number p ≡ items_to items s.number p + items_to more s.number p = items_to-append items more s.number p in
-      let enough : copies targets p s.class ≤ items_to items s.number p = full.0 in
-      omega arith),
-  more_full targets items more p ss full.1,
-)
+more_full targets items more p (s ∷ ss) full = (omega (arith, items_to-append items more s.number p, full.0), more_full targets items more p ss full.1)
 
 none_behind : (items : List Item) (p q copy number : ℕ) (ss : List Settlement) → AreNumbered number ss →
     ((m : ℕ) → number ≤ m → items_to items m p ≡ 0) → NonePass (λ s. eqb s.class q && ltb copy (items_to items s.number p)) ss
 none_behind items p q copy number [] numbered none = tt
-none_behind items p q copy number (s ∷ ss) numbered none = (
-  (let own : s.number ≡ number = numbered.0 in
-      let nothing : items_to items s.number p ≡ 0 = none s.number (omega arith) in
-      and_right (eqb s.class q) (ltb copy (items_to items s.number p)) (le-ltb copy (items_to items s.number p) (omega arith))),
-  none_behind items p q copy (suc number) ss numbered.1 (λ m above. none m (omega arith)),
-)
+none_behind items p q copy number (s ∷ ss) numbered none =
+    (grind (arith, nat_tests, none s.number), none_behind items p q copy (suc number) ss numbered.1 (λ m above. none m (omega arith)))
 
 -- A history around one of its settlements, of which a part of the items are applied, and all items of those before.
 pub record IsAround (before : List Settlement) (s : Settlement) (behind : List Settlement) (part : List Item) : Type 0 where
@@ -65,25 +57,20 @@ known_at targets n node before s behind part p q copy around own below =
 
 -- one item counts where it is for the class
 one_item : (s : Settlement) (item : Item) (p : ℕ) → item.number ≡ s.number → items_to (item ∷ []) s.number p ≡ cond (eqb item.to p) 1 0
-one_item s item p same =
-    items_to-cons item [] s.number p
-    ∙ ap (λ b. cond (b && eqb item.to p) 1 0 + 0) (eq-eqb item.number s.number same)
-    ∙ (let e : (m : ℕ) → m + 0 ≡ m = (λ m. omega arith) in e (cond (eqb item.to p) 1 0))
+one_item s item p same = grind (arith, nat_tests, items_to-cons item [] s.number p)
 
 part_alone : (targets : ℕ → List ℕ) (n node : ℕ) (s : Settlement) (xs ys : List Item) → items_of targets n node s ≡ xs ++ ys →
     (number p : ℕ) → number ≢ s.number → items_to xs number p ≡ 0
 part_alone targets n node s xs ys is number p other =
-    let sum : items_to (xs ++ ys) number p ≡ items_to xs number p + items_to ys number p = items_to-append xs ys number p in
-    let none : items_to (items_of targets n node s) number p ≡ 0 =
-    no_other s number p (filter (λ to. eqb (owner_of n to) node) (targets s.class)) (λ e. other (sym e)) in
-    let whole : items_to (items_of targets n node s) number p ≡ items_to (xs ++ ys) number p = ap (λ items. items_to items number p) is in
-    omega arith
+    omega (
+      arith,
+      items_to-append xs ys number p,
+      no_other s number p (filter (λ to. eqb (owner_of n to) node) (targets s.class)) (λ e. other (sym e)),
+      ap (λ items. items_to items number p) is,
+    )
 
 other_copy : (copy at : ℕ) → copy ≢ at → ltb copy at ≡ ltb copy (suc at)
-other_copy copy at other = elim (cases_lt copy at) [
-  | inl below ↦ lt-ltb copy at below ∙ sym (lt-ltb copy (suc at) (omega arith))
-  | inr above ↦ le-ltb copy at above ∙ sym (le-ltb copy (suc at) (omega arith))
-]
+other_copy copy at other = grind (arith, nat_tests)
 
 module _ (targets : ℕ → List ℕ) (classes n : ℕ) (histories : ℕ → List Settlement) (applied after : ℕ → List Item) (i j : ℕ) (item : Item)
     (chained : IsChained classes n i (histories i)) (made : IsMade targets n j (histories i) (applied i) item)
@@ -160,18 +147,12 @@ module _ (targets : ℕ → List ℕ) (classes n : ℕ) (histories : ℕ → Lis
   ]
     where
       no_more : p ≢ item.to → items_to made.part s.number p ≡ items_to more s.number p
-      no_more apart =
-          let sum : items_to more s.number p ≡ items_to made.part s.number p + items_to (item ∷ []) s.number p =
-          items_to-append made.part (item ∷ []) s.number p in
-          let none : items_to (item ∷ []) s.number p ≡ 0 =
-          one_item s item p number_is ∙ ap (λ b. cond b 1 0) (ne_eqb item.to p (λ e. apart (sym e))) in
-          omega arith
+      no_more apart = grind (arith, nat_tests, items_to-append made.part (item ∷ []) s.number p, one_item s item p number_is)
 
       tests : (copy : ℕ) → (eqb s.class q && ltb copy (items_to made.part s.number p)) ≡ (eqb s.class q && ltb copy (items_to more s.number p))
       tests copy = elim other [
         | inl apart ↦ ap (λ m. eqb s.class q && ltb copy m) (no_more apart)
-        | inr differs ↦ and_left (eqb s.class q) (ltb copy (items_to made.part s.number p)) (ne_eqb s.class q (λ e. differs (sym e)))
-            ∙ sym (and_left (eqb s.class q) (ltb copy (items_to more s.number p)) (ne_eqb s.class q (λ e. differs (sym e))))
+        | inr differs ↦ grind (arith, nat_tests)
       ]
 
   -- in the row of the settled class one copy learns
@@ -179,23 +160,16 @@ module _ (targets : ℕ → List ℕ) (classes n : ℕ) (histories : ℕ → Lis
   taught = items_to made.part s.number item.to
 
   one_more : items_to more s.number item.to ≡ suc taught
-  one_more =
-      let sum : items_to more s.number item.to ≡ taught + items_to (item ∷ []) s.number item.to =
-      items_to-append made.part (item ∷ []) s.number item.to in
-      let one : items_to (item ∷ []) s.number item.to ≡ 1 =
-      one_item s item item.to number_is ∙ ap (λ b. cond b 1 0) (eq-eqb item.to item.to refl) in
-      omega arith
+  one_more = grind (arith, nat_tests, items_to-append made.part (item ∷ []) s.number item.to, one_item s item item.to number_is)
 
   pub has_copy : taught < copies targets item.to s.class
-  has_copy =
-      let whole : items_to (items_of targets n j s) s.number item.to ≡ copies targets item.to s.class =
-      items_to-items_of targets n j s item.to source.own in
-      let split_is : items_to (items_of targets n j s) s.number item.to ≡ items_to (more ++ made.rest) s.number item.to =
-      ap (λ items. items_to items s.number item.to) longer in
-      let sum : items_to (more ++ made.rest) s.number item.to ≡ items_to more s.number item.to + items_to made.rest s.number item.to =
-      items_to-append more made.rest s.number item.to in
-      let one = one_more in
-      omega arith
+  has_copy = omega (
+    arith,
+    items_to-items_of targets n j s item.to source.own,
+    ap (λ items. items_to items s.number item.to) longer,
+    items_to-append more made.rest s.number item.to,
+    one_more,
+  )
 
   row_learns : Changes (row applied item.to s.class) (row after item.to s.class) item.was item.now
   row_learns =

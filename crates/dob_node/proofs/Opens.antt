@@ -1,5 +1,5 @@
 -- A node as it is opened.
-use Rattle.dob_node.proofs.Common.{◌%◌, ◌*◌, ◌++◌, ◌+◌, ◌/◌, ◌<◌, ◌^◌, ◌↔◌, ◌∙◌, ◌≡◌, ◌≤◌, List, None, Option, Some, [], ap, arith, get_or, length, refl, subst}
+use Rattle.dob_node.proofs.Common.{◌%◌, ◌*◌, ◌+◌, ◌/◌, ◌<◌, ◌^◌, ◌↔◌, ◌∙◌, ◌≡◌, ◌≤◌, List, None, Option, Some, [], ap, arith, get_or, length, refl, subst}
 use Rattle.dob_node.proofs.Common.{suc, sym, zero, ℕ, length-append, All-append, All-cons, All-nil, div-mul-add, mod-mul-add, slice_get-get_or, All, Family}
 use Rattle.dob_node.proofs.Common.{Profile, Setup, moves_of, HasStatus, Status, Caught, Open, Stuck, Tried, HasClasses-classes_of, class_setup, classes_of}
 use Rattle.dob_node.proofs.Common.{class_setup_is, Value, Draw, SameCell, fresh, cell_moves, moves_where, opening_of, settled_among, settles, class_of_place}
@@ -12,21 +12,19 @@ use Rattle.dob_node.proofs.Parity.{parities_same}
 -- ---- the settlements
 
 one_settles : (status : Status) (number class : ℕ) → settles status ≡ length (opening_settlement number class (opening_value status))
-one_settles Caught number class = refl
-one_settles Tried number class = refl
-one_settles Stuck number class = refl
-one_settles Open number class = refl
+one_settles status number class = grind arith
 
 -- as many as a share counts
 pub start_length : (status : ℕ → Status) (n id k : ℕ) → length (start_settlements status n id k) ≡ settled_among status k
 start_length status n id zero = refl
 start_length status n id (suc k) =
     let before = start_settlements status n id k in
-    let more = opening_settlement (length before) (class_of_place n id k) (opening_value (status k)) in
-    let sum : length (before ++ more) ≡ length before + length more = length-append before more in
-    let same : length before ≡ settled_among status k = start_length status n id k in
-    let one : settles (status k) ≡ length more = one_settles (status k) (length before) (class_of_place n id k) in
-    omega arith
+    omega (
+      arith,
+      length-append before (opening_settlement (length before) (class_of_place n id k) (opening_value (status k))),
+      start_length status n id k,
+      one_settles (status k) (length before) (class_of_place n id k),
+    )
 
 -- what each of them has
 pub all_started : (P : Settlement → Type 0) (status : ℕ → Status) (n id k : ℕ) →
@@ -46,17 +44,11 @@ all_started P status n id (suc k) each =
 
 place_own : (share : Share) (n id place : ℕ) → share.nodes ≡ n → share.id ≡ id → id < n → place < places_of share → IsOwn share (place * n + id)
 unfolding IsOwn places_of
-place_own share n id place n_is id_is less low =
-    subst (λ (m : ℕ). ((place * n + id) % m ≡ share.id) × ((place * n + id) / m < share.statuses.places)) (sym n_is) (
-      mod-mul-add place n id less ∙ sym id_is,
-      subst (λ (k : ℕ). k < share.statuses.places) (sym (div-mul-add place n id less)) low,
-    )
+place_own share n id place n_is id_is less low = rw (n_is, id_is, div-mul-add place n id less) (mod-mul-add place n id less, low)
 
 own_place : (share : Share) (n id place : ℕ) → share.nodes ≡ n → id < n → IsOwn share (place * n + id) → place < places_of share
 unfolding IsOwn places_of
-own_place share n id place n_is less own =
-    subst (λ (k : ℕ). k < share.statuses.places) (div-mul-add place n id less)
-    (subst (λ (m : ℕ). (place * n + id) / m < share.statuses.places) n_is own.1)
+own_place share n id place n_is less own = rw (n_is, div-mul-add place n id less) at own.1
 
 -- the places are those of the owner's classes
 pub places_are : (share : Share) (openings : List Opening) (n id : ℕ) → (share.id ≡ id) × (share.nodes ≡ n) → id < n →
@@ -108,7 +100,7 @@ opened_cells family openings share n id are owned cells class own =
     (cells class own)
 
 fresh_parities : (moves : ℕ) → HasParities (fresh moves)
-fresh_parities moves = record { wins = λ plies some. absurd (omega arith); least = λ plies is. absurd cc }
+fresh_parities moves = grind arith
 
 pub opened_kept : (family : Family) (openings : List Opening) (n id : ℕ) (share : Share) (history : HistoryView) → AreOpenings family openings →
     id < n → length openings ≤ 2 ^ 32 → (share.id ≡ id) × (share.nodes ≡ n) →

@@ -1,15 +1,15 @@
 -- What the next item makes of a class has a fall: so each settlement keeps one, and no distance exceeds the classes.
-use Rattle.dob_node.proofs.Common.{◌&&◌, ◌++◌, ◌<◌, ◌∙◌, ◌∷◌, ◌≡◌, ◌≢◌, ◌≤◌, ◌⊎◌, Bool, Contains, List, Option, Some, [], ap, arith, cond, eqb, get_or, inl}
-use Rattle.dob_node.proofs.Common.{inr, length, ltb, refl, subst, suc, sym, zero, ℕ, and_left, and_right, cases_Bool, cases_eq, eq-eqb, ne_eqb, All-contains}
-use Rattle.dob_node.proofs.Common.{All-nil, Contains-append_cases, Contains-append_left, Contains-append_right, head_in, each_below, Family, Status, Caught}
-use Rattle.dob_node.proofs.Common.{Open, Stuck, Tried, classes_of, plies_of, IsShort, IsLeastLoss, Value, Draw, Loss, Win, predecessors, CellValue-same}
+use Rattle.dob_node.proofs.Common.{nat_tests}
+use Rattle.dob_node.proofs.Common.{◌&&◌, ◌++◌, ◌<◌, ◌∙◌, ◌∷◌, ◌≡◌, ◌≢◌, ◌≤◌, ◌⊎◌, Bool, Contains, List, Some, [], ap, arith, cond, eqb, get_or, inl}
+use Rattle.dob_node.proofs.Common.{inr, length, ltb, refl, subst, sym, ℕ, cases_Bool, cases_eq, All-contains}
+use Rattle.dob_node.proofs.Common.{All-nil, Contains-append_cases, Contains-append_left, Contains-append_right, head_in, each_below, Family, Status}
+use Rattle.dob_node.proofs.Common.{classes_of, plies_of, IsShort, IsLeastLoss, Value, Draw, Loss, Win, predecessors, CellValue-same}
 use Rattle.dob_node.proofs.Common.{counted, sums_up_after, Cell, CellValue, SameCell, SumsUp, changed, fresh, class_of_place, owner_of, IsTooDeep, NoWorse}
 use Rattle.dob_node.proofs.Common.{is_win_in, Item, Settlement, HaveFalls, IsCellWithin, IsFall, IsFirst, IsSettlement, RestsOn, IsChained, all_known, copies}
 use Rattle.dob_node.proofs.Common.{items_to, known, last_now, value_of, AreAfter, AreLawfulNodes, AreSettled, CanApply, IsNextItem, IsOneMore, known_of}
 use Rattle.dob_node.proofs.Common.{opening_settlements, opening_value, FollowsFromKnown}
 use Rattle.std.proofs.Common.{All}
 use Rattle.dob_share.proofs.Growing.{no_worse}
-use Rattle.dob_node.proofs.Beginnings.{or_else}
 use Rattle.dob_node.proofs.Opens.{all_started}
 use Rattle.dob_node.proofs.Runs.{from_each_below, only_one}
 use Rattle.dob_node.proofs.Rest.{below_owner}
@@ -54,40 +54,27 @@ rests_on_known known (Loss plies) follows settled = (Win follows.0, follows.2, f
 rests_on_known known Draw follows settled = absurd (settled refl)
 
 on_draw : (v : Value) → RestsOn v Draw → ⊥
-on_draw (Win plies) rests = rests
-on_draw (Loss plies) rests = rests
-on_draw Draw rests = rests
+on_draw v rests = grind arith
 
 short_within : (v : Value) → plies_of v < 65535 → IsShort v
-short_within (Win plies) low = let e : plies ≤ 65534 = omega (arith, low) in e
-short_within (Loss plies) low = let e : plies ≤ 65534 = omega (arith, low) in e
-short_within Draw low = tt
+short_within v low = grind arith
 
 -- ---- cells
 
 within_same : (bound : ℕ) (a b : Cell) → SameCell a b → IsCellWithin bound b → IsCellWithin bound a
-within_same bound a b same within = record {
-  wins = λ plies some. within.wins plies (subst (λ (m : ℕ). 0 < m) (same.wins plies) some);
-  least = λ plies is. within.least plies (sym same.least ∙ is);
-}
+within_same bound a b same within = grind arith
 
 pub fresh_within : (bound moves : ℕ) (cell : Cell) → SameCell cell (fresh moves) → IsCellWithin bound cell
-fresh_within bound moves cell same = within_same bound cell (fresh moves) same (record {
-  wins = λ plies some. absurd (omega (arith, some));
-  least = λ plies is. absurd (cc);
-})
+fresh_within bound moves cell same = grind arith
 
 pub same_back : (a b : Cell) → SameCell a b → SameCell b a
-same_back a b same = record { left = sym same.left; wins = λ plies. sym (same.wins plies); least = sym same.least }
+same_back a b same = grind arith
 
 -- ---- the start
 
 -- what is settled at an opening rests on nothing
 one_first : (status : Status) (now : Value) → opening_value status ≡ Some now → IsFirst now
-one_first Caught now is = subst (λ (o : Option Value). IsFirst (or_else o Draw)) is refl
-one_first Tried now is = subst (λ (o : Option Value). IsFirst (or_else o Draw)) is refl
-one_first Stuck now is = subst (λ (o : Option Value). IsFirst (or_else o Draw)) is refl
-one_first Open now is = absurd cc
+one_first status now is = grind arith
 
 pub opened_first : (status : ℕ → Status) (n id places : ℕ) → All (λ (s : Settlement). IsFirst s.now) (opening_settlements status n id places)
 opened_first status n id places = all_started (λ (s : Settlement). IsFirst s.now) (λ place. status (class_of_place n id place)) n id places
@@ -125,12 +112,7 @@ module _ (family : Family) (n : ℕ) (histories : ℕ → List Settlement) (appl
   after k m = cond (eqb k i && eqb m j) (applied i j ++ item ∷ []) (applied k m)
 
   is_applied : IsOneMore i j item applied after
-  is_applied = record {
-    one_more = ap (λ b. cond (b && eqb j j) (applied i j ++ item ∷ []) (applied i j)) (eq-eqb i i refl)
-        ∙ ap (λ b. cond b (applied i j ++ item ∷ []) (applied i j)) (eq-eqb j j refl);
-    same_sender = λ k other. ap (λ b. cond b (applied i j ++ item ∷ []) (applied k j)) (and_left (eqb k i) (eqb j j) (ne_eqb k i other));
-    same_receiver = λ k m other. ap (λ b. cond b (applied i j ++ item ∷ []) (applied k m)) (and_right (eqb k i) (eqb m j) (ne_eqb m j other));
-  }
+  is_applied = grind (arith, nat_tests)
 
   can : CanApply family n j cell item
   can = can_apply family n histories applied cell value some lawful i j low_i low_j item is_next

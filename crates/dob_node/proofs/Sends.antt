@@ -1,9 +1,9 @@
 -- The outboxes of a node: empty ones, and what one settlement more adds to them.
-use Rattle.dob_node.proofs.Common.{◌++◌, ◌+◌, ◌<◌, ◌==◌, ◌∙◌, ◌∷◌, ◌≡◌, ◌≢◌, List, None, Option, Some, [], ap, arith, drop, get_or, inl, inr, length, refl, set}
-use Rattle.dob_node.proofs.Common.{subst, sym, ℕ, get_or-eq_default, drop-nil, cases_eq, cases_lt, cases_order, get_or-set_other, get_or-set_same}
+use Rattle.dob_node.proofs.Common.{◌++◌, ◌+◌, ◌<◌, ◌==◌, ◌∙◌, ◌∷◌, ◌≡◌, ◌≢◌, ◌≤◌, List, None, Option, Some, [], ap, arith, get_or, inl, inr, length, refl, set}
+use Rattle.dob_node.proofs.Common.{subst, sym, ℕ, get_or-eq_default, drop-nil, cases_eq, cases_lt, get_or-set_other, get_or-set_same}
 use Rattle.dob_node.proofs.Common.{get_or_append_left, get_or_default, length-append, length-set, All-append, All-drop, All-nil, All-take, All, filter, IfSome}
 use Rattle.dob_node.proofs.Common.{IsNone, Family, IsEntry, predecessors, owner_of, Item, Settlement, BatchView, IsCut, OutboxView, added, empty_outbox}
-use Rattle.dob_node.proofs.Common.{items_of, AreAdded, IsCutFrom, IsOutboxTo, outbox_in, HasItemEntries}
+use Rattle.dob_node.proofs.Common.{items_of, AreAdded, IsCutFrom, IsOutboxTo, outbox_in, HasItemEntries, NodeView, IsSound}
 use Rattle.std.proofs.lemmas.List.{get_or_push}
 use Rattle.dob_node.proofs.Sounds.{entries_of}
 
@@ -12,15 +12,8 @@ use Rattle.dob_node.proofs.Sounds.{entries_of}
 pub empties_more : (family : Family) (n from k : ℕ) (xs new : List OutboxView) → length xs ≡ k →
     ((to : ℕ) → outbox_in family n from xs to ≡ empty_outbox family n from to) → new ≡ xs ++ empty_outbox family n from k ∷ [] →
     (to : ℕ) → outbox_in family n from new to ≡ empty_outbox family n from to
-empties_more family n from k xs new count empty is to = ap (λ ys. get_or ys to (empty_outbox family n from to)) is ∙ elim (cases_order to k) [
-  | inl same ↦ get_or_push xs (empty_outbox family n from k) (empty_outbox family n from to) to (count ∙ sym same)
-      ∙ ap (λ j. empty_outbox family n from j) (sym same)
-  | inr order ↦ elim order [
-    | inl less ↦ get_or_append_left xs (empty_outbox family n from k ∷ []) (empty_outbox family n from to) to (omega arith) ∙ empty to
-    | inr more ↦ get_or-eq_default (xs ++ empty_outbox family n from k ∷ []) (empty_outbox family n from to)
-        (let sum : length (xs ++ empty_outbox family n from k ∷ []) ≡ length xs + 1 = length-append xs (empty_outbox family n from k ∷ []) in omega arith)
-  ]
-]
+empties_more family n from k xs new count empty is to =
+    grind (arith, is, get_or_push, get_or_append_left, empty to, get_or-eq_default, length-append xs (empty_outbox family n from k ∷ []))
 
 -- ---- one settlement more
 
@@ -35,26 +28,19 @@ module _ (targets : List ℕ) (settlement : Settlement) (n from k : ℕ) (old mi
     later = λ to default high. so_far.later to default (omega arith);
   }
 
-  pub added_one : (any : OutboxView) (new : List OutboxView) → k ≢ from → k < length old →
-      ((default : OutboxView) → new ≡ set mid k (added (get_or mid k default) settlement (items_of (λ _. targets) n k settlement))) →
+  -- that for the node k has it more, of as many outboxes
+  pub added_one : (many : ℕ) (any : OutboxView) (new : List OutboxView) → n ≡ length old → many ≡ length mid → k ≢ from → k < n →
+      ((default : OutboxView) → new ≡ set mid k (added (get_or mid k default) settlement (items_of (λ _. targets) many k settlement))) →
       AreAdded targets settlement n from (k + 1) old new
-  added_one any new other low is = record {
-    whole = ap length (is any) ∙ length-set mid k (more any) ∙ so_far.whole;
-    sent = λ to default below apart. elim (cases_eq to k) [
-      | inl same ↦ subst (λ (j : ℕ). get_or new j default ≡ added (get_or old j default) settlement (items_of (λ _. targets) n j settlement)) (sym same)
-          (ap (λ xs. get_or xs k default) (is default) ∙ get_or-set_same mid k (more default) default (subst (λ (m : ℕ). k < m) (sym so_far.whole) low)
-          ∙ ap (λ (o : OutboxView). added o settlement (items_of (λ _. targets) n k settlement)) (so_far.later k default (omega arith)))
-      | inr before ↦ elsewhere to default before ∙ so_far.sent to default (omega arith) apart
-    ];
-    unsent = λ default. elsewhere from default (λ same. other (sym same)) ∙ so_far.unsent default;
-    later = λ to default high. elsewhere to default (λ same. omega arith) ∙ so_far.later to default (omega arith);
+  added_one many any new count many_is other low is = record {
+    whole = grind (arith, is any, length-set, so_far.whole);
+    sent = λ to default below apart. grind (arith, is default, same, get_or-set_same, get_or-set_other, so_far.sent to default, so_far.later to default);
+    unsent = λ default. grind (arith, is default, get_or-set_other, so_far.unsent default);
+    later = λ to default high. grind (arith, is default, get_or-set_other, so_far.later to default);
   }
     where
-      more : OutboxView → OutboxView
-      more default = added (get_or mid k default) settlement (items_of (λ _. targets) n k settlement)
-
-      elsewhere : (to : ℕ) (default : OutboxView) → to ≢ k → get_or new to default ≡ get_or mid to default
-      elsewhere to default apart = ap (λ xs. get_or xs to default) (is default) ∙ get_or-set_other mid k to (more default) default apart
+      same : many ≡ n
+      same = many_is ∙ so_far.whole ∙ sym count
 
 -- none is added yet
 pub added_none : (targets : List ℕ) (settlement : Settlement) (n from : ℕ) (old : List OutboxView) → AreAdded targets settlement n from 0 old old
@@ -69,23 +55,23 @@ added_none targets settlement n from old = record {
 pub asked_of : (targets : List ℕ) (settlement : Settlement) (n from k : ℕ) (family : Family) (o : OutboxView) (items : List Item) → IsOutboxTo family n from k o →
     targets ≡ predecessors family settlement.class → items ≡ items_of (λ _. targets) n k settlement → items ≡ items_of (predecessors o.family) o.n o.to settlement
 asked_of targets settlement n from k family o items is same are =
-    subst (λ (st : Family). items ≡ items_of (predecessors st) o.n o.to settlement) (sym is.of.0)
-    (subst (λ (m : ℕ). items ≡ items_of (predecessors family) m o.to settlement) (sym is.of.1)
-    (subst (λ (j : ℕ). items ≡ items_of (predecessors family) n j settlement) (sym is.of.3)
-    (subst (λ (ts : List ℕ). items ≡ items_of (λ _. ts) n k settlement) same are)))
+    rw (is.of.0, is.of.1, is.of.3, ← same) are
 
 -- an outbox that has nothing of the settlement yet is of n nodes, and for the node of its number
-pub addressed_still : (targets : List ℕ) (settlement : Settlement) (n from k : ℕ) (old mid : List OutboxView) →
-    AreAdded targets settlement n from k old mid →
-    (family : Family) × (targets ≡ predecessors family settlement.class) × ((to : ℕ) → IsOutboxTo family n from to (outbox_in family n from old to)) →
-    k < length old → (default : OutboxView) →
-    ((get_or mid k default).n ≡ n) × ((get_or mid k default).to ≡ k) × (targets ≡ predecessors (get_or mid k default).family settlement.class)
-addressed_still targets settlement n from k old mid so_far of low default =
-    subst (λ (o : OutboxView). (o.n ≡ n) × (o.to ≡ k) × (targets ≡ predecessors o.family settlement.class)) (sym at_last)
-    ((of.2 k).of.1, (of.2 k).of.3, subst (λ (st : Family). targets ≡ predecessors st settlement.class) (sym (of.2 k).of.0) of.1)
-  where
-    at_last : get_or mid k default ≡ outbox_in of.0 n from old k
-    at_last = so_far.later k default (omega arith) ∙ get_or_default old k default (empty_outbox of.0 n from k) low
+pub addressed_still : (targets : List ℕ) (settlement : Settlement) (n from k many : ℕ) (old mid : List OutboxView) →
+    AreAdded targets settlement n from k old mid → n ≡ length old → many ≡ length mid →
+    (let each = length old in
+    (family : Family) × (targets ≡ predecessors family settlement.class) × ((to : ℕ) → IsOutboxTo family each from to (outbox_in family each from old to))) →
+    k < n → (default : OutboxView) →
+    ((get_or mid k default).n ≡ many) × ((get_or mid k default).to ≡ k) × (targets ≡ predecessors (get_or mid k default).family settlement.class)
+addressed_still targets settlement n from k many old mid so_far count many_is of low default =
+    let whom = (of.2 k).of in
+    let there = so_far.later k default (omega arith) ∙ get_or_default old k default (empty_outbox of.0 (length old) from k) (omega arith) in (
+      grind (arith, there, whom, so_far.whole),
+      grind (arith, there, whom),
+      of.1 ∙ ap (λ st. predecessors st settlement.class)
+          (sym (ap (λ (o : OutboxView). o.family) there ∙ whom.0)),
+    )
 
 -- ---- what the outboxes are for
 
@@ -105,12 +91,11 @@ pub addressed_added : (family : Family) (targets : List ℕ) (s : Settlement) (n
     AreAdded targets s n from n old new → ((to : ℕ) → IsOutboxTo family n from to (outbox_in family n from old to)) →
     (to : ℕ) → IsOutboxTo family n from to (outbox_in family n from new to)
 addressed_added family targets s n from old new was now are all to = elim (cases_eq to from) [
-  | inl own ↦ subst (λ (j : ℕ). IsOutboxTo family n from j (outbox_in family n from new j)) (sym own)
-      (subst (λ (o : OutboxView). IsOutboxTo family n from from o) (sym (are.unsent (empty_outbox family n from from))) (all from))
+  | inl own ↦ rw (own, are.unsent (empty_outbox family n from from)) (all from)
   | inr apart ↦ elim (cases_lt to n) [
-    | inl low ↦ subst (λ (o : OutboxView). IsOutboxTo family n from to o) (sym (are.sent to (empty_outbox family n from to) low apart))
-        (added_to family n from to (outbox_in family n from old to) s targets was now (all to))
-    | inr high ↦ subst (λ (o : OutboxView). IsOutboxTo family n from to o) (sym (are.later to (empty_outbox family n from to) high)) (all to)
+    | inl low ↦ rw (are.sent to (empty_outbox family n from to) low apart) (added_to family n from to (outbox_in family n from old to) s targets was now
+        (all to))
+    | inr high ↦ rw (are.later to (empty_outbox family n from to) high) (all to)
   ]
 ]
 
@@ -132,10 +117,9 @@ empty_all xs family n from empty = λ to default low.
 pub cut_there : (to size : ℕ) (batch : BatchView) (old new : List OutboxView) (cut : OutboxView) → to < length old →
     ((default : OutboxView) → IsCut (get_or old to default) size batch cut) → new ≡ set old to cut → IsCutFrom to size batch old new
 cut_there to size batch old new cut low is new_is = record {
-  whole = ap length new_is ∙ length-set old to cut;
-  cut = λ default. subst (λ (o : OutboxView). IsCut (get_or old to default) size batch o)
-      (sym (ap (λ xs. get_or xs to default) new_is ∙ get_or-set_same old to cut default low)) (is default);
-  others = λ other default apart. ap (λ xs. get_or xs other default) new_is ∙ get_or-set_other old to other cut default apart;
+  whole = grind (arith, new_is, length-set);
+  cut = λ default. rw (new_is, get_or-set_same old to cut default low) (is default);
+  others = λ other default apart. grind (arith, new_is, get_or-set_other);
 }
 
 -- the outbox that was read there
@@ -175,48 +159,42 @@ cut_of family n from to size batch old new cut is = (
 pub addressed_cut : (family : Family) (n from to size : ℕ) (batch : BatchView) (old new : List OutboxView) → IsCutFrom to size batch old new →
     ((k : ℕ) → IsOutboxTo family n from k (outbox_in family n from old k)) → (k : ℕ) → IsOutboxTo family n from k (outbox_in family n from new k)
 addressed_cut family n from to size batch old new cut all k = elim (cases_eq k to) [
-  | inl same ↦ subst (λ (j : ℕ). IsOutboxTo family n from j (outbox_in family n from new j)) (sym same)
-      (cut_to family n from to size batch (outbox_in family n from old to) (outbox_in family n from new to) (cut.cut (empty_outbox family n from to)) (all to))
-  | inr apart ↦ subst (λ (o : OutboxView). IsOutboxTo family n from k o) (sym (cut.others k (empty_outbox family n from k) apart)) (all k)
+  | inl same ↦ rw same (cut_to family n from to size batch (outbox_in family n from old to) _ (cut.cut (empty_outbox family n from to)) (all to))
+  | inr apart ↦ rw (cut.others k (empty_outbox family n from k) apart) (all k)
 ]
-
-drop_none : (size : ℕ) (xs : List Item) → xs ≡ [] → drop size xs ≡ []
-drop_none size xs none = ap (λ (ys : List Item). drop size ys) none ∙ drop-nil size
 
 pub nothing_cut : (family : Family) (n from own to size : ℕ) (batch : BatchView) (old new : List OutboxView) → IsCutFrom to size batch old new →
     (outbox_in family n from old own).items ≡ [] → (outbox_in family n from new own).items ≡ []
 nothing_cut family n from own to size batch old new cut none = elim (cases_eq own to) [
-  | inl same ↦ subst (λ (j : ℕ). (outbox_in family n from new j).items ≡ []) (sym same)
-      ((cut.cut (empty_outbox family n from to)).left ∙ drop_none size (outbox_in family n from old to).items
-      (subst (λ (j : ℕ). (outbox_in family n from old j).items ≡ []) same none))
-  | inr apart ↦ ap (λ (o : OutboxView). o.items) (cut.others own (empty_outbox family n from own) apart) ∙ none
+  | inl same ↦ rw (same, (cut.cut (empty_outbox family n from to)).left, (rw same at none)) (drop-nil size)
+  | inr apart ↦ rw (cut.others own (empty_outbox family n from own) apart) none
 ]
 
--- ---- all of them
+-- ---- a node that stays sound
 
--- an outbox for each of n nodes, and nothing in that for the node itself
-pub record AreReady (family : Family) (n from : ℕ) (outboxes : List OutboxView) : Type 0 where
-  pub receivers : length outboxes ≡ n
-  pub addressed : (to : ℕ) → IsOutboxTo family n from to (outbox_in family n from outboxes to)
-  pub nothing_to_self : (outbox_in family n from outboxes from).items ≡ []
-
-pub ready_added : (family : Family) (targets : List ℕ) (s : Settlement) (n from : ℕ) (old new : List OutboxView) → IsEntry s.was → IsEntry s.now →
-    AreAdded targets s (length old) from (length old) old new → AreReady family n from old → AreReady family n from new
-ready_added family targets s n from old new was now are ready = record {
-  receivers = are.whole ∙ ready.receivers;
-  addressed = addressed_added family targets s n from old new was now (subst (λ (m : ℕ). AreAdded targets s m from m old new) ready.receivers are) ready.addressed;
-  nothing_to_self = ap (λ (o : OutboxView). o.items) (are.unsent (empty_outbox family n from from)) ∙ ready.nothing_to_self;
+-- with one more settlement expanded
+pub sound_expanded : (node : NodeView) (targets : List ℕ) (s : Settlement) (own : List Item) (outboxes : List OutboxView) → IsSound node →
+    node.expanded + 1 ≤ length node.history.settlements → All HasItemEntries own → IsEntry s.was → IsEntry s.now →
+    AreAdded targets s (length node.outboxes) node.id (length node.outboxes) node.outboxes outboxes →
+    IsSound (record node { expanded = node.expanded + 1; own = own; outboxes = outboxes })
+sound_expanded node targets s own outboxes sound emitted entries was now are = record {
+  kept = sound.kept;
+  emitted = emitted;
+  entries = entries;
+  receivers = are.whole ∙ sound.receivers;
+  addressed = addressed_added node.family targets s node.n node.id node.outboxes outboxes was now (rw sound.receivers at are) sound.addressed;
+  nothing_to_self = ap (λ (o : OutboxView). o.items) (are.unsent (empty_outbox node.family node.n node.id node.id)) ∙ sound.nothing_to_self;
 }
 
--- outboxes as they were
-pub ready_same : (family : Family) (n from : ℕ) (old new : List OutboxView) → new ≡ old → AreReady family n from old → AreReady family n from new
-ready_same family n from old new same ready = subst (λ xs. AreReady family n from xs) (sym same) ready
-
-pub ready_cut : (family : Family) (n from to size : ℕ) (given : Option BatchView) (old new : List OutboxView) →
-    IfSome given (λ batch. IsCutFrom to size batch old new) → (IsNone given → new ≡ old) → AreReady family n from old → AreReady family n from new
-ready_cut family n from to size None old new cut nothing ready = subst (λ xs. AreReady family n from xs) (sym (nothing refl)) ready
-ready_cut family n from to size (Some batch) old new cut nothing ready = record {
-  receivers = cut.whole ∙ ready.receivers;
-  addressed = addressed_cut family n from to size batch old new cut ready.addressed;
-  nothing_to_self = nothing_cut family n from from to size batch old new cut ready.nothing_to_self;
+-- with a batch cut
+pub sound_cut : (node : NodeView) (to size : ℕ) (given : Option BatchView) (outboxes : List OutboxView) → IsSound node →
+    IfSome given (λ batch. IsCutFrom to size batch node.outboxes outboxes) → (IsNone given → ⊥) → IsSound (record node { outboxes = outboxes })
+sound_cut node to size None outboxes sound cut some = absurd (some refl)
+sound_cut node to size (Some batch) outboxes sound cut some = record {
+  kept = sound.kept;
+  emitted = sound.emitted;
+  entries = sound.entries;
+  receivers = cut.whole ∙ sound.receivers;
+  addressed = addressed_cut node.family node.n node.id to size batch node.outboxes outboxes cut sound.addressed;
+  nothing_to_self = nothing_cut node.family node.n node.id node.id to size batch node.outboxes outboxes cut sound.nothing_to_self;
 }

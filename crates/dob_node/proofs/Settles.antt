@@ -1,6 +1,7 @@
 -- One more settlement of a history: what it leaves, and what it makes.
+use Rattle.dob_node.proofs.Common.{nat_tests}
 use Rattle.dob_node.proofs.Common.{◌&&◌, ◌++◌, ◌+◌, ◌∙◌, ◌∷◌, ◌≡◌, ◌≢◌, ◌≤◌, ◌⊎◌, List, Some, [], add-one, ap, append_assoc, arith, cond, drop, eqb, inl, inr}
-use Rattle.dob_node.proofs.Common.{length, ltb, refl, slice_get, subst, sym, take, ℕ, take-suc, and_right, cases_eq, le-ltb, append-nil, take-append-drop}
+use Rattle.dob_node.proofs.Common.{length, ltb, refl, slice_get, subst, sym, take, ℕ, take-suc, cases_eq, append-nil, take-append-drop}
 use Rattle.dob_node.proofs.Common.{take-append-le, get_or_from_slice_get, slice_get_within, each_below, Draw, owner_of, Item, Settlement, items_from, items_of}
 use Rattle.dob_node.proofs.Common.{IsChained, IsNext, all_known, copies, items_to, known, value_of}
 use Rattle.dob_node.proofs.Runs.{each_below-same}
@@ -96,20 +97,20 @@ emitted_all targets n node h e =
 none_yet : (targets : ℕ → List ℕ) (classes n i j : ℕ) (history : List Settlement) (s : Settlement) (applied rest : List Item) (p : ℕ) →
     IsChained classes n i history → IsNext classes n i history s → items_from targets n j history ≡ applied ++ rest → items_to applied s.number p ≡ 0
 none_yet targets classes n i j history s applied rest p chained next begun =
-    let place : s.number ≡ length history = next.number in
-    let none : items_to (items_from targets n j history) s.number p ≡ 0 =
-    none_of_later targets n j 0 s.number p history (chained_numbered classes n i history chained) (omega arith) in
-    let same : items_to (items_from targets n j history) s.number p ≡ items_to (applied ++ rest) s.number p = ap (λ items. items_to items s.number p) begun in
-    let sum : items_to (applied ++ rest) s.number p ≡ items_to applied s.number p + items_to rest s.number p = items_to-append applied rest s.number p in
-    omega arith
+    omega (
+      arith,
+      next.number,
+      none_of_later targets n j 0 s.number p history (chained_numbered classes n i history chained) (omega (arith, next.number)),
+      ap (λ items. items_to items s.number p) begun,
+      items_to-append applied rest s.number p,
+    )
 
 -- so no copy learns anything by it
 known_more : (history : List Settlement) (s : Settlement) (applied : List Item) (p q copy : ℕ) → items_to applied s.number p ≡ 0 →
     known (history ++ s ∷ []) applied p q copy ≡ known history applied p q copy
 known_more history s applied p q copy none =
     last_now-append (λ r. eqb r.class q && ltb copy (items_to applied r.number p)) Draw history (s ∷ [])
-    ∙ ap (λ b. cond b s.now (known history applied p q copy))
-    (and_right (eqb s.class q) (ltb copy (items_to applied s.number p)) (le-ltb copy (items_to applied s.number p) (omega arith)))
+    ∙ grind (arith, nat_tests)
 
 -- A settlement that comes next in the history of node i changes nothing of what the copies of p, of node j, know.
 pub known_still : (targets : ℕ → List ℕ) (classes n : ℕ) (histories after : ℕ → List Settlement) (applied : ℕ → List Item) (i j : ℕ) (s : Settlement)

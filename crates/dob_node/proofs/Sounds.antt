@@ -18,10 +18,7 @@ kept_back family n id share after history grown kept still = subst (λ (m : ℕ)
 pub emitted_still : (item : Item) (share after : Share) (history grown : HistoryView) (expanded : ℕ) → IsTaken item share after history grown →
     expanded ≤ length history.settlements → expanded ≤ length grown.settlements
 emitted_still item share after history grown expanded taken emitted =
-    let given = taken.settled.0 in
-    let longer : length (history.settlements ++ listed given) ≡ length history.settlements + length (listed given) = length-append history.settlements (listed given) in
-    let is : length grown.settlements ≡ length (history.settlements ++ listed given) = ap (λ (view : HistoryView). length view.settlements) taken.settled.2 in
-    omega arith
+    omega (arith, length-append history.settlements (listed taken.settled.0), ap (λ (view : HistoryView). length view.settlements) taken.settled.2)
 
 -- ---- expansions
 

@@ -141,12 +141,9 @@ pub none_of_later : (targets : ℕ → List ℕ) (n node from number p : ℕ) (s
 none_of_later targets n node from number p [] numbered below = refl
 none_of_later targets n node from number p (s ∷ ss) numbered below =
     let own : s.number ≡ from = numbered.0 in
-    let whole : items_to (items_of targets n node s ++ items_from targets n node ss) number p
-    ≡ items_to (items_of targets n node s) number p + items_to (items_from targets n node ss) number p =
-    items_to-append (items_of targets n node s) (items_from targets n node ss) number p in
-    let here : items_to (items_of targets n node s) number p ≡ 0 =
-    no_other s number p (filter (λ to. eqb (owner_of n to) node) (targets s.class))
-    (λ same. let e : s.number ≡ number = same in absurd (omega arith)) in
-    let rest : items_to (items_from targets n node ss) number p ≡ 0 =
-    none_of_later targets n node (suc from) number p ss numbered.1 (omega arith) in
-    omega arith
+    omega (
+      arith,
+      items_to-append (items_of targets n node s) (items_from targets n node ss) number p,
+      no_other s number p (filter (λ to. eqb (owner_of n to) node) (targets s.class)) (omega arith),
+      none_of_later targets n node (suc from) number p ss numbered.1 (omega arith),
+    )

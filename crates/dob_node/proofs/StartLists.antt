@@ -1,12 +1,11 @@
 -- The settlements of the start: how many there are, where each stands, and that they are those of the opening.
-use Rattle.dob_node.proofs.Common.{◌*◌, ◌++◌, ◌+◌, ◌<◌, ◌∙◌, ◌∷◌, ◌≡◌, ◌≤◌, List, Option, Some, [], ap, arith, get_or, inl, inr, length, max, refl, slice_get}
-use Rattle.dob_node.proofs.Common.{subst, suc, sym, zero, ℕ, cases_eq, get_or_append_left, length-append, get_or_from_slice_get, All, get_front, middle, Status}
-use Rattle.dob_node.proofs.Common.{Caught, Open, Stuck, Tried, IsEntry, Value, Draw, opening_of, settled_among, settles, class_of_place, IsOwn, places_of}
+use Rattle.dob_node.proofs.Common.{◌*◌, ◌++◌, ◌+◌, ◌<◌, ◌∙◌, ◌∷◌, ◌≡◌, ◌≤◌, List, Some, [], ap, arith, get_or, inl, inr, length, max, refl, slice_get}
+use Rattle.dob_node.proofs.Common.{subst, suc, sym, zero, ℕ, cases_eq, get_or_append_left, get_or_from_slice_get, get_front, middle, Status}
+use Rattle.dob_node.proofs.Common.{IsEntry, Value, Draw, opening_of, settled_among, class_of_place, IsOwn, places_of}
 use Rattle.dob_node.proofs.Common.{status_at, StatusesView, Settlement, Opening, Share, opening_settlement, opening_settlements, opening_status, opening_value}
 use Rattle.dob_node.proofs.Common.{start_settlements, start_status, starts_count, starts_of}
 use Rattle.dob_share.proofs.Opened.{settles_most}
 use Rattle.dob_node.specs.Levels.{plies_of, level_of}
-use Rattle.dob_node.proofs.Beginnings.{or_else, entry_opened}
 use Rattle.dob_node.proofs.Opens.{start_length, all_started, status_listed}
 
 -- ---- how many there are
@@ -15,9 +14,7 @@ use Rattle.dob_node.proofs.Opens.{start_length, all_started, status_listed}
 pub settled_few : (status : ℕ → Status) (k : ℕ) → settled_among status k ≤ k
 settled_few status zero = omega arith
 settled_few status (suc k) =
-    let rest : settled_among status k ≤ k = settled_few status k in
-    let one : settles (status k) ≤ 1 = settles_most (status k) in
-    omega arith
+    omega (arith, settled_few status k, settles_most (status k))
 
 pub starts_length : (n id : ℕ) (starts : StatusesView) → length (starts_of n id starts) ≡ starts_count starts
 starts_length n id starts = start_length (start_status starts) n id starts.places
@@ -66,7 +63,7 @@ start_found n id number place starts now others low count is =
     (start_at (start_status starts) n id place starts.places now low is))
 
 pub start_entry : (status : Status) (now : Value) → opening_value status ≡ Some now → IsEntry now
-start_entry status now is = subst (λ (o : Option Value). IsEntry (or_else o Draw)) is (entry_opened status)
+start_entry status now is = grind arith
 
 -- those of a share as it is opened are the settlements of the opening
 pub share_opened : (share : Share) (openings : List Opening) (n id : ℕ) → (share.id ≡ id) × (share.nodes ≡ n) → id < n →
@@ -80,10 +77,7 @@ share_opened share openings n id who less statuses =
 -- ---- on which level they are
 
 level_once : (status : Status) (now : Value) → opening_value status ≡ Some now → max (plies_of now) 1 ≡ 1
-level_once Caught now is = subst (λ (o : Option Value). max (plies_of (or_else o Draw)) 1 ≡ 1) is refl
-level_once Tried now is = subst (λ (o : Option Value). max (plies_of (or_else o Draw)) 1 ≡ 1) is refl
-level_once Stuck now is = subst (λ (o : Option Value). max (plies_of (or_else o Draw)) 1 ≡ 1) is refl
-level_once Open now is = absurd cc
+level_once status now is = grind arith
 
 -- each is on the first
 pub start_level : (n id number : ℕ) (starts : StatusesView) (others : List Settlement) (s : Settlement) → number < starts_count starts →

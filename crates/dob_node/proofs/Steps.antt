@@ -115,9 +115,9 @@ module _ (family : Family) (n : ℕ) (histories : ℕ → List Settlement) (appl
 
     known_now : (p : ℕ) → p < classes → HasStatus family.profile (class_setup family p) Open → SumsUp (known_of family n histories after p) (cells p)
     known_now p low is_open = elim (cases_eq p item.to) [
-      | inl same ↦ subst (λ k. SumsUp (known_of family n histories after k) (cells k)) (sym same) here
+      | inl same ↦ rw same here
       | inr other ↦ SumsUp-same (known_of family n histories after p) (cells p) (cell p) (are_after.others p other).0
-          (subst (λ known. SumsUp known (cell p)) (sym (still after is_applied p other)) (lawful.sums p low is_open))
+          (rw (still after is_applied p other) (lawful.sums p low is_open))
     ]
       where
         here : SumsUp (known_of family n histories after item.to) (cells item.to)
@@ -128,22 +128,10 @@ module _ (family : Family) (n : ℕ) (histories : ℕ → List Settlement) (appl
     begun_now : (k m : ℕ) → k < n → m < n → (rest : List Item) × (items_from targets n m (histories k) ≡ after k m ++ rest)
     begun_now k m low_k low_m = elim (cases_eq m j) [
       | inl own ↦ elim (cases_eq k i) [
-        | inl sender ↦ (
-          is_next.0,
-          subst (λ r. items_from targets n r (histories k) ≡ after k r ++ is_next.0) (sym own)
-              (subst (λ s. items_from targets n j (histories s) ≡ after s j ++ is_next.0) (sym sender)
-              (is_next.1 ∙ sym (append_assoc (applied i j) (item ∷ []) is_next.0) ∙ ap (λ a. a ++ is_next.0) (sym is_applied.one_more))),
-        )
-        | inr other ↦ (
-          (lawful.begun k j low_k low_j).0,
-          subst (λ r. items_from targets n r (histories k) ≡ after k r ++ (lawful.begun k j low_k low_j).0) (sym own)
-              ((lawful.begun k j low_k low_j).1 ∙ ap (λ a. a ++ (lawful.begun k j low_k low_j).0) (sym (is_applied.same_sender k other))),
-        )
+        | inl sender ↦ (is_next.0, rw (own, sender, is_applied.one_more, append_assoc) is_next.1)
+        | inr other ↦ (let was = lawful.begun k j low_k low_j in (was.0, rw (own, is_applied.same_sender k other) was.1))
       ]
-      | inr elsewhere ↦ (
-        (lawful.begun k m low_k low_m).0,
-        (lawful.begun k m low_k low_m).1 ∙ ap (λ a. a ++ (lawful.begun k m low_k low_m).0) (sym (is_applied.same_receiver k m elsewhere)),
-      )
+      | inr elsewhere ↦ (let was = lawful.begun k m low_k low_m in (was.0, rw (is_applied.same_receiver k m elsewhere) was.1))
     ]
 
     -- ---- the settlement

@@ -63,13 +63,13 @@ seen n id room starts stored = record { id = id; n = n; settlements = settlement
 pub seen_length : (n id room : ℕ) (starts : StatusesView) (stored : List Stored) (view : HistoryView) → seen n id room starts stored ≡ view →
     starts_count starts + length stored ≡ length view.settlements
 seen_length n id room starts stored view is =
-    let first : List Settlement = starts_of n id starts in
-    let behind : List Settlement = settlements_from n id (length first) stored in
-    let sum : length (first ++ behind) ≡ length first + length behind = length-append first behind in
-    let front : length first ≡ starts_count starts = starts_length n id starts in
-    let back : length behind ≡ length stored = length-settlements_from n id (length first) stored in
-    let all : length (first ++ behind) ≡ length view.settlements = ap (λ (v : HistoryView). length v.settlements) is in
-    omega arith
+    omega (
+      arith,
+      length-append (starts_of n id starts) (settlements_from n id (length (starts_of n id starts)) stored),
+      starts_length n id starts,
+      length-settlements_from n id (length (starts_of n id starts)) stored,
+      ap (λ (v : HistoryView). length v.settlements) is,
+    )
 
 pub seen_at : (n id room k number : ℕ) (starts : StatusesView) (stored : List Stored) (view : HistoryView) (s : Stored) (given : Settlement) →
     seen n id room starts stored ≡ view → number ≡ starts_count starts + k → slice_get stored k ≡ Some s →

@@ -1,5 +1,6 @@
 -- Items taken one after the other.
-use Rattle.dob_node.proofs.Common.{◌++◌, ◌+◌, ◌<◌, ◌∙◌, ◌∷◌, ◌≡◌, ◌≤◌, List, Result, [], add-one, ap, arith, drop, get_or, length, refl, subst, sym, take, ℕ}
+use Rattle.dob_node.proofs.Common.{AppliesAll, Err, Ok, ◌≢◌, ◌++◌, ◌+◌, ◌<◌, ◌∙◌, ◌∷◌, ◌≡◌, ◌≤◌, List, Result, [], add-one, ap, arith, drop, get_or, length}
+use Rattle.dob_node.proofs.Common.{refl, subst, sym, take, ℕ}
 use Rattle.dob_node.proofs.Common.{drop-cons, take-suc, take-append-drop, err_from_is_err_and, All, IfErr, IsErrAnd, Family, Item, Share, Cause, NodeView}
 use Rattle.dob_node.proofs.Common.{HasTaken, HasTakenBefore, IsSound, IsUnchanged, HistoryView, AreKept, AreTaken, AreTakenBefore, HasItemEntries, IsHistory}
 use Rattle.dob_node.proofs.Common.{IsReason, IsTaken, StayKept, StopsAt}
@@ -142,19 +143,6 @@ stops_first (item ∷ items) share history some = record {
   reason = tt;
 }
 
-pub before_first : (items : List Item) (old new : NodeView) → 0 < length items → new.taken ≡ 0 → IsUnchanged old new →
-    HasTakenBefore items old new cause.Memory
-before_first [] old new some none same = absurd (omega arith)
-before_first (item ∷ items) old new some none same = record {
-  front = [];
-  item = item;
-  behind = items;
-  items_are = refl;
-  counted = sym none;
-  taken = record { taken = (same.kept.0, same.kept.1); same = same.same; own = same.kept.2; outboxes = same.outboxes };
-  reason = tt;
-}
-
 -- ---- what is taken of a node, whose history may have had other room
 
 module _ (node : NodeView) (after : Share) (mid grown : HistoryView) (same : IsHistory node.history mid) where
@@ -167,17 +155,28 @@ module _ (node : NodeView) (after : Share) (mid grown : HistoryView) (same : IsH
     outboxes = refl;
   }
 
-  pub has_taken_before : (items : List Item) (count : ℕ) (why : Cause) → AreTakenBefore items count node.share after mid grown why →
-      HasTakenBefore items node (record node { share = after; history = grown; taken = count }) why
-  has_taken_before items count why before = record {
-    front = before.front;
-    item = before.item;
-    behind = before.behind;
-    items_are = before.items_are;
-    counted = before.counted;
-    taken = has_taken before.front count before.taken;
-    reason = before.reason;
+  pub applies_err : (items : List Item) (count : ℕ) (why : Cause) → StopsAt items node.share mid why →
+      AreTakenBefore items count node.share after mid grown why →
+      why ≢ cause.Memory → AppliesAll items (Err why) node (record node { share = after; history = grown; taken = count })
+  applies_err items count why stops before other = record {
+    taken = tt;
+    all = tt;
+    stopped = stops_with_room items node.share node.history mid why same stops;
+    before = record {
+      front = before.front;
+      item = before.item;
+      behind = before.behind;
+      items_are = before.items_are;
+      counted = before.counted;
+      taken = has_taken before.front count before.taken;
+      reason = before.reason;
+    };
+    memory = λ is. absurd (other (cc));
   }
+
+  pub applies_ok : (items : List Item) (count : ℕ) → AreTaken items node.share after mid grown → count ≡ length items →
+      AppliesAll items (Ok tt) node (record node { share = after; history = grown; taken = count })
+  applies_ok items count taken all = record { taken = has_taken items count taken; all = all; stopped = tt; before = tt; memory = λ is. absurd (cc) }
 
   -- it stays sound
   pub still_sound : (items own : List Item) (count : ℕ) → IsSound node → AreTaken items node.share after mid grown →

@@ -1,5 +1,5 @@
 -- A queue of items, of which the first ones are taken and gone.
-use Rattle.dob_node.proofs.Common.{◌++◌, ◌+◌, ◌-◌, ◌<◌, ◌∙◌, ◌∷◌, ◌≡◌, ◌≢◌, Err, List, Ok, Result, [], ap, append_assoc, arith, drop, length, refl, subst, sym}
+use Rattle.dob_node.proofs.Common.{◌++◌, ◌<◌, ◌∙◌, ◌∷◌, ◌≡◌, ◌≢◌, Err, List, Ok, Result, [], ap, append_assoc, arith, drop, length, refl, subst, sym}
 use Rattle.dob_node.proofs.Common.{take, ℕ, drop-append_seam, take-append_seam, All-drop, All-take, All, OnOk, IfErr, Item, Share, Cause, NodeView}
 use Rattle.dob_node.proofs.Common.{HasItemFault, HistoryView, AreTaken, AreTakenBefore, HasItemEntries, StopsFirst, TakesFirst}
 use Rattle.std.proofs.Common.{length-append}
@@ -66,8 +66,7 @@ module _ (queue front back : List Item) (count : ℕ) (share after : Share) (his
 
   pub fewer : (result : Result (Unit {0}) Cause) → OnOk result (count ≡ length front) → (queue ≢ [] → 0 < length front) →
       OnOk result (queue ≢ [] → length (drop count queue) < length queue)
-  fewer (Ok done) all some = λ busy. (let more = some busy in
-      let rest = ap length (dropped all) in let whole = ap length (sym is) ∙ length-append front back in omega (arith, more, rest, whole))
+  fewer (Ok done) all some = λ busy. omega (arith, some busy, ap length (dropped all), ap length (sym is), length-append front back)
   fewer (Err why) all some = tt
 
 -- ---- the own items of a node

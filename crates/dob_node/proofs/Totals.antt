@@ -1,6 +1,7 @@
 -- How many copies a class's moves have in all: one each. Before anything is settled they know nothing.
-use Rattle.dob_node.proofs.Common.{◌&&◌, ◌++◌, ◌+◌, ◌<◌, ◌∙◌, ◌∷◌, ◌≡◌, ◌≤◌, Contains, List, None, [], ap, arith, cond, eqb, false, inl, inr, length, ltb, refl}
-use Rattle.dob_node.proofs.Common.{suc, sym, zero, ℕ, and_right, cases_eq, eq-eqb, false≢true, le-ltb, ne_eqb, length-append, All-contains_itself, All-head}
+use Rattle.dob_node.proofs.Common.{nat_tests}
+use Rattle.dob_node.proofs.Common.{◌&&◌, ◌+◌, ◌<◌, ◌∙◌, ◌∷◌, ◌≡◌, ◌≤◌, Contains, List, None, [], ap, arith, cond, eqb, false, length, ltb, refl}
+use Rattle.dob_node.proofs.Common.{suc, sym, zero, ℕ, and_right, false≢true, le-ltb, length-append, All-contains_itself, All-head}
 use Rattle.dob_node.proofs.Common.{All-tail, Contains-append_right, All, count_by, head_in, each_below, Family, Setup, AreMoves-moves_of, moves_of, HasStatus}
 use Rattle.dob_node.proofs.Common.{Move, Open, HasClasses-classes_of, RepresentsClass, class_number, class_setup, classes_of, class_setup_is, not_draw_loss}
 use Rattle.dob_node.proofs.Common.{moves_keep_the_family, is_draw, Value, Draw, Loss, times-predecessors, predecessors, counted, SumsUp, owner_of, is_win_in}
@@ -25,29 +26,15 @@ sum_below-none (suc n) = let before = sum_below-none n in omega arith
 
 sum_below-both : (f g : ℕ → ℕ) (n : ℕ) → sum_below (λ k. f k + g k) n ≡ sum_below f n + sum_below g n
 sum_below-both f g zero = refl
-sum_below-both f g (suc n) =
-    let before = sum_below-both f g n in
-    omega arith
+sum_below-both f g (suc n) = grind (arith, sum_below-both f g n)
 
 one_place : (k n : ℕ) → n ≤ k → sum_below (λ j. cond (eqb k j) 1 0) n ≡ 0
 one_place k zero above = refl
-one_place k (suc n) above =
-    let before = one_place k n (omega arith) in
-    let here : cond {A = ℕ} (eqb k n) 1 0 ≡ 0 = ap (λ b. cond b 1 0) (ne_eqb k n (λ e. absurd (omega (arith, e)))) in
-    omega arith
+one_place k (suc n) above = grind (arith, nat_tests, one_place k n (omega arith))
 
 its_place : (k n : ℕ) → k < n → sum_below (λ j. cond (eqb k j) 1 0) n ≡ 1
 its_place k zero below = absurd (omega arith)
-its_place k (suc n) below = elim (cases_eq k n) [
-  | inl same ↦
-      let before = one_place k n (omega arith) in
-      let here : cond {A = ℕ} (eqb k n) 1 0 ≡ 1 = ap (λ b. cond b 1 0) (eq-eqb k n same) in
-      omega arith
-  | inr other ↦
-      let before = its_place k n (omega (arith, other)) in
-      let here : cond {A = ℕ} (eqb k n) 1 0 ≡ 0 = ap (λ b. cond b 1 0) (ne_eqb k n other) in
-      omega arith
-]
+its_place k (suc n) below = grind (arith, nat_tests, its_place k n, one_place k n)
 
 in_all_places : {X : Type 0} (f : X → ℕ) (n : ℕ) (xs : List X) → All (λ x. f x < n) xs →
     sum_below (λ k. count_by (λ x. eqb (f x) k) xs) n ≡ length xs
@@ -62,11 +49,7 @@ in_all_places f n (x ∷ xs) below =
 
 length-row : (f : ℕ → Value) (n : ℕ) → length (each_below (λ (k : ℕ). f k ∷ []) n) ≡ n
 length-row f zero = refl
-length-row f (suc n) =
-    let before = length-row f n in
-    let sum : length (each_below (λ (k : ℕ). f k ∷ []) n ++ f n ∷ []) ≡ length (each_below (λ (k : ℕ). f k ∷ []) n) + 1 =
-    length-append (each_below (λ (k : ℕ). f k ∷ []) n) (f n ∷ []) in
-    omega arith
+length-row f (suc n) = omega (arith, length-row f n, length-append (each_below (λ (k : ℕ). f k ∷ []) n) (f n ∷ []))
 
 module _ (family : Family) (p : ℕ) (low : p < classes_of family) where
   abbrev setup : Setup
@@ -136,11 +119,12 @@ all_draws targets classes n histories applied p none v there =
 
 count_draws : (xs : List Value) → ((v : Value) → Contains xs v → v ≡ Draw) → count_by is_draw xs ≡ length xs
 count_draws [] draws = refl
-count_draws (x ∷ xs) draws =
-    let sum : count_by is_draw (x ∷ xs) ≡ cond (is_draw x) 1 0 + count_by is_draw xs = sum_by-cons (λ v. cond (is_draw v) 1 0) x xs in
-    let here : cond {A = ℕ} (is_draw x) 1 0 ≡ 1 = ap (λ v. cond {A = ℕ} (is_draw v) 1 0) (draws x (head_in x xs)) in
-    let rest = count_draws xs (λ v there. draws v (Contains-append_right (x ∷ []) xs v there)) in
-    omega arith
+count_draws (x ∷ xs) draws = grind (
+  arith,
+  sum_by-cons (λ v. cond {A = ℕ} (is_draw v) 1 0) x xs,
+  draws x (head_in x xs),
+  count_draws xs (λ v there. draws v (Contains-append_right (x ∷ []) xs v there)),
+)
 
 no_wins : (xs : List Value) (plies count : ℕ) → ((v : Value) → Contains xs v → v ≡ Draw) → count ≡ count_by (λ v. is_win_in plies v) xs → 0 ≡ count
 no_wins xs plies zero draws is = refl

@@ -1,5 +1,6 @@
 -- Cells that sum up what is known: their value follows.
-use Rattle.dob_node.proofs.Common.{◌<◌, ◌∙◌, ◌∷◌, ◌≡◌, Contains, List, None, Some, [], ap, arith, inl, inr, length, refl, subst, sym, true, ℕ, eq-eqb, eqb-true}
+use Rattle.dob_node.proofs.Common.{nat_tests}
+use Rattle.dob_node.proofs.Common.{◌<◌, ◌∙◌, ◌∷◌, ◌≡◌, Contains, List, None, Some, [], arith, inl, inr, length, refl, subst, sym, true, ℕ, eq-eqb}
 use Rattle.dob_node.proofs.Common.{count_by, head_in, not_draw_win, IsLeastLoss, is_draw, Value, Draw, Loss, Win, counted, counts, Cell, CellValue, IsGreatest}
 use Rattle.dob_node.proofs.Common.{SameCell, SumsUp, is_win_in, FollowsFromKnown}
 use Rattle.dob_value.proofs.Tables.{draw_is}
@@ -7,15 +8,11 @@ use Rattle.dob_value.proofs.Tables.{draw_is}
 -- ---- the cell's value follows
 
 pub is_that_win : (plies : ℕ) (v : Value) → is_win_in plies v ≡ true → v ≡ Win plies
-is_that_win plies (Win distance) is = ap Win (eqb-true distance plies is)
-is_that_win plies (Loss distance) is = cc
-is_that_win plies Draw is = cc
+is_that_win plies v is = grind (arith, nat_tests)
 
 win_counted : (known : List Value) (cell : Cell) → SumsUp known cell → (plies : ℕ) → Contains known (Win plies) → 0 < cell.wins plies
 win_counted known cell sums plies there =
-    let some = counts (is_win_in plies) known (Win plies) there (eq-eqb plies plies refl) in
-    let wins : cell.wins plies ≡ count_by (λ value. is_win_in plies value) known = sums.wins plies in
-    omega arith
+    omega (arith, counts (is_win_in plies) known (Win plies) there (eq-eqb plies plies refl), sums.wins plies)
 
 must_be_win : (known : List Value) (v : Value) → count_by is_draw known ≡ 0 → ((plies : ℕ) → ¬ Contains known (Loss plies)) → Contains known v →
     (plies : ℕ) × (v ≡ Win plies)
@@ -63,8 +60,4 @@ value_follows known cell Draw sums above value = (
 -- ---- cells that say the same
 
 pub SumsUp-same : (known : List Value) (a b : Cell) → SameCell a b → SumsUp known b → SumsUp known a
-SumsUp-same known a b same sums = record {
-  left = same.left ∙ sums.left;
-  wins = λ plies. same.wins plies ∙ sums.wins plies;
-  least = subst (IsLeastLoss known) (sym same.least) sums.least;
-}
+SumsUp-same known a b same sums = grind arith

@@ -77,19 +77,16 @@ impl StartStatuses {
         }
     }
 
-    /// The settled class before which that many stand, from which it and those behind it are found from then on.
-    pub(crate) fn reach(&mut self, number: u64) -> StartValue
-        requires { number < starts_count self.old }
-        ensures same { self.new ≡ self.old }
-        ensures place { result.place < self.old.places }
-        ensures number { settled_among (start_status self.old) result.place ≡ number }
-        ensures value { opening_value (start_status self.old result.place) ≡ Some result.now }
-        ensures bound { result.place < 2 ^ 32 }
+    /// Finds the settled class before which that many stand, if there is one, so that it and those behind it are found quickly from then on.
+    pub(crate) fn reach(&mut self, number: u64)
+        ensures { self.new ≡ self.old }
     {
+        if number >= self.settled {
+            return;
+        }
         let found = self.find(number);
         self.passed = number;
         self.place = found.place;
-        found
     }
 }
 
@@ -116,16 +113,19 @@ fn walk(statuses: &Statuses, passed: u64, place: u64, number: u64) -> StartValue
     ensures number { settled_among (start_status statuses.now) result.place ≡ number }
     ensures value { opening_value (start_status statuses.now result.place) ≡ Some result.now }
 {
+    // There are fewer than a place can tell apart.
+    let _places = statuses.places();
     let mut stood = passed;
-    for here in place..statuses.places() {
+    let mut here = place;
+    loop {
         if let Some(now) = value_at(statuses, here) {
             if stood == number {
                 return StartValue { place: here, now };
             }
             stood += 1;
         }
+        here += 1;
     }
-    unreachable!()
 }
 
 // The value at which the class at a place is settled when its node opens, by its status.

@@ -1,38 +1,19 @@
 -- An item applied at one place: what the steps of the code give of it.
-use Rattle.dob_share.proofs.Common.{◌+◌, ◌<◌, ◌∙◌, ◌≡◌, ◌≤◌, Err, List, MatchOption, None, Ok, Option, Some, ap, arith, get_or, inl, inr, length, refl, subst}
-use Rattle.dob_share.proofs.Common.{sym, ℕ, length-set, set, get_or_default, Value, Draw, Loss, Win, Cell, CellCanTake, CellValue, SameCell, changed}
+use Rattle.dob_share.proofs.Common.{◌+◌, ◌<◌, ◌∙◌, ◌≡◌, ◌≤◌, Err, List, MatchOption, Ok, Option, ap, arith, get_or, length, refl, subst}
+use Rattle.dob_share.proofs.Common.{sym, ℕ, length-set, set, get_or_default, Value, Cell, CellCanTake, CellValue, SameCell, changed}
 use Rattle.dob_share.proofs.Common.{ChangesRun, ArePooled, IsShortCell, beyond, cell_by, cell_in, least_of, room_at, slot_at, start_at, IsApplied, IsChange}
-use Rattle.dob_share.proofs.Common.{IsTooDeep, Slot, Fault, Contradiction, TooDeep}
+use Rattle.dob_share.proofs.Common.{IsTooDeep, Slot, Fault}
 use Rattle.dob_share.proofs.Keeping.{same_short, cell_is, cell_here, cell_other, start_same, still_pooled}
 use Rattle.dob_share.proofs.Changing.{IsStep, not_too_deep}
 
 -- two cells that say the same have the same values
 pub CellValue-same : (a b : Cell) (value : Value) → SameCell a b → CellValue b value → CellValue a value
-CellValue-same a b (Win plies) same is = (is.0, same.least ∙ is.1, is.2)
-CellValue-same a b (Loss plies) same is = (
-  same.least ∙ is.0,
-  same.left ∙ is.1,
-  is.2,
-  (subst (λ (k : ℕ). 0 < k) (sym (same.wins is.2)) is.3.0, λ other some. is.3.1 other (subst (λ (k : ℕ). 0 < k) (same.wins other) some)),
-  is.4,
-)
-CellValue-same a b Draw same is = (
-  same.least ∙ is.0,
-  elim is.1 [
-    | inl left ↦ inl (subst (λ (k : ℕ). 0 < k) (sym same.left) left)
-    | inr none ↦ inr (λ plies. same.wins plies ∙ none plies)
-  ],
-)
+CellValue-same a b value same is = grind arith
 
 -- the two values of a change, or the one of none
 pub change_of : (old new : Cell) (v w : Value) (change : Option (Value × Value)) → CellValue old v → CellValue new w →
     MatchOption change (v ≡ w) (λ values. (values.0 ≡ v) × (values.1 ≡ w) × (v ≡ w → ⊥)) → IsChange old new change
-change_of old new v w None is then same = (v, is, subst (λ x. CellValue new x) (sym same) then)
-change_of old new v w (Some values) is then both = (
-  subst (λ x. CellValue old x) (sym both.0) is,
-  subst (λ x. CellValue new x) (sym both.1) then,
-  λ e. both.2 (sym both.0 ∙ e ∙ both.1),
-)
+change_of old new v w change is gives both = grind arith
 
 pub same_itself : (cell : Cell) → SameCell cell cell
 same_itself cell = record { left = refl; wins = λ plies. refl; least = refl }
@@ -42,15 +23,9 @@ pub refused : (to : ℕ) (was now : Value) (place : ℕ) (slots : List Slot) (po
     ArePooled slots pool → IsStep to was now (cell_in slots pool place) slot (Err fault) →
     IsApplied to was now place slots pool slots pool (Err fault)
 refused to was now place slots pool slot fault pooled step = record {
-  misfit = (
-    λ e. step.misfit.0 (let k : fault ≡ Contradiction to = cc in ap Err k),
-    λ not. let e = step.misfit.1 not in let k : fault ≡ Contradiction to = cc in ap Err k,
-  );
-  deep = (
-    λ e. step.deep.0 (let k : fault ≡ TooDeep = cc in ap Err k),
-    λ both. let e = step.deep.1 both in let k : fault ≡ TooDeep = cc in ap Err k,
-  );
-  named = λ class e. step.named class (let k : fault ≡ Contradiction class = cc in ap Err k);
+  misfit = grind (arith, step.misfit);
+  deep = grind (arith, step.deep);
+  named = grind (arith, step.named);
   unchanged = λ other e. (refl, refl);
   pooled = pooled;
   places = refl;
@@ -90,15 +65,10 @@ module _ {slots : List Slot} {pool : List ℕ} {place : ℕ} {slot : Slot} (here
   room_left = subst (λ s. s.left + s.used ≤ room_at slots (length pool) place) (sym slot_is) (here.pooled.room place)
 
   run_end : slot.start + room_at slots (length pool) place ≤ length pool
-  run_end =
-      let start : slot.start ≡ start_at slots (length pool) place = ap (λ s. s.start) slot_is in
-      let end : start_at slots (length pool) (place + 1) ≤ length pool = here.pooled.within (place + 1) in
-      let up : start_at slots (length pool) place ≤ start_at slots (length pool) (place + 1) = here.pooled.ordered place (place + 1) (omega arith) in
-      omega arith
+  run_end = omega (arith, ap (λ s. s.start) slot_is, here.pooled.within (place + 1), here.pooled.ordered place (place + 1) (omega arith))
 
   pub run_within : slot.start + slot.used ≤ length pool
-  run_within = let most : slot.left + slot.used ≤ room_at slots (length pool) place = room_left in
-      let end : slot.start + room_at slots (length pool) place ≤ length pool = run_end in omega arith
+  run_within = omega (arith, room_left, run_end)
 
   -- where the run begins, if it is known of its place
   pub start_told : (start : ℕ) → start ≡ start_at slots (length pool) place → slot.start ≡ start
@@ -106,8 +76,7 @@ module _ {slots : List Slot} {pool : List ℕ} {place : ℕ} {slot : Slot} (here
 
   -- where a move is left, an entry isn't in use yet
   pub entry_free : 0 < slot.left → slot.start + slot.used < length pool
-  entry_free some = let most : slot.left + slot.used ≤ room_at slots (length pool) place = room_left in
-      let end : slot.start + room_at slots (length pool) place ≤ length pool = run_end in omega arith
+  entry_free some = omega (arith, room_left, run_end)
 
   module _ (to : ℕ) (was now : Value) where
     pub refused_here : (fault : Fault) → IsStep to was now (cell_by slot pool) slot (Err fault) →

@@ -1,6 +1,7 @@
 -- How many bits of a word are set before a place.
 use Rattle.dob_share.proofs.Common.{◌%◌, ◌*◌, ◌+◌, ◌-◌, ◌/◌, ◌<◌, ◌^◌, ◌∙◌, ◌≡◌, ap, arith, bit_or, refl, suc, sym, zero, ℕ, add-mul-div_right, mod-lt}
 use Rattle.dob_share.proofs.Common.{div-mul-add, mod-pow-add, one_shl, ones_cat, pow-add, pow_pos, ones, bit, bits_below}
+use Rattle.std.proofs.lemmas.Grind.{common_steps}
 use Rattle.std.specs.Int.Bits.{or_shifted_r}
 
 ones_small : (b : ℕ) → b < 2 → ones b ≡ b
@@ -53,6 +54,4 @@ digit_before word place (suc zero) other small below = one_before word place oth
 digit_before word place (suc (suc digit)) other small below = absurd (omega arith)
 
 pub digit_low : (word place digit : ℕ) → digit < 2 → word < 2 ^ place → digit * 2 ^ place + word < 2 ^ (place + 1)
-digit_low word place zero small low = let power : 2 ^ (place + 1) ≡ 2 ^ place * 2 = pow-add 2 place 1 in omega arith
-digit_low word place (suc zero) small low = let power : 2 ^ (place + 1) ≡ 2 ^ place * 2 = pow-add 2 place 1 in omega arith
-digit_low word place (suc (suc digit)) small low = absurd (omega arith)
+digit_low word place digit small low = grind (arith, common_steps)

@@ -5,6 +5,7 @@ pub use Rattle.std.proofs.Common.{max, min, refl, replicate, slice_get, subst, s
 pub use Rattle.std.proofs.Math.ListN.{length-set, set}
 pub use Rattle.std.proofs.Math.Nat.{add-mul-div_right, mod-eq_of_lt, mod-lt, mul-le-mul_right}
 pub use Rattle.std.proofs.lemmas.Bool.{cases_Bool, cases_eq, cases_lt, cases_order, cond_below, eq-eqb, ne_eqb}
+pub use Rattle.std.proofs.lemmas.Bool.Decides.{nat_tests}
 pub use Rattle.std.proofs.lemmas.List.{append-nil, get_or-set_other, get_or-set_same, get_or_append_left, get_or_default, get_or_past, get_or_push}
 pub use Rattle.std.proofs.lemmas.List.{length-replicate, length_push, set-get_or}
 pub use Rattle.std.proofs.lemmas.List.Elements.{Contains-append_cases, Contains-append_left, Contains-append_right}
@@ -21,7 +22,7 @@ pub use Rattle.dob_value.specs.Entries.{is_draw}
 pub use Rattle.dob_value.specs.declared.value.Value.{Value}
 pub use Rattle.dob_value.specs.declared.value.Value.TheVariants.{Draw, Loss, Win}
 pub use Rattle.dob_share.specs.Cells.{Cell, CellCanTake, CellValue, Changes, IsGreatestIn, KnowsLossWithin, SameCell, SumsUp, changed, fresh, less_at, more_at}
-pub use Rattle.dob_share.specs.Openings.{AreOpened, AreOwn, cell_moves, moves_where, new_slot, opening_of, settled_among, settles, slots_where}
+pub use Rattle.dob_share.specs.Openings.{AreOpened, AreOwn, ArePlaced, cell_moves, moves_where, new_slot, opening_of, settled_among, settles, slots_where}
 pub use Rattle.dob_share.specs.Owners.{class_of_place}
 pub use Rattle.dob_share.specs.Pools.{ChangesRun, moves_at, tally, vacant}
 unfoldable pub use Rattle.dob_share.specs.Pools.{wins_in}

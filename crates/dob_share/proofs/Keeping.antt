@@ -11,10 +11,7 @@ unfolding wins_in
 wins_same old new start room plies same = tally_same (moves_at plies) old new start room same
 
 pub same_short : (a b : Cell) → SameCell a b → IsShortCell b → IsShortCell a
-same_short a b same short = record {
-  loss = λ plies e. short.loss plies (sym same.least ∙ e);
-  win = λ none none_left plies some. short.win (sym same.least ∙ none) (sym same.left ∙ none_left) plies (subst (λ (k : ℕ). 0 < k) (same.wins plies) some);
-}
+same_short a b same short = grind arith
 
 pub cell_is : (slots : List Slot) (pool : List ℕ) (place : ℕ) → cell_in slots pool place ≡ cell_by (slot_at slots (length pool) place) pool
 unfolding cell_in
@@ -41,10 +38,7 @@ module _ (slots : List Slot) (pool new_pool : List ℕ) (place : ℕ) (next : Sl
   ]
 
   room_same : (other : ℕ) → room_at (set slots place next) (length new_pool) other ≡ room_at slots (length pool) other
-  room_same other =
-      let end : start_at (set slots place next) (length new_pool) (other + 1) ≡ start_at slots (length pool) (other + 1) = start_same (other + 1) in
-      let start : start_at (set slots place next) (length new_pool) other ≡ start_at slots (length pool) other = start_same other in
-      omega arith
+  room_same other = omega (arith, start_same (other + 1), start_same other)
 
   -- the pools agree on the entries in use of the other runs
   agree : (other : ℕ) → (other ≡ place → ⊥) → (at : ℕ) → start_at slots (length pool) other ≤ at →
@@ -52,14 +46,8 @@ module _ (slots : List Slot) (pool new_pool : List ℕ) (place : ℕ) (next : Sl
   agree other n at from below =
       let most = pooled.room other in
       elim (cases_lt other place) [
-        | inl before ↦
-            let next_start : start_at slots (length pool) (other + 1) ≤ start_at slots (length pool) place = pooled.ordered (other + 1) place (omega arith) in
-            let step : start_at slots (length pool) other ≤ start_at slots (length pool) (other + 1) = pooled.ordered other (other + 1) (omega arith) in
-            changes.before at (omega arith)
-        | inr after ↦
-            let next_start : start_at slots (length pool) (place + 1) ≤ start_at slots (length pool) other = pooled.ordered (place + 1) other (omega arith) in
-            let step : start_at slots (length pool) place ≤ start_at slots (length pool) (place + 1) = pooled.ordered place (place + 1) (omega arith) in
-            changes.behind at (omega arith)
+        | inl before ↦ changes.before at (omega (arith, pooled.ordered (other + 1) place (omega arith), pooled.ordered other (other + 1) (omega arith)))
+        | inr after ↦ changes.behind at (omega (arith, pooled.ordered (place + 1) other (omega arith), pooled.ordered place (place + 1) (omega arith)))
       ]
 
   pub cell_here : cell_in (set slots place next) new_pool place ≡ cell_by next new_pool
@@ -77,31 +65,15 @@ module _ (slots : List Slot) (pool new_pool : List ℕ) (place : ℕ) (next : Sl
   pub still_pooled : next.left + next.used ≤ room_at slots (length pool) place → IsShortCell (cell_by next new_pool) →
       ArePooled (set slots place next) new_pool
   still_pooled fits short = record {
-    ordered = λ a b le.
-        let x : start_at (set slots place next) (length new_pool) a ≡ start_at slots (length pool) a = start_same a in
-        let y : start_at (set slots place next) (length new_pool) b ≡ start_at slots (length pool) b = start_same b in
-        let was : start_at slots (length pool) a ≤ start_at slots (length pool) b = pooled.ordered a b le in omega arith;
-    within = λ a.
-        let x : start_at (set slots place next) (length new_pool) a ≡ start_at slots (length pool) a = start_same a in
-        let was : start_at slots (length pool) a ≤ length pool = pooled.within a in
-        let whole : length new_pool ≡ length pool = changes.whole in omega arith;
-    small = λ a.
-        let x : room_at (set slots place next) (length new_pool) a ≡ room_at slots (length pool) a = room_same a in
-        let was : room_at slots (length pool) a < 64 = pooled.small a in omega arith;
-    room = λ a.
-        let room : room_at (set slots place next) (length new_pool) a ≡ room_at slots (length pool) a = room_same a in
-        elim (cases_eq a place) [
-          | inl e ↦
-              let here : slot_at (set slots place next) (length new_pool) a ≡ next
-              = ap (λ (k : ℕ). slot_at (set slots place next) (length new_pool) k) e ∙ slot_here in
-              let same : room_at slots (length pool) a ≡ room_at slots (length pool) place = ap (λ (k : ℕ). room_at slots (length pool) k) e in
-              subst (λ s. s.left + s.used ≤ room_at (set slots place next) (length new_pool) a) (sym here)
-              (subst (λ (k : ℕ). next.left + next.used ≤ k) (sym (room ∙ same)) fits)
-          | inr n ↦ subst (λ s. s.left + s.used ≤ room_at (set slots place next) (length new_pool) a) (sym (slot_other a n))
-              (subst (λ (k : ℕ). (slot_at slots (length pool) a).left + (slot_at slots (length pool) a).used ≤ k) (sym room) (pooled.room a))
-        ];
+    ordered = λ a b le. omega (arith, start_same a, start_same b, pooled.ordered a b le);
+    within = λ a. omega (arith, start_same a, pooled.within a, changes.whole);
+    small = λ a. omega (arith, room_same a, pooled.small a);
+    room = λ a. elim (cases_eq a place) [
+      | inl e ↦ rw (room_same a, e, slot_here) fits
+      | inr n ↦ rw (room_same a, slot_other a n) (pooled.room a)
+    ];
     short = λ a inside. elim (cases_eq a place) [
-      | inl e ↦ subst (λ (k : ℕ). IsShortCell (cell_in (set slots place next) new_pool k)) (sym e) (subst (λ c. IsShortCell c) (sym cell_here) short)
+      | inl e ↦ rw (e, cell_here) short
       | inr n ↦ same_short (cell_in (set slots place next) new_pool a) (cell_in slots pool a) (cell_other a n)
           (pooled.short a (subst (λ (k : ℕ). a < k) (length-set slots place next) inside))
     ];

@@ -1,36 +1,22 @@
 -- What a cell that sums up what is known takes next.
-use Rattle.dob_share.proofs.Common.{◌++◌, ◌+◌, ◌<◌, ◌∙◌, ◌∷◌, ◌≡◌, Bool, Contains, List, None, Option, Some, [], ap, arith, cond, inl, inr, refl, subst, sym}
+use Rattle.dob_share.proofs.Common.{◌++◌, ◌<◌, ◌∷◌, ◌≡◌, Bool, Contains, List, None, Option, Some, [], arith, cond, inl, inr, refl, subst, sym}
 use Rattle.dob_share.proofs.Common.{true, ℕ, cases_Bool, eq-eqb, Contains-append_right, sum_by-cons, count_by, cons_cases, head_in, none_in_empty, IsLeastLoss}
 use Rattle.dob_share.proofs.Common.{is_draw, Value, Draw, Loss, Win, Cell, CellCanTake, Changes, KnowsLossWithin, SumsUp, Better, is_win_in}
 
 -- ---- what is counted is there, and what is there is counted
 
-count_cons : {X : Type 0} (p : X → Bool) (x : X) (xs : List X) → count_by p (x ∷ xs) ≡ cond (p x) 1 0 + count_by p xs
-count_cons p x xs = sum_by-cons (λ y. cond (p y) 1 0) x xs
-
 pub counted : {X : Type 0} (p : X → Bool) (xs : List X) → 0 < count_by p xs → (x : X) × Contains xs x × (p x ≡ true)
 counted p [] above = absurd (omega arith)
 counted p (x ∷ xs) above = elim (cases_Bool (p x)) [
   | inl is ↦ (x, head_in x xs, is)
-  | inr isnt ↦
-      let sum : count_by p (x ∷ xs) ≡ cond (p x) 1 0 + count_by p xs = count_cons p x xs in
-      let none : cond {A = ℕ} (p x) 1 0 ≡ 0 = ap (λ b. cond b 1 0) isnt in
-      let rest = counted p xs (omega arith) in
-      (rest.0, Contains-append_right (x ∷ []) xs rest.0 rest.1, rest.2)
+  | inr isnt ↦ let rest = counted p xs (grind (arith, sum_by-cons)) in (rest.0, Contains-append_right (x ∷ []) xs rest.0 rest.1, rest.2)
 ]
 
 pub counts : (p : Value → Bool) (xs : List Value) (x : Value) → Contains xs x → p x ≡ true → 0 < count_by p xs
 counts p [] x there is = absurd (none_in_empty x there)
 counts p (y ∷ xs) x there is =
-    let sum : count_by p (y ∷ xs) ≡ cond (p y) 1 0 + count_by p xs = count_cons p y xs in
-    elim (cons_cases y xs x there) [
-      | inl same ↦
-          let one : cond {A = ℕ} (p y) 1 0 ≡ 1 = ap (λ b. cond b 1 0) (ap p same ∙ is) in
-          omega arith
-      | inr later ↦
-          let rest = counts p xs x later is in
-          omega arith
-    ]
+    let sum = sum_by-cons (λ v. cond {A = ℕ} (p v) 1 0) y xs in
+    elim (cons_cases y xs x there) [ inl same ↦ grind (arith, sum) | inr later ↦ grind (arith, sum, counts p xs x later is) ]
 
 in_middle : (xs ys : List Value) (x : Value) → Contains (xs ++ x ∷ ys) x
 in_middle xs ys x = Contains-append_right xs (x ∷ ys) x (head_in x ys)
@@ -49,25 +35,13 @@ least_within known (Some least) plies is there = is.1 plies there
 pub takes_next : (known after : List Value) (was now : Value) (cell : Cell) → Better was now → Changes known after was now → SumsUp known cell →
     CellCanTake was now cell
 takes_next known after Draw (Win plies) cell better change sums =
-    let some = counts is_draw known Draw (was_known known after Draw (Win plies) change) refl in
-    let left = sums.left in
-    omega arith
+    omega (arith, counts is_draw known Draw (was_known known after Draw (Win plies) change) refl, sums.left)
 takes_next known after Draw (Loss plies) cell better change sums =
-    let some = counts is_draw known Draw (was_known known after Draw (Loss plies) change) refl in
-    let left = sums.left in
-    omega arith
-takes_next known after (Win was) (Win now) cell better change sums = (
-  better,
-  (let some = counts (is_win_in was) known (Win was) (was_known known after (Win was) (Win now) change) (eq-eqb was was refl) in
-      let wins : cell.wins was ≡ count_by (λ value. is_win_in was value) known = sums.wins was in
-      omega arith),
-)
+    omega (arith, counts is_draw known Draw (was_known known after Draw (Loss plies) change) refl, sums.left)
+takes_next known after (Win was) (Win now) cell better change sums =
+    (better, omega (arith, counts (is_win_in was) known (Win was) (was_known known after (Win was) (Win now) change) (eq-eqb was was refl), sums.wins was))
 takes_next known after (Loss was) (Loss now) cell better change sums = (
   better,
   least_within known cell.least was sums.least (was_known known after (Loss was) (Loss now) change),
 )
-takes_next known after Draw Draw cell better change sums = absurd better
-takes_next known after (Win was) Draw cell better change sums = absurd better
-takes_next known after (Win was) (Loss now) cell better change sums = absurd better
-takes_next known after (Loss was) Draw cell better change sums = absurd better
-takes_next known after (Loss was) (Win now) cell better change sums = absurd better
+takes_next known after was now cell better change sums = absurd better

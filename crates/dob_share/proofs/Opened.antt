@@ -1,7 +1,7 @@
 -- What has been opened: it grows by a slot with its run, and is in order.
 use Rattle.dob_share.proofs.Common.{◌++◌, ◌+◌, ◌-◌, ◌<◌, ◌∙◌, ◌∷◌, ◌≡◌, ◌≤◌, List, [], add-one, ap, arith, inl, inr, length, refl, replicate, subst, suc, sym}
 use Rattle.dob_share.proofs.Common.{zero, ℕ, cases_eq, cases_lt, get_or_append_left, get_or_default, get_or_past, get_or_push, length-replicate, length_push}
-use Rattle.dob_share.proofs.Common.{Status, Caught, Open, Stuck, Tried, SameCell, fresh, AreOpened, settled_among, settles, moves_at, tally, vacant, wins_in}
+use Rattle.dob_share.proofs.Common.{Status, SameCell, fresh, AreOpened, settled_among, settles, moves_at, tally, vacant, wins_in}
 use Rattle.dob_share.proofs.Common.{ArePooled, IsShortCell, beyond, cell_in, least_of, room_at, slot_at, start_at, Slot}
 use Rattle.dob_share.proofs.Keeping.{cell_is, same_short}
 
@@ -15,37 +15,17 @@ module _ (slots : List Slot) (pool : List ℕ) (opened : AreOpened slots pool) w
   past_end place after = get_or_past slots place (beyond (length pool)) after
 
   step_on : (place : ℕ) → start_at slots (length pool) place ≤ start_at slots (length pool) (place + 1)
-  step_on place = elim (cases_lt place (length slots)) [
-    | inl inside ↦ let run = opened.runs place inside in omega arith
-    | inr after ↦
-        let here : start_at slots (length pool) place ≡ length pool = ap (λ s. s.start) (past_end place after) in
-        let next : start_at slots (length pool) (place + 1) ≡ length pool = ap (λ s. s.start) (past_end (place + 1) (omega arith)) in
-        omega arith
-  ]
+  step_on place = grind (arith, opened.runs place, past_end place, past_end (place + 1))
 
   ordered_by : (gap place : ℕ) → start_at slots (length pool) place ≤ start_at slots (length pool) (place + gap)
-  ordered_by zero place = let same : start_at slots (length pool) (place + 0) ≡ start_at slots (length pool) place = ap (λ (k : ℕ). start_at slots (length pool) k) (omega arith) in omega arith
-  ordered_by (suc gap) place =
-      let rest : start_at slots (length pool) place ≤ start_at slots (length pool) (place + gap) = ordered_by gap place in
-      let last : start_at slots (length pool) (place + gap) ≤ start_at slots (length pool) (place + gap + 1) = step_on (place + gap) in
-      let same : start_at slots (length pool) (place + gap + 1) ≡ start_at slots (length pool) (place + suc gap)
-      = ap (λ (k : ℕ). start_at slots (length pool) k) (let e : place + gap + 1 ≡ place + suc gap = omega arith in e) in
-      omega arith
+  ordered_by zero place = let same : place + 0 ≡ place = omega arith in grind arith
+  ordered_by (suc gap) place = grind (arith, ordered_by gap place, step_on (place + gap))
 
   pub in_order : (place later : ℕ) → place ≤ later → start_at slots (length pool) place ≤ start_at slots (length pool) later
-  in_order place later before =
-      subst (λ (k : ℕ). start_at slots (length pool) place ≤ start_at slots (length pool) k) (let e : place + (later - place) ≡ later = omega arith in e)
-      (ordered_by (later - place) place)
+  in_order place later before = grind (arith, ordered_by (later - place) place)
 
   room_is : (place : ℕ) → room_at slots (length pool) place ≡ (slot_at slots (length pool) place).left
-  room_is place = elim (cases_lt place (length slots)) [
-    | inl inside ↦ let run = opened.runs place inside in omega arith
-    | inr after ↦
-        let here : start_at slots (length pool) place ≡ length pool = ap (λ s. s.start) (past_end place after) in
-        let next : start_at slots (length pool) (place + 1) ≡ length pool = ap (λ s. s.start) (past_end (place + 1) (omega arith)) in
-        let none : (slot_at slots (length pool) place).left ≡ 0 = ap (λ s. s.left) (past_end place after) in
-        omega arith
-  ]
+  room_is place = grind (arith, opened.runs place, past_end place, past_end (place + 1))
 
   pub cell_fresh : (place : ℕ) → SameCell (cell_in slots pool place) (fresh (slot_at slots (length pool) place).left)
   cell_fresh place = subst (λ c. SameCell c (fresh (slot_at slots (length pool) place).left)) (sym (cell_is slots pool place)) (record {
@@ -55,18 +35,14 @@ module _ (slots : List Slot) (pool : List ℕ) (opened : AreOpened slots pool) w
   })
 
   fresh_short : (moves : ℕ) → IsShortCell (fresh moves)
-  fresh_short moves = record { loss = λ plies e. absurd (cc); win = λ _ _ plies some. absurd (omega arith) }
+  fresh_short moves = grind arith
 
   pub pooled_open : ArePooled slots pool
   pooled_open = record {
     ordered = in_order;
-    within = λ place.
-        let end : start_at slots (length pool) (place + length slots) ≡ length pool = ap (λ s. s.start) (past_end (place + length slots) (omega arith)) in
-        let up : start_at slots (length pool) place ≤ start_at slots (length pool) (place + length slots) = ordered_by (length slots) place in omega arith;
+    within = λ place. grind (arith, past_end (place + length slots), ordered_by (length slots) place);
     small = λ place. subst (λ (k : ℕ). k < 64) (sym (room_is place)) (opened.few place);
-    room = λ place.
-        let none : (slot_at slots (length pool) place).used ≡ 0 = opened.unused place in
-        let room : room_at slots (length pool) place ≡ (slot_at slots (length pool) place).left = room_is place in omega arith;
+    room = λ place. omega (arith, opened.unused place, room_is place);
     short = λ place inside. same_short (cell_in slots pool place) (fresh (slot_at slots (length pool) place).left) (cell_fresh place) (fresh_short (slot_at slots (length pool) place).left);
   }
 
@@ -84,12 +60,7 @@ module _ (slots : List Slot) (pool : List ℕ) (opened : AreOpened slots pool) w
     behind place after = get_or_past (slots ++ next ∷ []) place (beyond (length new_pool)) (let e : length (slots ++ next ∷ []) ≡ length slots + 1 = length_push slots next in omega arith)
 
     old_start : (place : ℕ) → place ≤ length slots → start_at (slots ++ next ∷ []) (length new_pool) place ≡ start_at slots (length pool) place
-    old_start place upto = elim (cases_lt place (length slots)) [
-      | inl inside ↦ ap (λ s. s.start) (before place inside)
-      | inr after ↦
-          let e : length slots ≡ place = omega arith in
-          ap (λ s. s.start) (here place e) ∙ at_end ∙ sym (ap (λ s. s.start) (past_end place (omega arith)))
-    ]
+    old_start place upto = grind (arith, before place, here place, past_end place)
 
     -- what those before have, the new one and what is beyond all, each has
     each : (P : Slot → Type 0) → ((place : ℕ) → P (slot_at slots (length pool) place)) → P next → P (beyond (length new_pool)) →
@@ -105,18 +76,17 @@ module _ (slots : List Slot) (pool : List ℕ) (opened : AreOpened slots pool) w
     pub one_more : AreOpened (slots ++ next ∷ []) new_pool
     one_more = record {
       runs = λ place inside. elim (cases_lt place (length slots)) [
-        | inl old ↦
-            let x : start_at (slots ++ next ∷ []) (length new_pool) place ≡ start_at slots (length pool) place = old_start place (omega arith) in
-            let y : start_at (slots ++ next ∷ []) (length new_pool) (place + 1) ≡ start_at slots (length pool) (place + 1) = old_start (place + 1) (omega arith) in
-            let z : (slot_at (slots ++ next ∷ []) (length new_pool) place).left ≡ (slot_at slots (length pool) place).left = ap (λ s. s.left) (before place old) in
-            let run = opened.runs place old in omega arith
+        | inl old ↦ omega (
+          arith,
+          old_start place (omega arith),
+          old_start (place + 1) (omega arith),
+          ap (λ s. s.left) (before place old),
+          opened.runs place old,
+        )
         | inr last ↦
-            let long : length (slots ++ next ∷ []) ≡ length slots + 1 = length_push slots next in
+            let long = length_push slots next in
             let e : length slots ≡ place = omega arith in
-            let x : start_at (slots ++ next ∷ []) (length new_pool) place ≡ length pool = ap (λ s. s.start) (here place e) ∙ at_end in
-            let y : start_at (slots ++ next ∷ []) (length new_pool) (place + 1) ≡ length new_pool = ap (λ s. s.start) (behind (place + 1) (omega arith)) in
-            let z : (slot_at (slots ++ next ∷ []) (length new_pool) place).left ≡ next.left = ap (λ s. s.left) (here place e) in
-            omega arith
+            grind (arith, here place e, behind (place + 1) (omega arith))
       ];
       few = each (λ s. s.left < 64) opened.few few (omega arith);
       no_win = each (λ s. s.win ≡ 0) opened.no_win no_win refl;
@@ -137,10 +107,7 @@ none_opened slots pool no_slot no_count =
     }
 
 pub settles_most : (status : Status) → settles status ≤ 1
-settles_most Open = omega arith
-settles_most Caught = omega arith
-settles_most Tried = omega arith
-settles_most Stuck = omega arith
+settles_most status = grind arith
 
 pub settled_more : (status : ℕ → Status) (place settled more : ℕ) → settled ≡ settled_among status place → more ≡ settles (status place) →
     settled + more ≡ settled_among status (place + 1)

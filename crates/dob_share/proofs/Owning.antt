@@ -1,6 +1,6 @@
 -- What an item at one place is for the share's classes.
-use Rattle.dob_share.proofs.Common.{◌%◌, ◌*◌, ◌+◌, ◌/◌, ◌<◌, ◌↔◌, ◌∙◌, ◌≡◌, Err, List, None, Ok, Option, Result, Some, ap, arith, get_or, inl, inr, length}
-use Rattle.dob_share.proofs.Common.{refl, subst, suc, sym, zero, ℕ, div-add-mod', Open, Value, Cell, CellCanTake, CellValue, SameCell, changed, fresh, IsOwn}
+use Rattle.dob_share.proofs.Common.{◌%◌, ◌+◌, ◌/◌, ◌<◌, ◌↔◌, ◌∙◌, ◌≡◌, Err, List, None, Ok, Option, Result, Some, ap, arith, get_or, inl, inr, length}
+use Rattle.dob_share.proofs.Common.{refl, subst, suc, sym, zero, ℕ, Value, Cell, CellCanTake, CellValue, SameCell, changed, fresh, IsOwn}
 use Rattle.dob_share.proofs.Common.{IsOwnOpen, cell_at, cell_where, open_number, places_of, status_at, ArePooled, IsShortCell, cell_in, start_at, StatusesView}
 use Rattle.dob_share.proofs.Common.{open_at, opens_below, status_in, IsApplied, IsChange, IsTooDeep, Better, Slot, Fault, Contradiction, TooDeep, Share}
 use Rattle.std.proofs.Props.{props}
@@ -15,12 +15,11 @@ use Rattle.dob_share.proofs.Growing.{no_worse}
 -- a fault handed on, and an answer
 err_same : {A B : Type 0} (r : Result A Fault) (answer : Result B Fault) (e f : Fault) {P : Type 0} → answer ≡ Err e → r ≡ Err e →
     ((r ≡ Err f) ↔ P) → ((answer ≡ Err f) ↔ P)
-err_same r answer e f a is h =
-    (λ q. h.0 (let k : e ≡ f = cc in is ∙ ap Err k), λ p. let q = h.1 p in let k : e ≡ f = cc in a ∙ ap Err k)
+err_same r answer e f a is h = grind arith
 
 ok_same : {A B : Type 0} (r : Result A Fault) (x : A) (y : B) (f : Fault) {P : Type 0} → r ≡ Ok x → ((r ≡ Err f) ↔ P) →
     ((Ok y ≡ Err f) ↔ P)
-ok_same r x y f is h = (λ q. absurd (cc), λ p. let q = h.1 p in absurd (cc))
+ok_same r x y f is h = grind arith
 
 is_open : (share : Share) (class : ℕ) → IsOwnOpen share class → open_at share.statuses.words (class / share.nodes) ≡ 1
 unfolding IsOwnOpen status_at
@@ -107,11 +106,7 @@ value_there share class place value open_here is has = subst (λ s. IsValue s (c
     (subst (λ c. CellValue c value) (cell_there share class place open_here is) has)
 
 apart : (n id a b : ℕ) → a % n ≡ id → b % n ≡ id → a / n ≡ b / n → a ≡ b
-apart n id a b x y z =
-    let e : a / n * n + a % n ≡ a = div-add-mod' a n in
-    let f : b / n * n + b % n ≡ b = div-add-mod' b n in
-    let g : a / n * n ≡ b / n * n = ap (λ (k : ℕ). k * n) z in
-    omega arith
+apart n id a b x y z = grind arith
 
 own_id : (share : Share) (class : ℕ) → IsOwn share class → class % share.nodes ≡ share.id
 unfolding IsOwn
@@ -125,7 +120,7 @@ open_id share class own = own.0.0
 improved : (was now : Value) (cell after : Cell) (v w : Value) → CellCanTake was now cell → SameCell after (changed was now cell) →
     CellValue cell v → CellValue after w → (v ≡ w → ⊥) → Better v w
 improved was now cell after v w takes same is then differs =
-    elim (no_worse was now cell v w takes is (CellValue-same (changed was now cell) after w (record { left = sym same.left; wins = λ plies. sym (same.wins plies); least = sym same.least }) then)) [
+    elim (no_worse was now cell v w takes is (CellValue-same (changed was now cell) after w (grind (arith, same)) then)) [
       | inl e ↦ absurd (differs e)
       | inr better ↦ better
     ]
@@ -293,9 +288,7 @@ seen_kept old new id_same n_same same starts class (Some seen) is = (
 -- ---- the values of own classes are short
 
 short_where : (b : ℕ) (cell : Cell) → b < 2 → (b ≡ 1 → IsShortCell cell) → IsShortCell (cell_where b cell)
-short_where zero cell low short = record { loss = λ plies e. absurd (cc); win = λ _ _ plies some. absurd (omega arith) }
-short_where (suc zero) cell low short = short refl
-short_where (suc (suc b)) cell low short = absurd (omega arith)
+short_where b cell low short = grind arith
 
 pub cell_short : (share : Share) (class : ℕ) → IsOwn share class → IsShortCell (cell_at share class)
 unfolding IsOwn cell_at open_number

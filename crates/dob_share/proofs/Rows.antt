@@ -1,7 +1,7 @@
 -- The rows of the table of items: what each makes of its cell, and of the cell's value.
-use Rattle.dob_share.proofs.Common.{◌+◌, ◌-◌, ◌<◌, ◌∙◌, ◌≡◌, ◌≤◌, Err, List, MatchOption, None, Ok, Option, Some, ap, arith, get_or, inl, inr, length, refl}
-use Rattle.dob_share.proofs.Common.{subst, suc, sym, zero, ℕ, set, cases_eq, set-get_or, greater_of, lesser_of, Value, Draw, Loss, Win, CellValue, IsGreatestIn}
-use Rattle.dob_share.proofs.Common.{less_at, more_at, ChangesRun, wins_in, ArePooled, IsShortCell, cell_by, cell_of, least_of, room_at, IsApplied, IsChange}
+use Rattle.dob_share.proofs.Common.{◌+◌, ◌-◌, ◌<◌, ◌∙◌, ◌≡◌, ◌≤◌, Err, List, MatchOption, None, Ok, Option, Some, ap, arith, inl, inr, length, refl}
+use Rattle.dob_share.proofs.Common.{subst, sym, ℕ, set, cases_eq, set-get_or, greater_of, lesser_of, Value, Draw, Loss, Win, CellValue, IsGreatestIn}
+use Rattle.dob_share.proofs.Common.{less_at, more_at, ChangesRun, wins_in, IsShortCell, cell_by, cell_of, least_of, room_at, IsApplied, IsChange}
 use Rattle.dob_share.proofs.Common.{Slot, Contradiction, TooDeep}
 use Rattle.dob_share.proofs.Changing.{misfits, least_some, greatest_more, win_most, win_deep, win_step, loss_deep, loss_step, better_win_step, better_loss_step}
 use Rattle.dob_share.proofs.Changing.{better_loss_misfits}
@@ -18,8 +18,7 @@ win_value_is slot wins value left some none = elim (cases_eq slot.win 0) [
 ]
 
 least_is : (win least : ℕ) → least_of win ≡ Some least → win ≡ least + 1
-least_is zero least e = absurd (cc)
-least_is (suc win) least e = let same : win ≡ least = cc in omega arith
+least_is win least e = grind arith
 
 -- after a loss of the enemy
 nearer_win : (slot next : Slot) (wins new_wins : ℕ → ℕ) (least : ℕ) (value : Value) (change : Option (Value × Value)) → (slot.win ≡ 0 → 0 < slot.left) →
@@ -37,8 +36,7 @@ value_kept : (slot next : Slot) (wins new_wins : ℕ → ℕ) → 0 < slot.left 
     next.win ≡ slot.win → IsChange (cell_of slot wins) (cell_of next new_wins) None
 value_kept slot next wins new_wins some not_last left win = elim (cases_eq slot.win 0) [
   | inl none ↦
-      let more : 0 < next.left = elim (cases_eq slot.left 1) [ inl e ↦ absurd (not_last e none) | inr n ↦ (let k : 0 < next.left = omega arith in k) ] in
-      (Draw, (ap least_of none, inl some), (ap least_of (win ∙ none), inl more))
+      (Draw, (ap least_of none, inl some), (ap least_of (win ∙ none), inl (grind arith)))
   | inr n ↦
       let known = least_some slot.win (omega arith) in
       (Win slot.win, known, (known.0, ap least_of win ∙ known.1, known.2))

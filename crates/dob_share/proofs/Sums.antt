@@ -1,8 +1,8 @@
 -- A cell that sums up what is known sums up what is known after a change, once it is changed likewise.
-use Rattle.dob_share.proofs.Common.{if◌then◌else◌, ◌++◌, ◌+◌, ◌-◌, ◌<◌, ◌∙◌, ◌∷◌, ◌≡◌, ◌≢◌, ◌≤◌, ◌⊎◌, Bool, Contains, List, None, Option, Some, [], ap, arith}
-use Rattle.dob_share.proofs.Common.{cond, eqb, inl, inr, min, refl, subst, sym, ℕ, cases_eq, cases_lt, eq-eqb, ne_eqb, Contains-append_cases}
+use Rattle.dob_share.proofs.Common.{◌++◌, ◌+◌, ◌<◌, ◌∙◌, ◌∷◌, ◌≡◌, ◌≤◌, ◌⊎◌, Bool, Contains, List, None, Option, Some, [], ap, arith}
+use Rattle.dob_share.proofs.Common.{cond, inl, inr, min, nat_tests, subst, sym, ℕ, cases_lt, Contains-append_cases}
 use Rattle.dob_share.proofs.Common.{Contains-append_left, Contains-append_right, sum_by-append, sum_by-cons, count_by, cons_cases, head_in, IsLeastLoss}
-use Rattle.dob_share.proofs.Common.{lesser_of, is_draw, Value, Draw, Loss, Win, Cell, Changes, SumsUp, changed, less_at, more_at, Better, is_win_in}
+use Rattle.dob_share.proofs.Common.{lesser_of, is_draw, Value, Draw, Loss, Win, Cell, Changes, SumsUp, changed, Better, is_win_in}
 
 -- ---- counts and members before and after
 
@@ -90,91 +90,22 @@ least_more known after was plies change (Some least) greater is = (
   ],
 )
 
-one : (a b : ℕ) → a ≡ b → cond {A = ℕ} (eqb a b) 1 0 ≡ 1
-one a b same = ap (λ (t : Bool). cond {A = ℕ} t 1 0) (eq-eqb a b same)
-
-none : (a b : ℕ) → a ≢ b → cond {A = ℕ} (eqb a b) 1 0 ≡ 0
-none a b other = ap (λ (t : Bool). cond {A = ℕ} t 1 0) (ne_eqb a b other)
-
-more_is : (plies other count : ℕ) (wins : ℕ → ℕ) → count ≡ wins other + cond {A = ℕ} (eqb plies other) 1 0 → more_at plies wins other ≡ count
-more_is plies other count wins is = elim (cases_eq other plies) [
-  | inl same ↦
-      let unit = one plies other (sym same) in
-      ap (λ (t : Bool). if t then wins other + 1 else wins other) (eq-eqb other plies same) ∙ (let e : wins other + 1 ≡ count = omega arith in e)
-  | inr apart ↦
-      let zero_is = none plies other (λ e. apart (sym e)) in
-      ap (λ (t : Bool). if t then wins other + 1 else wins other) (ne_eqb other plies apart) ∙ (let e : wins other ≡ count = omega arith in e)
-]
-
-less_is : (plies other count : ℕ) (wins : ℕ → ℕ) → count + cond {A = ℕ} (eqb plies other) 1 0 ≡ wins other → less_at plies wins other ≡ count
-less_is plies other count wins is = elim (cases_eq other plies) [
-  | inl same ↦
-      let unit = one plies other (sym same) in
-      ap (λ (t : Bool). if t then wins other - 1 else wins other) (eq-eqb other plies same) ∙ (let e : wins other - 1 ≡ count = omega arith in e)
-  | inr apart ↦
-      let zero_is = none plies other (λ e. apart (sym e)) in
-      ap (λ (t : Bool). if t then wins other - 1 else wins other) (ne_eqb other plies apart) ∙ (let e : wins other ≡ count = omega arith in e)
-]
-
-not_loss : (v : Value) (plies : ℕ) → v ≡ Draw → v ≡ Loss plies → ⊥
-not_loss v plies is same = cc
-
-win_not_loss : (v : Value) (d plies : ℕ) → v ≡ Win d → v ≡ Loss plies → ⊥
-win_not_loss v d plies is same = cc
+-- what the cell says of losses
+least_after : (known after : List Value) (was now : Value) (cell : Cell) → Better was now → Changes known after was now → IsLeastLoss known cell.least →
+    IsLeastLoss after (changed was now cell).least
+least_after known after Draw (Win plies) cell better change is = least_stays known after Draw (Win plies) change cell.least (λ k same. cc) (λ k same. cc) is
+least_after known after (Win was) (Win now) cell better change is = least_stays known after (Win was) (Win now) change cell.least (λ k same. cc)
+    (λ k same. cc) is
+least_after known after Draw (Loss plies) cell better change is = least_more known after Draw plies change cell.least (λ k same. absurd (cc)) is
+least_after known after (Loss was) (Loss now) cell better change is =
+    least_more known after (Loss was) now change cell.least (λ k same. let e : was ≡ k = cc in let less : now < was = better in omega arith) is
+least_after known after was now cell better change is = absurd better
 
 -- A cell that sums up what is known sums up what is known after a change for the better.
 pub sums_up_after : (known after : List Value) (was now : Value) (cell : Cell) → Better was now → Changes known after was now → SumsUp known cell →
     SumsUp after (changed was now cell)
-sums_up_after known after Draw (Win plies) cell better change sums = record {
-  left = (let left = sums.left in let count = count_changes is_draw known after Draw (Win plies) change in omega arith);
-  wins = λ other.
-      let count = count_changes (is_win_in other) known after Draw (Win plies) change in
-      let sum = sums.wins other in
-      more_is plies other (count_by (λ value. is_win_in other value) after) cell.wins (omega arith);
-  least = least_stays known after Draw (Win plies) change cell.least (λ k. not_loss Draw k refl) (λ k. win_not_loss (Win plies) plies k refl) sums.least;
+sums_up_after known after was now cell better change sums = record {
+  left = grind (arith, nat_tests, sums.left, count_changes is_draw known after was now change);
+  wins = λ other. grind (arith, nat_tests, sums.wins other, count_changes (is_win_in other) known after was now change);
+  least = least_after known after was now cell better change sums.least;
 }
-sums_up_after known after Draw (Loss plies) cell better change sums = record {
-  left = (let left = sums.left in let count = count_changes is_draw known after Draw (Loss plies) change in omega arith);
-  wins = λ other.
-      let count = count_changes (is_win_in other) known after Draw (Loss plies) change in
-      let sum = sums.wins other in
-      omega arith;
-  least = least_more known after Draw plies change cell.least (λ k same. absurd (not_loss Draw k refl same)) sums.least;
-}
-sums_up_after known after (Win was) (Win now) cell better change sums = record {
-  left = (let left = sums.left in let count = count_changes is_draw known after (Win was) (Win now) change in omega arith);
-  wins = λ other.
-      let count = count_changes (is_win_in other) known after (Win was) (Win now) change in
-      let sum = sums.wins other in
-      more_is now other (count_by (λ value. is_win_in other value) after) (less_at was cell.wins) (two_steps other (count_by (λ value. is_win_in other value) after)
-      (count_by (λ value. is_win_in other value) known) count sum);
-  least = least_stays known after (Win was) (Win now) change cell.least (λ k. win_not_loss (Win was) was k refl) (λ k. win_not_loss (Win now) now k refl) sums.least;
-}
-  where
-    two_steps : (other count before : ℕ) → count + cond {A = ℕ} (eqb was other) 1 0 ≡ before + cond {A = ℕ} (eqb now other) 1 0 →
-        cell.wins other ≡ before → count ≡ less_at was cell.wins other + cond {A = ℕ} (eqb now other) 1 0
-    two_steps other count before is sum = elim (cases_eq now other) [
-      | inl same ↦
-          let less : now < was = better in
-          let unit = one now other same in
-          let zero_is = none was other (λ e. absurd (omega arith)) in
-          let kept : less_at was cell.wins other ≡ before = less_is was other before cell.wins (omega arith) in
-          omega arith
-      | inr apart ↦
-          let zero_is = none now other apart in
-          let kept : less_at was cell.wins other ≡ count = less_is was other count cell.wins (omega arith) in
-          omega arith
-    ]
-sums_up_after known after (Loss was) (Loss now) cell better change sums = record {
-  left = (let left = sums.left in let count = count_changes is_draw known after (Loss was) (Loss now) change in omega arith);
-  wins = λ other.
-      let count = count_changes (is_win_in other) known after (Loss was) (Loss now) change in
-      let sum = sums.wins other in
-      omega arith;
-  least = least_more known after (Loss was) now change cell.least (λ k same. let e : was ≡ k = cc in let less : now < was = better in omega arith) sums.least;
-}
-sums_up_after known after Draw Draw cell better change sums = absurd better
-sums_up_after known after (Win was) Draw cell better change sums = absurd better
-sums_up_after known after (Win was) (Loss now) cell better change sums = absurd better
-sums_up_after known after (Loss was) Draw cell better change sums = absurd better
-sums_up_after known after (Loss was) (Win now) cell better change sums = absurd better

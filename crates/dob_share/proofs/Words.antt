@@ -1,7 +1,7 @@
 -- Words of statuses: the number of a cell, which is how many classes are open before its place, and the status of a place.
 use Rattle.dob_share.proofs.Common.{◌%◌, ◌*◌, ◌++◌, ◌+◌, ◌/◌, ◌<◌, ◌^◌, ◌∙◌, ◌∷◌, ◌≡◌, ◌≤◌, List, Some, [], ap, arith, get_or, inl, inr, length, refl}
-use Rattle.dob_share.proofs.Common.{slice_get, subst, suc, sym, zero, ℕ, mod-eq_of_lt, cases_eq, cases_lt, cases_order, cond_below, get_or_append_left}
-use Rattle.dob_share.proofs.Common.{length_push, ones, Status, Caught, Open, Stuck, Tried, opening_of, class_of_place, AreCounted, IsStatusOf, bit, bits_below}
+use Rattle.dob_share.proofs.Common.{slice_get, subst, suc, sym, zero, ℕ, mod-eq_of_lt, cases_eq, cases_lt, cond_below, get_or_append_left}
+use Rattle.dob_share.proofs.Common.{length_push, ones, Status, Open, Stuck, opening_of, class_of_place, AreCounted, IsStatusOf, bit, bits_below}
 use Rattle.dob_share.proofs.Common.{catches, open_at, opens, opens_below, status_in, status_listed, tries, word_of, Opening, StatusWord}
 use Rattle.std.proofs.lemmas.Option.{slice_get_within, get_or_from_slice_get}
 use Rattle.std.proofs.Math.Seq.{get_or-append_seam}
@@ -14,10 +14,7 @@ pub by_bits : (a b c x y z : ℕ) → a ≡ x → b ≡ y → c ≡ z → status
 by_bits a b c x y z p q r = ap (λ (k : ℕ). status_of_bits k b c) p ∙ ap (λ (k : ℕ). status_of_bits x k c) q ∙ ap (λ (k : ℕ). status_of_bits x y k) r
 
 bits_back : (status : Status) → status_of_bits (opens status) (catches status) (tries status) ≡ status
-bits_back Open = refl
-bits_back Caught = refl
-bits_back Tried = refl
-bits_back Stuck = refl
+bits_back status = grind arith
 
 -- what a word says of a class
 pub status_told : (word : StatusWord) (place : ℕ) (status : Status) → IsStatusOf word place status →
@@ -26,16 +23,8 @@ status_told word place status is =
     by_bits (bit word.opens place) (bit word.caught place) (bit word.tried place) (opens status) (catches status) (tries status) is.opens_is is.caught_is is.tried_is
     ∙ bits_back status
 
-open_bit : (a b c : ℕ) → a < 2 → status_of_bits a b c ≡ Open → a ≡ 1
-open_bit zero zero zero low e = absurd (cc)
-open_bit zero zero (suc c) low e = absurd (cc)
-open_bit zero (suc b) c low e = absurd (cc)
-open_bit (suc zero) b c low e = refl
-open_bit (suc (suc a)) b c low e = absurd (omega arith)
-
 pub open_at_open : (words : List StatusWord) (place : ℕ) → status_in words place ≡ Open → open_at words place ≡ 1
-open_at_open words place is = open_bit (open_at words place) (bit (word_of words place).caught (place % 64)) (bit (word_of words place).tried (place % 64))
-    (let low : open_at words place < 2 = omega arith in low) is
+open_at_open words place is = let low : open_at words place < 2 = omega arith in grind arith
 
 -- ---- how many are open before a place
 
@@ -47,25 +36,15 @@ in_word words w (suc k) few =
     let next : w * 64 + suc k ≡ suc (w * 64 + k) = omega arith in
     let number : (w * 64 + k) / 64 ≡ w = omega arith in
     let place : (w * 64 + k) % 64 ≡ k = omega arith in
-    let rest : opens_below words (w * 64 + k) ≡ opens_below words (w * 64) + bits_below (get_or words w no_word).opens k
-    = in_word words w k (omega arith) in
-    let here : open_at words (w * 64 + k) ≡ bit (get_or words w no_word).opens k
-    = ap (λ (m : ℕ). bit (get_or words m no_word).opens ((w * 64 + k) % 64)) number ∙ ap (λ (m : ℕ). bit (get_or words w no_word).opens m) place in
-    let all : opens_below words (w * 64 + suc k) ≡ opens_below words (w * 64 + k) + open_at words (w * 64 + k) = ap (opens_below words) next in
-    omega arith
+    grind (arith, in_word words w k (omega arith))
 
 -- what a word says, and how many bits are set in it before the place
 rank_is : (words : List StatusWord) (place before : ℕ) → AreCounted words → place / 64 < length words →
     before ≡ bits_below (get_or words (place / 64) no_word).opens (place % 64) →
     (get_or words (place / 64) no_word).before + before ≡ opens_below words place
 rank_is words place before counted within is =
-    let w : ℕ = place / 64 in
-    let k : ℕ = place % 64 in
-    let whole : w * 64 + k ≡ place = omega arith in
-    let sum : opens_below words (w * 64 + k) ≡ opens_below words (w * 64) + bits_below (get_or words w no_word).opens k = in_word words w k (omega arith) in
-    let told : (get_or words w no_word).before ≡ opens_below words (w * 64) = counted w within in
-    let there : opens_below words (w * 64 + k) ≡ opens_below words place = ap (opens_below words) whole in
-    omega arith
+    let whole : place / 64 * 64 + place % 64 ≡ place = omega arith in
+    grind (arith, in_word words (place / 64) (place % 64) (omega arith), counted (place / 64) within)
 
 -- the same of a word read at the place
 pub rank_read : (words : List StatusWord) (place before : ℕ) (word : StatusWord) → AreCounted words → slice_get words (place / 64) ≡ Some word →
@@ -78,28 +57,16 @@ rank_read words place before word counted there is =
 
 pub opens_few : (words : List StatusWord) (k : ℕ) → opens_below words k ≤ k
 opens_few words zero = omega arith
-opens_few words (suc k) = let rest : opens_below words k ≤ k = opens_few words k in
-    let one : open_at words k < 2 = omega arith in
-    omega arith
+opens_few words (suc k) = grind (arith, opens_few words k)
 
 -- later places have later cells
 pub rank_less : (words : List StatusWord) (a b : ℕ) → a < b → open_at words a ≡ 1 → opens_below words a < opens_below words b
 rank_less words a zero less set = absurd (omega arith)
-rank_less words a (suc b) less set = elim (cases_eq a b) [
-  | inl same ↦ let last : open_at words b ≡ 1 = ap (open_at words) (sym same) ∙ set in
-      let count : opens_below words a ≡ opens_below words b = ap (opens_below words) same in omega arith
-  | inr other ↦ let rest : opens_below words a < opens_below words b = rank_less words a b (omega arith) set in omega arith
-]
+rank_less words a (suc b) less set = grind (arith, rank_less words a b)
 
 -- no two open classes have one cell
 pub rank_same : (words : List StatusWord) (a b : ℕ) → open_at words a ≡ 1 → open_at words b ≡ 1 → opens_below words a ≡ opens_below words b → a ≡ b
-rank_same words a b one other same = elim (cases_order a b) [
-  | inl e ↦ e
-  | inr order ↦ elim order [
-    | inl less ↦ let apart : opens_below words a < opens_below words b = rank_less words a b less one in absurd (omega arith)
-    | inr more ↦ let apart : opens_below words b < opens_below words a = rank_less words b a more other in absurd (omega arith)
-  ]
-]
+rank_same words a b one other same = grind (arith, rank_less words a b, rank_less words b a)
 
 -- ---- one word more
 
@@ -113,10 +80,7 @@ module _ (status : ℕ → Status) (number count : ℕ) (last : StatusWord) (wor
 
   same_below : (k : ℕ) → k ≤ number * 64 → opens_below longer k ≡ opens_below words k
   same_below zero low = refl
-  same_below (suc k) low =
-      let rest : opens_below longer k ≡ opens_below words k = same_below k (omega arith) in
-      let one : open_at longer k ≡ open_at words k = ap (λ (w : StatusWord). bit w.opens (k % 64)) (word_before k (omega arith)) in
-      omega arith
+  same_below (suc k) low = grind (arith, same_below k (omega arith), word_before k (omega arith))
 
   last_is : get_or longer number no_word ≡ last
   last_is = ap (λ (k : ℕ). get_or longer k no_word) (sym whole) ∙ get_or-append_seam words last [] no_word
@@ -135,13 +99,8 @@ module _ (status : ℕ → Status) (number count : ℕ) (last : StatusWord) (wor
   count_more : last.opens < 2 ^ 64 → count + ones last.opens ≡ opens_below longer ((number + 1) * 64)
   count_more fits =
       let end : number * 64 + 64 ≡ (number + 1) * 64 = omega arith in
-      let sum : opens_below longer (number * 64 + 64) ≡ opens_below longer (number * 64) + bits_below (get_or longer number no_word).opens 64
-      = in_word longer number 64 (omega arith) in
-      let all : opens_below longer (number * 64 + 64) ≡ opens_below longer ((number + 1) * 64) = ap (opens_below longer) end in
-      let before : opens_below longer (number * 64) ≡ opens_below words (number * 64) = same_below (number * 64) (omega arith) in
-      let here : bits_below (get_or longer number no_word).opens 64 ≡ bits_below last.opens 64 = ap (λ (x : StatusWord). bits_below x.opens 64) last_is in
       let set : ones last.opens ≡ bits_below last.opens 64 = ap ones (sym (mod-eq_of_lt fits)) ∙ ones_below last.opens 64 in
-      omega arith
+      grind (arith, in_word longer number 64 (omega arith), same_below (number * 64) (omega arith), last_is)
 
   each_more : ((k : ℕ) → k < 64 → IsStatusOf last k (status (number * 64 + k))) →
       ((place : ℕ) → place < number * 64 → IsStatusOf (word_of words place) (place % 64) (status place)) →
@@ -196,10 +155,7 @@ pub digits_more : (digit : Status → ℕ) (status : ℕ → Status) (k word new
     ((other : ℕ) → other < k → bit new other ≡ bit word other) → new < 2 ^ (k + 1) → AreDigits digit status (k + 1) new
 digits_more digit status k word new old here before low = record {
   low = low;
-  each = λ j less. elim (cases_eq j k) [
-    | inl same ↦ subst (λ (m : ℕ). bit new m ≡ digit (status m)) (sym same) here
-    | inr other ↦ before j (omega arith) ∙ old.each j (omega arith)
-  ];
+  each = λ j less. elim (cases_eq j k) [ inl same ↦ rw same here | inr other ↦ before j (omega arith) ∙ old.each j (omega arith) ];
 }
 
 -- what is listed of the owner's classes

@@ -16,6 +16,12 @@ pub record AreOwn (openings : List Opening) (n id : ℕ) (own : List Opening) : 
   pub places : (place : ℕ) → (place < length own) ↔ (class_of_place n id place < length openings)
   pub each : (place : ℕ) → place < length own → opening_of own place ≡ opening_of openings (class_of_place n id place)
 
+-- what is listed of the classes of owner `first` among `step` is, in their order, what the other list has of those of owner `id` among n
+pub record ArePlaced (listed : List Opening) (step first : ℕ) (openings : List Opening) (n id : ℕ) : Type 0 where
+  pub places : (place : ℕ) → (class_of_place step first place < length listed) ↔ (class_of_place n id place < length openings)
+  pub each : (place : ℕ) → class_of_place n id place < length openings →
+      opening_of listed (class_of_place step first place) ≡ opening_of openings (class_of_place n id place)
+
 -- a class with that status is settled when its share is opened
 abbrev pub settles : Status → ℕ
 settles Open = 0

@@ -1,11 +1,12 @@
 // The cells of one owner's classes, and the items applied to them.
 ghost use Rattle.std.specs.Prelude.{◌≡◌, ℕ, ◌+◌, ◌*◌, ◌/◌, ◌<◌, ◌≤◌, ◌↔◌, ◌^◌, Some, None, true, false, length};
-ghost use Rattle.std.specs.Prelude.{slice_index_or, [], ◌∷◌, ◌++◌, ◌%◌, IfOk, OnOk, IfSome, MatchOption};
+ghost use Rattle.std.specs.Prelude.{slice_index_or, List, [], ◌∷◌, ◌++◌, ◌%◌, IfOk, OnOk, IfSome, MatchOption};
 ghost use Rattle.dob_share.specs.Values.{Better};
 ghost use Rattle.dob_share.specs.Owners.{class_of_place};
 ghost use Rattle.dob_share.specs.Cells.{CellValue};
 ghost use Rattle.dob_share.specs.Slots.{ArePooled, cell_in};
-ghost use Rattle.dob_share.specs.Openings.{opening_of, cell_moves, settles, settled_among, new_slot, slots_of};
+ghost use Rattle.dob_share.specs.declared.opening.Opening.{Opening as Opened};
+ghost use Rattle.dob_share.specs.Openings.{ArePlaced, opening_of, cell_moves, settles, settled_among, new_slot, slots_of};
 ghost use Rattle.dob_share.specs.Statuses.{open_at, opens_below};
 
 use crate::cells::Slot;
@@ -68,31 +69,7 @@ impl Share {
         requires { id < nodes }
         ensures { IfOk result (IsNewShare openings.now nodes id) }
     {
-        let count = openings.len();
-        if count > u64::from(u32::MAX) {
-            return Err(Memory);
-        }
-        let places = places_among(count, id as u64, nodes);
-        let statuses = Statuses::open(alloc, openings, places, id, nodes)?;
-        let segment_length = openings.segment_length();
-        let mut slots = Segments::new(alloc, segment_length);
-        let mut moves = 0;
-        let mut settled = 0;
-        for place in 0..places {
-            let opening = opening_at(openings, place * nodes.get() as u64 + id as u64);
-            let entries = push_slot(&mut slots, moves, opening)?;
-            moves += entries;
-            settled += settlements_of(opening.status);
-        }
-        let pool = Segments::filled(alloc, segment_length, moves, 0)?;
-        Ok(Share {
-            id,
-            nodes,
-            settled,
-            statuses,
-            slots,
-            pool,
-        })
+        Share::open_placed(alloc, openings, id, nodes, id, nodes)
     }
 
     /// The share of owner `id` among `nodes`, as above, where the openings are those of its own classes alone, in their order.
@@ -109,23 +86,48 @@ impl Share {
         requires { id < nodes }
         ensures { IfOk result (IsNewByOwn own.now nodes id) }
     {
-        let alone = Share::open(alloc, own, 0, NodeCount::one())?;
-        let Share {
-            settled,
-            statuses,
-            slots,
-            pool,
-            ..
-        } = alone;
-        let share = Share {
+        Share::open_placed(alloc, own, 0, NodeCount::one(), id, nodes)
+    }
+
+    // The share of owner `id` among `nodes`, as above, where the openings of its classes are listed, in their order, as those of owner
+    // `first` among `step`.
+    fn open_placed(
+        alloc: Global,
+        listed: &Segments<Opening>,
+        first: usize,
+        step: NodeCount,
+        id: usize,
+        nodes: NodeCount,
+    ) -> Result<Share, Memory>
+        requires first { first < step }
+        requires owner { id < nodes }
+        ensures { IfOk result (λ share. (openings : List Opened) → ArePlaced listed.now step first openings nodes id → IsNewShare openings nodes id share) }
+    {
+        let count = listed.len();
+        if count > u64::from(u32::MAX) {
+            return Err(Memory);
+        }
+        let places = places_among(count, first as u64, step);
+        let statuses = Statuses::open(alloc, listed, places, first, step)?;
+        let segment_length = listed.segment_length();
+        let mut slots = Segments::new(alloc, segment_length);
+        let mut moves = 0;
+        let mut settled = 0;
+        for place in 0..places {
+            let opening = opening_at(listed, place * step.get() as u64 + first as u64);
+            let entries = push_slot(&mut slots, moves, opening)?;
+            moves += entries;
+            settled += settlements_of(opening.status);
+        }
+        let pool = Segments::filled(alloc, segment_length, moves, 0)?;
+        Ok(Share {
             id,
             nodes,
             settled,
             statuses,
             slots,
             pool,
-        };
-        Ok(share)
+        })
     }
 
     /// How many classes it owns.

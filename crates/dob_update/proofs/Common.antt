@@ -2,6 +2,7 @@
 pub use Rattle.std.proofs.Common.{◌++◌, ◌+◌, ◌-◌, ◌<◌, ◌==◌, ◌^◌, ◌↔◌, ◌∙◌, ◌∷◌, ◌≡◌, ◌≢◌, ◌≤◌, Bool, IsTrue, List, [], ap, arith, cond, drop, false, get_or}
 pub use Rattle.std.proofs.Common.{inl, inr, length, length-append, length-drop, length-take-le, min, refl, rules, subst, sym, take, true, ℕ}
 pub use Rattle.std.proofs.lemmas.Bool.{cases_eq, cases_lt, eq-eqb, eqb-true, le-ltb, lt-ltb, ne_eqb}
+pub use Rattle.std.proofs.lemmas.Bool.Decides.{nat_tests}
 pub use Rattle.std.proofs.lemmas.Grind.{common_steps, flat_map-append}
 pub use Rattle.std.proofs.lemmas.List.{append-nil, append_assoc, drop-append-le, drop-drop, drop_all, drop_at, drop_min, drop_more, length-map, map-append}
 pub use Rattle.std.proofs.lemmas.List.{take-append-le, take-take, take_all, take_min}

@@ -1,6 +1,6 @@
 -- What is cut from an outbox: the parts in front with their items, and what is left.
 use Rattle.dob_update.proofs.Common.{◌++◌, ◌+◌, ◌<◌, ◌∙◌, ◌≡◌, ◌≢◌, ◌≤◌, List, [], ap, arith, drop, length, length-take-le, min, refl, subst, sym, take, ℕ}
-use Rattle.dob_update.proofs.Common.{drop_min, take_min, Family, Item, BatchView, IsCut, OutboxView, behind, front, items_in_all, items_of_parts}
+use Rattle.dob_update.proofs.Common.{drop_min, take_min, Family, Item, IsCut, OutboxView, behind, front, items_in_all, items_of_parts}
 use Rattle.dob_update.proofs.Common.{settlements_of, skip_behind, AreListed, IsItemRun, Part}
 use Rattle.dob_update.proofs.Runs.{total-front, front_settlements, run_cut, gone_behind}
 use Rattle.dob_update.proofs.PartItems.{items_of_parts-front, items_of_parts-behind, many_listed, none_listed, listed_behind}

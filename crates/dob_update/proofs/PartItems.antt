@@ -1,26 +1,27 @@
 -- The items of parts, of which only the classes are listed that they are for.
+use Rattle.dob_update.proofs.Common.{nat_tests}
 use Rattle.dob_update.proofs.Common.{◌++◌, ◌+◌, ◌-◌, ◌<◌, ◌∙◌, ◌∷◌, ◌≡◌, ◌≤◌, List, [], ap, arith, drop, get_or, inl, inr, length, length-append, length-drop}
-use Rattle.dob_update.proofs.Common.{length-take-le, min, refl, subst, sym, take, ℕ, cases_eq, cases_lt, append-nil, append_assoc, drop-append-le, drop-drop}
+use Rattle.dob_update.proofs.Common.{length-take-le, refl, subst, sym, take, ℕ, cases_lt, append-nil, append_assoc, drop-append-le, drop-drop}
 use Rattle.dob_update.proofs.Common.{drop_at, drop_more, length-map, map-append, take-append-le, take-take, take_all, filter, map, Family, predecessors}
 use Rattle.dob_update.proofs.Common.{owner_of, Item, Settlement, OutboxView, added, with_items, item_for, items_of, behind, front, items_in_all, items_of_parts}
 use Rattle.dob_update.proofs.Common.{settlement_of, settlements_of, skip_behind, target_of, AreListed, IsRest, Part}
 use Rattle.std.specs.Prelude.{◌==◌, ◌^◌}
 use Rattle.std.proofs.lemmas.List.{take-append-drop, drop-take, take_at, map_more, get_or-drop, nil_from_length}
 use Rattle.dob_value.specs.declared.value.Value.TheVariants.{Win}
-use Rattle.dob_update.proofs.PartLists.{front-zero, front-cons, behind-within, behind-past}
+use Rattle.dob_update.proofs.PartLists.{front-zero, behind-within, behind-past}
 use Rattle.dob_update.proofs.Runs.{total-front, rest_many, rest_added, rest_cut}
 
 -- there are as many as the parts say
 pub items_of_parts-length : (parts : List Part) (classes : List ℕ) → items_in_all parts ≤ length classes → length (items_of_parts parts classes) ≡ items_in_all parts
 items_of_parts-length [] classes within = refl
 items_of_parts-length (part ∷ parts) classes within =
-    let own = map (item_for part.settlement) (take part.items classes) in
-    let taken : length own ≡ part.items =
-    length-map (take part.items classes) (item_for part.settlement) ∙ length-take-le part.items classes (omega (arith, within)) in
-    let left = length-drop part.items classes in
-    let later = items_of_parts-length parts (drop part.items classes) (omega (arith, within, left)) in
-    let both = length-append own (items_of_parts parts (drop part.items classes)) in
-    omega (arith, taken, later, both)
+    omega (
+      arith,
+      length-append (map (item_for part.settlement) (take part.items classes)) (items_of_parts parts (drop part.items classes)),
+      length-map (take part.items classes) (item_for part.settlement),
+      length-take-le part.items classes (omega (arith, within)),
+      items_of_parts-length parts (drop part.items classes) (omega (arith, within, length-drop part.items classes)),
+    )
 
 -- one part more, with its classes
 pub items_of_parts-push : (parts : List Part) (part : Part) (classes more : List ℕ) → items_in_all parts ≡ length classes → part.items ≡ length more
@@ -32,49 +33,30 @@ items_of_parts-push (first ∷ parts) part classes more all m =
     let within : first.items ≤ length classes = omega (arith, all) in
     let left = length-drop first.items classes in
     let own = map (item_for first.settlement) (take first.items classes) in
-    ap (λ (xs : List ℕ). map (item_for first.settlement) xs ++ items_of_parts (parts ++ part ∷ []) (drop first.items (classes ++ more))) (take-append-le first.items classes more within)
-    ∙ ap (λ (xs : List ℕ). own ++ items_of_parts (parts ++ part ∷ []) xs) (drop-append-le first.items classes more within)
-    ∙ ap (λ (xs : List Item). own ++ xs) (items_of_parts-push parts part (drop first.items classes) more (omega (arith, all, left)) m)
-    ∙ sym (append_assoc own (items_of_parts parts (drop first.items classes)) (map (item_for part.settlement) more))
+    grind (
+      arith,
+      take-append-le first.items classes more within,
+      drop-append-le first.items classes more within,
+      items_of_parts-push parts part (drop first.items classes) more (omega (arith, all, left)) m,
+      append_assoc own (items_of_parts parts (drop first.items classes)) (map (item_for part.settlement) more),
+    )
 
 -- ---- the items in front, and those behind them
 
 front_within : (k : ℕ) (part : Part) (parts : List Part) (classes : List ℕ) → k ≤ part.items →
     items_of_parts (front k (part ∷ parts)) classes ≡ map (item_for part.settlement) (take k classes)
-front_within k part parts classes within = elim (cases_eq k 0) [
-  | inl none ↦
-      ap (λ m. items_of_parts (front m (part ∷ parts)) classes) none ∙ sym (ap (λ m. map (item_for part.settlement) (take m classes)) none)
-  | inr some ↦
-      let least : min k part.items ≡ k = omega (arith, within) in
-      let over : k - part.items ≡ 0 = omega (arith, within) in
-      ap (λ (ps : List Part). items_of_parts ps classes) (front-cons k part parts (omega (arith, some)))
-      ∙ ap (λ m. map (item_for part.settlement) (take m classes) ++ items_of_parts (front (k - part.items) parts) (drop m classes)) least
-      ∙ ap (λ (ps : List Part). map (item_for part.settlement) (take k classes) ++ items_of_parts ps (drop k classes)) (ap (λ m. front m parts) over ∙ front-zero parts)
-      ∙ append-nil (map (item_for part.settlement) (take k classes))
-]
+front_within k part parts classes within =
+    grind (arith, nat_tests, front-zero parts, append-nil (map (item_for part.settlement) (take k classes)))
 
 front_past : (k : ℕ) (part : Part) (parts : List Part) (classes : List ℕ) → part.items ≤ k →
     items_of_parts (front k (part ∷ parts)) classes ≡ map (item_for part.settlement) (take part.items classes) ++ items_of_parts (front (k - part.items) parts) (drop part.items classes)
-front_past k part parts classes past = elim (cases_eq k 0) [
-  | inl none ↦
-      let empty : part.items ≡ 0 = omega (arith, none, past) in
-      let over : k - part.items ≡ 0 = omega (arith, none) in
-      ap (λ m. items_of_parts (front m (part ∷ parts)) classes) none
-      ∙ sym (ap (λ m. map (item_for part.settlement) (take m classes) ++ items_of_parts (front (k - part.items) parts) (drop m classes)) empty
-      ∙ ap (λ (ps : List Part). items_of_parts ps classes) (ap (λ m. front m parts) over ∙ front-zero parts))
-  | inr some ↦
-      let least : min k part.items ≡ part.items = omega (arith, past) in
-      ap (λ (ps : List Part). items_of_parts ps classes) (front-cons k part parts (omega (arith, some)))
-      ∙ ap (λ m. map (item_for part.settlement) (take m classes) ++ items_of_parts (front (k - part.items) parts) (drop m classes)) least
-]
+front_past k part parts classes past = grind (arith, nat_tests, front-zero parts)
 
 -- the classes of a part, in two pieces
 two_pieces : (k m : ℕ) (classes : List ℕ) → k ≤ m → take k classes ++ take (m - k) (drop k classes) ≡ take m classes
 two_pieces k m classes within =
     let whole : k + (m - k) ≡ m = omega (arith, within) in
-    sym (ap (λ (xs : List ℕ). xs ++ take (m - k) (drop k classes)) (take-take k m classes within))
-    ∙ ap (λ (xs : List ℕ). take k (take m classes) ++ xs) (sym (drop-take k (m - k) classes) ∙ ap (λ j. drop k (take j classes)) whole)
-    ∙ take-append-drop k (take m classes)
+    grind (arith, take-take k m classes within, drop-take k (m - k) classes, whole, take-append-drop k (take m classes))
 
 items_of_parts-split : (k : ℕ) (parts : List Part) (classes : List ℕ) → items_of_parts (front k parts) classes ++ items_of_parts (behind k parts) (drop k classes) ≡ items_of_parts parts classes
 items_of_parts-split k [] classes = refl
@@ -84,23 +66,29 @@ items_of_parts-split k (part ∷ parts) classes = elim (cases_lt k part.items) [
       let within : k ≤ part.items = omega (arith, lt) in
       let tail = items_of_parts parts (drop part.items classes) in
       let whole : k + (part.items - k) ≡ part.items = omega (arith, lt) in
-      ap (λ (xs : List Item). xs ++ items_of_parts (behind k (part ∷ parts)) (drop k classes)) (front_within k part parts classes within)
-      ∙ ap (λ (ps : List Part). map f (take k classes) ++ items_of_parts ps (drop k classes)) (behind-within k part parts lt)
-      ∙ ap (λ (xs : List ℕ). map f (take k classes) ++ (map f (take (part.items - k) (drop k classes)) ++ items_of_parts parts xs))
-      (drop-drop (part.items - k) k classes ∙ ap (λ m. drop m classes) whole)
-      ∙ sym (append_assoc (map f (take k classes)) (map f (take (part.items - k) (drop k classes))) tail)
-      ∙ ap (λ (xs : List Item). xs ++ tail) (sym (map-append f (take k classes) (take (part.items - k) (drop k classes)))
-      ∙ ap (λ (xs : List ℕ). map f xs) (two_pieces k part.items classes within))
+      grind (
+        arith,
+        front_within k part parts classes within,
+        behind-within k part parts lt,
+        drop-drop (part.items - k) k classes,
+        whole,
+        append_assoc (map f (take k classes)) (map f (take (part.items - k) (drop k classes))) tail,
+        map-append f (take k classes) (take (part.items - k) (drop k classes)),
+        two_pieces k part.items classes within,
+      )
   | inr le ↦
       let own = map (item_for part.settlement) (take part.items classes) in
       let before = items_of_parts (front (k - part.items) parts) (drop part.items classes) in
       let whole : part.items + (k - part.items) ≡ k = omega (arith, le) in
-      ap (λ (xs : List Item). xs ++ items_of_parts (behind k (part ∷ parts)) (drop k classes)) (front_past k part parts classes le)
-      ∙ ap (λ (ps : List Part). (own ++ before) ++ items_of_parts ps (drop k classes)) (behind-past k part parts le)
-      ∙ ap (λ (xs : List ℕ). (own ++ before) ++ items_of_parts (behind (k - part.items) parts) xs)
-      (sym (drop-drop (k - part.items) part.items classes ∙ ap (λ m. drop m classes) whole))
-      ∙ append_assoc own before (items_of_parts (behind (k - part.items) parts) (drop (k - part.items) (drop part.items classes)))
-      ∙ ap (λ (xs : List Item). own ++ xs) (items_of_parts-split (k - part.items) parts (drop part.items classes))
+      grind (
+        arith,
+        front_past k part parts classes le,
+        behind-past k part parts le,
+        drop-drop (k - part.items) part.items classes,
+        whole,
+        append_assoc own before (items_of_parts (behind (k - part.items) parts) (drop k classes)),
+        items_of_parts-split (k - part.items) parts (drop part.items classes),
+      )
 ]
 
 long : (k : ℕ) (parts : List Part) (classes : List ℕ) → items_in_all parts ≤ length classes → k ≤ items_in_all parts → length (items_of_parts (front k parts) classes) ≡ k

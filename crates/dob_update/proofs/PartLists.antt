@@ -1,6 +1,7 @@
 -- Lists of parts: what is taken from their front, and what is left behind it.
-use Rattle.dob_update.proofs.Common.{◌++◌, ◌+◌, ◌-◌, ◌<◌, ◌^◌, ◌∙◌, ◌∷◌, ◌≡◌, ◌≤◌, Bool, List, [], ap, arith, cond, drop, get_or, length, min, refl, subst, sym}
-use Rattle.dob_update.proofs.Common.{take, ℕ, le-ltb, lt-ltb, ne_eqb, append-nil, append_assoc, drop_all, drop_more, Settlement, AreWhole, behind, front}
+use Rattle.dob_update.proofs.Common.{nat_tests}
+use Rattle.dob_update.proofs.Common.{◌++◌, ◌+◌, ◌-◌, ◌<◌, ◌^◌, ◌∷◌, ◌≡◌, ◌≤◌, List, [], arith, drop, get_or, length, min, refl}
+use Rattle.dob_update.proofs.Common.{take, ℕ, append-nil, append_assoc, drop_all, drop_more, Settlement, AreWhole, behind, front}
 use Rattle.dob_update.proofs.Common.{items_in_all, skip_behind, with_number, Part}
 
 -- ---- what stands in front
@@ -10,19 +11,13 @@ front-zero [] = refl
 front-zero (part ∷ parts) = refl
 
 pub front-cons : (k : ℕ) (part : Part) (parts : List Part) → 0 < k → front k (part ∷ parts) ≡ with_number part (min k part.items) ∷ front (k - part.items) parts
-front-cons k part parts some =
-    ap (λ (b : Bool). cond b [] (with_number part (min k part.items) ∷ front (k - part.items) parts)) (ne_eqb k 0 (λ none. omega (arith, some, none)))
+front-cons k part parts some = grind (arith, nat_tests)
 
 -- the next part goes over from the rest to the front
 front_next : (rest index : ℕ) (parts : List Part) (part : Part) → 0 < rest → index < length parts → part ≡ get_or parts index part
     → front rest (drop index parts) ≡ with_number part (min part.items rest) ∷ front (rest - min part.items rest) (drop (index + 1) parts)
 front_next rest index parts part some within read =
-    let items : min rest part.items ≡ min part.items rest = omega arith in
-    let left : rest - part.items ≡ rest - min part.items rest = omega arith in
-    ap (front rest) (drop_more parts index part within ∙ ap (λ (p : Part). p ∷ drop (index + 1) parts) (sym read))
-    ∙ front-cons rest part (drop (index + 1) parts) some
-    ∙ ap (λ m. with_number part m ∷ front (rest - part.items) (drop (index + 1) parts)) items
-    ∙ ap (λ m. with_number part (min part.items rest) ∷ front m (drop (index + 1) parts)) left
+    grind (arith, nat_tests, drop_more parts index part within, front-cons rest part (drop (index + 1) parts) some)
 
 -- the parts in front are listed so far
 pub record IsListing (k rest index : ℕ) (parts list : List Part) : Type 0 where
@@ -31,21 +26,14 @@ pub record IsListing (k rest index : ℕ) (parts list : List Part) : Type 0 wher
 pub listing_more : (k rest index : ℕ) (parts list more : List Part) (part : Part) → 0 < rest → index < length parts → part ≡ get_or parts index part
     → IsListing k rest index parts list → more ≡ list ++ with_number part (min part.items rest) ∷ []
     → IsListing k (rest - min part.items rest) (index + 1) parts more
-listing_more k rest index parts list more part some within read l e = record {
-  so_far =
-      let next = with_number part (min part.items rest) in
-      let left = front (rest - min part.items rest) (drop (index + 1) parts) in
-      ap (λ (xs : List Part). xs ++ left) e ∙ append_assoc list (next ∷ []) left
-      ∙ ap (λ (xs : List Part). list ++ xs) (sym (front_next rest index parts part some within read)) ∙ l.so_far;
-}
+listing_more k rest index parts list more part some within read l e =
+    record { so_far = grind (arith, e, append_assoc, front_next rest index parts part some within read, l.so_far) }
 
 pub listing_done : (k rest index : ℕ) (parts list : List Part) → rest ≡ 0 → IsListing k rest index parts list → list ≡ front k parts
-listing_done k rest index parts list e l =
-    sym (append-nil list) ∙ ap (λ (xs : List Part). list ++ xs) (sym (ap (λ m. front m (drop index parts)) e ∙ front-zero (drop index parts))) ∙ l.so_far
+listing_done k rest index parts list e l = grind (arith, append-nil list, front-zero (drop index parts), l.so_far)
 
 pub listing_all : (k rest index : ℕ) (parts list : List Part) → length parts ≤ index → IsListing k rest index parts list → list ≡ front k parts
-listing_all k rest index parts list past l =
-    sym (append-nil list) ∙ ap (λ (xs : List Part). list ++ xs) (sym (ap (front rest) (drop_all index parts past))) ∙ l.so_far
+listing_all k rest index parts list past l = grind (arith, append-nil list, drop_all index parts past, l.so_far)
 
 -- so many are in front so far
 pub record IsCounting (k rest index : ℕ) (parts : List Part) : Type 0 where
@@ -54,22 +42,13 @@ pub record IsCounting (k rest index : ℕ) (parts : List Part) : Type 0 where
 
 pub counting_more : (k rest index : ℕ) (parts : List Part) (part : Part) → 0 < rest → index < length parts → part ≡ get_or parts index part
     → IsCounting k rest index parts → IsCounting k (rest - min part.items rest) (index + 1) parts
-counting_more k rest index parts part some within read l =
-    let next = ap (λ (xs : List Part). length xs) (front_next rest index parts part some within read) in
-    record { so_far = (let so = l.so_far in omega (arith, so, next)); within = omega (arith, within) }
+counting_more k rest index parts part some within read l = grind (arith, front_next rest index parts part some within read)
 
 pub counting_done : (k rest index : ℕ) (parts : List Part) → rest ≡ 0 → IsCounting k rest index parts → index ≡ length (front k parts)
-counting_done k rest index parts e l =
-    let none : length (front rest (drop index parts)) ≡ 0 =
-    ap (λ m. length (front m (drop index parts))) e ∙ ap (λ (xs : List Part). length xs) (front-zero (drop index parts)) in
-    let so = l.so_far in
-    omega (arith, none, so)
+counting_done k rest index parts e l = grind (arith, front-zero (drop index parts))
 
 pub counting_all : (k rest index : ℕ) (parts : List Part) → length parts ≤ index → IsCounting k rest index parts → index ≡ length (front k parts)
-counting_all k rest index parts past l =
-    let none : length (front rest (drop index parts)) ≡ 0 = ap (λ (xs : List Part). length (front rest xs)) (drop_all index parts past) in
-    let so = l.so_far in
-    omega (arith, none, so)
+counting_all k rest index parts past l = grind (arith, drop_all index parts past)
 
 -- the same in place
 pub record IsKeeping (k rest index : ℕ) (old parts : List Part) : Type 0 where
@@ -77,27 +56,24 @@ pub record IsKeeping (k rest index : ℕ) (old parts : List Part) : Type 0 where
   pub within : index ≤ length parts
 
 pub keeping_done : (k rest index : ℕ) (old parts : List Part) → rest ≡ 0 → IsKeeping k rest index old parts → take index parts ≡ front k old
-keeping_done k rest index old parts e l =
-    sym (append-nil (take index parts)) ∙ ap (λ (xs : List Part). take index parts ++ xs) (sym (ap (λ m. front m (drop index parts)) e ∙ front-zero (drop index parts)))
-    ∙ l.so_far
+keeping_done k rest index old parts e l = grind (arith, append-nil (take index parts), front-zero (drop index parts))
 
 pub keeping_all : (k rest index : ℕ) (old parts : List Part) → length parts ≤ index → IsKeeping k rest index old parts → take index parts ≡ front k old
-keeping_all k rest index old parts past l =
-    sym (append-nil (take index parts)) ∙ ap (λ (xs : List Part). take index parts ++ xs) (sym (ap (front rest) (drop_all index parts past))) ∙ l.so_far
+keeping_all k rest index old parts past l = grind (arith, append-nil (take index parts), drop_all index parts past)
 
 -- ---- what is left behind
 
 pub behind-within : (k : ℕ) (part : Part) (parts : List Part) → k < part.items → behind k (part ∷ parts) ≡ with_number part (part.items - k) ∷ parts
-behind-within k part parts lt = ap (λ (b : Bool). cond b (with_number part (part.items - k) ∷ parts) (behind (k - part.items) parts)) (lt-ltb k part.items lt)
+behind-within k part parts lt = grind (arith, nat_tests)
 
 pub behind-past : (k : ℕ) (part : Part) (parts : List Part) → part.items ≤ k → behind k (part ∷ parts) ≡ behind (k - part.items) parts
-behind-past k part parts le = ap (λ (b : Bool). cond b (with_number part (part.items - k) ∷ parts) (behind (k - part.items) parts)) (le-ltb k part.items le)
+behind-past k part parts le = grind (arith, nat_tests)
 
 pub skip-within : (skip k : ℕ) (part : Part) (parts : List Part) → k < part.items → skip_behind skip k (part ∷ parts) ≡ skip + k
-skip-within skip k part parts lt = ap (λ (b : Bool). cond b (skip + k) (skip_behind 0 (k - part.items) parts)) (lt-ltb k part.items lt)
+skip-within skip k part parts lt = grind (arith, nat_tests)
 
 pub skip-past : (skip k : ℕ) (part : Part) (parts : List Part) → part.items ≤ k → skip_behind skip k (part ∷ parts) ≡ skip_behind 0 (k - part.items) parts
-skip-past skip k part parts le = ap (λ (b : Bool). cond b (skip + k) (skip_behind 0 (k - part.items) parts)) (le-ltb k part.items le)
+skip-past skip k part parts le = grind (arith, nat_tests)
 
 -- what is left to be dropped from the parts is what was left before
 pub record IsDropping (k skip rest before : ℕ) (old parts : List Part) : Type 0 where
@@ -122,22 +98,14 @@ pub first_part : (k skip rest before : ℕ) (old parts : List Part) (part : Part
 first_part k skip rest before old parts part some read d = at parts d.whole d.within read where
   at : (parts : List Part) → AreWhole d.count before parts → rest ≤ items_in_all parts → part ≡ get_or parts 0 part → IsFirstPart rest before parts part
   at [] w within read = absurd (omega (arith, some, within))
-  at (p ∷ ps) w within read =
-      let e : p ≡ part = sym read in
-      let more : 0 < part.items = subst (λ (x : Part). 0 < x.items) e w.0 in
-      let whole : before + part.items ≡ d.count part.settlement = subst (λ (x : Part). before + x.items ≡ d.count x.settlement) e w.1 in
-      let low : d.count part.settlement < 2 ^ 64 = subst (λ (x : Part). d.count x.settlement < 2 ^ 64) e w.2 in
-      record { some = more; fits = omega (arith, whole, low); is = ap (λ (x : Part). x ∷ ps) e }
+  at (p ∷ ps) w within read = grind (arith, w.0, w.1, w.2)
 
 -- nothing is left to be dropped
 pub dropped_all : (k skip rest before : ℕ) (old parts : List Part) → rest ≡ 0 → IsDropping k skip rest before old parts → (parts ≡ behind k old) × (before ≡ skip_behind skip k old)
 dropped_all k skip rest before old parts e d =
     let none = behind-zero d.count before parts d.whole in
-    (sym none.0 ∙ ap (λ m. behind m parts) (sym e) ∙ d.behind_is, sym none.1 ∙ ap (λ m. skip_behind before m parts) (sym e) ∙ d.skip_is)
+    (grind (arith, none.0, d.behind_is), grind (arith, none.1, d.skip_is))
   where
-    whole : (m : ℕ) → m - 0 ≡ m
-    whole m = omega arith
-
     behind-zero : (count : Settlement → ℕ) (before : ℕ) (parts : List Part) → AreWhole count before parts → (behind 0 parts ≡ parts) × (skip_behind before 0 parts ≡ before)
     behind-zero count before [] w = (refl, refl)
-    behind-zero count before (p ∷ ps) w = (behind-within 0 p ps w.0 ∙ ap (λ m. with_number p m ∷ ps) (whole p.items), skip-within before 0 p ps w.0 ∙ omega arith)
+    behind-zero count before (p ∷ ps) w = (grind (arith, nat_tests), grind (arith, nat_tests))

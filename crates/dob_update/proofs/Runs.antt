@@ -1,6 +1,7 @@
 -- Runs of items, and the parts that they belong to.
+use Rattle.dob_update.proofs.Common.{nat_tests}
 use Rattle.dob_update.proofs.Common.{◌++◌, ◌+◌, ◌-◌, ◌<◌, ◌==◌, ◌^◌, ◌∙◌, ◌∷◌, ◌≡◌, ◌≤◌, Bool, List, [], ap, arith, cond, drop, false, inl, inr, length}
-use Rattle.dob_update.proofs.Common.{length-append, length-drop, length-take-le, min, refl, subst, sym, take, true, ℕ, cases_eq, cases_lt, eq-eqb, eqb-true}
+use Rattle.dob_update.proofs.Common.{length-append, length-drop, length-take-le, min, refl, subst, sym, take, true, ℕ, cases_lt}
 use Rattle.dob_update.proofs.Common.{append-nil, append_assoc, drop-append-le, drop-drop, drop_at, length-map, map-append, take-append-le, take-take, Family}
 use Rattle.dob_update.proofs.Common.{predecessors, Item, Settlement, BatchView, IsBatch, IsFront, IsOutbox, OutboxView, items_for, items_of, AreParts, AreWhole}
 use Rattle.dob_update.proofs.Common.{behind, front, items_in_all, settlement_of, settlements_of, skip_behind, with_number, IsItemRun, IsRest, count_for, Part}
@@ -11,21 +12,11 @@ use Rattle.dob_update.proofs.PartLists.{behind-within, behind-past, skip-within,
 
 some_in_front : (k : ℕ) (parts : List Part) → 0 < length (front k parts) → (0 < k) × (0 < length parts)
 some_in_front k [] some = absurd (omega (arith, some))
-some_in_front k (part ∷ parts) some = (
-  elim (cases_eq k 0) [
-    | inl none ↦ (let e : length (front k (part ∷ parts)) ≡ 0 = ap (λ m. length (front m (part ∷ parts))) none in absurd (omega (arith, some, e)))
-    | inr ne ↦ omega (arith, ne)
-  ],
-  omega arith,
-)
+some_in_front k (part ∷ parts) some = (grind (arith, nat_tests), omega arith)
 
 pub total-front : (parts : List Part) (k : ℕ) → k ≤ items_in_all parts → items_in_all (front k parts) ≡ k
 total-front [] k within = omega (arith, within)
-total-front (part ∷ parts) k within = at (k == 0) refl (total-front parts (k - part.items) (omega (arith, within))) where
-  at : (none : Bool) → (k == 0) ≡ none → items_in_all (front (k - part.items) parts) ≡ k - part.items
-      → items_in_all (cond none [] (with_number part (min k part.items) ∷ front (k - part.items) parts)) ≡ k
-  at true e later = let none : k ≡ 0 = eqb-true k 0 e in omega (arith, none)
-  at false e later = omega (arith, later)
+total-front (part ∷ parts) k within = grind (arith, nat_tests, total-front parts (k - part.items))
 
 -- their settlements are the first
 pub front_settlements : (parts : List Part) (k : ℕ) → (rest : List Settlement) × (settlements_of parts ≡ settlements_of (front k parts) ++ rest)
@@ -48,16 +39,13 @@ module _ (count : Settlement → ℕ) where
     at : (none : Bool) → (k == 0) ≡ none → AreParts count 0 (front (k - part.items) parts)
         → AreParts count skip (cond none [] (with_number part (min k part.items) ∷ front (k - part.items) parts))
     at true e later = tt
-    at false e later =
-        let some : 0 < k = elim (cases_eq k 0) [ inl none ↦ (let t : (k == 0) ≡ true = eq-eqb k 0 none in cc) | inr ne ↦ omega (arith, ne) ] in (
-          (let s = h.0 in omega arith),
-          (let le = h.1 in omega arith),
-          (λ more.
-              let in_both = some_in_front (k - part.items) parts more in
-              let exact = h.2 in_both.1 in
-              omega (arith, exact, in_both.0)),
-          later,
-        )
+    at false e later = (
+      grind (arith, nat_tests),
+      omega (arith, h.1),
+      (λ more.
+          omega (arith, some_in_front (k - part.items) parts more, h.2 (some_in_front (k - part.items) parts more).1)),
+      later,
+    )
 
   -- one more settlement at the end, with all its items
   AreWhole-push : (parts : List Part) (skip : ℕ) (part : Part) → AreWhole count skip parts → 0 < part.items → part.items ≡ count part.settlement
@@ -85,61 +73,39 @@ module _ (family : Family) (n to : ℕ) where
   length-items : (s : Settlement) (ss : List Settlement) → length (items (s ∷ ss)) ≡ count s + length (items ss)
   length-items s ss = length-append (items_of (predecessors family) n to s) (items ss)
 
-  first_is : (s t : Settlement) (ss ts : List Settlement) → s ∷ ss ≡ t ∷ ts → (s ≡ t) × (ss ≡ ts)
-  first_is s t ss ts e = (cc, cc)
-
   -- each part's settlement has an item in the run
   each_needed : (parts : List Part) (skip : ℕ) → AreParts count skip parts → (before : List Settlement) (s : Settlement) (behind : List Settlement)
       → settlements_of parts ≡ before ++ s ∷ behind → HasItemIn family n to before s skip (items_in_all parts)
   each_needed [] skip h [] s behind e = cc
   each_needed [] skip h (b ∷ bs) s behind e = cc
   each_needed (part ∷ parts) skip h [] s behind e =
-      let same : part.settlement ≡ s = (first_is part.settlement s (settlements_of parts) behind e).0 in
-      let counts : count part.settlement ≡ count s = ap count same in
+      let same : part.settlement ≡ s = cc in
       let own = length-items s [] in
-      record {
-        place = skip;
-        of_settlement = (omega arith, (let some = h.0 in let fits = h.1 in omega (arith, counts, own, some, fits)));
-        of_run = (omega arith, (let some = h.0 in omega arith));
-      }
+      record { place = skip; of_settlement = (omega arith, grind (arith, h.0, h.1, own)); of_run = (omega arith, omega (arith, h.0)) }
   each_needed (part ∷ parts) skip h (b ∷ bs) s behind e =
-      let both = first_is part.settlement b (settlements_of parts) (bs ++ s ∷ behind) e in
-      let counts : count part.settlement ≡ count b = ap count both.0 in
-      let w = each_needed parts 0 h.3 bs s behind both.1 in
-      let as_many : length parts ≡ length (bs ++ s ∷ behind) = sym (length-map parts settlement_of) ∙ ap length both.1 in
-      let more : 0 < length parts = omega (arith, as_many, length-append bs (s ∷ behind)) in
-      let exact = h.2 more in
-      let low = w.of_settlement.0 in
-      let high = w.of_settlement.1 in
-      let run = w.of_run.1 in
-      let below = length-items b bs in
-      let above = length-items b (bs ++ s ∷ []) in
+      let first : part.settlement ≡ b = cc in
+      let others : settlements_of parts ≡ bs ++ s ∷ behind = cc in
+      let w = each_needed parts 0 h.3 bs s behind others in
+      let as_many : length parts ≡ length (bs ++ s ∷ behind) = sym (length-map parts settlement_of) ∙ ap length others in
+      let exact : skip + part.items ≡ count b = h.2 (omega (arith, as_many, length-append bs (s ∷ behind))) ∙ ap count first in
+      let low = length-items b bs in
+      let high = length-items b (bs ++ s ∷ []) in
       record {
         place = count b + w.place;
-        of_settlement = (omega (arith, below, low), omega (arith, above, high));
-        of_run = (omega (arith, exact, counts), omega (arith, exact, counts, run));
+        of_settlement = (omega (arith, low, w.of_settlement.0), omega (arith, high, w.of_settlement.1));
+        of_run = (omega (arith, exact), omega (arith, exact, w.of_run.1));
       }
 
   -- there are so many items
   parts_fit : (parts : List Part) (skip : ℕ) → AreParts count skip parts → 0 < length parts → skip + items_in_all parts ≤ length (items (settlements_of parts))
   parts_fit [] skip h some = absurd (omega (arith, some))
-  parts_fit (part ∷ []) skip h some =
-      let own = length-items part.settlement [] in
-      let fits = h.1 in
-      omega (arith, own, fits)
+  parts_fit (part ∷ []) skip h some = omega (arith, length-items part.settlement [], h.1)
   parts_fit (part ∷ next ∷ parts) skip h some =
-      let own = length-items part.settlement (settlements_of (next ∷ parts)) in
-      let exact = h.2 (omega arith) in
-      let later = parts_fit (next ∷ parts) 0 h.3 (omega arith) in
-      omega (arith, own, exact, later)
+      omega (arith, length-items part.settlement (settlements_of (next ∷ parts)), h.2 (omega arith), parts_fit (next ∷ parts) 0 h.3 (omega arith))
 
   pub whole_is : (parts : List Part) (skip : ℕ) → AreWhole count skip parts → skip + items_in_all parts ≡ length (items (settlements_of parts))
   whole_is [] skip w = omega (arith, w)
-  whole_is (part ∷ parts) skip w =
-      let own = length-items part.settlement (settlements_of parts) in
-      let exact = w.1 in
-      let later = whole_is parts 0 w.3 in
-      omega (arith, own, exact, later)
+  whole_is (part ∷ parts) skip w = omega (arith, length-items part.settlement (settlements_of parts), w.1, whole_is parts 0 w.3)
 
   -- ---- runs
 
@@ -171,9 +137,7 @@ module _ (family : Family) (n to : ℕ) where
 
   pub rest_many : (parts : List Part) (skip : ℕ) (all : List Item) → IsRest family n to parts skip all → items_in_all parts ≡ length all
   rest_many parts skip all r =
-      let whole = whole_is parts skip r.parts_fit in
-      let long = ap length r.rest in
-      omega (arith, whole, long, length-drop skip (items (settlements_of parts)))
+      omega (arith, whole_is parts skip r.parts_fit, ap length r.rest, length-drop skip (items (settlements_of parts)))
 
   -- so is that of what is left
   pub run_cut : (parts : List Part) (skip k : ℕ) (all : List Item) → IsRest family n to parts skip all → 0 < k → k ≤ length all → IsItemRun family n to (front k parts) skip (take k all)
@@ -197,27 +161,21 @@ module _ (family : Family) (n to : ℕ) where
     | inl lt ↦
         let b = behind-within k part parts lt in
         let s = skip-within skip k part parts lt in
-        let exact = w.1 in
         record {
           gone = [];
           apart = ap settlements_of (sym b);
           many = omega (arith, s);
-          whole = subst (λ (m : ℕ). AreWhole count m (behind k (part ∷ parts))) (sym s)
-              (subst (AreWhole count (skip + k)) (sym b) (omega (arith, lt), omega (arith, exact, lt), w.2, w.3));
+          whole = rw (s, b) (omega (arith, lt), omega (arith, w.1, lt), w.2, w.3);
         }
     | inr le ↦
         let b = behind-past k part parts le in
         let s = skip-past skip k part parts le in
         let later = gone_behind parts 0 (k - part.items) w.3 (omega (arith, within)) in
-        let own = length-items part.settlement later.gone in
-        let exact = w.1 in
-        let many = later.many in
         record {
           gone = part.settlement ∷ later.gone;
           apart = ap (λ ss. part.settlement ∷ ss) later.apart ∙ ap (λ ps. (part.settlement ∷ later.gone) ++ settlements_of ps) (sym b);
-          many = omega (arith, s, own, exact, many, le);
-          whole = subst (λ (m : ℕ). AreWhole count m (behind k (part ∷ parts))) (sym s)
-              (subst (AreWhole count (skip_behind 0 (k - part.items) parts)) (sym b) later.whole);
+          many = omega (arith, s, length-items part.settlement later.gone, w.1, later.many, le);
+          whole = rw (s, b) later.whole;
         }
   ]
 

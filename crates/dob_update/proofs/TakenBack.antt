@@ -1,6 +1,6 @@
 -- An outbox without the settlement that was added last.
 use Rattle.dob_update.proofs.Common.{◌++◌, ◌+◌, ◌-◌, ◌<◌, ◌∙◌, ◌∷◌, ◌≡◌, ◌≤◌, List, [], ap, arith, drop, get_or, length, length-append, length-drop}
-use Rattle.dob_update.proofs.Common.{length-take-le, refl, subst, sym, take, ℕ, append-nil, drop-append-le, length-map, map-append, take_all, map, Item}
+use Rattle.dob_update.proofs.Common.{length-take-le, subst, sym, take, ℕ, append-nil, drop-append-le, length-map, map-append, take_all, map, Item}
 use Rattle.dob_update.proofs.Common.{Settlement, HasOneMore, OutboxView, added, items_for, with_items, item_for, AreWhole, items_in_all, items_of_parts}
 use Rattle.dob_update.proofs.Common.{settlement_of, settlements_of, AreListed, count_for, Part}
 use Rattle.std.proofs.lemmas.List.{take_at, take_more, take-append-drop, nil_from_length, same_from_push}
@@ -36,8 +36,7 @@ nothing_back before outbox count none more =
 
 -- there are as many items
 pub as_many : (before outbox : OutboxView) (count : ℕ) → HasOneMore before count outbox → length outbox.items ≡ length before.items + count
-as_many before outbox count more =
-    ap (λ (o : OutboxView). length o.items) more.outbox_is ∙ length-append before.items more.items ∙ ap (λ (m : ℕ). length before.items + m) more.many
+as_many before outbox count more = omega (arith, ap (λ (o : OutboxView). length o.items) more.outbox_is, length-append before.items more.items, more.many)
 
 module _ (old before : OutboxView) (left : List Part) (part : Part) (classes : List ℕ) (count : ℕ)
     (listed : AreListed old.family old.n old.to (left ++ part ∷ []) old.skip classes) (settlements_are : old.settlements ≡ settlements_of (left ++ part ∷ []))
@@ -48,19 +47,16 @@ module _ (old before : OutboxView) (left : List Part) (part : Part) (classes : L
       ∙ ap (λ (ss : List Settlement). before.settlements ++ ss) (with_some more.settlement more.items (let many = more.many in omega (arith, many, some))))
 
   count_is : count_for old.family old.n old.to part.settlement ≡ count
-  count_is = ap (λ (s : Settlement). count_for old.family old.n old.to s) last_is.1
-      ∙ ap (λ (o : OutboxView). count_for o.family o.n o.to more.settlement) more.outbox_is
-      ∙ sym (ap length more.items_are) ∙ more.many
+  count_is = grind (arith, last_is.1, more.outbox_is, more.items_are, more.many)
 
   sum_is : items_in_all left + part.items ≡ length before.items + count
-  sum_is =
-      let parts = left ++ part ∷ [] in
-      let counted = listed.counted in
-      let long = items_of_parts-length parts classes (omega (arith, counted)) in
-      let all = ap length items_are in
-      let sum = total-push left part in
-      let both = as_many before old count more in
-      omega (arith, long, all, sum, both)
+  sum_is = omega (
+    arith,
+    items_of_parts-length (left ++ part ∷ []) classes (omega (arith, listed.counted)),
+    ap length items_are,
+    total-push left part,
+    as_many before old count more,
+  )
 
   part_is : part.items ≡ count_for old.family old.n old.to part.settlement
   part_is = last_is_whole (count_for old.family old.n old.to) left old.skip part listed.rest.parts_fit (omega (arith, count_is, sum_is))
@@ -78,19 +74,20 @@ module _ (old before : OutboxView) (left : List Part) (part : Part) (classes : L
       let front = take k classes in
       let tail = drop k classes in
       let long_front : length front ≡ k = length-take-le k classes within in
-      let long_tail = length-drop k classes in
-      let counted = listed.counted in
-      let sum = total-push left part in
       ap (take k) (items_are ∙ ap (λ (cs : List ℕ). items_of_parts (left ++ part ∷ []) cs) (sym (take-append-drop k classes))
-      ∙ items_of_parts-push left part front tail (left_is ∙ sym long_front) (omega (arith, long_tail, left_is, counted, sum)))
+      ∙ items_of_parts-push left part front tail (left_is ∙ sym long_front) (omega (
+        arith,
+        length-drop k classes,
+        left_is,
+        listed.counted,
+        total-push left part,
+      )))
       ∙ take_at (items_of_parts left front) (map (item_for part.settlement) tail) k (items_of_parts-length left front (omega (arith, left_is, long_front)) ∙ left_is)
 
   before_is : take (length classes - count) old.items ≡ before.items
   before_is =
       let k = length classes - count in
-      let counted = listed.counted in
-      let sum = total-push left part in
-      ap (λ (o : OutboxView). take k o.items) more.outbox_is ∙ take_at before.items more.items k (omega (arith, sum_is, counted, sum))
+      ap (λ (o : OutboxView). take k o.items) more.outbox_is ∙ take_at before.items more.items k (omega (arith, sum_is, listed.counted, total-push left part))
 
   listed_left : AreListed old.family old.n old.to left old.skip (take (length classes - count) classes)
   listed_left =

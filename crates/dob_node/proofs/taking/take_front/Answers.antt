@@ -1,6 +1,6 @@
 -- Those that are taken are the first of the queue, and gone.
-use Rattle.dob_node.proofs.Common.{◌∙◌, List, drop, subst, sym, Item, StopsFirst, TakesFirst}
-use Rattle.dob_node.proofs.TakenQueues.{front_entries, front_taken, front_stops, fewer}
+use Rattle.dob_node.proofs.Common.{List, subst, sym, Item, TakesFirst}
+use Rattle.dob_node.proofs.TakenQueues.{front_entries, front_taken}
 use Rattle.dob_node.proofs.taking.take_front.Goals as goal
 
 pub take_items-answer-requires-clause-entries : goal.take_items-answer-requires-clause-entries

@@ -1,8 +1,8 @@
 -- One item more is taken.
-use Rattle.dob_node.proofs.Common.{◌+◌, ◌≡◌, ◌≤◌, arith, refl, subst, sym, AreSeen, AreTakenBefore, StopsAt}
+use Rattle.dob_node.proofs.Common.{arith, err_from_is_err_and, refl}
 use Rattle.dob_node.proofs.Sounds.{kept_own, kept_back}
 use Rattle.dob_node.proofs.Looks.{seen_next, seen_behind}
-use Rattle.dob_node.proofs.TakenLists.{taken_next, stops_there, taken_before, carried}
+use Rattle.dob_node.proofs.TakenLists.{taken_next, stops_there, taken_before}
 use Rattle.dob_node.proofs.taking.take_items.Goals as goal
 
 pub loop-item-init : goal.loop-item-init
@@ -18,45 +18,35 @@ take_seen-requires-clause-kept c =
 
 pub returns-in_err-take_seen-clause-stopped : goal.returns-in_err-take_seen-clause-stopped
 returns-in_err-take_seen-clause-stopped c =
-    let items = c.args.items.now in
-    let share = c.args.share.now in
-    let history = c.args.history.now in
-    carried (λ why. StopsAt items share history why) c.from_residual.result c.in_err-take_seen.field-0.0 c.from_residual.ensures.1
-    (stops_there items c.loop-item.item-index _ share c.loop-item.share history c.loop-item.history c.in_err-take_seen.field-0.0
+    let given = err_from_is_err_and c.from_residual.result c.from_residual.ensures.1 in
+    rw (given.1, given.2) (stops_there c.args.items.now c.loop-item.item-index _ c.args.share.now c.loop-item.share c.args.history.now c.loop-item.history _
     c.loop-item-test.true c.loop-item.invariant.taken c.in_err-take_seen.ensures.why)
 
 pub returns-in_err-take_seen-clause-before : goal.returns-in_err-take_seen-clause-before
 returns-in_err-take_seen-clause-before c =
-    let items = c.args.items.now in
-    let share = c.args.share.now in
-    let history = c.args.history.now in
-    carried (λ why. AreTakenBefore items c.loop-item.taken share c.take_seen.new.share history c.take_seen.new.self why) c.from_residual.result
-    c.in_err-take_seen.field-0.0 c.from_residual.ensures.1
-    (subst (λ k. AreTakenBefore items k share c.take_seen.new.share history c.take_seen.new.self c.in_err-take_seen.field-0.0)
-    (sym c.loop-item.invariant.counted) (taken_before items c.loop-item.item-index _ share c.loop-item.share c.take_seen.new.share history c.loop-item.history c.take_seen.new.self
-    c.in_err-take_seen.field-0.0 c.loop-item-test.true c.loop-item.invariant.taken c.in_err-take_seen.ensures.unchanged c.in_err-take_seen.ensures.why))
+    let given = err_from_is_err_and c.from_residual.result c.from_residual.ensures.1 in
+    rw (given.1, given.2, c.loop-item.invariant.counted) (taken_before c.args.items.now c.loop-item.item-index _ c.args.share.now c.loop-item.share
+    c.take_seen.new.share
+    c.args.history.now c.loop-item.history c.take_seen.new.self _ c.loop-item-test.true c.loop-item.invariant.taken c.in_err-take_seen.ensures.unchanged
+    c.in_err-take_seen.ensures.why)
 
 pub loop-item-preserved : goal.loop-item-preserved
 loop-item-preserved c =
-    let share = c.args.share.now in
-    let history = c.args.history.now in
     let out = c.in_ok-take_seen.ensures in
-    let counted : c.loop-item.taken ≡ c.loop-item.item-index = c.loop-item.invariant.counted in
-    let room : c.args.history.now.room ≤ c.loop-item.history.room + c.loop-item.item-index = c.loop-item.invariant.room in
-    let one : c.loop-item.history.room ≤ c.take_seen.new.self.room + 1 = out.room in
+    let so_far = c.loop-item.invariant in
     record {
-      counted = omega arith;
-      room = omega arith;
-      taken = taken_next c.args.items.now c.loop-item.item-index _ share c.loop-item.share c.take_seen.new.share history c.loop-item.history
-          c.take_seen.new.self c.loop-item-test.true c.loop-item.invariant.taken out.taken;
-      kept = λ family kept. kept_back family share.nodes share.id c.loop-item.share c.take_seen.new.share c.loop-item.history c.take_seen.new.self
-          (c.loop-item.invariant.kept family kept) out.kept;
+      counted = omega (arith, so_far.counted);
+      room = omega (arith, so_far.room, out.room);
+      taken = taken_next c.args.items.now c.loop-item.item-index _ c.args.share.now c.loop-item.share c.take_seen.new.share c.args.history.now
+          c.loop-item.history
+          c.take_seen.new.self c.loop-item-test.true so_far.taken out.taken;
+      kept = λ family kept. kept_back family c.args.share.now.nodes c.args.share.now.id c.loop-item.share c.take_seen.new.share c.loop-item.history
+          c.take_seen.new.self (so_far.kept family kept) out.kept;
       seen = λ within. seen_behind c.loop-item.item-index c.loop-item.share c.take_seen.new.share c.args.items.now c.look_ahead.new.looks out.seen
-          (subst (λ k. AreSeen k c.loop-item.share c.args.items.now c.look_ahead.new.looks) counted c.look_ahead.ensures) within;
+          (rw so_far.counted at c.look_ahead.ensures) within;
     }
 
 pub take_seen-requires-clause-seen : goal.take_seen-requires-clause-seen
 take_seen-requires-clause-seen c =
-    let counted : c.loop-item.taken ≡ c.loop-item.item-index = c.loop-item.invariant.counted in
-    seen_next c.loop-item.taken c.loop-item.item-index c.loop-item.share c.args.items.now c.look_ahead.new.looks _ _ counted c.look_ahead.ensures
-    (omega arith)
+    seen_next c.loop-item.taken c.loop-item.item-index c.loop-item.share c.args.items.now c.look_ahead.new.looks _ _ c.loop-item.invariant.counted
+    c.look_ahead.ensures (omega arith)

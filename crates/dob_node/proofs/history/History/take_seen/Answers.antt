@@ -16,12 +16,12 @@ news : (c : In-Some) → IsNews c.self.inside.nodes c.self.inside.id (starts_cou
 news c =
     let share = c.args.share.now in
     let after = c.apply_seen.new.self in
-    let history = c.args.self.now in
-    let grown : HistoryView = record history { settlements = history.settlements ++ listed c.in_ok-given.given } in
-    news_seen c.self.inside.nodes c.self.inside.id c.self.inside.room c.self.inside.count c.self.inside.starts c.self.inside.stored history c.in-Some.settlement
+    let grown : HistoryView = record c.args.self.now { settlements = c.args.self.now.settlements ++ listed c.in_ok-given.given } in
+    news_seen c.self.inside.nodes c.self.inside.id c.self.inside.room c.self.inside.count c.self.inside.starts c.self.inside.stored c.args.self.now
+    c.in-Some.settlement
     c.self.invariant.1 c.self.view_is
-    (news_is c.requires.kept.0 share.nodes share.id share after history grown c.args.item c.requires.kept.1 c.requires.entries
-    (taken_by share after c.args.item c.in_ok-given.given history grown c.in_ok-given.ensures.applied refl) c.in-Some.settlement
+    (news_is c.requires.kept.0 share.nodes share.id share after c.args.self.now grown c.args.item c.requires.kept.1 c.requires.entries
+    (taken_by share after c.args.item c.in_ok-given.given c.args.self.now grown c.in_ok-given.ensures.applied refl) c.in-Some.settlement
     (subst (λ given. HasSettled share after c.args.item.to given) c.in-Some.is c.in_ok-given.ensures.applied.settled))
 
 -- where it is stored, the history has it behind its others
@@ -29,20 +29,22 @@ grown : (c : After-store) → IsNews c.self.inside.nodes c.self.inside.id (start
     (left : ℕ) → seen c.self.inside.nodes c.self.inside.id left c.self.inside.starts (take (c.self.inside.count + 1) c.store.new.stored)
     ≡ record c.args.self.now { settlements = c.args.self.now.settlements ++ listed c.in_ok-given.given; room = left }
 grown c is left =
-    let history = c.args.self.now in
     next_seen c.self.inside.nodes c.self.inside.id c.self.inside.room left c.self.inside.count c.self.inside.starts c.self.inside.stored c.room_for_one.new.stored
-    c.store.new.stored history c.in-Some.settlement c.self.view_is c.room_for_one.ensures.same is.own is.number_is c.store.ensures.one_more
-    ∙ ap (λ given. let view : HistoryView = record history { settlements = history.settlements ++ listed given; room = left } in view) (sym c.in-Some.is)
+    c.store.new.stored c.args.self.now c.in-Some.settlement c.self.view_is c.room_for_one.ensures.same is.own is.number_is c.store.ensures.one_more
+    ∙ ap (λ given. let view : HistoryView = record c.args.self.now { settlements = c.args.self.now.settlements ++ listed given; room = left } in view)
+    (sym c.in-Some.is)
 
 -- where there is none, it is as it was
 same : (c : In_default) → seen c.self.inside.nodes c.self.inside.id c.self.inside.room c.self.inside.starts (take c.self.inside.count c.room_for_one.new.stored)
     ≡ record c.args.self.now { settlements = c.args.self.now.settlements ++ listed c.in_ok-given.given; room = c.self.inside.room }
 same c =
-    let history = c.args.self.now in
     room_made c.self.inside.nodes c.self.inside.id c.self.inside.room c.self.inside.room c.self.inside.count c.self.inside.starts c.self.inside.stored
-    c.room_for_one.new.stored history c.self.view_is c.room_for_one.ensures.same
-    ∙ same_history (record history { room = c.self.inside.room })
-    ∙ ap (λ given. let view : HistoryView = record history { settlements = history.settlements ++ listed given; room = c.self.inside.room } in view) (sym c.in_default.is)
+    c.room_for_one.new.stored c.args.self.now c.self.view_is c.room_for_one.ensures.same
+    ∙ same_history (record c.args.self.now { room = c.self.inside.room })
+    ∙ ap (λ given. let view : HistoryView = record c.args.self.now {
+      settlements = c.args.self.now.settlements ++ listed given;
+      room = c.self.inside.room;
+    } in view) (sym c.in_default.is)
 
 pub store-requires : goal.store-requires
 store-requires c =

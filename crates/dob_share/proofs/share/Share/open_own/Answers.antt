@@ -1,8 +1,9 @@
--- What the one owner of the listed classes has is the owner's.
-use Rattle.dob_share.proofs.Common.{refl, subst, ℕ, IsNewShare}
-use Rattle.dob_share.proofs.OwnOpened.{new_by_own}
+-- The openings of its classes are those of the one owner of what is listed.
+use Rattle.std.proofs.lemmas.Result.{IfOk-weaker}
+use Rattle.dob_share.specs.Shares.{IsNewByOwn}
+use Rattle.dob_share.proofs.OwnOpened.{placed_own}
 use Rattle.dob_share.proofs.share.Share.open_own.Goals as goal
 
 pub returns : goal.returns
-returns c = λ openings are. new_by_own c.in_ok-alone.alone _ c.args.own.now openings
-    (subst (λ (n : ℕ). IsNewShare c.args.own.now n 0 c.in_ok-alone.alone) c.one.ensures c.in_ok-alone.ensures) are refl refl refl refl
+returns c = IfOk-weaker c.open_placed.result _ (IsNewByOwn c.args.own.now c.args.nodes c.args.id)
+    (λ share new openings are. new openings (placed_own openings c.args.own.now c.one.result c.args.nodes c.args.id c.one.ensures are)) c.open_placed.ensures

@@ -1,5 +1,5 @@
 -- Nothing is left where no class is listed; the items are those that the parts' settlements have left.
-use Rattle.dob_update.proofs.Common.{◌↔◌, ◌≡◌, IsTrue, [], length, refl, rules, subst, sym, IsOutbox, OutboxView}
+use Rattle.dob_update.proofs.Common.{◌↔◌, ◌≡◌, IsTrue, [], length, refl, rules, subst, IsOutbox, OutboxView}
 use Rattle.dob_update.proofs.Runs.{IsOutbox-from_rest}
 use Rattle.dob_update.proofs.PartItems.{none_listed}
 use Rattle.dob_update.proofs.outbox.Outbox.is_empty.Goals as goal

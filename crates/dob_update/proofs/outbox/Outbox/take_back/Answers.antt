@@ -1,5 +1,5 @@
 -- The parts but the last, and the classes but those of its items.
-use Rattle.dob_update.proofs.Common.{◌-◌, ◌<◌, ◌∙◌, ◌≡◌, ap, arith, length, refl, rules, subst, sym, take, HasOneMore, OutboxView, items_of_parts}
+use Rattle.dob_update.proofs.Common.{◌-◌, ◌∙◌, ◌≡◌, ap, arith, length, refl, rules, subst, sym, take, HasOneMore, OutboxView, items_of_parts}
 use Rattle.dob_update.proofs.Common.{settlements_of, AreListed}
 use Rattle.dob_update.proofs.PartItems.{many_listed}
 use Rattle.dob_update.proofs.TakenBack.{nothing_back, as_many, taken_back}
