@@ -243,6 +243,15 @@ runner_same r = record { endpoint = endpoint_same r.endpoint; family = refl; bat
 pub runner_trans : (a b c : Runner) → KeepsRunner a b → KeepsRunner b c → KeepsRunner a c
 runner_trans a b c one two = record { endpoint = endpoint_trans a.endpoint b.endpoint c.endpoint one.endpoint two.endpoint; family = two.family ∙ one.family; batch_size = two.batch_size ∙ one.batch_size }
 
+pub goes_by : {a b : Runner} → KeepsEndpoint a.endpoint b.endpoint → b.family ≡ a.family → b.batch_size ≡ a.batch_size → b.failed ≡ None →
+    b.endpoint.seat.halt ≡ a.endpoint.seat.halt → MovesNothing a.endpoint.seat b.endpoint.seat → GoesOn a b
+goes_by endpoint family size unfailed halt still =
+    record { keeps = record { endpoint = endpoint; family = family; batch_size = size }; unfailed = unfailed; halt = halt; still = still }
+
+-- one of which nothing has changed goes on
+pub goes_same : (r : Runner) → r.failed ≡ None → GoesOn r r
+goes_same r unfailed = goes_by (endpoint_same r.endpoint) refl refl unfailed refl refl
+
 pub goes_trans : (a b c : Runner) → GoesOn a b → GoesOn b c → GoesOn a c
 goes_trans a b c one two = record {
   keeps = runner_trans a b c one.keeps two.keeps;
