@@ -11,12 +11,12 @@ use Rattle.dob_run.proofs.CrewLeaves.{for_kept, turned_is}
 use Rattle.dob_runner.proofs.Keeping.{there_is}
 use Rattle.dob_run.proofs.CrewRunners.{seat_at, seat_there, are_linked, crew_many, crew_low, outlet_at, crew_kept}
 use Rattle.dob_run.proofs.RunFaults.{stops_so}
-use Rattle.dob_run.proofs.Threaded.{all_kept}
+use Rattle.rayon.proofs.ListFacts.{AllZip-weaken}
 
-module _ (No : ℕ → Type 0) (until : Until) (family : Family) (n size capacity : ℕ) (board : Board) (ended : List Runner)
+module _ {No : ℕ → Type 0} {until : Until} {family : Family} {n size capacity : ℕ} {board : Board} {ended : List Runner}
     (ran : HasRun No until family n size capacity board ended) where
   kept : AllZip KeepsRunner ran.old ended
-  kept = all_kept No until ran.old ended ran.ends
+  kept = AllZip-weaken (Ends No until) KeepsRunner (λ old new ends. ends.0) ran.old ended ran.ends
 
   pub still_crew : IsCrew board (map endpoint_of ended)
   still_crew = crew_kept board ran.old ended ran.opened.crew kept
@@ -68,7 +68,7 @@ all_let_on Says n board ended nodes crew are (Err why) unfailed = tt
 
 -- ---- what went over its links by then
 
-module _ (No : ℕ → Type 0) (turns : ℕ) (family : Family) (n size capacity : ℕ) (board : Board) (ended : List Runner)
+module _ {No : ℕ → Type 0} {turns : ℕ} {family : Family} {n size capacity : ℕ} {board : Board} {ended : List Runner}
     (ran : HasRun No (until.Turns turns) family n size capacity board ended) (unfailed : AreUnfailed ended) where
   few_offered : (i j : ℕ) (runner : Runner) (outlet : Outlet) → slice_get ended i ≡ Some runner → slice_get runner.endpoint.outlets.items j ≡ Some outlet →
       length (offered outlet) ≤ turns
@@ -97,7 +97,7 @@ module _ (No : ℕ → Type 0) (turns : ℕ) (family : Family) (n size capacity 
 
   carried : (turned : Turned) → HasLeft board.nodes ended turned → CarriesFew board.nodes turns turned
   carried turned left =
-      let crew = still_crew No (until.Turns turns) family n size capacity board ended ran in
+      let crew = still_crew ran in
       let there : (k : ℕ) → k < board.nodes → (runner : Runner) × (slice_get ended k ≡ Some runner) =
       λ k low. some_at ended k (omega (arith, crew_many board ended crew, low)) in
       record {
@@ -161,7 +161,7 @@ pub if_unheld : (No : ℕ → Type 0) (family : Family) (n size capacity : ℕ) 
 if_unheld No family n size capacity (Ok built) stops never = tt
 if_unheld No family n size capacity (Err fault) stops never = unheld No family n size capacity never fault stops
 
-module _ (No : ℕ → Type 0) (family : Family) (n size capacity : ℕ) (board : Board) (ended : List Runner)
+module _ {No : ℕ → Type 0} {family : Family} {n size capacity : ℕ} {board : Board} {ended : List Runner}
     (ran : HasRun No until.Halted family n size capacity board ended) where
   pub have_stopped : HaveStopped family size ended
   have_stopped = λ k runner at.
@@ -175,7 +175,7 @@ module _ (No : ℕ → Type 0) (family : Family) (n size capacity : ℕ) (board 
   is_built (Err why) is = tt
 
   fault_for : (fault : Fault) → IsFailureOf ended fault → HasBuildFault n size capacity fault
-  fault_for (Stopped node why) failure = fault_by No until.Halted family n size capacity board ended ran node why failure.runner failure.at
+  fault_for (Stopped node why) failure = fault_by ran node why failure.runner failure.at
   fault_for Memory failure = ran.within
   fault_for Nodes failure = absurd failure
   fault_for Sizes failure = absurd failure

@@ -110,17 +110,3 @@ module _ {G : Type 0} (Says : G → ℕ → Bool → Type 0) (gate : G) (until :
       IfOk result (λ after. AllZip (EndsBy (Says gate) until) runners after.items)
   if_all_ended runners started (Ok after) starts ends = all_ended runners started after.items starts ends
   if_all_ended runners started (Err why) starts ends = tt
-
--- what ended by a gate has ended
-pub all_by : (Says : ℕ → Bool → Type 0) (until : Until) (old new : List Runner) → AllZip (EndsBy Says until) old new → AllZip (Ends (says_no Says) until) old new
-all_by Says until [] [] ends = tt
-all_by Says until [] (r ∷ new) ends = absurd ends
-all_by Says until (r ∷ old) [] ends = absurd ends
-all_by Says until (r ∷ old) (s ∷ new) ends = (ends.0.0, all_by Says until old new ends.1)
-
--- what ended keeps its place
-pub all_kept : (No : ℕ → Type 0) (until : Until) (old new : List Runner) → AllZip (Ends No until) old new → AllZip KeepsRunner old new
-all_kept No until [] [] ends = tt
-all_kept No until [] (r ∷ new) ends = absurd ends
-all_kept No until (r ∷ old) [] ends = absurd ends
-all_kept No until (r ∷ old) (s ∷ new) ends = (ends.0.0, all_kept No until old new ends.1)

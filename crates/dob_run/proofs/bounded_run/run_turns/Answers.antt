@@ -21,7 +21,7 @@ returns-in_err-find_failed-clause-fault g c =
     let fault = c.in_err-find_failed.field-0.0 in
     carried (HasBuildFault c.args.nodes c.args.batch_size c.args.capacity) c.from_residual-in_err-find_failed.result fault
     c.from_residual-in_err-find_failed.ensures.1
-    (first_fault (says_no (g.G.Gate.says c.args.gate.now)) (Turns c.args.turns) c.args.family c.args.nodes c.args.batch_size c.args.capacity c.in_ok-board.field-0.board c.in_ok-board.field-0.runners.items (c.in_ok-board.ensures.ran _ _ _ c.in_ok-sizes.ensures.sizes)
+    (first_fault (c.in_ok-board.ensures.ran _ _ _ c.in_ok-sizes.ensures.sizes)
     fault (subst (λ (l : List Runner). IsFirstFailed l fault) c.deref.ensures.value c.in_err-find_failed.ensures.first))
 
 pub returns-in_err-find_failed-clause-stopped : goal.returns-in_err-find_failed-clause-stopped
@@ -29,16 +29,15 @@ returns-in_err-find_failed-clause-stopped g c =
     let fault = c.in_err-find_failed.field-0.0 in
     carried (StopsSo IsFirstFailed (says_no (g.G.Gate.says c.args.gate.now)) (Turns c.args.turns) c.args.family c.args.nodes c.args.batch_size c.args.capacity) c.from_residual-in_err-find_failed.result fault
     c.from_residual-in_err-find_failed.ensures.1
-    (first_stops (says_no (g.G.Gate.says c.args.gate.now)) (Turns c.args.turns) c.args.family c.args.nodes c.args.batch_size c.args.capacity c.in_ok-board.field-0.board c.in_ok-board.field-0.runners.items (c.in_ok-board.ensures.ran _ _ _ c.in_ok-sizes.ensures.sizes)
+    (first_stops (c.in_ok-board.ensures.ran _ _ _ c.in_ok-sizes.ensures.sizes)
     fault (subst (λ (l : List Runner). IsFirstFailed l fault) c.deref.ensures.value c.in_err-find_failed.ensures.first))
 
 pub close_crew-requires : goal.close_crew-requires
-close_crew-requires g c = still_crew (says_no (g.G.Gate.says c.args.gate.now)) (Turns c.args.turns) c.args.family c.args.nodes c.args.batch_size c.args.capacity c.in_ok-board.field-0.board c.in_ok-board.field-0.runners.items
-    (c.in_ok-board.ensures.ran _ _ _ c.in_ok-sizes.ensures.sizes)
+close_crew-requires g c = still_crew (c.in_ok-board.ensures.ran _ _ _ c.in_ok-sizes.ensures.sizes)
 
 pub returns-clause-turned : goal.returns-clause-turned
 returns-clause-turned g c =
-    has_turned (says_no (g.G.Gate.says c.args.gate.now)) (Turns c.args.turns) c.args.family c.args.nodes c.args.batch_size c.args.capacity c.in_ok-board.field-0.board c.in_ok-board.field-0.runners.items (c.in_ok-board.ensures.ran _ _ _ c.in_ok-sizes.ensures.sizes)
+    has_turned (c.in_ok-board.ensures.ran _ _ _ c.in_ok-sizes.ensures.sizes)
     c.in_ok-turned.turned (subst (λ (l : List Runner). AreUnfailed l) c.deref.ensures.value c.in_ok-find_failed.ensures.going) c.in_ok-turned.ensures
 
 pub returns-clause-within : goal.returns-clause-within
@@ -46,5 +45,5 @@ returns-clause-within g c = c.in_ok-sizes.ensures.within
 
 pub returns-clause-few : goal.returns-clause-few
 returns-clause-few g c =
-    carries_few (says_no (g.G.Gate.says c.args.gate.now)) c.args.turns c.args.family c.args.nodes c.args.batch_size c.args.capacity c.in_ok-board.field-0.board c.in_ok-board.field-0.runners.items (c.in_ok-board.ensures.ran _ _ _ c.in_ok-sizes.ensures.sizes)
+    carries_few (c.in_ok-board.ensures.ran _ _ _ c.in_ok-sizes.ensures.sizes)
     (subst (λ (l : List Runner). AreUnfailed l) c.deref.ensures.value c.in_ok-find_failed.ensures.going) c.in_ok-turned.turned c.in_ok-turned.ensures

@@ -18,33 +18,33 @@ returns-in_err-sizes-clause-stopped g c =
 
 pub finish-requires-clause-crew : goal.finish-requires-clause-crew
 finish-requires-clause-crew g c = λ κs lives.
-    still_crew (says_no (g.G.Gate.says c.args.gate.now)) Halted c.args.family c.args.nodes c.args.batch_size c.args.capacity c.in_ok-classes.field-0.board c.in_ok-classes.field-0.runners.items (c.in_ok-classes.ensures.ran _ _ _ c.in_ok-sizes.ensures.sizes)
+    still_crew (c.in_ok-classes.ensures.ran _ _ _ c.in_ok-sizes.ensures.sizes)
 
 pub finish-requires-clause-stopped : goal.finish-requires-clause-stopped
 finish-requires-clause-stopped g c = λ κs lives. (
   c.args.batch_size,
   subst (λ (s : Family). HaveStopped s c.args.batch_size c.in_ok-classes.field-0.runners.items) (sym c.in_ok-classes.ensures.family)
-      (have_stopped (says_no (g.G.Gate.says c.args.gate.now)) c.args.family c.args.nodes c.args.batch_size c.args.capacity c.in_ok-classes.field-0.board c.in_ok-classes.field-0.runners.items (c.in_ok-classes.ensures.ran _ _ _ c.in_ok-sizes.ensures.sizes)),
+      (have_stopped (c.in_ok-classes.ensures.ran _ _ _ c.in_ok-sizes.ensures.sizes)),
 )
 
 pub returns-clause-built : goal.returns-clause-built
 returns-clause-built g c =
-    is_built (says_no (g.G.Gate.says c.args.gate.now)) c.args.family c.args.nodes c.args.batch_size c.args.capacity c.in_ok-classes.field-0.board c.in_ok-classes.field-0.runners.items (c.in_ok-classes.ensures.ran _ _ _ c.in_ok-sizes.ensures.sizes)
+    is_built (c.in_ok-classes.ensures.ran _ _ _ c.in_ok-sizes.ensures.sizes)
     c.finish.result (subst (λ (s : Family). IfOk c.finish.result (λ built. (m : ℕ) → HaveStopped s m c.in_ok-classes.field-0.runners.items → IsBuilt s c.in_ok-classes.field-0.board.nodes m built))
     c.in_ok-classes.ensures.family c.finish.ensures.built)
 
 pub returns-clause-within : goal.returns-clause-within
 returns-clause-within g c =
-    is_within (says_no (g.G.Gate.says c.args.gate.now)) Halted c.args.family c.args.nodes c.args.batch_size c.args.capacity c.in_ok-classes.field-0.board c.in_ok-classes.field-0.runners.items (c.in_ok-classes.ensures.ran _ _ _ c.in_ok-sizes.ensures.sizes) c.finish.result
+    is_within (c.in_ok-classes.ensures.ran _ _ _ c.in_ok-sizes.ensures.sizes) c.finish.result
 
 pub returns-clause-fault : goal.returns-clause-fault
 returns-clause-fault g c =
-    has_fault (says_no (g.G.Gate.says c.args.gate.now)) c.args.family c.args.nodes c.args.batch_size c.args.capacity c.in_ok-classes.field-0.board c.in_ok-classes.field-0.runners.items (c.in_ok-classes.ensures.ran _ _ _ c.in_ok-sizes.ensures.sizes)
+    has_fault (c.in_ok-classes.ensures.ran _ _ _ c.in_ok-sizes.ensures.sizes)
     c.finish.result c.finish.ensures.failed
 
 pub returns-clause-stopped : goal.returns-clause-stopped
 returns-clause-stopped g c =
-    is_stopped (says_no (g.G.Gate.says c.args.gate.now)) c.args.family c.args.nodes c.args.batch_size c.args.capacity c.in_ok-classes.field-0.board c.in_ok-classes.field-0.runners.items (c.in_ok-classes.ensures.ran _ _ _ c.in_ok-sizes.ensures.sizes)
+    is_stopped (c.in_ok-classes.ensures.ran _ _ _ c.in_ok-sizes.ensures.sizes)
     c.finish.result c.finish.ensures.failed
 
 pub returns-in_err-sizes-clause-unheld : goal.returns-in_err-sizes-clause-unheld
@@ -56,10 +56,10 @@ pub returns-clause-let_on : goal.returns-clause-let_on
 returns-clause-let_on g c =
     let ran = (c.in_ok-classes.ensures.ran _ _ _ c.in_ok-sizes.ensures.sizes) in
     all_let_on (g.G.Gate.says c.args.gate.now) c.args.nodes c.in_ok-classes.field-0.board c.in_ok-classes.field-0.runners.items ran.opened.nodes
-    (still_crew (says_no (g.G.Gate.says c.args.gate.now)) Halted c.args.family c.args.nodes c.args.batch_size c.args.capacity c.in_ok-classes.field-0.board c.in_ok-classes.field-0.runners.items ran)
+    (still_crew ran)
     c.in_ok-classes.ensures.let_on c.finish.result c.finish.ensures.unfailed
 
 pub returns-clause-unheld : goal.returns-clause-unheld
 returns-clause-unheld g c = if_unheld (says_no (g.G.Gate.says c.args.gate.now)) c.args.family c.args.nodes c.args.batch_size c.args.capacity c.finish.result
-    (is_stopped (says_no (g.G.Gate.says c.args.gate.now)) c.args.family c.args.nodes c.args.batch_size c.args.capacity c.in_ok-classes.field-0.board c.in_ok-classes.field-0.runners.items (c.in_ok-classes.ensures.ran _ _ _ c.in_ok-sizes.ensures.sizes)
+    (is_stopped (c.in_ok-classes.ensures.ran _ _ _ c.in_ok-sizes.ensures.sizes)
     c.finish.result c.finish.ensures.failed)
