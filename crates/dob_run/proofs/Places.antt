@@ -1,7 +1,7 @@
 -- What stands where in a list, also after one thing more, after one was exchanged, and in a function of all its things.
 use Rattle.dob_run.proofs.Common.{◌++◌, ◌+◌, ◌<◌, ◌∙◌, ◌∷◌, ◌≡◌, ◌≢◌, ◌≤◌, List, Option, Some, [], ap, append_assoc, arith, drop, inl, inr, length}
 use Rattle.dob_run.proofs.Common.{length-append, map, refl, subst, suc, sym, take, zero, ℕ, append-nil, same_Some, slice_get_within, range_with_len, slice_get}
-use Rattle.dob_run.proofs.Common.{Vec, at_end, BatchView, held_from, slot_row, AreRows, StandsAt}
+use Rattle.dob_run.proofs.Common.{Vec, at_end, middle, BatchView, held_from, slot_row, AreRows, StandsAt}
 use Rattle.std.proofs.lemmas.List.FromFn.{map-range_with_len_more}
 
 pub none_at : {A L : Type 0} → (l : List A) (k : ℕ) (a : A) → l ≡ [] → slice_get l k ≡ Some a → L
@@ -42,58 +42,47 @@ map_got f [] k y e = absurd (cc)
 map_got f (x ∷ xs) zero y e = (x, refl, same_Some (f x) y e)
 map_got f (x ∷ xs) (suc k) y e = map_got f xs k y e
 
--- what comes next of a list of which the first k things went
-pub next_is : {A : Type 0} → (l rest : List A) (a : A) (k : ℕ) → drop k l ≡ a ∷ rest → slice_get l k ≡ Some a
-next_is [] rest a zero e = absurd (cc)
-next_is [] rest a (suc k) e = absurd (cc)
-next_is (x ∷ xs) rest a zero e = cc
-next_is (x ∷ xs) rest a (suc k) e = next_is xs rest a k e
-
-then_drop : {A : Type 0} → (l rest : List A) (a : A) (k : ℕ) → drop k l ≡ a ∷ rest → rest ≡ drop (suc k) l
-then_drop [] rest a zero e = absurd (cc)
-then_drop [] rest a (suc k) e = absurd (cc)
-then_drop (x ∷ xs) rest a zero e = cc
-then_drop (x ∷ xs) rest a (suc k) e = then_drop xs rest a k e
-
-none_behind : {A : Type 0} → (l : List A) (k : ℕ) → length (drop k l) ≡ 0 → length l ≤ k
-none_behind [] k e = omega arith
-none_behind (x ∷ xs) zero e = absurd (omega (arith, e))
-none_behind (x ∷ xs) (suc k) e = let h = none_behind xs k e in omega arith
-
-pub then_left : {A : Type 0} → (l rest : List A) (a : A) (k : ℕ) → drop k l ≡ a ∷ rest → rest ≡ drop (k + 1) l
-then_left l rest a k e = let one_more : suc k ≡ k + 1 = omega arith in then_drop l rest a k e ∙ ap (λ (m : ℕ). drop m l) one_more
-
 pub one_longer : {A : Type 0} {more : List A} (l : List A) (a : A) → more ≡ l ++ a ∷ [] → length more ≡ length l + 1
 one_longer {A} {more} l a is = omega (arith, ap length is, length-append l (a ∷ []))
 
 -- Of all things the first so many went, and these are left.
 pub record HaveGone {A : Type 0} (all left : List A) (done : ℕ) : Type 0 where
-  pub within : done ≤ length all
-  pub left_are : left ≡ drop done all
+  pub gone : List A
+  pub split : all ≡ gone ++ left
+  pub many : length gone ≡ done
 
-pub none_gone : {A : Type 0} {all left : List A} {done : ℕ} → left ≡ all → done ≡ 0 → HaveGone all left done
-none_gone {A} {all} {left} {done} same none = record { within = omega (arith, none); left_are = same ∙ ap (λ (k : ℕ). drop k all) (sym none) }
+abbrev pub none_gone : {A : Type 0} {all left : List A} {done : ℕ} → left ≡ all → done ≡ 0 → HaveGone all left done
+none_gone {A} {all} {left} {done} same none = record { gone = []; split = sym same; many = sym none }
 
-module _ {A : Type 0} {all left : List A} {done : ℕ} (gone : HaveGone all left done) where
+module _ {A : Type 0} {all left : List A} {done : ℕ} (on : HaveGone all left done) where
   -- the one that goes next
   pub next_at : {after : List A} {x : A} → left ≡ x ∷ after → slice_get all done ≡ Some x
-  next_at {after} {x} is = next_is all after x done (sym gone.left_are ∙ is)
+  next_at {after} {x} is = ap (slice_get all) (sym on.many) ∙ ap (λ (l : List A). slice_get l (length on.gone)) (on.split ∙ ap (λ (l : List A). on.gone ++ l) is)
+      ∙ middle on.gone after x
 
-  pub one_gone : {after : List A} {x : A} {more : ℕ} → left ≡ x ∷ after → more ≡ done + 1 → HaveGone all after more
+  abbrev pub one_gone : {after : List A} {x : A} {more : ℕ} → left ≡ x ∷ after → more ≡ done + 1 → HaveGone all after more
   one_gone {after} {x} {more} is one = record {
-    within = omega (arith, slice_get_within all done x (next_at is), one);
-    left_are = then_left all after x done (sym gone.left_are ∙ is) ∙ ap (λ (k : ℕ). drop k all) (sym one);
+    gone = on.gone ++ x ∷ [];
+    split = on.split ∙ ap (λ (l : List A). on.gone ++ l) is ∙ sym (append_assoc on.gone (x ∷ []) after);
+    many = omega (arith, length-append on.gone (x ∷ []), on.many, one);
   }
 
   -- where nothing is left, all things went
   pub gone_all : length left ≡ 0 → done ≡ length all
-  gone_all none = omega (arith, none_behind all done (ap length (sym gone.left_are) ∙ none), gone.within)
+  gone_all none = omega (arith, ap length on.split, length-append on.gone left, on.many, none)
+
+  pub gone_are : length left ≡ 0 → on.gone ≡ all
+  gone_are none = sym (on.split ∙ ap (λ (l : List A). on.gone ++ l) (nothing left none) ∙ append-nil on.gone)
+    where
+      nothing : (l : List A) → length l ≡ 0 → l ≡ []
+      nothing [] is = refl
+      nothing (x ∷ l) is = absurd (omega (arith, is))
 
   -- while a thing is left here, one is left in another list that is as long
   pub thing_left : {B : Type 0} {others others_left : List B} {after : List A} {x : A} → HaveGone others others_left done → left ≡ x ∷ after →
       length others ≡ length all → length others_left ≢ 0
   thing_left {B} {others} {others_left} {after} {x} other is long none =
-      omega (arith, none_behind others done (ap length (sym other.left_are) ∙ none), slice_get_within all done x (next_at is), long)
+      omega (arith, ap length on.split, length-append on.gone left, on.many, ap length is, ap length other.split, length-append other.gone others_left, other.many, none, long)
 
 -- a function of all things is that of those that went, and then that of those that are left
 module _ {A B : Type 0} (f : A → B) where

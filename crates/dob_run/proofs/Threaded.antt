@@ -13,34 +13,6 @@ use Rattle.rtrb.specs.declared.producer.Producer.{Producer}
 use Rattle.rtrb.specs.declared.consumer.Consumer.{Consumer}
 use Rattle.dob_run.specs.Started.{IsHandedOn, IsJoinable, AreJoinable}
 
--- Of all things some went, each with its answer, and these are left.
-pub record AreGoing {X Y : Type 0} (R : X → Y → Type 0) (all left : List X) (answers : List Y) : Type 0 where
-  pub gone : List X
-  pub split : all ≡ gone ++ left
-  pub related : AllZip R gone answers
-
-module _ {X Y : Type 0} (R : X → Y → Type 0) where
-  pub going_begins : (all left : List X) (answers : List Y) → left ≡ all → answers ≡ [] → AreGoing R all left answers
-  going_begins all left answers same none = record { gone = []; split = sym same; related = subst (AllZip R []) (sym none) tt }
-
-  pub goes_on : (all left after : List X) (answers more : List Y) (x : X) (y : Y) → AreGoing R all left answers → left ≡ x ∷ after → R x y →
-      more ≡ answers ++ y ∷ [] → AreGoing R all after more
-  goes_on all left after answers more x y on is related more_is = record {
-    gone = on.gone ++ x ∷ [];
-    split = on.split ∙ ap (λ (l : List X). on.gone ++ l) is ∙ sym (append_assoc on.gone (x ∷ []) after);
-    related = subst (AllZip R (on.gone ++ x ∷ [])) (sym more_is) (zip_one R on.gone answers x y on.related related);
-  }
-
-  pub all_went : (all left : List X) (answers : List Y) → AreGoing R all left answers → length left ≡ 0 → AllZip R all answers
-  all_went all [] answers on none = subst (λ (xs : List X). AllZip R xs answers) (sym (on.split ∙ append-nil on.gone)) on.related
-  all_went all (x ∷ xs) answers on none = absurd (omega (arith, none))
-
-  -- the next is one of all
-  pub next_one : (all left after : List X) (answers : List Y) (x : X) → AreGoing R all left answers → left ≡ x ∷ after →
-      (k : ℕ) × (slice_get all k ≡ Some x)
-  next_one all left after answers x on is =
-      (length on.gone, ap (λ (l : List X). slice_get l (length on.gone)) (on.split ∙ ap (λ (l : List X). on.gone ++ l) is) ∙ middle on.gone after x)
-
 -- ---- what goes over a ring for one
 
 -- and where the giver has sent more

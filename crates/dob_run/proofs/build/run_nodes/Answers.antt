@@ -27,39 +27,25 @@ finish-requires-clause-stopped g c = λ κs lives. (
       (have_stopped (c.in_ok-classes.ensures.ran _ _ _ c.in_ok-sizes.ensures.sizes)),
 )
 
-pub returns-clause-built : goal.returns-clause-built
-returns-clause-built g c =
-    is_built (c.in_ok-classes.ensures.ran _ _ _ c.in_ok-sizes.ensures.sizes)
-    c.finish.result (subst (λ (s : Family). IfOk c.finish.result (λ built. (m : ℕ) → HaveStopped s m c.in_ok-classes.field-0.runners.items → IsBuilt s c.in_ok-classes.field-0.board.nodes m built))
-    c.in_ok-classes.ensures.family c.finish.ensures.built)
-
-pub returns-clause-within : goal.returns-clause-within
-returns-clause-within g c =
-    is_within (c.in_ok-classes.ensures.ran _ _ _ c.in_ok-sizes.ensures.sizes) c.finish.result
-
-pub returns-clause-fault : goal.returns-clause-fault
-returns-clause-fault g c =
-    has_fault (c.in_ok-classes.ensures.ran _ _ _ c.in_ok-sizes.ensures.sizes)
-    c.finish.result c.finish.ensures.failed
-
-pub returns-clause-stopped : goal.returns-clause-stopped
-returns-clause-stopped g c =
-    is_stopped (c.in_ok-classes.ensures.ran _ _ _ c.in_ok-sizes.ensures.sizes)
-    c.finish.result c.finish.ensures.failed
-
 pub returns-in_err-sizes-clause-unheld : goal.returns-in_err-sizes-clause-unheld
 returns-in_err-sizes-clause-unheld g c = λ never.
     let fault = c.in_err-sizes.field-0.0 in
     carried IsUnheld c.from_residual.result fault c.from_residual.ensures.1 (unbegun_unheld c.args.nodes c.args.batch_size c.args.capacity fault (outside_none _ _ _ fault c.in_err-sizes.ensures.fault))
 
-pub returns-clause-let_on : goal.returns-clause-let_on
-returns-clause-let_on g c =
-    let ran = (c.in_ok-classes.ensures.ran _ _ _ c.in_ok-sizes.ensures.sizes) in
-    all_let_on (g.G.Gate.says c.args.gate.now) c.args.nodes c.in_ok-classes.field-0.board c.in_ok-classes.field-0.runners.items ran.opened.nodes
-    (still_crew ran)
-    c.in_ok-classes.ensures.let_on c.finish.result c.finish.ensures.unfailed
-
-pub returns-clause-unheld : goal.returns-clause-unheld
-returns-clause-unheld g c = if_unheld (says_no (g.G.Gate.says c.args.gate.now)) c.args.family c.args.nodes c.args.batch_size c.args.capacity c.finish.result
-    (is_stopped (c.in_ok-classes.ensures.ran _ _ _ c.in_ok-sizes.ensures.sizes)
-    c.finish.result c.finish.ensures.failed)
+pub returns : goal.returns
+returns g c =
+    let ran = c.in_ok-classes.ensures.ran _ _ _ c.in_ok-sizes.ensures.sizes in
+    let runners = c.in_ok-classes.field-0.runners.items in
+    let board = c.in_ok-classes.field-0.board in
+    let made = c.finish.result in
+    let stopped = is_stopped ran made c.finish.ensures.failed in
+    record {
+      built = is_built ran made (subst (λ (s : Family). IfOk made (λ built. (m : ℕ) → HaveStopped s m runners → IsBuilt s board.nodes m built))
+          c.in_ok-classes.ensures.family c.finish.ensures.built);
+      let_on = all_let_on (g.G.Gate.says c.args.gate.now) c.args.nodes board runners ran.opened.nodes (still_crew ran) c.in_ok-classes.ensures.let_on made
+          c.finish.ensures.unfailed;
+      unheld = if_unheld (says_no (g.G.Gate.says c.args.gate.now)) c.args.family c.args.nodes c.args.batch_size c.args.capacity made stopped;
+      within = is_within ran made;
+      fault = has_fault ran made c.finish.ensures.failed;
+      stopped = stopped;
+    }
