@@ -90,7 +90,7 @@ link_done outlet inlet i waiting empty sent long =
     let unheld : held ≡ [] = nothing_of held (omega (arith, count, long)) in
     sym (is ∙ ap (λ xs. (done ++ held) ++ xs) none ∙ append-nil (done ++ held) ∙ ap (λ xs. done ++ xs) unheld ∙ append-nil done)
 
-pub outlets_long : (endpoint : Endpoint) → length endpoint.outlets.items ≡ endpoint.seat.nodes
+outlets_long : (endpoint : Endpoint) → length endpoint.outlets.items ≡ endpoint.seat.nodes
 outlets_long endpoint = omega (arith, endpoint.outlets_len)
 
 -- ---- runners
@@ -160,7 +160,7 @@ module _ (family : Family) (n : ℕ) (some : 0 < n) (runners : List Runner) (are
       ∙ planned_all i j low_i
     where
       outlet : (x : Outlet) × (slice_get (at i).endpoint.outlets.items j ≡ Some x)
-      outlet = some_at (at i).endpoint.outlets.items j (let long = outlets_long (at i).endpoint in let nodes = (place i low_i).seat.1 in omega (arith, long, nodes, low_j))
+      outlet = some_at (at i).endpoint.outlets.items j (let nodes = (place i low_i).seat.1 in omega (arith, outlets_long (at i).endpoint, nodes, low_j))
 
       inbox : (waiting : List BatchView) × (sent_by outlet.0.end ≡ taken_of (at j).endpoint.inlet.end i ++ waiting)
       inbox = are.inboxes i j outlet.0 (at j).endpoint.inlet

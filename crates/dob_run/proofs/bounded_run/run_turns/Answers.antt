@@ -4,17 +4,20 @@ use Rattle.dob_run.proofs.ByThreads.{still_crew, first_fault, first_stops, has_t
 use Rattle.dob_run.proofs.RunFaults.{outside_none, unbegun_fault, unbegun_stops}
 use Rattle.dob_run.proofs.bounded_run.run_turns.Goals as goal
 
-pub returns-in_err-sizes-clause-fault : goal.returns-in_err-sizes-clause-fault
-returns-in_err-sizes-clause-fault g c =
+pub returns-in_err-sizes : goal.returns-in_err-sizes
+returns-in_err-sizes g c =
     let fault = c.in_err-sizes.field-0.0 in
-    carried (HasBuildFault c.args.nodes c.args.batch_size c.args.capacity) c.from_residual.result fault c.from_residual.ensures.1
-    (unbegun_fault c.args.nodes c.args.batch_size c.args.capacity fault (outside_none _ _ _ fault c.in_err-sizes.ensures.fault))
-
-pub returns-in_err-sizes-clause-stopped : goal.returns-in_err-sizes-clause-stopped
-returns-in_err-sizes-clause-stopped g c =
-    let fault = c.in_err-sizes.field-0.0 in
-    carried (StopsSo IsFirstFailed (says_no (g.G.Gate.says c.args.gate.now)) (Turns c.args.turns) c.args.family c.args.nodes c.args.batch_size c.args.capacity) c.from_residual.result fault c.from_residual.ensures.1
-    (unbegun_stops IsFirstFailed (says_no (g.G.Gate.says c.args.gate.now)) (Turns c.args.turns) c.args.family c.args.nodes c.args.batch_size c.args.capacity fault (outside_none _ _ _ fault c.in_err-sizes.ensures.fault))
+    let refused = c.from_residual.result in
+    let is = c.from_residual.ensures.1 in
+    let none = outside_none _ _ _ fault c.in_err-sizes.ensures.fault in
+    record {
+      turned = search rules;
+      few = search rules;
+      within = search rules;
+      fault = carried (HasBuildFault c.args.nodes c.args.batch_size c.args.capacity) refused fault is (unbegun_fault c.args.nodes c.args.batch_size c.args.capacity fault none);
+      stopped = carried (StopsSo IsFirstFailed (says_no (g.G.Gate.says c.args.gate.now)) (Turns c.args.turns) c.args.family c.args.nodes c.args.batch_size c.args.capacity) refused fault is
+          (unbegun_stops IsFirstFailed (says_no (g.G.Gate.says c.args.gate.now)) (Turns c.args.turns) c.args.family c.args.nodes c.args.batch_size c.args.capacity fault none);
+    }
 
 pub returns-in_err-find_failed : goal.returns-in_err-find_failed
 returns-in_err-find_failed g c =

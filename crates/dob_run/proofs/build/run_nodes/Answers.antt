@@ -1,20 +1,24 @@
 -- The crew that was run has stopped: it leaves a table within the limits, or the fault says why it leaves nothing.
-use Rattle.dob_run.proofs.Common.{subst, sym, ℕ, IfOk, Family, carried, says_no, Halted, IsUnheld, StopsSo, HaveStopped, IsFailureOf, IsBuilt, HasBuildFault}
+use Rattle.dob_run.proofs.Common.{rules, subst, sym, ℕ, IfOk, Family, carried, says_no, Halted, IsUnheld, StopsSo, HaveStopped, IsFailureOf, IsBuilt, HasBuildFault}
 use Rattle.dob_run.proofs.ByThreads.{still_crew, have_stopped, is_built, is_within, has_fault, is_stopped, all_let_on, if_unheld}
 use Rattle.dob_run.proofs.RunFaults.{outside_none, unbegun_fault, unbegun_stops, unbegun_unheld}
 use Rattle.dob_run.proofs.build.run_nodes.Goals as goal
 
-pub returns-in_err-sizes-clause-fault : goal.returns-in_err-sizes-clause-fault
-returns-in_err-sizes-clause-fault g c =
+pub returns-in_err-sizes : goal.returns-in_err-sizes
+returns-in_err-sizes g c =
     let fault = c.in_err-sizes.field-0.0 in
-    carried (HasBuildFault c.args.nodes c.args.batch_size c.args.capacity) c.from_residual.result fault c.from_residual.ensures.1
-    (unbegun_fault c.args.nodes c.args.batch_size c.args.capacity fault (outside_none _ _ _ fault c.in_err-sizes.ensures.fault))
-
-pub returns-in_err-sizes-clause-stopped : goal.returns-in_err-sizes-clause-stopped
-returns-in_err-sizes-clause-stopped g c =
-    let fault = c.in_err-sizes.field-0.0 in
-    carried (StopsSo IsFailureOf (says_no (g.G.Gate.says c.args.gate.now)) Halted c.args.family c.args.nodes c.args.batch_size c.args.capacity) c.from_residual.result fault c.from_residual.ensures.1
-    (unbegun_stops IsFailureOf (says_no (g.G.Gate.says c.args.gate.now)) Halted c.args.family c.args.nodes c.args.batch_size c.args.capacity fault (outside_none _ _ _ fault c.in_err-sizes.ensures.fault))
+    let refused = c.from_residual.result in
+    let is = c.from_residual.ensures.1 in
+    let none = outside_none _ _ _ fault c.in_err-sizes.ensures.fault in
+    record {
+      built = search rules;
+      let_on = search rules;
+      unheld = λ never. carried IsUnheld refused fault is (unbegun_unheld c.args.nodes c.args.batch_size c.args.capacity fault none);
+      within = search rules;
+      fault = carried (HasBuildFault c.args.nodes c.args.batch_size c.args.capacity) refused fault is (unbegun_fault c.args.nodes c.args.batch_size c.args.capacity fault none);
+      stopped = carried (StopsSo IsFailureOf (says_no (g.G.Gate.says c.args.gate.now)) Halted c.args.family c.args.nodes c.args.batch_size c.args.capacity) refused fault is
+          (unbegun_stops IsFailureOf (says_no (g.G.Gate.says c.args.gate.now)) Halted c.args.family c.args.nodes c.args.batch_size c.args.capacity fault none);
+    }
 
 pub finish-requires-clause-crew : goal.finish-requires-clause-crew
 finish-requires-clause-crew g c = λ κs lives.
@@ -26,11 +30,6 @@ finish-requires-clause-stopped g c = λ κs lives. (
   subst (λ (s : Family). HaveStopped s c.args.batch_size c.in_ok-classes.field-0.runners.items) (sym c.in_ok-classes.ensures.family)
       (have_stopped (c.in_ok-classes.ensures.ran _ _ _ c.in_ok-sizes.ensures.sizes)),
 )
-
-pub returns-in_err-sizes-clause-unheld : goal.returns-in_err-sizes-clause-unheld
-returns-in_err-sizes-clause-unheld g c = λ never.
-    let fault = c.in_err-sizes.field-0.0 in
-    carried IsUnheld c.from_residual.result fault c.from_residual.ensures.1 (unbegun_unheld c.args.nodes c.args.batch_size c.args.capacity fault (outside_none _ _ _ fault c.in_err-sizes.ensures.fault))
 
 pub returns : goal.returns
 returns g c =
