@@ -145,7 +145,7 @@ module _ {No : ℕ → Type 0} {turns : ℕ} {family : Family} {n size capacity 
 -- ---- where it was run to its end
 
 -- no node was held back where the gate never says no
-unheld : (No : ℕ → Type 0) (family : Family) (n size capacity : ℕ) → ((node : ℕ) → ¬ No node) → (fault : Fault) →
+pub unheld : (No : ℕ → Type 0) (family : Family) (n size capacity : ℕ) → ((node : ℕ) → ¬ No node) → (fault : Fault) →
     StopsSo IsFailureOf No until.Halted family n size capacity fault → IsUnheld fault
 unheld No family n size capacity never (Stopped node why) stops = λ held.
     let runner = stops.names.runner in
@@ -155,11 +155,6 @@ unheld No family n size capacity never Nodes stops = tt
 unheld No family n size capacity never Sizes stops = tt
 unheld No family n size capacity never Memory stops = tt
 
-pub if_unheld : (No : ℕ → Type 0) (family : Family) (n size capacity : ℕ) (result : Result Built Fault) →
-    IfErr result (StopsSo IsFailureOf No until.Halted family n size capacity) → ((node : ℕ) → ¬ No node) → IfErr result IsUnheld
-if_unheld No family n size capacity (Ok built) stops never = tt
-if_unheld No family n size capacity (Err fault) stops never = unheld No family n size capacity never fault stops
-
 module _ {No : ℕ → Type 0} {family : Family} {n size capacity : ℕ} {board : Board} {ended : List Runner}
     (ran : HasRun No until.Halted family n size capacity board ended) where
   pub have_stopped : HaveStopped family size ended
@@ -168,22 +163,11 @@ module _ {No : ℕ → Type 0} {family : Family} {n size capacity : ℕ} {board 
       let is = ran.opened.each k was.0 was.1 in
       record { family_is = was.2.0.family ∙ is.family_is; size_is = was.2.0.batch_size ∙ is.size_is; halted = was.2.1 }
 
-  pub is_built : (result : Result Built Fault) →
-      IfOk result (λ built. (m : ℕ) → HaveStopped family m ended → IsBuilt family board.nodes m built) → IfOk result (IsBuilt family n size)
-  is_built (Ok built) is = subst (λ (k : ℕ). IsBuilt family k size built) ran.opened.nodes (is size have_stopped)
-  is_built (Err why) is = tt
+  pub is_built : (built : Built) → ((m : ℕ) → HaveStopped family m ended → IsBuilt family board.nodes m built) → IsBuilt family n size built
+  is_built built is = subst (λ (k : ℕ). IsBuilt family k size built) ran.opened.nodes (is size have_stopped)
 
-  fault_for : (fault : Fault) → IsFailureOf ended fault → HasBuildFault n size capacity fault
+  pub fault_for : (fault : Fault) → IsFailureOf ended fault → HasBuildFault n size capacity fault
   fault_for (Stopped node why) failure = fault_by ran node why failure.runner failure.at
   fault_for Memory failure = ran.within
   fault_for Nodes failure = absurd failure
   fault_for Sizes failure = absurd failure
-
-  pub has_fault : (result : Result Built Fault) → IfErr result (IsFailureOf ended) → IfErr result (HasBuildFault n size capacity)
-  has_fault (Ok built) failure = tt
-  has_fault (Err fault) failure = fault_for fault failure
-
-  pub is_stopped : (result : Result Built Fault) → IfErr result (IsFailureOf ended) → IfErr result (StopsSo IsFailureOf No until.Halted family n size capacity)
-  is_stopped (Ok built) failure = tt
-  is_stopped (Err fault) failure =
-      stops_so IsFailureOf No until.Halted family n size capacity board ended fault ran failure

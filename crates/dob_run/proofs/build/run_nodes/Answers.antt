@@ -1,7 +1,8 @@
 -- The crew that was run has stopped: it leaves a table within the limits, or the fault says why it leaves nothing.
 use Rattle.dob_run.proofs.Common.{rules, subst, sym, ℕ, IfOk, Family, carried, says_no, Halted, IsUnheld, StopsSo, HaveStopped, IsFailureOf, IsBuilt, HasBuildFault}
-use Rattle.dob_run.proofs.ByThreads.{still_crew, have_stopped, is_built, is_within, has_fault, is_stopped, all_let_on, if_unheld}
-use Rattle.dob_run.proofs.RunFaults.{outside_none, unbegun_fault, unbegun_stops, unbegun_unheld}
+use Rattle.dob_run.proofs.ByThreads.{still_crew, have_stopped, is_built, is_within, fault_for, all_let_on, unheld}
+use Rattle.dob_run.proofs.RunFaults.{outside_none, stops_so, unbegun_fault, unbegun_stops, unbegun_unheld}
+use Rattle.std.proofs.lemmas.Result.{IfErr-weaker, IfOk-weaker}
 use Rattle.dob_run.proofs.build.run_nodes.Goals as goal
 
 pub returns-in_err-sizes : goal.returns-in_err-sizes
@@ -37,14 +38,18 @@ returns g c =
     let runners = c.in_ok-classes.field-0.runners.items in
     let board = c.in_ok-classes.field-0.board in
     let made = c.finish.result in
-    let stopped = is_stopped ran made c.finish.ensures.failed in
+    let No = says_no (g.G.Gate.says c.args.gate.now) in
+    let Stops = StopsSo IsFailureOf No Halted c.args.family c.args.nodes c.args.batch_size c.args.capacity in
+    let stopped = IfErr-weaker made (IsFailureOf runners) Stops
+    (λ fault failure. stops_so IsFailureOf No Halted c.args.family c.args.nodes c.args.batch_size c.args.capacity board runners fault ran failure) c.finish.ensures.failed in
     record {
-      built = is_built ran made (subst (λ (s : Family). IfOk made (λ built. (m : ℕ) → HaveStopped s m runners → IsBuilt s board.nodes m built))
-          c.in_ok-classes.ensures.family c.finish.ensures.built);
+      built = IfOk-weaker made (λ built. (m : ℕ) → HaveStopped c.args.family m runners → IsBuilt c.args.family board.nodes m built)
+          (IsBuilt c.args.family c.args.nodes c.args.batch_size) (is_built ran)
+          (subst (λ (s : Family). IfOk made (λ built. (m : ℕ) → HaveStopped s m runners → IsBuilt s board.nodes m built)) c.in_ok-classes.ensures.family c.finish.ensures.built);
       let_on = all_let_on (g.G.Gate.says c.args.gate.now) c.args.nodes board runners ran.opened.nodes (still_crew ran) c.in_ok-classes.ensures.let_on made
           c.finish.ensures.unfailed;
-      unheld = if_unheld (says_no (g.G.Gate.says c.args.gate.now)) c.args.family c.args.nodes c.args.batch_size c.args.capacity made stopped;
+      unheld = λ never. IfErr-weaker made Stops IsUnheld (unheld No c.args.family c.args.nodes c.args.batch_size c.args.capacity never) stopped;
       within = is_within ran made;
-      fault = has_fault ran made c.finish.ensures.failed;
+      fault = IfErr-weaker made (IsFailureOf runners) (HasBuildFault c.args.nodes c.args.batch_size c.args.capacity) (fault_for ran) c.finish.ensures.failed;
       stopped = stopped;
     }
