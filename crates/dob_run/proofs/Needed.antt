@@ -205,10 +205,8 @@ needed_fits family n size i j node endpoint outlet values law idle id_is n_is ap
 
     all_items : items_from (predecessors family) n j node.history.settlements ≡ items_of_batches (offered outlet)
     all_items =
-        ap (λ (s : Family). items_from (predecessors s) n j node.history.settlements) (sym law.of.0)
-        ∙ ap (λ m. items_from (predecessors node.family) m j node.history.settlements) (sym n_is)
-        ∙ ap (λ (xs : List Settlement). items_from (predecessors node.family) node.n j xs)
-        (sym (take_all node.expanded node.history.settlements (let emitted = idle.expanded in omega (arith, emitted))))
+        (λ q. items_from (predecessors (sym law.of.0 q)) (sym n_is q) j
+        (sym (take_all node.expanded node.history.settlements (let emitted = idle.expanded in omega (arith, emitted))) q))
         ∙ sends.items
         ∙ ap (λ (xs : List Item). items_of_batches (offered outlet) ++ xs) (idle.sent j)
         ∙ append-nil (items_of_batches (offered outlet))
