@@ -1,11 +1,12 @@
 -- A crew that was run, from what its threads promise to what is made of it.
 use Rattle.dob_run.proofs.Common.{◌<◌, ◌∙◌, ◌≡◌, ◌≤◌, Bool, List, Option, Result, ap, arith, length, length-append, map, refl, subst, sym, true, ℕ, AllZip}
-use Rattle.dob_run.proofs.Common.{IfOk, slice_get, slice_get_within, some_at, zip_at, Family, BatchView, Cause, Fault, Memory, Nodes, Sizes, Stopped, Board, place_of, sent_by}
+use Rattle.dob_run.proofs.Common.{slice_get, slice_get_within, some_at, zip_at, Family, BatchView, Cause, Fault, Memory, Nodes, Sizes, Stopped, Board}
+use Rattle.dob_run.proofs.Common.{place_of, sent_by}
 use Rattle.dob_run.proofs.Common.{taken_by, few_of, offered, worked, IsReasonFor, KeepsRunner, in_slot, worked_of, Ends, EndsBy, Runner, Inlet, Outlet, Until}
 use Rattle.dob_run.proofs.Common.{AreUnfailed, CarriesFew, HasLeft, IsFirstFailed, IsTurned, IsUnheld, StopsSo, HaveStopped, IsFailureOf, IsBuilt, IsCrew}
 use Rattle.dob_run.proofs.Common.{IsNewCrew, endpoint_of, AreLetOn, HasRun, AreWithin, HasBuildFault, Turned, Built}
 use Rattle.std.proofs.Common.{Ok, Err}
-use Rattle.std.specs.Prelude.{IfErr, OnOk, Some}
+use Rattle.std.specs.Prelude.{OnOk, Some}
 use Rattle.dob_runner.specs.declared.turn_loop.Until.TheVariants as until
 use Rattle.dob_run.proofs.CrewLeaves.{for_kept, turned_is}
 use Rattle.dob_run.proofs.CrewRunners.{seat_at, seat_there, are_linked, crew_many, crew_low, outlet_at, crew_kept}
@@ -74,8 +75,13 @@ module _ {No : ℕ → Type 0} {turns : ℕ} {family : Family} {n size capacity 
   few_offered i j runner outlet at out =
       let was = zip_at (Ends No (until.Turns turns)) ran.old ended i runner ran.ends at in
       let few = was.2.1 (unfailed i runner at) in
-      let old = some_at was.0.endpoint.outlets.items j (omega (arith, slice_get_within runner.endpoint.outlets.items j outlet out, runner.endpoint.outlets_len,
-      was.0.endpoint.outlets_len, was.2.0.endpoint.seat.nodes)) in
+      let old = some_at was.0.endpoint.outlets.items j (omega (
+        arith,
+        slice_get_within runner.endpoint.outlets.items j outlet out,
+        runner.endpoint.outlets_len,
+        was.0.endpoint.outlets_len,
+        was.2.0.endpoint.seat.nodes,
+      )) in
       let none = (ran.opened.new i was.0 was.1).1.unsent j old.0 old.1 in
       omega (arith, few.out j old.0 outlet old.1 out, ap length none.0)
 

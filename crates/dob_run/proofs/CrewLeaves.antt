@@ -1,6 +1,6 @@
 -- What a crew's runners leave when they are closed, put together from their parts.
-use Rattle.dob_run.proofs.Common.{◌*◌, ◌++◌, ◌+◌, ◌-◌, ◌<◌, ◌∙◌, ◌∷◌, ◌≡◌, ◌≢◌, ◌≤◌, Global, List, None, Option, Some, [], ap, arith, drop, inl, length}
-use Rattle.dob_run.proofs.Common.{length-append, map, refl, subst, sym, take, ℕ, length-map, take-append-drop, same_Some, slice_get_within, AllZip, slice_get}
+use Rattle.dob_run.proofs.Common.{◌*◌, ◌++◌, ◌+◌, ◌-◌, ◌<◌, ◌∙◌, ◌≡◌, ◌≢◌, Global, List, None, Option, Some, [], ap, arith, inl, length}
+use Rattle.dob_run.proofs.Common.{length-append, map, refl, subst, sym, take, ℕ, length-map, take-append-drop, same_Some, AllZip, slice_get}
 use Rattle.dob_run.proofs.Common.{Vec, zip_at, Family, Item, BatchView, items_of_batches, outbox_to, Node, AreWords, Board, Closed, IsRejoined, sent_by}
 use Rattle.dob_run.proofs.Common.{taken_by, taken_of, Rejoined, applied_else, applied_here, front, parts, KnowsRight, AreLast, IsLawfulRunner, SendsRight}
 use Rattle.dob_run.proofs.Common.{applied_from, planned, offered, worked_from, KeepsRunner, held_from, in_slot, Endpoint, Runner, Inlet, Outlet, AreUnfailed}

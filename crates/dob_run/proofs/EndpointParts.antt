@@ -1,6 +1,6 @@
 -- Endpoints taken apart one by one, and what their ends are then.
-use Rattle.dob_run.proofs.Common.{◌*◌, ◌++◌, ◌+◌, ◌<◌, ◌∙◌, ◌∷◌, ◌≡◌, List, Some, [], ap, append_assoc, arith, inl, inr, length, length-append, map, refl}
-use Rattle.dob_run.proofs.Common.{subst, sym, ℕ, append-nil, length-map, same_Some, slice_get_within, slice_get, Vec, at_end, get_front, middle, some_at, Board}
+use Rattle.dob_run.proofs.Common.{◌*◌, ◌++◌, ◌+◌, ◌<◌, ◌∙◌, ◌∷◌, ◌≡◌, List, Some, [], ap, arith, inl, inr, length, length-append, map, refl}
+use Rattle.dob_run.proofs.Common.{subst, sym, ℕ, length-map, same_Some, slice_get_within, slice_get, Vec, at_end, get_front, middle, some_at, Board}
 use Rattle.dob_run.proofs.Common.{IsRejoined, taken_by, Rejoined, SendEnd, TakeEnd, Endpoint, Inlet, Outlet, AreLinked, ArePartsOf, IsCrew, row_of, seat_in}
 use Rattle.dob_run.proofs.Common.{slots_in, slots_out, AreEnds, AreJoined, outlet_end, AreDealt, StandsAt}
 use Rattle.dob_chan.specs.Ends.{IsEndOf, senders_of}

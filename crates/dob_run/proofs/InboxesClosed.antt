@@ -1,7 +1,8 @@
 -- Things dealt, rows joined and inboxes ended one by one.
-use Rattle.dob_run.proofs.Common.{◌*◌, ◌++◌, ◌+◌, ◌<◌, ◌∙◌, ◌∷◌, ◌≡◌, ◌≤◌, List, Some, [], ap, append_assoc, arith, drop, inl, inr, length, length-append}
-use Rattle.dob_run.proofs.Common.{length-set, rules, set, subst, sym, ℕ, cases_eq, append-nil, same_Some, slice_get_within, slice_get, Vec, at_end, get_front, middle}
-use Rattle.dob_run.proofs.Common.{get_set_other, some_at, AreEndsOf, AreRejoined, IsRejoined, taken_by, Rejoined, SendEnd, TakeEnd, AreEnds, AreJoined}
+use Rattle.dob_run.proofs.Common.{◌*◌, ◌++◌, ◌+◌, ◌<◌, ◌∙◌, ◌∷◌, ◌≡◌, List, Some, [], ap, arith, inl, inr, length, length-append}
+use Rattle.dob_run.proofs.Common.{length-set, rules, set, subst, sym, ℕ, cases_eq, same_Some, slice_get_within, slice_get, Vec}
+use Rattle.dob_run.proofs.Common.{get_front, middle}
+use Rattle.dob_run.proofs.Common.{get_set_other, some_at, AreRejoined, IsRejoined, taken_by, Rejoined, SendEnd, TakeEnd, AreEnds, AreJoined}
 use Rattle.dob_run.proofs.Common.{AreDealt, AreInOrder, AreRows, StandsAt}
 use Rattle.dob_runner.proofs.Counted.{there_set}
 use Rattle.dob_run.proofs.Places.{HaveGone, behind}
@@ -84,8 +85,12 @@ module _ {Z W : Type 0} {n : ℕ} {sends : List (Vec SendEnd Z)} {takes : List T
             let row_is : row ≡ there.0 = same_Some row there.0 (sym at ∙ ap (slice_get sends) (sym here) ∙ there.1) in
             let take_is : take ≡ taker = same_Some take taker (sym at_take ∙ ap (slice_get takes) (sym here) ∙ taken) in (
               one.1,
-              (now.0, now.1, ap (λ (l : List Rejoined). slice_get l j) one.4
-                  ∙ ap (slice_get (one.0.items ++ one.1 ∷ [])) (here ∙ sym (are.each i one.0 one.2)) ∙ middle one.0.items [] one.1),
+              (
+                now.0,
+                now.1,
+                ap (λ (l : List Rejoined). slice_get l j) one.4
+                    ∙ ap (slice_get (one.0.items ++ one.1 ∷ [])) (here ∙ sym (are.each i one.0 one.2)) ∙ middle one.0.items [] one.1,
+              ),
               subst (λ (t : TakeEnd). IsRejoined send (taken_by t) one.1) take_is
                   (rejoined.1 i send one.1 (ap (λ (v : Vec SendEnd Z). slice_get v.items i) row_is ∙ there.2) one.3),
             )
@@ -93,14 +98,19 @@ module _ {Z W : Type 0} {n : ℕ} {sends : List (Vec SendEnd Z)} {takes : List T
             let was = so_far i j send taker (omega (arith, below, apart)) there taken in
             let before_is : one.0 ≡ was.1.0 = same_Some one.0 was.1.0 (sym one.2 ∙ was.1.1) in (
               was.0,
-              (now.0, now.1, ap (λ (l : List Rejoined). slice_get l j) one.4
-                  ∙ get_front one.0.items (one.1 ∷ []) was.0 j (ap (λ (v : Vec Rejoined W). slice_get v.items j) before_is ∙ was.1.2)),
+              (
+                now.0,
+                now.1,
+                ap (λ (l : List Rejoined). slice_get l j) one.4
+                    ∙ get_front one.0.items (one.1 ∷ []) was.0 j (ap (λ (v : Vec Rejoined W). slice_get v.items j) before_is ∙ was.1.2),
+              ),
               was.2,
             )
       ]
 
   -- all links, row by row
-  pub are_joined : (rows : List (Vec Rejoined W)) (links : List Rejoined) → HaveLinks sends takes n rows → AreInOrder n n rows links → AreJoined n sends takes links
+  pub are_joined : (rows : List (Vec Rejoined W)) (links : List Rejoined) → HaveLinks sends takes n rows → AreInOrder n n rows links → AreJoined n sends
+      takes links
   are_joined rows links all order = record {
     count = order.count;
     joined = λ i j send take there at_take.

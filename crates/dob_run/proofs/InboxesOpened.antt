@@ -1,5 +1,5 @@
 -- Inboxes laid one by one.
-use Rattle.dob_run.proofs.Common.{◌++◌, ◌+◌, ◌<◌, ◌∙◌, ◌∷◌, ◌≡◌, ◌≤◌, List, None, Some, [], ap, arith, drop, inl, inr, length, length-append, subst, sym, ℕ}
+use Rattle.dob_run.proofs.Common.{◌++◌, ◌+◌, ◌<◌, ◌∙◌, ◌∷◌, ◌≡◌, List, None, Some, [], ap, arith, inl, inr, length, length-append, subst, sym, ℕ}
 use Rattle.dob_run.proofs.Common.{slice_get_within, slice_get, Vec, at_end, AreEndsOf, taken_by, SendEnd, TakeEnd, Inlet, Outlet, AreDealt, AreRows, StandsAt}
 use Rattle.dob_chan.specs.Ends.{senders_of, IsEndOf, AreOpened}
 use Rattle.dob_run.specs.InboxOpen.{AreOutlets, IsLaid, IsUntaken, IsOneLaid, AreLaidUpto}

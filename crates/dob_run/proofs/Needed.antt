@@ -1,6 +1,7 @@
 -- A runner that has nothing left to do cut enough batches for what its classes have to tell another node.
 use Rattle.dob_run.proofs.Common.{◌*◌, ◌++◌, ◌+◌, ◌<◌, ◌∙◌, ◌∷◌, ◌≡◌, ◌≢◌, ◌≤◌, Bool, List, Some, [], ap, arith, cond, eqb, false, get_or, inl, inr, length}
-use Rattle.dob_run.proofs.Common.{length-append, refl, subst, suc, sym, true, zero, ℕ, cases_Bool, cases_eq, cases_lt, eq-eqb, eqb-true, ne_eqb, append-nil, length-map}
+use Rattle.dob_run.proofs.Common.{length-append, refl, subst, suc, sym, true, zero, ℕ, cases_Bool, cases_eq, cases_lt, eq-eqb, eqb-true, ne_eqb, append-nil}
+use Rattle.dob_run.proofs.Common.{length-map}
 use Rattle.dob_run.proofs.Common.{take_all, slice_get-get_or, All, count_by, filter, range_with_len, sum_by, slice_get, Family, classes_of, Value, Draw}
 use Rattle.dob_run.proofs.Common.{owner_of, HasValueNow, Item, Settlement, BatchView, items_of_batches, item_for, items_from, items_of, last_now, value_of}
 use Rattle.dob_run.proofs.Common.{IsIdle, Node, IsLawfulRunner, SendsRight, offered, Endpoint, Outlet, edges_to, needed}

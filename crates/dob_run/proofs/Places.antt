@@ -1,5 +1,5 @@
 -- What stands where in a list, also after one thing more, after one was exchanged, and in a function of all its things.
-use Rattle.dob_run.proofs.Common.{◌++◌, ◌+◌, ◌<◌, ◌∙◌, ◌∷◌, ◌≡◌, ◌≢◌, ◌≤◌, List, Option, Some, [], ap, append_assoc, arith, drop, inl, inr, length}
+use Rattle.dob_run.proofs.Common.{◌++◌, ◌+◌, ◌<◌, ◌∙◌, ◌∷◌, ◌≡◌, ◌≢◌, List, Option, Some, [], ap, append_assoc, arith, inl, inr, length}
 use Rattle.dob_run.proofs.Common.{length-append, map, refl, subst, suc, sym, take, zero, ℕ, append-nil, same_Some, slice_get_within, range_with_len, slice_get}
 use Rattle.dob_run.proofs.Common.{Vec, at_end, middle, BatchView, held_from, slot_row, AreRows, StandsAt}
 use Rattle.std.proofs.lemmas.List.FromFn.{map-range_with_len_more}
@@ -57,7 +57,8 @@ none_gone {A} {all} {left} {done} same none = record { gone = []; split = sym sa
 module _ {A : Type 0} {all left : List A} {done : ℕ} (on : HaveGone all left done) where
   -- the one that goes next
   pub next_at : {after : List A} {x : A} → left ≡ x ∷ after → slice_get all done ≡ Some x
-  next_at {after} {x} is = ap (slice_get all) (sym on.many) ∙ ap (λ (l : List A). slice_get l (length on.gone)) (on.split ∙ ap (λ (l : List A). on.gone ++ l) is)
+  next_at {after} {x} is = ap (slice_get all) (sym on.many) ∙ ap (λ (l : List A). slice_get l (length on.gone))
+      (on.split ∙ ap (λ (l : List A). on.gone ++ l) is)
       ∙ middle on.gone after x
 
   abbrev pub one_gone : {after : List A} {x : A} {more : ℕ} → left ≡ x ∷ after → more ≡ done + 1 → HaveGone all after more
@@ -82,7 +83,18 @@ module _ {A : Type 0} {all left : List A} {done : ℕ} (on : HaveGone all left d
   pub thing_left : {B : Type 0} {others others_left : List B} {after : List A} {x : A} → HaveGone others others_left done → left ≡ x ∷ after →
       length others ≡ length all → length others_left ≢ 0
   thing_left {B} {others} {others_left} {after} {x} other is long none =
-      omega (arith, ap length on.split, length-append on.gone left, on.many, ap length is, ap length other.split, length-append other.gone others_left, other.many, none, long)
+      omega (
+        arith,
+        ap length on.split,
+        length-append on.gone left,
+        on.many,
+        ap length is,
+        ap length other.split,
+        length-append other.gone others_left,
+        other.many,
+        none,
+        long,
+      )
 
 -- a function of all things is that of those that went, and then that of those that are left
 module _ {A B : Type 0} (f : A → B) where

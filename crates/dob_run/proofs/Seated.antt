@@ -1,8 +1,8 @@
 -- What endpoints are at the start, of seats with their rows of outlets and their inlets.
-use Rattle.dob_run.proofs.Common.{◌++◌, ◌+◌, ◌-◌, ◌<◌, ◌∙◌, ◌∷◌, ◌≡◌, ◌≤◌, List, Some, [], ap, arith, drop, length, length-append, map, refl, subst, suc, sym}
+use Rattle.dob_run.proofs.Common.{◌++◌, ◌-◌, ◌<◌, ◌∙◌, ◌≡◌, List, Some, [], ap, arith, length, map, refl, subst, suc, sym}
 use Rattle.dob_run.proofs.Common.{take, zero, ℕ, length-map, same_Some, slice_get_within, slice_get, slice_index, Vec, some_at, BatchView, same_halt, fresh}
 use Rattle.dob_run.proofs.Common.{AreSeats, IsSeatOf, stand_of, Board, Running, NodeSeat, batches_of, offered, worked, in_slot, Endpoint, Inlet, Outlet}
-use Rattle.dob_run.proofs.Common.{AreLinked, seat_in, AreNewEndpoints, StandsAt, AreSeated, CanSeat, CanSeatAll, IsSeated}
+use Rattle.dob_run.proofs.Common.{AreLinked, seat_in, AreNewEndpoints, StandsAt, AreSeated, CanSeatAll}
 use Rattle.std.proofs.Common.{replicate}
 use Rattle.dob_board.specs.declared.view.Stand.{Stand}
 use Rattle.dob_chan.specs.Ends.{IsEndOf}

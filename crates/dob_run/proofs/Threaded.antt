@@ -1,7 +1,7 @@
 -- Things that go one by one, each with its answer, and runners whose threads are started and ended so.
-use Rattle.dob_run.proofs.Common.{◌++◌, ◌∙◌, ◌∷◌, ◌≡◌, Bool, List, Some, [], ap, append_assoc, arith, length, subst, sym, ℕ, append-nil, same_Some, AllZip}
-use Rattle.dob_run.proofs.Common.{IfOk, slice_get, Vec, ConsumerLooked, IsPair, ProducerLooked, SameConsumer, SameProducer, known_items, received, sent, middle}
-use Rattle.dob_run.proofs.Common.{zip_at, zip_one, HasFailed, KeepsRunner, says_no, Ends, EndsBy, Runner, Until, IsEndOf, IsStartOf, Handed, Kept}
+use Rattle.dob_run.proofs.Common.{◌++◌, ◌∙◌, ◌∷◌, ◌≡◌, Bool, List, [], ap, subst, sym, ℕ, same_Some, AllZip}
+use Rattle.dob_run.proofs.Common.{IfOk, slice_get, Vec, ConsumerLooked, IsPair, ProducerLooked, SameProducer, known_items, received, sent}
+use Rattle.dob_run.proofs.Common.{zip_at, HasFailed, EndsBy, Runner, Until, IsEndOf, IsStartOf, Handed, Kept}
 use Rattle.std.specs.Prelude.{Result, Ok, Err}
 use Rattle.dob_run.specs.declared.threads.Started.{Started}
 use Rattle.dob_run.specs.declared.threads.Started.TheVariants.{Runs, GaveUp}

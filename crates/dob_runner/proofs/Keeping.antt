@@ -1,6 +1,7 @@
 -- What links, endpoints and runners keep, through one step and the next.
-use Rattle.dob_runner.proofs.Common.{◌++◌, ◌∙◌, ◌∷◌, ◌≡◌, ◌≢◌, ◌⊎◌, List, None, Option, Some, [], ap, append_assoc, arith, inl, inr, length, refl, set, subst}
-use Rattle.dob_runner.proofs.Common.{suc, sym, zero, ℕ, cases_eq, append-nil, same_Some, slice_get_within, some_at, MatchResult, slice_get, get_set_other, Item, Share, BatchView, Cause}
+use Rattle.dob_runner.proofs.Common.{◌++◌, ◌∙◌, ◌≡◌, ◌≢◌, ◌⊎◌, List, None, Option, Some, [], ap, append_assoc, arith, inl, inr, length, refl, set, subst}
+use Rattle.dob_runner.proofs.Common.{sym, ℕ, cases_eq, append-nil, same_Some, slice_get_within, some_at, MatchResult, slice_get, get_set_other, Item, Share}
+use Rattle.dob_runner.proofs.Common.{BatchView, Cause}
 use Rattle.dob_runner.proofs.Common.{Contradiction, Counts, Held, Memory, TooDeep, HasItemFault, IsUnchanged, outbox_to, IsReason, Node, token_moves_of}
 use Rattle.dob_runner.proofs.Common.{IsSameSeat, KnewOwnFailure, MovesNothing, stand_of, witnessed_by, Halt, Ended, Failed, NodeSeat, Stand, SendsToSame}
 use Rattle.dob_runner.proofs.Common.{TakesFromSame, sent_by, taken_by, SendEnd, TakeEnd, KeepsEach, FailsFor, HasSameLinks, KeepsEndpoint, IsSpared, KeepsInlet}

@@ -71,7 +71,8 @@ unchanged_node family size old new endpoint law same sound =
       unused = law.unused;
       own = subst (λ (p : List Item × List Item). AreLast p.0 p.1) (λ q. ((sym own) q, (sym same.kept.2) q)) law.own;
       knows = knows_after old new (applied_from new endpoint.inlet) same.same.0 same.same.1 same.same.2
-          (subst (λ (p : Share × List Settlement). KnowsRight old.family old.n old.id p.0 p.1 (applied_from new endpoint.inlet)) (λ q. (sym same.kept.0 q, sym settled q))
+          (subst (λ (p : Share × List Settlement). KnowsRight old.family old.n old.id p.0 p.1 (applied_from new endpoint.inlet))
+          (λ q. (sym same.kept.0 q, sym settled q))
           (knows_same old.family old.n old.id old.share old.history.settlements (applied_from old endpoint.inlet) (applied_from new endpoint.inlet)
           (applied_still old new endpoint.inlet endpoint.inlet same.same.1 (own_still old new own same.kept.2) (λ k. refl)) law.knows));
       white = λ is. (let rest = law.white is in (
@@ -253,7 +254,8 @@ expanded_one family size old new endpoint law step sound = record {
       (last_more (planned old old.id) old.own (items_of (predecessors old.family) old.n old.id step.settlement) law.own));
   unused = law.unused;
   knows = knows_after old new (applied_from new endpoint.inlet) step.same.0 step.same.1 step.same.2
-      (subst (λ (p : Share × HistoryView). KnowsRight old.family old.n old.id p.0 p.1.settlements (applied_from new endpoint.inlet)) (λ q. (sym step.same.3 q, sym step.same.4 q))
+      (subst (λ (p : Share × HistoryView). KnowsRight old.family old.n old.id p.0 p.1.settlements (applied_from new endpoint.inlet))
+      (λ q. (sym step.same.3 q, sym step.same.4 q))
       (knows_same old.family old.n old.id old.share old.history.settlements (applied_from old endpoint.inlet) (applied_from new endpoint.inlet)
       (applied_still old new endpoint.inlet endpoint.inlet step.same.1 own_same (λ k. refl)) law.knows));
   white = λ is. (let all = (law.white is).0.expanded in
@@ -300,7 +302,8 @@ cut_one family size to batch node after old new law not_own step sound same_node
   unused = λ outlet at. nothing old.seat.node outlet (subst (λ os. slice_get os old.seat.node ≡ Some outlet) one.4
       (ap (λ i. slice_get new.outlets.items i) (sym same_node) ∙ at)) refl;
   knows = knows_after node after (applied_from after new.inlet) step.same.0 step.same.1 step.same.2
-      (subst (λ (p : Share × HistoryView). KnowsRight node.family node.n node.id p.0 p.1.settlements (applied_from after new.inlet)) (λ q. (sym step.kept.0 q, sym step.kept.1 q))
+      (subst (λ (p : Share × HistoryView). KnowsRight node.family node.n node.id p.0 p.1.settlements (applied_from after new.inlet))
+      (λ q. (sym step.kept.0 q, sym step.kept.1 q))
       (knows_same node.family node.n node.id node.share node.history.settlements (applied_from node old.inlet) (applied_from after new.inlet)
       (applied_still node after old.inlet new.inlet step.same.1
       (own_still node after (ap (λ i. planned after i) step.same.1 ∙ plan node.id) step.kept.2) (same_inlet old new inlet)) law.knows));

@@ -1,6 +1,7 @@
 -- How many batches go over each link in so many turns.
 use Rattle.dob_runner.proofs.Common.{◌+◌, ◌<◌, ◌∙◌, ◌≡◌, Bool, Err, List, None, Ok, Result, Some, ap, arith, inl, inr, length, subst, sym, ℕ, cases_eq}
-use Rattle.dob_runner.proofs.Common.{same_Some, slice_get_within, some_at, MatchResult, slice_get, Cause, taken_by, KeepsEndpoint, offered, GoesOn, HasFailed, StepsBy}
+use Rattle.dob_runner.proofs.Common.{same_Some, slice_get_within, some_at, MatchResult, slice_get, Cause, taken_by, KeepsEndpoint, offered, GoesOn}
+use Rattle.dob_runner.proofs.Common.{HasFailed, StepsBy}
 use Rattle.dob_runner.proofs.Common.{AddsFew, RunnerTakesBatch, SendsAll, Works, Endpoint, Runner, Inlet, Outlet}
 
 -- and one more in one turn more

@@ -1,6 +1,6 @@
 -- What the parts of a turn do, by what their steps do.
-use Rattle.dob_runner.proofs.Common.{◌+◌, ◌-◌, ◌<◌, ◌↔◌, ◌∙◌, ◌≡◌, ◌≢◌, ◌≤◌, ◌⊎◌, Bool, None, Ok, Option, Result, Some, ap, arith, false, inl, inr, length, not}
-use Rattle.dob_runner.proofs.Common.{refl, subst, sym, true, ℕ, both_ways, cases_Bool, cases_eq, cases_lt, same_Some, slice_get_within, Settlement, Cause}
+use Rattle.dob_runner.proofs.Common.{◌-◌, ◌<◌, ◌↔◌, ◌∙◌, ◌≡◌, ◌≢◌, ◌≤◌, ◌⊎◌, Bool, None, Ok, Option, Result, Some, ap, arith, false, inl, inr, length, not}
+use Rattle.dob_runner.proofs.Common.{refl, subst, sym, true, ℕ, both_ways, cases_Bool, cases_eq, cases_lt, same_Some, slice_get_within, Cause}
 use Rattle.dob_runner.proofs.Common.{NodeView, IsExpanded, HistoryView, Node, NodeSeat, GoesOn, ExpandsOne, ExpandsSome, IsAbove, IsHeldUp, IsLevel, IsWithin}
 use Rattle.dob_runner.proofs.Common.{SendsSmall, EndsTurn, GateIsTold, HasSameWork, SeeksToken, Runner}
 use Rattle.std.proofs.Common.{IsTrue, MatchOption, slice_get}

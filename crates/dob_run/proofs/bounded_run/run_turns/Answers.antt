@@ -14,9 +14,12 @@ returns-in_err-sizes g c =
       turned = search rules;
       few = search rules;
       within = search rules;
-      fault = carried (HasBuildFault c.args.nodes c.args.batch_size c.args.capacity) refused fault is (unbegun_fault c.args.nodes c.args.batch_size c.args.capacity fault none);
-      stopped = carried (StopsSo IsFirstFailed (says_no (g.G.Gate.says c.args.gate.now)) (Turns c.args.turns) c.args.family c.args.nodes c.args.batch_size c.args.capacity) refused fault is
-          (unbegun_stops IsFirstFailed (says_no (g.G.Gate.says c.args.gate.now)) (Turns c.args.turns) c.args.family c.args.nodes c.args.batch_size c.args.capacity fault none);
+      fault = carried (HasBuildFault c.args.nodes c.args.batch_size c.args.capacity) refused fault is
+          (unbegun_fault c.args.nodes c.args.batch_size c.args.capacity fault none);
+      stopped = carried (StopsSo IsFirstFailed (says_no (g.G.Gate.says c.args.gate.now)) (Turns c.args.turns) c.args.family c.args.nodes c.args.batch_size
+          c.args.capacity) refused fault is
+          (unbegun_stops IsFirstFailed (says_no (g.G.Gate.says c.args.gate.now)) (Turns c.args.turns) c.args.family c.args.nodes c.args.batch_size
+          c.args.capacity fault none);
     }
 
 pub returns-in_err-find_failed : goal.returns-in_err-find_failed
@@ -31,7 +34,8 @@ returns-in_err-find_failed g c =
       few = search rules;
       within = search rules;
       fault = carried (HasBuildFault c.args.nodes c.args.batch_size c.args.capacity) refused fault is (first_fault ran fault first);
-      stopped = carried (StopsSo IsFirstFailed (says_no (g.G.Gate.says c.args.gate.now)) (Turns c.args.turns) c.args.family c.args.nodes c.args.batch_size c.args.capacity)
+      stopped = carried (StopsSo IsFirstFailed (says_no (g.G.Gate.says c.args.gate.now)) (Turns c.args.turns) c.args.family c.args.nodes c.args.batch_size
+          c.args.capacity)
           refused fault is (first_stops ran fault first);
     }
 

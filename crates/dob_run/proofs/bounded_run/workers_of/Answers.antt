@@ -34,9 +34,11 @@ loop-node-preserved c =
       taking_are = one_gone on.taking_are into (one_longer _ _ more);
       so_far = record {
         count = refl;
-        each = each_more _ _ _ _ _ refl more on.so_far.each
-            (next_at on.nodes_are node, get_map row_of c.args.sending.items done c.in-Some-next.out (next_at on.sending_are out),
-            get_map row_of c.args.taking.items done c.in-Some-next-2.into (next_at on.taking_are into));
+        each = each_more _ _ _ _ _ refl more on.so_far.each (
+          next_at on.nodes_are node,
+          get_map row_of c.args.sending.items done c.in-Some-next.out (next_at on.sending_are out),
+          get_map row_of c.args.taking.items done c.in-Some-next-2.into (next_at on.taking_are into),
+        );
       };
     }
 

@@ -1,5 +1,6 @@
 -- The crew that was run has stopped: it leaves a table within the limits, or the fault says why it leaves nothing.
-use Rattle.dob_run.proofs.Common.{rules, subst, sym, ℕ, IfOk, Family, carried, says_no, Halted, IsUnheld, StopsSo, HaveStopped, IsFailureOf, IsBuilt, HasBuildFault}
+use Rattle.dob_run.proofs.Common.{rules, subst, sym, ℕ, IfOk, Family, carried, says_no, Halted, IsUnheld, StopsSo, HaveStopped, IsFailureOf, IsBuilt}
+use Rattle.dob_run.proofs.Common.{HasBuildFault}
 use Rattle.dob_run.proofs.ByThreads.{still_crew, have_stopped, is_built, is_within, fault_for, all_let_on, unheld}
 use Rattle.dob_run.proofs.RunFaults.{outside_none, stops_so, unbegun_fault, unbegun_stops, unbegun_unheld}
 use Rattle.std.proofs.lemmas.Result.{IfErr-weaker, IfOk-weaker}
@@ -16,8 +17,10 @@ returns-in_err-sizes g c =
       let_on = search rules;
       unheld = λ never. carried IsUnheld refused fault is (unbegun_unheld c.args.nodes c.args.batch_size c.args.capacity fault none);
       within = search rules;
-      fault = carried (HasBuildFault c.args.nodes c.args.batch_size c.args.capacity) refused fault is (unbegun_fault c.args.nodes c.args.batch_size c.args.capacity fault none);
-      stopped = carried (StopsSo IsFailureOf (says_no (g.G.Gate.says c.args.gate.now)) Halted c.args.family c.args.nodes c.args.batch_size c.args.capacity) refused fault is
+      fault = carried (HasBuildFault c.args.nodes c.args.batch_size c.args.capacity) refused fault is
+          (unbegun_fault c.args.nodes c.args.batch_size c.args.capacity fault none);
+      stopped = carried (StopsSo IsFailureOf (says_no (g.G.Gate.says c.args.gate.now)) Halted c.args.family c.args.nodes c.args.batch_size c.args.capacity)
+          refused fault is
           (unbegun_stops IsFailureOf (says_no (g.G.Gate.says c.args.gate.now)) Halted c.args.family c.args.nodes c.args.batch_size c.args.capacity fault none);
     }
 
@@ -41,11 +44,13 @@ returns g c =
     let No = says_no (g.G.Gate.says c.args.gate.now) in
     let Stops = StopsSo IsFailureOf No Halted c.args.family c.args.nodes c.args.batch_size c.args.capacity in
     let stopped = IfErr-weaker made (IsFailureOf runners) Stops
-    (λ fault failure. stops_so IsFailureOf No Halted c.args.family c.args.nodes c.args.batch_size c.args.capacity board runners fault ran failure) c.finish.ensures.failed in
+    (λ fault failure. stops_so IsFailureOf No Halted c.args.family c.args.nodes c.args.batch_size c.args.capacity board runners fault ran failure)
+    c.finish.ensures.failed in
     record {
       built = IfOk-weaker made (λ built. (m : ℕ) → HaveStopped c.args.family m runners → IsBuilt c.args.family board.nodes m built)
           (IsBuilt c.args.family c.args.nodes c.args.batch_size) (is_built ran)
-          (subst (λ (s : Family). IfOk made (λ built. (m : ℕ) → HaveStopped s m runners → IsBuilt s board.nodes m built)) c.in_ok-classes.ensures.family c.finish.ensures.built);
+          (subst (λ (s : Family). IfOk made (λ built. (m : ℕ) → HaveStopped s m runners → IsBuilt s board.nodes m built)) c.in_ok-classes.ensures.family
+          c.finish.ensures.built);
       let_on = all_let_on (g.G.Gate.says c.args.gate.now) c.args.nodes board runners ran.opened.nodes (still_crew ran) c.in_ok-classes.ensures.let_on made
           c.finish.ensures.unfailed;
       unheld = λ never. IfErr-weaker made Stops IsUnheld (unheld No c.args.family c.args.nodes c.args.batch_size c.args.capacity never) stopped;

@@ -27,8 +27,10 @@ loop-endpoint-preserved c =
     record {
       done = on.done + 1;
       gone = one_gone on.gone c.in-Some.ensures.steps.0 refl;
-      are = parts_more (vec_len c.args.endpoints) on.gone.gone endpoint c.loop-endpoint.parts c.add.new.self on.are c.in_ok-add.ensures (omega (arith, endpoint.outlets_len, nodes));
+      are = parts_more (vec_len c.args.endpoints) on.gone.gone endpoint c.loop-endpoint.parts c.add.new.self on.are c.in_ok-add.ensures
+          (omega (arith, endpoint.outlets_len, nodes));
     }
 
 pub returns : goal.returns
-returns c = subst (λ gone. ArePartsOf (vec_len c.args.endpoints) gone c.loop-endpoint.parts) (gone_are c.loop-endpoint.invariant.gone (search rules)) c.loop-endpoint.invariant.are
+returns c = subst (λ gone. ArePartsOf (vec_len c.args.endpoints) gone c.loop-endpoint.parts) (gone_are c.loop-endpoint.invariant.gone (search rules))
+    c.loop-endpoint.invariant.are

@@ -42,9 +42,15 @@ loop-seat-preserved c =
       inlets_are = one_gone on.inlets_are inlet (one_longer _ _ more);
       so_far = record {
         count = refl;
-        each = each_more _ _ _ _ _ refl more on.so_far.each
-            (c.in-Some.seat, c.in-Some-next.outlets, c.in-Some-next-2.inlet, next_at on.seats_are seat, next_at on.rows_are row, next_at on.inlets_are inlet,
-            record { seat_is = made.seat; outlets = ap (λ (v : Vec Outlet Global). v.items) made.outlets; inlet_is = made.inlet });
+        each = each_more _ _ _ _ _ refl more on.so_far.each (
+          c.in-Some.seat,
+          c.in-Some-next.outlets,
+          c.in-Some-next-2.inlet,
+          next_at on.seats_are seat,
+          next_at on.rows_are row,
+          next_at on.inlets_are inlet,
+          record { seat_is = made.seat; outlets = ap (λ (v : Vec Outlet Global). v.items) made.outlets; inlet_is = made.inlet },
+        );
       };
     }
 

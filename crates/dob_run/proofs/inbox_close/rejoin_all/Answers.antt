@@ -5,6 +5,7 @@ use Rattle.std.proofs.lemmas.Result.{IfOk-weaker}
 use Rattle.dob_run.proofs.Places.{gone_all, next_at, none_gone, one_gone, thing_left}
 use Rattle.dob_run.proofs.InboxesClosed.{HaveLinks, are_joined, links_more, rows_longer}
 use Rattle.dob_run.proofs.inbox_close.rejoin_all.Goals as goal
+use Rattle.dob_run.proofs.inbox_close.rejoin_all.Goals.{At-loop-row}
 
 pub loop-row-init : goal.loop-row-init
 loop-row-init g c = record {
@@ -17,13 +18,13 @@ loop-row-init g c = record {
 
 pub unreachable-requires : goal.unreachable-requires
 unreachable-requires g c =
-    let on = c.loop-row.invariant in
-    thing_left on.senders on.takers c.in-Some.ensures.steps.0 (c.requires.takers ∙ sym c.requires.senders.count) (search rules)
+    thing_left c.loop-row.invariant.senders c.loop-row.invariant.takers c.in-Some.ensures.steps.0 (c.requires.takers ∙ sym c.requires.senders.count)
+    (search rules)
 
 pub rejoin_one-requires : goal.rejoin_one-requires
 rejoin_one-requires g c =
-    let on = c.loop-row.invariant in
-    c.requires.inboxes on.done _ _ (next_at on.senders c.in-Some.ensures.steps.0) (next_at on.takers c.in-Some-next.ensures.cases.0)
+    c.requires.inboxes c.loop-row.invariant.done _ _ (next_at c.loop-row.invariant.senders c.in-Some.ensures.steps.0)
+    (next_at c.loop-row.invariant.takers c.in-Some-next.ensures.cases.0)
 
 pub deal-requires : goal.deal-requires
 deal-requires g c =
@@ -48,32 +49,30 @@ loop-row-preserved g c =
       senders = one_gone on.senders c.in-Some.ensures.steps.0 refl;
       takers = one_gone on.takers c.in-Some-next.ensures.cases.0 refl;
       rows_are = rows_longer on.done c.loop-row.rows.items c.deal.new.rows.items links.items on.rows_are dealt;
-      links_are = links_more c.requires on.done c.loop-row.rows.items c.deal.new.rows.items c.in-Some.row c.in-Some-next.take links.items on.rows_are on.links_are
+      links_are = links_more c.requires on.done c.loop-row.rows.items c.deal.new.rows.items c.in-Some.row c.in-Some-next.take links.items on.rows_are
+          on.links_are
           at (next_at on.takers c.in-Some-next.ensures.cases.0) c.in_ok-links.ensures dealt;
     }
 
+-- there are as many rows as nodes, and so wide are they in the end
+sizes : (g : _) (c : At-loop-row g) → (vec_len c.loop-row.rows ≡ vec_len c.args.takes) × (c.len-nodes.result ≡ vec_len c.args.takes)
+sizes g c = let long : length c.loop-row.rows.items ≡ vec_len c.args.takes = c.loop-row.invariant.rows_are.count in (search rules, search rules)
+
 pub join-requires : goal.join-requires
 join-requires g c =
-    let n = vec_len c.args.takes in
-    let rows = c.loop-row.rows in
-    let on = c.loop-row.invariant in
-    let done : on.done ≡ n = gone_all on.senders (search rules) ∙ c.requires.senders.count in
-    let long : length rows.items ≡ n = on.rows_are.count in
-    let many : vec_len rows ≡ n = search rules in
-    let width : c.len-nodes.result ≡ n = search rules in
-    subst (λ (p : ℕ × ℕ). AreRows p.0 p.1 rows.items) (λ q. (sym many q, (done ∙ sym width) q)) on.rows_are
+    let are = sizes g (goal.at.join-requires g c).At-loop-row in
+    let done = gone_all c.loop-row.invariant.senders (search rules) ∙ c.requires.senders.count ∙ sym are.1 in
+    subst (λ (p : ℕ × ℕ). AreRows p.0 p.1 c.loop-row.rows.items) (λ q. (sym are.0 q, done q)) c.loop-row.invariant.rows_are
 
 pub returns : goal.returns
 returns g c =
-    let n = vec_len c.args.takes in
     let rows = c.loop-row.rows in
     let sends = c.args.sends.items in
     let takes = c.args.takes.items in
-    let on = c.loop-row.invariant in
-    let done : on.done ≡ n = gone_all on.senders (search rules) ∙ c.requires.senders.count in
-    let long : length rows.items ≡ n = on.rows_are.count in
-    let many : vec_len rows ≡ n = search rules in
-    let width : c.len-nodes.result ≡ n = search rules in
-    IfOk-weaker c.join.result (λ (links : Vec Rejoined Global). AreInOrder c.len-nodes.result (vec_len rows) rows.items links.items) (λ links. AreJoined n sends takes links.items)
-    (λ links is. are_joined c.requires rows.items links.items (subst (λ (k : ℕ). HaveLinks sends takes k rows.items) done on.links_are)
-    (subst (λ (p : ℕ × ℕ). AreInOrder p.0 p.1 rows.items links.items) (λ q. (width q, many q)) is)) c.join.ensures
+    let are = sizes g (goal.at.returns g c).At-loop-row in
+    let all = subst (λ (k : ℕ). HaveLinks sends takes k rows.items) (gone_all c.loop-row.invariant.senders (search rules) ∙ c.requires.senders.count)
+    c.loop-row.invariant.links_are in
+    IfOk-weaker c.join.result (λ (links : Vec Rejoined Global). AreInOrder c.len-nodes.result (vec_len rows) rows.items links.items)
+    (λ links. AreJoined (vec_len c.args.takes) sends takes links.items)
+    (λ links is. are_joined c.requires rows.items links.items all (subst (λ (p : ℕ × ℕ). AreInOrder p.0 p.1 rows.items links.items) (λ q. (are.1 q, are.0 q))
+    is)) c.join.ensures

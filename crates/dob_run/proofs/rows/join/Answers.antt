@@ -1,5 +1,5 @@
 -- The next row goes behind the others, and after the last all things stand row by row.
-use Rattle.dob_run.proofs.Common.{◌+◌, ◌∙◌, ◌≡◌, ap, arith, length, refl, rules, subst, ℕ, AreInOrder}
+use Rattle.dob_run.proofs.Common.{◌+◌, ◌∙◌, ap, arith, length, refl, rules, subst, ℕ, AreInOrder}
 use Rattle.dob_run.proofs.Places.{gone_all, next_at, none_gone, one_gone}
 use Rattle.dob_run.proofs.InboxesClosed.{joined_more}
 use Rattle.dob_run.proofs.rows.join.Goals as goal
@@ -23,5 +23,6 @@ loop-row-preserved g c =
     }
 
 pub returns : goal.returns
-returns g c = subst (λ (k : ℕ). AreInOrder c.args.width k c.args.rows.items c.loop-row.things.items) (gone_all c.loop-row.invariant.gone (search rules) ∙ search rules)
+returns g c = subst (λ (k : ℕ). AreInOrder c.args.width k c.args.rows.items c.loop-row.things.items)
+    (gone_all c.loop-row.invariant.gone (search rules) ∙ search rules)
     c.loop-row.invariant.so_far

@@ -23,4 +23,5 @@ loop-one-preserved g c =
     }
 
 pub returns : goal.returns
-returns g c = subst (λ gone. AllZip (IsEndOf g.G.Gate.says) gone c.loop-one.ended.items) (gone_are c.loop-one.invariant.gone (search rules)) c.loop-one.invariant.related
+returns g c = subst (λ gone. AllZip (IsEndOf g.G.Gate.says) gone c.loop-one.ended.items) (gone_are c.loop-one.invariant.gone (search rules))
+    c.loop-one.invariant.related

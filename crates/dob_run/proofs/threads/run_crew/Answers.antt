@@ -20,7 +20,8 @@ returns-clause-ran g c = λ nodes batch_size capacity these.
       old = old;
       opened = subst (λ (family : Family). IsNewCrew family c.args.sizes.now.nodes c.args.sizes.now.batch_size c.args.sizes.now.capacity c.in_ok-board.board old)
           c.in_ok-classes.ensures.family c.in_ok-board.ensures;
-      ends = AllZip-weaken (EndsBy Says c.args.until.now) (Ends (says_no Says) c.args.until.now) (λ before after ends. ends.0) old c.in_ok-ended.ended.items c.in_ok-ended.ensures;
+      ends = AllZip-weaken (EndsBy Says c.args.until.now) (Ends (says_no Says) c.args.until.now) (λ before after ends. ends.0) old c.in_ok-ended.ended.items
+          c.in_ok-ended.ensures;
     })
 
 pub returns-clause-let_on : goal.returns-clause-let_on

@@ -12,7 +12,8 @@ loop-runner-init g c =
 
 pub start-requires : goal.start-requires
 start-requires g c =
-    let suits : Suits c.args.classes.now.family c.in-Some.runner = c.requires _ c.in-Some.runner (next_at c.loop-runner.invariant.gone c.in-Some.ensures.steps.0) in
+    let suits : Suits c.args.classes.now.family c.in-Some.runner = c.requires _ c.in-Some.runner
+    (next_at c.loop-runner.invariant.gone c.in-Some.ensures.steps.0) in
     search rules
 
 pub loop-runner-preserved : goal.loop-runner-preserved
@@ -21,8 +22,10 @@ loop-runner-preserved g c =
     let more = c.in_ok-push.ensures.items in record {
       gone = one_gone on.gone c.in-Some.ensures.steps.0 (one_longer _ _ more);
       related = subst (AllZip (IsStartOf g.G.Gate.says c.args.gate.now c.args.until.now) (on.gone.gone ++ c.in-Some.runner ∷ [])) (sym more)
-          (zip_one (IsStartOf g.G.Gate.says c.args.gate.now c.args.until.now) on.gone.gone c.loop-runner.started.items c.in-Some.runner c.start.result on.related c.start.ensures);
+          (zip_one (IsStartOf g.G.Gate.says c.args.gate.now c.args.until.now) on.gone.gone c.loop-runner.started.items c.in-Some.runner c.start.result
+          on.related c.start.ensures);
     }
 
 pub returns : goal.returns
-returns g c = subst (λ gone. AllZip (IsStartOf g.G.Gate.says c.args.gate.now c.args.until.now) gone c.loop-runner.started.items) (gone_are c.loop-runner.invariant.gone (search rules)) c.loop-runner.invariant.related
+returns g c = subst (λ gone. AllZip (IsStartOf g.G.Gate.says c.args.gate.now c.args.until.now) gone c.loop-runner.started.items)
+    (gone_are c.loop-runner.invariant.gone (search rules)) c.loop-runner.invariant.related

@@ -1,6 +1,6 @@
 -- A slot is filled just where it is empty and there is something to send. A node that cuts a batch was black and had cut fewer than 2^40; with the batch in the slot the runner is lawful.
-use Rattle.dob_runner.proofs.Common.{◌<◌, ◌^◌, ◌∙◌, ◌≡◌, ◌≤◌, Err, None, Ok, Option, Result, Some, ap, arith, false, inl, inr, refl, subst, sym, true}
-use Rattle.dob_runner.proofs.Common.{both_ways, cases_Bool, some_at, BatchView, OutboxView, Cause, HasCut, outbox_to, token_moves_of, Stand, IsToFill}
+use Rattle.dob_runner.proofs.Common.{◌<◌, ◌^◌, ◌∙◌, ◌≡◌, ◌≤◌, Err, None, Ok, Option, Result, Some, ap, arith, false, inl, refl, subst, sym, true}
+use Rattle.dob_runner.proofs.Common.{both_ways, some_at, BatchView, OutboxView, Cause, HasCut, outbox_to, token_moves_of, Stand, IsToFill}
 use Rattle.std.proofs.Common.{IfSome}
 use Rattle.dob_board.proofs.Halting.{same_halt}
 use Rattle.dob_runner.proofs.Keeping.{goes_by, own_still, broken_for, cut_reason, outbox_still, some_cause, node_goes, agrees_going, agrees_failed}

@@ -1,5 +1,5 @@
 -- The settlements expanded so far and the next make one step, over classes of the same family, or a failed one.
-use Rattle.dob_runner.proofs.Common.{◌∙◌, ◌≡◌, ◌⊎◌, None, arith, false, inl, inr, length, refl, true, ℕ, ExpandsSome, IsAbove, IsHeldUp, Runner}
+use Rattle.dob_runner.proofs.Common.{◌≡◌, ◌⊎◌, None, arith, false, inl, inr, length, refl, true, ℕ, ExpandsSome, IsAbove, IsHeldUp, Runner}
 use Rattle.dob_runner.proofs.Keeping.{runner_same, goes_same, broken_on}
 use Rattle.dob_runner.proofs.TurnParts.{expanded_more, within_first, none_expanded, some_expanded}
 use Rattle.dob_runner.proofs.runner.Runner.expand_all.Goals as goal

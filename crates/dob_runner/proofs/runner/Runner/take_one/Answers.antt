@@ -1,10 +1,11 @@
 -- The runner is lawful whether no batch came or one was applied; a refused one blackened its seat before any end, and one for which
 -- there is no memory lies in the slot.
 use Rattle.dob_runner.proofs.Common.{◌++◌, ◌∙◌, ◌≡◌, ◌≢◌, Err, None, ap, arith, inl, inr, refl, subst, sym, Memory, IsSound, IsUnchanged, Node, IsSameSeat}
-use Rattle.dob_runner.proofs.Common.{TakesOne, NodeSeat, Stand, IsBatchFor, KeepsEndpoint, IsLawfulRunner, HoldsFor, KeepsInlet, KeepsOutlet, worked, no_gate}
+use Rattle.dob_runner.proofs.Common.{TakesOne, NodeSeat, Stand, KeepsEndpoint, IsLawfulRunner, HoldsFor, KeepsInlet, KeepsOutlet, worked, no_gate}
 use Rattle.dob_runner.proofs.Common.{Endpoint, Runner, Inlet}
 use Rattle.dob_runner.proofs.Senders.{taken_still}
-use Rattle.dob_runner.proofs.Keeping.{endpoint_trans, goes_by, links_kept, own_still, some_cause, failed_first, refused_reason, node_goes, agrees_going, agrees_failed}
+use Rattle.dob_runner.proofs.Keeping.{endpoint_trans, goes_by, links_kept, own_still, some_cause, failed_first, refused_reason, node_goes, agrees_going}
+use Rattle.dob_runner.proofs.Keeping.{agrees_failed}
 use Rattle.dob_runner.proofs.Keeping.{unspared_reason, memory_reason, still_trans, seat_same, each_same, outlet_same}
 use Rattle.dob_node.proofs.TakenLists.{before_since}
 use Rattle.dob_runner.proofs.Applied.{worked_again, worked_else, worked_more}
@@ -31,7 +32,8 @@ kept_by old mid seat outlets inlet = record {
 
 -- nor where a batch was accepted, or wasn't
 accepted : (g : _) (c : After-accept g) → KeepsEndpoint c.args.self.now.endpoint c.accept.new.self
-accepted g c = endpoint_trans c.args.self.now.endpoint _ c.accept.new.self (kept_by c.args.self.now.endpoint _ refl refl c.receive.ensures.keeps) c.accept.ensures.keeps
+accepted g c = endpoint_trans c.args.self.now.endpoint _ c.accept.new.self (kept_by c.args.self.now.endpoint _ refl refl c.receive.ensures.keeps)
+    c.accept.ensures.keeps
 
 pub reserve-requires-clause-going : goal.reserve-requires-clause-going
 reserve-requires-clause-going g c = (let r = c.args.self.now in node_goes r.node.failed r.failed r.agrees c.requires)
@@ -121,7 +123,8 @@ invariant_of-self-in-Ok-apply_batch g c =
       agrees = agrees_going c.apply_batch.new.self.failed _ c.in-Ok-apply_batch.ensures.keeps.going;
       lawful = λ _. applied_batch r.family r.batch_size batch.from batch n c.apply_batch.new.self r.endpoint c.accept.new.self
           (unchanged_node r.family r.batch_size r.node n r.endpoint (r.lawful (inl c.requires)) c.reserve.ensures.step.unchanged c.reserve.ensures.keeps.sound)
-          c.in-Some-accept.ensures.within (of_other c.in-Some.ensures c.in-Some-accept.ensures.held) (fits_node c.in-Some.ensures c.in-Some-accept.ensures.held).entries
+          c.in-Some-accept.ensures.within (of_other c.in-Some.ensures c.in-Some-accept.ensures.held)
+          (fits_node c.in-Some.ensures c.in-Some-accept.ensures.held).entries
           c.in-Ok-apply_batch.ensures.step.taken c.in-Ok-apply_batch.ensures.keeps.sound c.accept.ensures.keeps.seat.node c.accept.ensures.keeps.seat.nodes
           (ap (λ (s : Stand). s.black) taken.counted) (ap (λ v. v.items) c.accept.ensures.outlets)
           (λ k other. worked_else inlet c.accept.new.self.inlet batch more k other ∙ worked_again r.endpoint.inlet inlet c.receive.ensures.worked k)
@@ -193,7 +196,8 @@ returns-clause-step g c =
     let failed = c.fail_for-in-Err-apply_batch.new.endpoint in
     let fails = c.fail_for-in-Err-apply_batch.ensures in
     let links = fails.keeps.links in
-    let kept = endpoint_trans r.endpoint c.accept.new.self failed (accepted g (goal.at.returns-clause-step g c).After-accept) (links_kept c.accept.new.self failed links) in
+    let kept = endpoint_trans r.endpoint c.accept.new.self failed (accepted g (goal.at.returns-clause-step g c).After-accept)
+    (links_kept c.accept.new.self failed links) in
     record {
       failed = record { keeps = record { endpoint = kept; family = refl; batch_size = refl }; cause = fails.cause; stopped = fails.stopped };
       still = still_trans r.endpoint.seat c.accept.new.self.seat failed.seat c.accept.ensures.keeps.seat.node c.accept.ensures.still fails.still;
