@@ -38,12 +38,9 @@ pub runs_on : (halt : Halt) → halt ≢ Running → halt_word halt ≢ 0
 runs_on halt other e = other (same_halt halt Running e)
 
 -- the halt word after an exchange, as the table and as the board say it
-exchanged : (found mark : ℕ) → either (eqb found 0) mark found ≡ halt_after found mark
-exchanged found mark = exchanged_by (eqb found 0) found mark
-  where
-    exchanged_by : (b : Bool) (found mark : ℕ) → either b mark found ≡ cond b mark found
-    exchanged_by true found mark = refl
-    exchanged_by false found mark = refl
+exchanged : (b : Bool) (found mark : ℕ) → either b mark found ≡ cond b mark found
+exchanged true found mark = refl
+exchanged false found mark = refl
 
 halt_marked : (found mark : ℕ) → found ≡ 0 → halt_after found mark ≡ mark
 halt_marked found mark none_is = let yes : eqb found 0 ≡ true = eq-eqb found 0 none_is in rw yes refl
@@ -187,7 +184,7 @@ fails_call key n i id slots mark me stand witnessed key_is me_is mark_is =
     let new : View = one n i (finds stand (halt_after found (2 + i))) has.0 in (
       new,
       subst (λ (w : ℕ). IsHeld n (set words 2 w) (slice_set views id new))
-          (sym (ap (λ (m : ℕ). either (eqb found 0) m found) mark_is ∙ exchanged found (2 + i))) has.1.0,
+          (sym (ap (λ (m : ℕ). either (eqb found 0) m found) mark_is ∙ exchanged (eqb found 0) found (2 + i))) has.1.0,
       (refl, has.1.1),
     ))
 
@@ -295,7 +292,7 @@ announces_call key n i id slots me stand witnessed key_is me_is may =
     let found : ℕ = slice_index words 2 in
     let has = announces_finding n i id words views stand witnessed held at may in
     let new : View = one n i (finds stand (halt_after found 1)) has.0 in
-    (new, subst (λ (w : ℕ). IsHeld n (set words 2 w) (slice_set views id new)) (sym (exchanged found 1)) has.1.0, (refl, has.1.1)))
+    (new, subst (λ (w : ℕ). IsHeld n (set words 2 w) (slice_set views id new)) (sym (exchanged (eqb found 0) found 1)) has.1.0, (refl, has.1.1)))
 
 -- ---- what a seat holds afterwards
 

@@ -1,22 +1,22 @@
 -- A crew that was run, from what its threads promise to what is made of it.
 use Rattle.dob_run.proofs.Common.{◌<◌, ◌∙◌, ◌≡◌, ◌≤◌, Bool, List, Option, Result, ap, arith, length, length-append, map, refl, subst, sym, true, ℕ, AllZip}
-use Rattle.dob_run.proofs.Common.{IfOk, slice_get, some_at, zip_at, Family, BatchView, Cause, Fault, Memory, Nodes, Sizes, Stopped, Board, place_of, sent_by}
+use Rattle.dob_run.proofs.Common.{slice_get, slice_get_within, some_at, zip_at, Family, BatchView, Cause, Fault, Memory, Nodes, Sizes, Stopped, Board}
+use Rattle.dob_run.proofs.Common.{place_of, sent_by}
 use Rattle.dob_run.proofs.Common.{taken_by, few_of, offered, worked, IsReasonFor, KeepsRunner, in_slot, worked_of, Ends, EndsBy, Runner, Inlet, Outlet, Until}
 use Rattle.dob_run.proofs.Common.{AreUnfailed, CarriesFew, HasLeft, IsFirstFailed, IsTurned, IsUnheld, StopsSo, HaveStopped, IsFailureOf, IsBuilt, IsCrew}
 use Rattle.dob_run.proofs.Common.{IsNewCrew, endpoint_of, AreLetOn, HasRun, AreWithin, HasBuildFault, Turned, Built}
 use Rattle.std.proofs.Common.{Ok, Err}
-use Rattle.std.specs.Prelude.{IfErr, OnOk, Some}
+use Rattle.std.specs.Prelude.{OnOk, Some}
 use Rattle.dob_runner.specs.declared.turn_loop.Until.TheVariants as until
 use Rattle.dob_run.proofs.CrewLeaves.{for_kept, turned_is}
-use Rattle.dob_runner.proofs.Keeping.{there_is}
 use Rattle.dob_run.proofs.CrewRunners.{seat_at, seat_there, are_linked, crew_many, crew_low, outlet_at, crew_kept}
 use Rattle.dob_run.proofs.RunFaults.{stops_so}
-use Rattle.dob_run.proofs.Threaded.{all_kept}
+use Rattle.rayon.proofs.ListFacts.{AllZip-weaken}
 
-module _ (No : ℕ → Type 0) (until : Until) (family : Family) (n size capacity : ℕ) (board : Board) (ended : List Runner)
+module _ {No : ℕ → Type 0} {until : Until} {family : Family} {n size capacity : ℕ} {board : Board} {ended : List Runner}
     (ran : HasRun No until family n size capacity board ended) where
   kept : AllZip KeepsRunner ran.old ended
-  kept = all_kept No until ran.old ended ran.ends
+  kept = AllZip-weaken (Ends No until) KeepsRunner (λ old new ends. ends.0) ran.old ended ran.ends
 
   pub still_crew : IsCrew board (map endpoint_of ended)
   still_crew = crew_kept board ran.old ended ran.opened.crew kept
@@ -68,15 +68,20 @@ all_let_on Says n board ended nodes crew are (Err why) unfailed = tt
 
 -- ---- what went over its links by then
 
-module _ (No : ℕ → Type 0) (turns : ℕ) (family : Family) (n size capacity : ℕ) (board : Board) (ended : List Runner)
+module _ {No : ℕ → Type 0} {turns : ℕ} {family : Family} {n size capacity : ℕ} {board : Board} {ended : List Runner}
     (ran : HasRun No (until.Turns turns) family n size capacity board ended) (unfailed : AreUnfailed ended) where
   few_offered : (i j : ℕ) (runner : Runner) (outlet : Outlet) → slice_get ended i ≡ Some runner → slice_get runner.endpoint.outlets.items j ≡ Some outlet →
       length (offered outlet) ≤ turns
   few_offered i j runner outlet at out =
       let was = zip_at (Ends No (until.Turns turns)) ran.old ended i runner ran.ends at in
       let few = was.2.1 (unfailed i runner at) in
-      let old = there_is runner.endpoint.outlets.items was.0.endpoint.outlets.items j outlet
-      (omega (arith, runner.endpoint.outlets_len, was.0.endpoint.outlets_len, was.2.0.endpoint.seat.nodes)) out in
+      let old = some_at was.0.endpoint.outlets.items j (omega (
+        arith,
+        slice_get_within runner.endpoint.outlets.items j outlet out,
+        runner.endpoint.outlets_len,
+        was.0.endpoint.outlets_len,
+        was.2.0.endpoint.seat.nodes,
+      )) in
       let none = (ran.opened.new i was.0 was.1).1.unsent j old.0 old.1 in
       omega (arith, few.out j old.0 outlet old.1 out, ap length none.0)
 
@@ -97,7 +102,7 @@ module _ (No : ℕ → Type 0) (turns : ℕ) (family : Family) (n size capacity 
 
   carried : (turned : Turned) → HasLeft board.nodes ended turned → CarriesFew board.nodes turns turned
   carried turned left =
-      let crew = still_crew No (until.Turns turns) family n size capacity board ended ran in
+      let crew = still_crew ran in
       let there : (k : ℕ) → k < board.nodes → (runner : Runner) × (slice_get ended k ≡ Some runner) =
       λ k low. some_at ended k (omega (arith, crew_many board ended crew, low)) in
       record {
@@ -146,7 +151,7 @@ module _ (No : ℕ → Type 0) (turns : ℕ) (family : Family) (n size capacity 
 -- ---- where it was run to its end
 
 -- no node was held back where the gate never says no
-unheld : (No : ℕ → Type 0) (family : Family) (n size capacity : ℕ) → ((node : ℕ) → ¬ No node) → (fault : Fault) →
+pub unheld : (No : ℕ → Type 0) (family : Family) (n size capacity : ℕ) → ((node : ℕ) → ¬ No node) → (fault : Fault) →
     StopsSo IsFailureOf No until.Halted family n size capacity fault → IsUnheld fault
 unheld No family n size capacity never (Stopped node why) stops = λ held.
     let runner = stops.names.runner in
@@ -156,12 +161,7 @@ unheld No family n size capacity never Nodes stops = tt
 unheld No family n size capacity never Sizes stops = tt
 unheld No family n size capacity never Memory stops = tt
 
-pub if_unheld : (No : ℕ → Type 0) (family : Family) (n size capacity : ℕ) (result : Result Built Fault) →
-    IfErr result (StopsSo IsFailureOf No until.Halted family n size capacity) → ((node : ℕ) → ¬ No node) → IfErr result IsUnheld
-if_unheld No family n size capacity (Ok built) stops never = tt
-if_unheld No family n size capacity (Err fault) stops never = unheld No family n size capacity never fault stops
-
-module _ (No : ℕ → Type 0) (family : Family) (n size capacity : ℕ) (board : Board) (ended : List Runner)
+module _ {No : ℕ → Type 0} {family : Family} {n size capacity : ℕ} {board : Board} {ended : List Runner}
     (ran : HasRun No until.Halted family n size capacity board ended) where
   pub have_stopped : HaveStopped family size ended
   have_stopped = λ k runner at.
@@ -169,22 +169,11 @@ module _ (No : ℕ → Type 0) (family : Family) (n size capacity : ℕ) (board 
       let is = ran.opened.each k was.0 was.1 in
       record { family_is = was.2.0.family ∙ is.family_is; size_is = was.2.0.batch_size ∙ is.size_is; halted = was.2.1 }
 
-  pub is_built : (result : Result Built Fault) →
-      IfOk result (λ built. (m : ℕ) → HaveStopped family m ended → IsBuilt family board.nodes m built) → IfOk result (IsBuilt family n size)
-  is_built (Ok built) is = subst (λ (k : ℕ). IsBuilt family k size built) ran.opened.nodes (is size have_stopped)
-  is_built (Err why) is = tt
+  pub is_built : (built : Built) → ((m : ℕ) → HaveStopped family m ended → IsBuilt family board.nodes m built) → IsBuilt family n size built
+  is_built built is = subst (λ (k : ℕ). IsBuilt family k size built) ran.opened.nodes (is size have_stopped)
 
-  fault_for : (fault : Fault) → IsFailureOf ended fault → HasBuildFault n size capacity fault
-  fault_for (Stopped node why) failure = fault_by No until.Halted family n size capacity board ended ran node why failure.runner failure.at
+  pub fault_for : (fault : Fault) → IsFailureOf ended fault → HasBuildFault n size capacity fault
+  fault_for (Stopped node why) failure = fault_by ran node why failure.runner failure.at
   fault_for Memory failure = ran.within
   fault_for Nodes failure = absurd failure
   fault_for Sizes failure = absurd failure
-
-  pub has_fault : (result : Result Built Fault) → IfErr result (IsFailureOf ended) → IfErr result (HasBuildFault n size capacity)
-  has_fault (Ok built) failure = tt
-  has_fault (Err fault) failure = fault_for fault failure
-
-  pub is_stopped : (result : Result Built Fault) → IfErr result (IsFailureOf ended) → IfErr result (StopsSo IsFailureOf No until.Halted family n size capacity)
-  is_stopped (Ok built) failure = tt
-  is_stopped (Err fault) failure =
-      stops_so IsFailureOf No until.Halted family n size capacity board ended fault ran failure

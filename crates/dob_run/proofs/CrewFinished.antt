@@ -90,7 +90,7 @@ link_done outlet inlet i waiting empty sent long =
     let unheld : held ≡ [] = nothing_of held (omega (arith, count, long)) in
     sym (is ∙ ap (λ xs. (done ++ held) ++ xs) none ∙ append-nil (done ++ held) ∙ ap (λ xs. done ++ xs) unheld ∙ append-nil done)
 
-pub outlets_long : (endpoint : Endpoint) → length endpoint.outlets.items ≡ endpoint.seat.nodes
+outlets_long : (endpoint : Endpoint) → length endpoint.outlets.items ≡ endpoint.seat.nodes
 outlets_long endpoint = omega (arith, endpoint.outlets_len)
 
 -- ---- runners
@@ -134,14 +134,12 @@ module _ (family : Family) (n : ℕ) (some : 0 < n) (runners : List Runner) (are
 
   knows : (i : ℕ) → i < n → KnowsRight family n i (share i) (history i) (λ k. applied k i)
   knows i low =
-      subst (λ (s : Family). KnowsRight s n i (share i) (history i) (λ k. applied k i)) (family_is i low)
-      (subst (λ (m : ℕ). KnowsRight (at i).node.family m i (share i) (history i) (λ k. applied k i)) (n_is i low)
-      (subst (λ (m : ℕ). KnowsRight (at i).node.family (at i).node.n m (share i) (history i) (λ k. applied k i)) (id_is i low) (law i low).knows))
+      subst (λ (p : Family × ℕ × ℕ). KnowsRight p.0 p.1 p.2 (share i) (history i) (λ k. applied k i)) (λ q. (family_is i low q, n_is i low q, id_is i low q))
+      (law i low).knows
 
   planned_all : (i j : ℕ) → i < n → planned (at i).node j ≡ items_from (predecessors family) n j (history i)
   planned_all i j low =
-      ap (λ (s : Family). items_from (predecessors s) (at i).node.n j (take (at i).node.expanded (history i))) (family_is i low)
-      ∙ ap (λ (m : ℕ). items_from (predecessors family) m j (take (at i).node.expanded (history i))) (n_is i low)
+      (λ q. items_from (predecessors (family_is i low q)) (n_is i low q) j (take (at i).node.expanded (history i)))
       ∙ ap (λ (xs : List Settlement). items_from (predecessors family) n j xs)
       (take_all (at i).node.expanded (history i) (let emitted = (rest i low).0.expanded in omega (arith, emitted)))
 
@@ -160,7 +158,7 @@ module _ (family : Family) (n : ℕ) (some : 0 < n) (runners : List Runner) (are
       ∙ planned_all i j low_i
     where
       outlet : (x : Outlet) × (slice_get (at i).endpoint.outlets.items j ≡ Some x)
-      outlet = some_at (at i).endpoint.outlets.items j (let long = outlets_long (at i).endpoint in let nodes = (place i low_i).seat.1 in omega (arith, long, nodes, low_j))
+      outlet = some_at (at i).endpoint.outlets.items j (let nodes = (place i low_i).seat.1 in omega (arith, outlets_long (at i).endpoint, nodes, low_j))
 
       inbox : (waiting : List BatchView) × (sent_by outlet.0.end ≡ taken_of (at j).endpoint.inlet.end i ++ waiting)
       inbox = are.inboxes i j outlet.0 (at j).endpoint.inlet

@@ -1,6 +1,6 @@
 -- What a crew's runners leave when they are closed, put together from their parts.
-use Rattle.dob_run.proofs.Common.{◌*◌, ◌++◌, ◌+◌, ◌-◌, ◌<◌, ◌∙◌, ◌∷◌, ◌≡◌, ◌≢◌, ◌≤◌, Global, List, None, Option, Some, [], ap, arith, drop, inl, length}
-use Rattle.dob_run.proofs.Common.{length-append, map, refl, subst, sym, take, ℕ, length-map, take-append-drop, same_Some, slice_get_within, AllZip, slice_get}
+use Rattle.dob_run.proofs.Common.{◌*◌, ◌++◌, ◌+◌, ◌-◌, ◌<◌, ◌∙◌, ◌≡◌, ◌≢◌, Global, List, None, Option, Some, [], ap, arith, inl, length}
+use Rattle.dob_run.proofs.Common.{length-append, map, refl, subst, sym, take, ℕ, length-map, take-append-drop, same_Some, AllZip, slice_get}
 use Rattle.dob_run.proofs.Common.{Vec, zip_at, Family, Item, BatchView, items_of_batches, outbox_to, Node, AreWords, Board, Closed, IsRejoined, sent_by}
 use Rattle.dob_run.proofs.Common.{taken_by, taken_of, Rejoined, applied_else, applied_here, front, parts, KnowsRight, AreLast, IsLawfulRunner, SendsRight}
 use Rattle.dob_run.proofs.Common.{applied_from, planned, offered, worked_from, KeepsRunner, held_from, in_slot, Endpoint, Runner, Inlet, Outlet, AreUnfailed}
@@ -9,62 +9,7 @@ use Rattle.dob_run.proofs.Common.{AreRunnersFor, endpoint_of, node_of, outlet_sl
 use Rattle.dob_run.specs.declared.crew_close.ClosedCrew.{ClosedCrew}
 use Rattle.dob_run.specs.declared.bounded_run.Worker.{Worker}
 use Rattle.dob_run.proofs.CrewRunners.{seat_there, are_linked, rejoined_at, seat_at, crew_many, crew_low, outlet_at}
-use Rattle.dob_run.proofs.Places.{at_row, each_more, none_at, get_map, map_got, next_is, then_left, gone_all}
-
--- ---- workers, one by one
-
--- So many nodes have their slots, and these nodes and rows of slots are left.
-pub record IsJoining {Y Z : Type 0} (nodes : List Node) (sending : List (Vec (Option BatchView) Y)) (taking : List (Vec (Option BatchView) Z)) (nodes_left : List Node)
-    (sending_left : List (Vec (Option BatchView) Y)) (taking_left : List (Vec (Option BatchView) Z)) (workers : List Worker) : Type 0 where
-  pub done : ℕ
-  pub within : done ≤ length nodes
-  pub nodes_are : nodes_left ≡ drop done nodes
-  pub sending_are : sending_left ≡ drop done sending
-  pub taking_are : taking_left ≡ drop done taking
-  pub so_far : AreWorkers done nodes (map row_of sending) (map row_of taking) workers
-
-module _ {Y Z : Type 0} (nodes : List Node) (sending : List (Vec (Option BatchView) Y)) (taking : List (Vec (Option BatchView) Z)) where
-  pub joining_begins : (nodes_left : List Node) (sending_left : List (Vec (Option BatchView) Y)) (taking_left : List (Vec (Option BatchView) Z)) (workers : List Worker) →
-      nodes_left ≡ nodes → sending_left ≡ sending → taking_left ≡ taking → workers ≡ [] → IsJoining nodes sending taking nodes_left sending_left taking_left workers
-  joining_begins nodes_left sending_left taking_left workers n s t none = record {
-    done = 0;
-    within = omega arith;
-    nodes_are = n;
-    sending_are = s;
-    taking_are = t;
-    so_far = record {
-      count = ap length none;
-      each = λ k worker e. none_at workers k worker none e;
-    };
-  }
-
-module _ {A : Type 0} (nodes : List Node) (sending taking : List (Vec (Option BatchView) A)) where
-  pub joining_goes_on : (nodes_left after : List Node) (sending_left sending_after taking_left taking_after : List (Vec (Option BatchView) A)) (workers more : List Worker)
-      (node : Node) (out into : Vec (Option BatchView) A) (worker : Worker) → IsJoining nodes sending taking nodes_left sending_left taking_left workers →
-      nodes_left ≡ node ∷ after → sending_left ≡ out ∷ sending_after → taking_left ≡ into ∷ taking_after →
-      worker.node ≡ node → worker.sending.items ≡ out.items → worker.taking.items ≡ into.items → more ≡ workers ++ worker ∷ [] →
-      IsJoining nodes sending taking after sending_after taking_after more
-  joining_goes_on nodes_left after sending_left sending_after taking_left taking_after workers more node out into worker on n s t node_is out_is into_is more_is =
-      let at = next_is nodes after node on.done (sym on.nodes_are ∙ n) in
-      let at_out = get_map row_of sending on.done out (next_is sending sending_after out on.done (sym on.sending_are ∙ s)) in
-      let at_into = get_map row_of taking on.done into (next_is taking taking_after into on.done (sym on.taking_are ∙ t)) in
-      record {
-        done = on.done + 1;
-        within = omega (arith, slice_get_within nodes on.done node at);
-        nodes_are = then_left nodes after node on.done (sym on.nodes_are ∙ n);
-        sending_are = then_left sending sending_after out on.done (sym on.sending_are ∙ s);
-        taking_are = then_left taking taking_after into on.done (sym on.taking_are ∙ t);
-        so_far = record {
-          count = omega (arith, ap length more_is, length-append workers (worker ∷ []), on.so_far.count);
-          each = each_more _ workers more worker on.done on.so_far.count more_is on.so_far.each
-              (at ∙ ap Some (sym node_is), at_out ∙ ap Some (sym out_is), at_into ∙ ap Some (sym into_is));
-        };
-      }
-
-  pub all_joined : (nodes_left : List Node) (sending_left taking_left : List (Vec (Option BatchView) A)) (workers : List Worker) →
-      IsJoining nodes sending taking nodes_left sending_left taking_left workers → length nodes_left ≡ 0 → AreWorkers (length nodes) nodes (map row_of sending) (map row_of taking) workers
-  all_joined nodes_left sending_left taking_left workers on none =
-      subst (λ (k : ℕ). AreWorkers k nodes (map row_of sending) (map row_of taking) workers) (gone_all nodes nodes_left on.done on.nodes_are none on.within) on.so_far
+use Rattle.dob_run.proofs.Places.{at_row, get_map, map_got}
 
 -- ---- what the runners leave
 

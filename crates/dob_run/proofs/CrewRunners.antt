@@ -110,10 +110,7 @@ crew_kept board old new crew kept = record {
 
 -- what is so of a crew of those sizes is so of them as numbers
 sized : (P : ℕ → ℕ → ℕ → Type 0) (n items batches : ℕ) (sizes : CrewSizes) → AreThese n items batches sizes → P sizes.nodes sizes.batch_size sizes.capacity → P n items batches
-sized P n items batches sizes these so =
-    subst (λ (k : ℕ). P k items batches) these.nodes
-    (subst (λ (k : ℕ). P sizes.nodes k batches) these.batch_size
-    (subst (λ (k : ℕ). P sizes.nodes sizes.batch_size k) these.capacity so))
+sized P n items batches sizes these = subst (λ (p : ℕ × ℕ × ℕ). P p.0 p.1 p.2) (λ q. (these.nodes q, these.batch_size q, these.capacity q))
 
 pub crew_sized : (family : Family) (n items batches : ℕ) (sizes : CrewSizes) (board : Board) (runners : List Runner) → AreThese n items batches sizes →
     IsNewCrew family sizes.nodes sizes.batch_size sizes.capacity board runners → IsNewCrew family n items batches board runners

@@ -16,21 +16,17 @@ use Rattle.dob_run.proofs.Shown.{owner_is}
 
 -- ---- the words
 
-module _ (board : Board) (family : Family) (size : ℕ) (runners : List Runner) (words : List ℕ) (crew : IsCrew board (map endpoint_of runners))
+module _ {board : Board} {family : Family} {size : ℕ} (runners : List Runner) {words : List ℕ} (crew : IsCrew board (map endpoint_of runners))
     (stopped : HaveStopped family size runners) (are : AreWords board.nodes (map seat_in (map endpoint_of runners)) words) where
   there : (k : ℕ) → k < board.nodes → (runner : Runner) × (slice_get runners k ≡ Some runner)
   there k within = some_at runners k (omega (arith, within, crew_many board runners crew))
-
-  -- the family of the first of them is that of all
-  pub set_same : (s : Family) → ((runner : Runner) → slice_get runners 0 ≡ Some runner → s ≡ runner.family) → s ≡ family
-  set_same s is = let runner = there 0 board.some in is runner.0 runner.1 ∙ (stopped 0 runner.0 runner.1).family_is
 
   -- each seat knows the halt that the words say
   halt_is : (k : ℕ) (runner : Runner) → slice_get runners k ≡ Some runner → halt_word runner.endpoint.seat.halt ≡ slice_index words 2
   halt_is k runner at = sym (are.halt_seen k runner.endpoint.seat (seat_there runners k runner at) (stopped k runner at).halted)
 
   -- which isn't that the run goes on
-  pub not_running : slice_index words 2 ≢ 0
+  not_running : slice_index words 2 ≢ 0
   not_running none =
       let runner = there 0 board.some in
       (stopped 0 runner.0 runner.1).halted (same_halt runner.0.endpoint.seat.halt Running (halt_is 0 runner.0 runner.1 ∙ none))

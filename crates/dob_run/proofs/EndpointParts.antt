@@ -1,6 +1,6 @@
 -- Endpoints taken apart one by one, and what their ends are then.
-use Rattle.dob_run.proofs.Common.{◌*◌, ◌++◌, ◌+◌, ◌<◌, ◌∙◌, ◌∷◌, ◌≡◌, List, Some, [], ap, append_assoc, arith, inl, inr, length, length-append, map, refl}
-use Rattle.dob_run.proofs.Common.{subst, sym, ℕ, append-nil, length-map, same_Some, slice_get_within, slice_get, Vec, at_end, get_front, middle, some_at, Board}
+use Rattle.dob_run.proofs.Common.{◌*◌, ◌++◌, ◌+◌, ◌<◌, ◌∙◌, ◌∷◌, ◌≡◌, List, Some, [], ap, arith, inl, inr, length, length-append, map, refl}
+use Rattle.dob_run.proofs.Common.{subst, sym, ℕ, length-map, same_Some, slice_get_within, slice_get, Vec, at_end, get_front, middle, some_at, Board}
 use Rattle.dob_run.proofs.Common.{IsRejoined, taken_by, Rejoined, SendEnd, TakeEnd, Endpoint, Inlet, Outlet, AreLinked, ArePartsOf, IsCrew, row_of, seat_in}
 use Rattle.dob_run.proofs.Common.{slots_in, slots_out, AreEnds, AreJoined, outlet_end, AreDealt, StandsAt}
 use Rattle.dob_chan.specs.Ends.{IsEndOf, senders_of}
@@ -48,33 +48,6 @@ parts_more n endpoints endpoint old new are added wide =
       sending = rows_more slots_out endpoints endpoint old.sending.items new.sending.items are.sending added.sending;
       taking = rows_more slots_in endpoints endpoint old.taking.items new.taking.items are.taking added.taking;
     }
-
--- Of all endpoints some are taken apart, and these are left.
-pub record AreParting (n : ℕ) (all left : List Endpoint) (parts : Parts) : Type 0 where
-  pub gone : List Endpoint
-  pub split : all ≡ gone ++ left
-  pub are : ArePartsOf n gone parts
-
-pub parting_begins : (n : ℕ) (all left : List Endpoint) (parts : Parts) → ArePartsOf n [] parts → left ≡ all → AreParting n all left parts
-parting_begins n all left parts are same = record { gone = []; split = sym same; are = are }
-
-pub parting_goes_on : (n : ℕ) (all left after : List Endpoint) (endpoint : Endpoint) (old new : Parts) → AreParting n all left old → left ≡ endpoint ∷ after → HasAdded old endpoint new →
-    length endpoint.outlets.items ≡ n → AreParting n all after new
-parting_goes_on n all left after endpoint old new on is added wide = record {
-  gone = on.gone ++ endpoint ∷ [];
-  split = on.split ∙ ap (λ (l : List Endpoint). on.gone ++ l) is ∙ sym (append_assoc on.gone (endpoint ∷ []) after);
-  are = parts_more n on.gone endpoint old new on.are added wide;
-}
-
--- the endpoint that comes next is one of all
-pub one_of : (n : ℕ) (all left after : List Endpoint) (endpoint : Endpoint) (parts : Parts) → AreParting n all left parts → left ≡ endpoint ∷ after →
-    (k : ℕ) × (slice_get all k ≡ Some endpoint)
-one_of n all left after endpoint parts on is =
-    (length on.gone, ap (λ (l : List Endpoint). slice_get l (length on.gone)) (on.split ∙ ap (λ (l : List Endpoint). on.gone ++ l) is) ∙ middle on.gone after endpoint)
-
-pub all_parted : (n : ℕ) (all left : List Endpoint) (parts : Parts) → AreParting n all left parts → length left ≡ 0 → ArePartsOf n all parts
-all_parted n all [] parts on none = subst (λ (l : List Endpoint). ArePartsOf n l parts) (sym (on.split ∙ append-nil on.gone)) on.are
-all_parted n all (m ∷ left) parts on none = absurd (omega (arith, none))
 
 -- ---- the inboxes of a crew
 

@@ -1,45 +1,10 @@
 -- Inboxes laid one by one.
-use Rattle.dob_run.proofs.Common.{◌++◌, ◌+◌, ◌<◌, ◌∙◌, ◌∷◌, ◌≡◌, ◌≤◌, List, None, Some, [], ap, arith, drop, inl, inr, length, length-append, subst, sym, ℕ}
+use Rattle.dob_run.proofs.Common.{◌++◌, ◌+◌, ◌<◌, ◌∙◌, ◌∷◌, ◌≡◌, List, None, Some, [], ap, arith, inl, inr, length, length-append, subst, sym, ℕ}
 use Rattle.dob_run.proofs.Common.{slice_get_within, slice_get, Vec, at_end, AreEndsOf, taken_by, SendEnd, TakeEnd, Inlet, Outlet, AreDealt, AreRows, StandsAt}
 use Rattle.dob_chan.specs.Ends.{senders_of, IsEndOf, AreOpened}
 use Rattle.dob_run.specs.InboxOpen.{AreOutlets, IsLaid, IsUntaken, IsOneLaid, AreLaidUpto}
-use Rattle.dob_run.proofs.Places.{each_more, none_at, next_is, then_left, gone_all}
+use Rattle.dob_run.proofs.Places.{each_more, none_at}
 use Rattle.dob_run.proofs.InboxesClosed.{rows_longer}
-
--- ---- outlets
-
--- Of all ends the first have their outlets, and these are left.
-pub record AreMaking (sends left : List SendEnd) (outlets : List Outlet) : Type 0 where
-  pub done : ℕ
-  pub within : done ≤ length sends
-  pub left_are : left ≡ drop done sends
-  pub count : length outlets ≡ done
-  pub each : (k : ℕ) (outlet : Outlet) → slice_get outlets k ≡ Some outlet → (slice_get sends k ≡ Some outlet.end) × (outlet.slot ≡ None)
-
-pub making_begins : (sends left : List SendEnd) (outlets : List Outlet) → left ≡ sends → outlets ≡ [] → AreMaking sends left outlets
-making_begins sends left outlets all none = record {
-  done = 0;
-  within = omega arith;
-  left_are = all;
-  count = ap length none;
-  each = λ k outlet at. none_at outlets k outlet none at;
-}
-
-pub making_goes_on : (sends left after : List SendEnd) (send : SendEnd) (outlets more : List Outlet) (outlet : Outlet) → AreMaking sends left outlets →
-    left ≡ send ∷ after → outlet.end ≡ send → outlet.slot ≡ None → more ≡ outlets ++ outlet ∷ [] → AreMaking sends after more
-making_goes_on sends left after send outlets more outlet on is end slot grown =
-    let at = next_is sends after send on.done (sym on.left_are ∙ is) in
-    record {
-      done = on.done + 1;
-      within = omega (arith, slice_get_within sends on.done send at);
-      left_are = then_left sends after send on.done (sym on.left_are ∙ is);
-      count = omega (arith, ap length grown, length-append outlets (outlet ∷ []), on.count);
-      each = each_more (λ (k : ℕ) (o : Outlet). (slice_get sends k ≡ Some o.end) × (o.slot ≡ None)) outlets more outlet on.done on.count grown on.each
-          (at ∙ ap Some (sym end), slot);
-    }
-
-pub all_made : (sends left : List SendEnd) (outlets : List Outlet) → AreMaking sends left outlets → length left ≡ 0 → AreOutlets sends outlets
-all_made sends left outlets on none = record { count = on.count ∙ gone_all sends left on.done on.left_are none on.within; each = on.each }
 
 -- ---- one inbox
 

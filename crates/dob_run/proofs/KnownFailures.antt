@@ -1,6 +1,6 @@
 -- A failure of a run that each of its runners knows of, and that there is none.
 use Rattle.dob_run.proofs.Common.{◌∙◌, ◌≡◌, List, None, Option, Some, ap, arith, inl, inr, subst, sym, ℕ, MatchOption, slice_get, Cause, Fault, Memory, Nodes}
-use Rattle.dob_run.proofs.Common.{Sizes, Stopped, halt_word, Halt, Ended, Failed, Running, Runner, AreUnfailed, IsFirstFailed, AllKnow, IsFailureOf}
+use Rattle.dob_run.proofs.Common.{Sizes, Stopped, halt_word, Halt, Ended, Failed, Runner, AreUnfailed, IsFirstFailed, AllKnow, IsFailureOf}
 use Rattle.dob_run.specs.BuildEnd.{IsFailure, AreFailureless}
 
 -- what is answered where none is known

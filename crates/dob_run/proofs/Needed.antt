@@ -1,31 +1,17 @@
 -- A runner that has nothing left to do cut enough batches for what its classes have to tell another node.
 use Rattle.dob_run.proofs.Common.{◌*◌, ◌++◌, ◌+◌, ◌<◌, ◌∙◌, ◌∷◌, ◌≡◌, ◌≢◌, ◌≤◌, Bool, List, Some, [], ap, arith, cond, eqb, false, get_or, inl, inr, length}
-use Rattle.dob_run.proofs.Common.{length-append, refl, subst, suc, sym, true, zero, ℕ, cases_Bool, cases_eq, eq-eqb, eqb-true, ne_eqb, append-nil, length-map}
+use Rattle.dob_run.proofs.Common.{length-append, refl, subst, suc, sym, true, zero, ℕ, cases_Bool, cases_eq, cases_lt, eq-eqb, eqb-true, ne_eqb, append-nil}
+use Rattle.dob_run.proofs.Common.{length-map}
 use Rattle.dob_run.proofs.Common.{take_all, slice_get-get_or, All, count_by, filter, range_with_len, sum_by, slice_get, Family, classes_of, Value, Draw}
 use Rattle.dob_run.proofs.Common.{owner_of, HasValueNow, Item, Settlement, BatchView, items_of_batches, item_for, items_from, items_of, last_now, value_of}
 use Rattle.dob_run.proofs.Common.{IsIdle, Node, IsLawfulRunner, SendsRight, offered, Endpoint, Outlet, edges_to, needed}
 use Rattle.std.proofs.lemmas.List.Concat.{length-flat_map}
-use Rattle.std.proofs.lemmas.List.Sums.{sum_by-cons, sum_by-le, length-filter}
+use Rattle.std.proofs.lemmas.List.{get_or_past}
+use Rattle.std.proofs.lemmas.List.Sums.{sum_by-cons, sum_by-le, sum_by-le-sum_by, length-filter}
 use Rattle.dob_value.specs.Entries.{is_draw}
 use Rattle.dob_unmove.specs.Edges.{predecessors}
 
 -- ---- sums over numbers that follow one another
-
-sum_no_more : (f g : ℕ → ℕ) (a n : ℕ) → ((k : ℕ) → k < a + n → f k ≤ g k) → sum_by f (range_with_len a n) ≤ sum_by g (range_with_len a n)
-sum_no_more f g a zero less = omega arith
-sum_no_more f g a (suc n) less =
-    let here = less a (omega arith) in
-    let rest = sum_no_more f g (a + 1) n (λ k low. less k (omega arith)) in
-    let one = sum_by-cons f a (range_with_len (a + 1) n) in
-    let other = sum_by-cons g a (range_with_len (a + 1) n) in
-    omega (arith, here, rest, one, other)
-
-sum_none : (a n : ℕ) → sum_by (λ (k : ℕ). 0) (range_with_len a n) ≡ 0
-sum_none a zero = refl
-sum_none a (suc n) =
-    let rest = sum_none (a + 1) n in
-    let one = sum_by-cons (λ (k : ℕ). 0) a (range_with_len (a + 1) n) in
-    omega (arith, rest, one)
 
 sum_both : (f g : ℕ → ℕ) (a n : ℕ) →
     sum_by (λ k. f k + g k) (range_with_len a n) ≡ sum_by f (range_with_len a n) + sum_by g (range_with_len a n)
@@ -92,12 +78,12 @@ of_first f s history class = elim (cases_Bool (eqb s.class class)) [
 -- A sum over the classes of which a history tells is no more than that over its settlements.
 listed_once : (f : ℕ → ℕ) (history : List Settlement) (a n : ℕ) →
     sum_by (of_told f history) (range_with_len a n) ≤ sum_by (λ (s : Settlement). f s.class) history
-listed_once f [] a n = let none = sum_none a n in omega (arith, none)
+listed_once f [] a n = let none = sum_by-le (of_told f []) 0 (range_with_len a n) (λ k d low. omega arith) in omega (arith, none)
 listed_once f (s ∷ history) a n =
     let rest = listed_once f history a n in
     let first = only_once f s.class a n in
-    let parts = sum_no_more (of_told f (s ∷ history)) (λ class. only f s.class class + of_told f history class) a n
-    (λ class low. of_first f s history class) in
+    let parts = sum_by-le-sum_by (of_told f (s ∷ history)) (λ class. only f s.class class + of_told f history class) (range_with_len a n)
+    (of_first f s history) in
     let both = sum_both (only f s.class) (of_told f history) a n in
     let whole = sum_by-cons (λ (r : Settlement). f r.class) s history in
     omega (arith, rest, first, parts, both, whole)
@@ -157,17 +143,19 @@ module _ (family : Family) (n i j : ℕ) (history : List Settlement) (values : L
   abbrev adds : ℕ → ℕ
   adds class = cond {A = ℕ} (eqb (owner_of n class) i) (has class) 0
 
-  own_emitted : (class : ℕ) → class < classes_of family → owner_of n class ≡ i → has class ≤ of_told (edges_to family n j) history class
-  own_emitted class low own = elim (cases_Bool (tells history class)) [
+  own_emitted : (class : ℕ) → owner_of n class ≡ i → has class ≤ of_told (edges_to family n j) history class
+  own_emitted class own = elim (cases_Bool (tells history class)) [
     | inl emitted ↦
         let right : of_told (edges_to family n j) history class ≡ edges_to family n j class =
         ap (λ b. cond {A = ℕ} b (edges_to family n j class) 0) emitted in
         let left = no_more (is_draw (get_or values class Draw)) (edges_to family n j class) in
         omega (arith, right, left)
     | inr unlisted ↦
-        let there = slice_get-get_or values class Draw (subst (λ m. class < m) (sym whole) low) in
-        let drawn : get_or values class Draw ≡ Draw =
-        is class (get_or values class Draw) low own there ∙ unlisted_still history class Draw unlisted in
+        let drawn : get_or values class Draw ≡ Draw = elim (cases_lt class (classes_of family)) [
+          | inl low ↦ is class (get_or values class Draw) low own (slice_get-get_or values class Draw (subst (λ m. class < m) (sym whole) low))
+              ∙ unlisted_still history class Draw unlisted
+          | inr past ↦ get_or_past values class Draw (omega (arith, past, whole))
+        ] in
         let left : has class ≡ 0 = ap (λ v. cond {A = ℕ} (is_draw v) 0 (edges_to family n j class)) drawn in
         omega (arith, left)
   ]
@@ -176,11 +164,11 @@ module _ (family : Family) (n i j : ℕ) (history : List Settlement) (values : L
       no_more true m = omega arith
       no_more false m = omega arith
 
-  each_emitted : (class : ℕ) → class < classes_of family → adds class ≤ of_told (edges_to family n j) history class
-  each_emitted class low = elim (cases_Bool (eqb (owner_of n class) i)) [
+  each_emitted : (class : ℕ) → adds class ≤ of_told (edges_to family n j) history class
+  each_emitted class = elim (cases_Bool (eqb (owner_of n class) i)) [
     | inl own ↦
         let here : adds class ≡ has class = ap (λ b. cond {A = ℕ} b (has class) 0) own in
-        let less = own_emitted class low (eqb-true (owner_of n class) i own) in
+        let less = own_emitted class (eqb-true (owner_of n class) i own) in
         omega (arith, here, less)
     | inr other ↦
         let here : adds class ≡ 0 = ap (λ b. cond {A = ℕ} b (has class) 0) other in
@@ -190,7 +178,7 @@ module _ (family : Family) (n i j : ℕ) (history : List Settlement) (values : L
   -- the items that the history makes are as many at least
   needed_made : needed family n values i j ≤ length (items_from (predecessors family) n j history)
   needed_made =
-      let less = sum_no_more adds (of_told (edges_to family n j) history) 0 (classes_of family) (λ class low. each_emitted class (omega arith)) in
+      let less = sum_by-le-sum_by adds (of_told (edges_to family n j) history) (range_with_len 0 (classes_of family)) each_emitted in
       let once = listed_once (edges_to family n j) history 0 (classes_of family) in
       let made = length-items_from (predecessors family) n j history in
       omega (arith, less, once, made)
@@ -218,10 +206,8 @@ needed_fits family n size i j node endpoint outlet values law idle id_is n_is ap
 
     all_items : items_from (predecessors family) n j node.history.settlements ≡ items_of_batches (offered outlet)
     all_items =
-        ap (λ (s : Family). items_from (predecessors s) n j node.history.settlements) (sym law.of.0)
-        ∙ ap (λ m. items_from (predecessors node.family) m j node.history.settlements) (sym n_is)
-        ∙ ap (λ (xs : List Settlement). items_from (predecessors node.family) node.n j xs)
-        (sym (take_all node.expanded node.history.settlements (let emitted = idle.expanded in omega (arith, emitted))))
+        (λ q. items_from (predecessors (sym law.of.0 q)) (sym n_is q) j
+        (sym (take_all node.expanded node.history.settlements (let emitted = idle.expanded in omega (arith, emitted))) q))
         ∙ sends.items
         ∙ ap (λ (xs : List Item). items_of_batches (offered outlet) ++ xs) (idle.sent j)
         ∙ append-nil (items_of_batches (offered outlet))

@@ -1,7 +1,8 @@
 -- What stands where in a list, also after one thing more, after one was exchanged, and in a function of all its things.
-use Rattle.dob_run.proofs.Common.{◌++◌, ◌+◌, ◌<◌, ◌∙◌, ◌∷◌, ◌≡◌, ◌≢◌, ◌≤◌, List, Option, Some, [], ap, append_assoc, arith, drop, inl, inr, length}
+use Rattle.dob_run.proofs.Common.{◌++◌, ◌+◌, ◌<◌, ◌∙◌, ◌∷◌, ◌≡◌, ◌≢◌, List, Option, Some, [], ap, append_assoc, arith, inl, inr, length}
 use Rattle.dob_run.proofs.Common.{length-append, map, refl, subst, suc, sym, take, zero, ℕ, append-nil, same_Some, slice_get_within, range_with_len, slice_get}
-use Rattle.dob_run.proofs.Common.{Vec, at_end, BatchView, held_from, slot_row, AreRows, StandsAt}
+use Rattle.dob_run.proofs.Common.{Vec, at_end, middle, BatchView, held_from, slot_row, AreRows, StandsAt}
+use Rattle.std.proofs.lemmas.List.FromFn.{map-range_with_len_more}
 
 pub none_at : {A L : Type 0} → (l : List A) (k : ℕ) (a : A) → l ≡ [] → slice_get l k ≡ Some a → L
 none_at {A} l k a none e = absurd (let nothing : slice_get [] k ≡ Some a = ap (λ (xs : List A). slice_get xs k) (sym none) ∙ e in cc)
@@ -41,36 +42,59 @@ map_got f [] k y e = absurd (cc)
 map_got f (x ∷ xs) zero y e = (x, refl, same_Some (f x) y e)
 map_got f (x ∷ xs) (suc k) y e = map_got f xs k y e
 
--- what comes next of a list of which the first k things went
-pub next_is : {A : Type 0} → (l rest : List A) (a : A) (k : ℕ) → drop k l ≡ a ∷ rest → slice_get l k ≡ Some a
-next_is [] rest a zero e = absurd (cc)
-next_is [] rest a (suc k) e = absurd (cc)
-next_is (x ∷ xs) rest a zero e = cc
-next_is (x ∷ xs) rest a (suc k) e = next_is xs rest a k e
+pub one_longer : {A : Type 0} {more : List A} (l : List A) (a : A) → more ≡ l ++ a ∷ [] → length more ≡ length l + 1
+one_longer {A} {more} l a is = omega (arith, ap length is, length-append l (a ∷ []))
 
-then_drop : {A : Type 0} → (l rest : List A) (a : A) (k : ℕ) → drop k l ≡ a ∷ rest → rest ≡ drop (suc k) l
-then_drop [] rest a zero e = absurd (cc)
-then_drop [] rest a (suc k) e = absurd (cc)
-then_drop (x ∷ xs) rest a zero e = cc
-then_drop (x ∷ xs) rest a (suc k) e = then_drop xs rest a k e
+-- Of all things the first so many went, and these are left.
+pub record HaveGone {A : Type 0} (all left : List A) (done : ℕ) : Type 0 where
+  pub gone : List A
+  pub split : all ≡ gone ++ left
+  pub many : length gone ≡ done
 
-pub then_left : {A : Type 0} → (l rest : List A) (a : A) (k : ℕ) → drop k l ≡ a ∷ rest → rest ≡ drop (k + 1) l
-then_left l rest a k e = let one_more : suc k ≡ k + 1 = omega arith in then_drop l rest a k e ∙ ap (λ (m : ℕ). drop m l) one_more
+abbrev pub none_gone : {A : Type 0} {all left : List A} {done : ℕ} → left ≡ all → done ≡ 0 → HaveGone all left done
+none_gone {A} {all} {left} {done} same none = record { gone = []; split = sym same; many = sym none }
 
-all_gone : {A : Type 0} → (l : List A) (k : ℕ) → length (drop k l) ≡ 0 → length l ≤ k
-all_gone [] k e = omega arith
-all_gone (x ∷ xs) zero e = absurd (omega (arith, e))
-all_gone (x ∷ xs) (suc k) e = let h = all_gone xs k e in omega arith
+module _ {A : Type 0} {all left : List A} {done : ℕ} (on : HaveGone all left done) where
+  -- the one that goes next
+  pub next_at : {after : List A} {x : A} → left ≡ x ∷ after → slice_get all done ≡ Some x
+  next_at {after} {x} is = ap (slice_get all) (sym on.many) ∙ ap (λ (l : List A). slice_get l (length on.gone))
+      (on.split ∙ ap (λ (l : List A). on.gone ++ l) is)
+      ∙ middle on.gone after x
 
--- where nothing is left, all things went
-pub gone_all : {A : Type 0} → (l left : List A) (k : ℕ) → left ≡ drop k l → length left ≡ 0 → k ≤ length l → k ≡ length l
-gone_all l left k is none within = omega (arith, all_gone l k (ap length (sym is) ∙ none), within)
+  abbrev pub one_gone : {after : List A} {x : A} {more : ℕ} → left ≡ x ∷ after → more ≡ done + 1 → HaveGone all after more
+  one_gone {after} {x} {more} is one = record {
+    gone = on.gone ++ x ∷ [];
+    split = on.split ∙ ap (λ (l : List A). on.gone ++ l) is ∙ sym (append_assoc on.gone (x ∷ []) after);
+    many = omega (arith, length-append on.gone (x ∷ []), on.many, one);
+  }
 
--- while a thing is left in one list, one is left in another that is as long
-pub thing_left : {A B : Type 0} → (xs left after : List A) (x : A) (ys ys_left : List B) (done : ℕ) → left ≡ drop done xs → left ≡ x ∷ after →
-    ys_left ≡ drop done ys → length ys ≡ length xs → length ys_left ≢ 0
-thing_left xs left after x ys ys_left done is next ys_are long none =
-    omega (arith, all_gone ys done (ap length (sym ys_are) ∙ none), slice_get_within xs done x (next_is xs after x done (sym is ∙ next)), long)
+  -- where nothing is left, all things went
+  pub gone_all : length left ≡ 0 → done ≡ length all
+  gone_all none = omega (arith, ap length on.split, length-append on.gone left, on.many, none)
+
+  pub gone_are : length left ≡ 0 → on.gone ≡ all
+  gone_are none = sym (on.split ∙ ap (λ (l : List A). on.gone ++ l) (nothing left none) ∙ append-nil on.gone)
+    where
+      nothing : (l : List A) → length l ≡ 0 → l ≡ []
+      nothing [] is = refl
+      nothing (x ∷ l) is = absurd (omega (arith, is))
+
+  -- while a thing is left here, one is left in another list that is as long
+  pub thing_left : {B : Type 0} {others others_left : List B} {after : List A} {x : A} → HaveGone others others_left done → left ≡ x ∷ after →
+      length others ≡ length all → length others_left ≢ 0
+  thing_left {B} {others} {others_left} {after} {x} other is long none =
+      omega (
+        arith,
+        ap length on.split,
+        length-append on.gone left,
+        on.many,
+        ap length is,
+        ap length other.split,
+        length-append other.gone others_left,
+        other.many,
+        none,
+        long,
+      )
 
 -- a function of all things is that of those that went, and then that of those that are left
 module _ {A B : Type 0} (f : A → B) where
@@ -98,12 +122,6 @@ module _ {A B : Type 0} (f : A → B) where
 
 -- ---- a function of the first numbers
 
-spread_more : {B : Type 0} (f : ℕ → B) (a n : ℕ) → map f (range_with_len a (suc n)) ≡ map f (range_with_len a n) ++ f (a + n) ∷ []
-spread_more {B} f a zero = let same : a ≡ a + 0 = omega arith in ap (λ (k : ℕ). f k ∷ []) same
-spread_more {B} f a (suc n) =
-    let same : (a + 1) + n ≡ a + suc n = omega arith in
-    ap (λ (l : List B). f a ∷ l) (spread_more f (a + 1) n ∙ ap (λ (k : ℕ). map f (range_with_len (a + 1) n) ++ f k ∷ []) same)
-
 at_spread : {B : Type 0} (f : ℕ → B) (a n k : ℕ) → k < n → slice_get (map f (range_with_len a n)) k ≡ Some (f (a + k))
 at_spread f a zero k low = absurd (omega (arith, low))
 at_spread f a (suc n) zero low = let same : a ≡ a + 0 = omega arith in ap (λ (k : ℕ). Some (f k)) same
@@ -117,11 +135,8 @@ at_row n k slot low = let same : 0 + k ≡ k = omega arith in at_spread (held_fr
 pub row_grows : (n : ℕ) (slot : Option BatchView) (slots : List (Option BatchView)) (next : Option BatchView) → slots ≡ slot_row n slot →
     next ≡ held_from slot n → slots ++ next ∷ [] ≡ slot_row (n + 1) slot
 row_grows n slot slots next so_far is =
-    let one : suc n ≡ n + 1 = omega arith in
-    let same : n ≡ 0 + n = omega arith in
-    let last : next ≡ held_from slot (0 + n) = is ∙ ap (λ (j : ℕ). held_from slot j) same in
-    let both : slots ++ next ∷ [] ≡ slot_row n slot ++ held_from slot (0 + n) ∷ [] = λ i. so_far i ++ last i ∷ [] in
-    both ∙ sym (spread_more (held_from slot) 0 n) ∙ ap (λ (k : ℕ). slot_row k slot) one
+    let both : slots ++ next ∷ [] ≡ slot_row n slot ++ held_from slot n ∷ [] = λ i. so_far i ++ is i ∷ [] in
+    both ∙ sym (map-range_with_len_more (held_from slot) 0 n n (omega arith))
 
 -- behind the first list
 pub behind : {A : Type 0} (xs ys : List A) (k : ℕ) → slice_get (xs ++ ys) (length xs + k) ≡ slice_get ys k

@@ -1,73 +1,13 @@
--- Seats that get their rows of outlets and their inlets one by one, and what their endpoints are then.
-use Rattle.dob_run.proofs.Common.{◌++◌, ◌+◌, ◌-◌, ◌<◌, ◌∙◌, ◌∷◌, ◌≡◌, ◌≤◌, List, Some, [], ap, arith, drop, length, length-append, map, refl, subst, suc, sym}
+-- What endpoints are at the start, of seats with their rows of outlets and their inlets.
+use Rattle.dob_run.proofs.Common.{◌++◌, ◌-◌, ◌<◌, ◌∙◌, ◌≡◌, List, Some, [], ap, arith, length, map, refl, subst, suc, sym}
 use Rattle.dob_run.proofs.Common.{take, zero, ℕ, length-map, same_Some, slice_get_within, slice_get, slice_index, Vec, some_at, BatchView, same_halt, fresh}
 use Rattle.dob_run.proofs.Common.{AreSeats, IsSeatOf, stand_of, Board, Running, NodeSeat, batches_of, offered, worked, in_slot, Endpoint, Inlet, Outlet}
-use Rattle.dob_run.proofs.Common.{AreLinked, seat_in, AreNewEndpoints, StandsAt, AreSeated, CanSeat, CanSeatAll, IsSeated}
+use Rattle.dob_run.proofs.Common.{AreLinked, seat_in, AreNewEndpoints, StandsAt, AreSeated, CanSeatAll}
 use Rattle.std.proofs.Common.{replicate}
 use Rattle.dob_board.specs.declared.view.Stand.{Stand}
 use Rattle.dob_chan.specs.Ends.{IsEndOf}
 use Rattle.dob_run.specs.InboxOpen.{IsLaid, IsUntaken, AreLaid}
-use Rattle.dob_run.proofs.Places.{each_more, none_at, get_map, map_got, next_is, then_left, gone_all}
-
--- So many seats have their endpoints, and these seats, rows and inlets are left.
-pub record IsSeating {Z : Type 0} (seats : List NodeSeat) (rows : List (Vec Outlet Z)) (inlets : List Inlet) (seats_left : List NodeSeat)
-    (rows_left : List (Vec Outlet Z)) (inlets_left : List Inlet) (endpoints : List Endpoint) : Type 0 where
-  pub done : ℕ
-  pub within : done ≤ length seats
-  pub seats_are : seats_left ≡ drop done seats
-  pub rows_are : rows_left ≡ drop done rows
-  pub inlets_are : inlets_left ≡ drop done inlets
-  pub so_far : AreSeated done seats rows inlets endpoints
-
-module _ {Z : Type 0} (seats : List NodeSeat) (rows : List (Vec Outlet Z)) (inlets : List Inlet) where
-  pub seating_begins : (seats_left : List NodeSeat) (rows_left : List (Vec Outlet Z)) (inlets_left : List Inlet) (endpoints : List Endpoint) →
-      seats_left ≡ seats → rows_left ≡ rows → inlets_left ≡ inlets → endpoints ≡ [] → IsSeating seats rows inlets seats_left rows_left inlets_left endpoints
-  seating_begins seats_left rows_left inlets_left endpoints s r c none = record {
-    done = 0;
-    within = omega arith;
-    seats_are = s;
-    rows_are = r;
-    inlets_are = c;
-    so_far = record {
-      count = ap length none;
-      each = λ k endpoint e. none_at endpoints k endpoint none e;
-    };
-  }
-
-  -- the next seat can have the next row and inlet
-  pub next_can : (seats_left after : List NodeSeat) (rows_left more_rows : List (Vec Outlet Z)) (inlets_left more_inlets : List Inlet) (endpoints : List Endpoint)
-      (seat : NodeSeat) (row : Vec Outlet Z) (inlet : Inlet) → IsSeating seats rows inlets seats_left rows_left inlets_left endpoints →
-      seats_left ≡ seat ∷ after → rows_left ≡ row ∷ more_rows → inlets_left ≡ inlet ∷ more_inlets → CanSeatAll seats rows inlets → CanSeat seat row.items inlet
-  next_can seats_left after rows_left more_rows inlets_left more_inlets endpoints seat row inlet on s r c can =
-      can.each on.done seat row inlet (next_is seats after seat on.done (sym on.seats_are ∙ s)) (next_is rows more_rows row on.done (sym on.rows_are ∙ r))
-      (next_is inlets more_inlets inlet on.done (sym on.inlets_are ∙ c))
-
-  pub seating_goes_on : (seats_left after : List NodeSeat) (rows_left more_rows : List (Vec Outlet Z)) (inlets_left more_inlets : List Inlet) (endpoints more : List Endpoint)
-      (seat : NodeSeat) (row : Vec Outlet Z) (inlet : Inlet) (endpoint : Endpoint) → IsSeating seats rows inlets seats_left rows_left inlets_left endpoints →
-      seats_left ≡ seat ∷ after → rows_left ≡ row ∷ more_rows → inlets_left ≡ inlet ∷ more_inlets → IsSeated seat row inlet endpoint → more ≡ endpoints ++ endpoint ∷ [] →
-      IsSeating seats rows inlets after more_rows more_inlets more
-  seating_goes_on seats_left after rows_left more_rows inlets_left more_inlets endpoints more seat row inlet endpoint on s r c is more_is =
-      let at = next_is seats after seat on.done (sym on.seats_are ∙ s) in
-      let at_row = next_is rows more_rows row on.done (sym on.rows_are ∙ r) in
-      let at_inlet = next_is inlets more_inlets inlet on.done (sym on.inlets_are ∙ c) in
-      record {
-        done = on.done + 1;
-        within = omega (arith, slice_get_within seats on.done seat at);
-        seats_are = then_left seats after seat on.done (sym on.seats_are ∙ s);
-        rows_are = then_left rows more_rows row on.done (sym on.rows_are ∙ r);
-        inlets_are = then_left inlets more_inlets inlet on.done (sym on.inlets_are ∙ c);
-        so_far = record {
-          count = omega (arith, ap length more_is, length-append endpoints (endpoint ∷ []), on.so_far.count);
-          each = each_more _ endpoints more endpoint on.done on.so_far.count more_is on.so_far.each (seat, row, inlet, at, at_row, at_inlet, is);
-        };
-      }
-
-  pub all_seated : (seats_left : List NodeSeat) (rows_left : List (Vec Outlet Z)) (inlets_left : List Inlet) (endpoints : List Endpoint) →
-      IsSeating seats rows inlets seats_left rows_left inlets_left endpoints → length seats_left ≡ 0 → AreSeated (length seats) seats rows inlets endpoints
-  all_seated seats_left rows_left inlets_left endpoints on none =
-      subst (λ (k : ℕ). AreSeated k seats rows inlets endpoints) (gone_all seats seats_left on.done on.seats_are none on.within) on.so_far
-
--- ---- seats and links at the start
+use Rattle.dob_run.proofs.Places.{get_map, map_got}
 
 at_replicate : {A : Type 0} → (m k : ℕ) (x y : A) → slice_get (replicate m x) k ≡ Some y → x ≡ y
 at_replicate zero k x y e = absurd (cc)

@@ -1,7 +1,7 @@
 -- Things that go one by one, each with its answer, and runners whose threads are started and ended so.
-use Rattle.dob_run.proofs.Common.{◌++◌, ◌∙◌, ◌∷◌, ◌≡◌, Bool, List, Some, [], ap, append_assoc, arith, length, subst, sym, ℕ, append-nil, same_Some, AllZip}
-use Rattle.dob_run.proofs.Common.{IfOk, slice_get, Vec, ConsumerLooked, IsPair, ProducerLooked, SameConsumer, SameProducer, known_items, received, sent, middle}
-use Rattle.dob_run.proofs.Common.{zip_at, zip_one, HasFailed, KeepsRunner, says_no, Ends, EndsBy, Runner, Until, IsEndOf, IsStartOf, Handed, Kept}
+use Rattle.dob_run.proofs.Common.{◌++◌, ◌∙◌, ◌∷◌, ◌≡◌, Bool, List, [], ap, subst, sym, ℕ, same_Some, AllZip}
+use Rattle.dob_run.proofs.Common.{IfOk, slice_get, Vec, ConsumerLooked, IsPair, ProducerLooked, SameProducer, known_items, received, sent}
+use Rattle.dob_run.proofs.Common.{zip_at, HasFailed, EndsBy, Runner, Until, IsEndOf, IsStartOf, Handed, Kept}
 use Rattle.std.specs.Prelude.{Result, Ok, Err}
 use Rattle.dob_run.specs.declared.threads.Started.{Started}
 use Rattle.dob_run.specs.declared.threads.Started.TheVariants.{Runs, GaveUp}
@@ -12,34 +12,6 @@ use Rattle.rtrb.specs.declared.AnyItems.{AnyItems}
 use Rattle.rtrb.specs.declared.producer.Producer.{Producer}
 use Rattle.rtrb.specs.declared.consumer.Consumer.{Consumer}
 use Rattle.dob_run.specs.Started.{IsHandedOn, IsJoinable, AreJoinable}
-
--- Of all things some went, each with its answer, and these are left.
-pub record AreGoing {X Y : Type 0} (R : X → Y → Type 0) (all left : List X) (answers : List Y) : Type 0 where
-  pub gone : List X
-  pub split : all ≡ gone ++ left
-  pub related : AllZip R gone answers
-
-module _ {X Y : Type 0} (R : X → Y → Type 0) where
-  pub going_begins : (all left : List X) (answers : List Y) → left ≡ all → answers ≡ [] → AreGoing R all left answers
-  going_begins all left answers same none = record { gone = []; split = sym same; related = subst (AllZip R []) (sym none) tt }
-
-  pub goes_on : (all left after : List X) (answers more : List Y) (x : X) (y : Y) → AreGoing R all left answers → left ≡ x ∷ after → R x y →
-      more ≡ answers ++ y ∷ [] → AreGoing R all after more
-  goes_on all left after answers more x y on is related more_is = record {
-    gone = on.gone ++ x ∷ [];
-    split = on.split ∙ ap (λ (l : List X). on.gone ++ l) is ∙ sym (append_assoc on.gone (x ∷ []) after);
-    related = subst (AllZip R (on.gone ++ x ∷ [])) (sym more_is) (zip_one R on.gone answers x y on.related related);
-  }
-
-  pub all_went : (all left : List X) (answers : List Y) → AreGoing R all left answers → length left ≡ 0 → AllZip R all answers
-  all_went all [] answers on none = subst (λ (xs : List X). AllZip R xs answers) (sym (on.split ∙ append-nil on.gone)) on.related
-  all_went all (x ∷ xs) answers on none = absurd (omega (arith, none))
-
-  -- the next is one of all
-  pub next_one : (all left after : List X) (answers : List Y) (x : X) → AreGoing R all left answers → left ≡ x ∷ after →
-      (k : ℕ) × (slice_get all k ≡ Some x)
-  next_one all left after answers x on is =
-      (length on.gone, ap (λ (l : List X). slice_get l (length on.gone)) (on.split ∙ ap (λ (l : List X). on.gone ++ l) is) ∙ middle on.gone after x)
 
 -- ---- what goes over a ring for one
 
@@ -110,17 +82,3 @@ module _ {G : Type 0} (Says : G → ℕ → Bool → Type 0) (gate : G) (until :
       IfOk result (λ after. AllZip (EndsBy (Says gate) until) runners after.items)
   if_all_ended runners started (Ok after) starts ends = all_ended runners started after.items starts ends
   if_all_ended runners started (Err why) starts ends = tt
-
--- what ended by a gate has ended
-pub all_by : (Says : ℕ → Bool → Type 0) (until : Until) (old new : List Runner) → AllZip (EndsBy Says until) old new → AllZip (Ends (says_no Says) until) old new
-all_by Says until [] [] ends = tt
-all_by Says until [] (r ∷ new) ends = absurd ends
-all_by Says until (r ∷ old) [] ends = absurd ends
-all_by Says until (r ∷ old) (s ∷ new) ends = (ends.0.0, all_by Says until old new ends.1)
-
--- what ended keeps its place
-pub all_kept : (No : ℕ → Type 0) (until : Until) (old new : List Runner) → AllZip (Ends No until) old new → AllZip KeepsRunner old new
-all_kept No until [] [] ends = tt
-all_kept No until [] (r ∷ new) ends = absurd ends
-all_kept No until (r ∷ old) [] ends = absurd ends
-all_kept No until (r ∷ old) (s ∷ new) ends = (ends.0.0, all_kept No until old new ends.1)

@@ -19,7 +19,7 @@ use dob_pieces::Memory;
 use dob_runner::Runner;
 use dob_share::Share;
 use dob_stops::Fault;
-use std::alloc::Global;
+use std::alloc::{AllocError, Global};
 use std::sync::Wait;
 use std::thread::Threads;
 
@@ -48,8 +48,7 @@ pub fn finish<R: Threads + Wait + Sync>(
     if let Some(fault) = failure_known(&runners) {
         return Err(fault);
     }
-    let (nodes, ended) = close_all(rt, alloc, board, runners)?;
-    let shares = shares_of(alloc, nodes)?;
+    let (shares, ended) = close_all(rt, alloc, board, runners)?;
     let Gathered { table, digest, .. } = gather(rt, alloc, classes, &shares)?;
     let ClosedCrew { closed, links, .. } = ended;
     Ok(Built {
@@ -110,29 +109,29 @@ fn failure_of(runners: &[Runner], node: usize) -> Option<Fault>
     Some(Fault::Stopped { node, cause })
 }
 
-// Closes the crew of these runners: their nodes, and what their endpoints leave.
+// Closes the crew of these runners: the shares of their nodes, and what their endpoints leave.
 fn close_all<R: Wait>(
     rt: &R,
     alloc: Global,
     board: Board,
     runners: Vec<Runner>,
-) -> Result<(Vec<Node>, ClosedCrew), Memory>
+) -> Result<(Vec<Share>, ClosedCrew), Memory>
     requires { IsCrew board (map endpoint_of runners.items) }
-    ensures nodes { IfOk result (λ closed. closed.0.items ≡ map node_of runners.items) }
+    ensures shares { IfOk result (λ closed. closed.0.items ≡ map share_in (map node_of runners.items)) }
     ensures ended { IfOk result (λ closed. AreClosed board.nodes (map endpoint_of runners.items) closed.1) }
 {
     let (nodes, endpoints) = part_runners(alloc, runners)?;
     let ended = close_endpoints(rt, alloc, board, endpoints)?;
-    Ok((nodes, ended))
+    let shares = shares_of(alloc, nodes)?;
+    Ok((shares, ended))
 }
 
 // The share of each node. All else that the nodes have is given back.
-fn shares_of(alloc: Global, nodes: Vec<Node>) -> Result<Vec<Share>, Memory>
+fn shares_of(alloc: Global, nodes: Vec<Node>) -> Result<Vec<Share>, AllocError>
     ensures { IfOk result (λ shares. shares.items ≡ map share_in nodes.items) }
 {
-    let mut shares = Vec::with_capacity(alloc, nodes.len())?;
-    for node in nodes {
-        shares.push(node.into_share())?;
-    }
-    Ok(shares)
+    nodes
+        .into_iter()
+        .map(|node| node.into_share())
+        .collect(alloc)
 }

@@ -1,5 +1,5 @@
 // Rows of things: vectors in a vector.
-ghost use Rattle.std.specs.Prelude.{◌≡◌, ◌++◌, IfOk, OnOk, length, vec_len};
+ghost use Rattle.std.specs.Prelude.{◌≡◌, IfOk, OnOk, vec_len};
 ghost use Rattle.dob_run.specs.Rows.{AreRows, AreDealt, AreInOrder};
 
 use dob_pieces::Memory;
@@ -53,18 +53,8 @@ pub(crate) fn join<T: Drop>(
     ensures { IfOk result (λ things. AreInOrder width (vec_len rows) rows.items things.items) }
 {
     let mut things = Vec::new(alloc);
-    for row in rows {
-        add_row(row, &mut things)?;
+    for mut row in rows {
+        things.append(&mut row)?;
     }
     Ok(things)
-}
-
-// Adds the things of a row.
-fn add_row<T: Drop>(row: Vec<T>, things: &mut Vec<T>) -> Result<(), Memory>
-    ensures { OnOk result (things.new.items ≡ things.old.items ++ row.items) }
-{
-    for thing in row {
-        things.push(thing)?;
-    }
-    Ok(())
 }

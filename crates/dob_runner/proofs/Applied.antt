@@ -30,9 +30,7 @@ own_more whole own more =
     ap (λ k. take k (whole ++ more)) same ∙ take-append-le (length whole - length own) whole more (omega arith)
 
 pub own_still : (old new : Node) → planned new new.id ≡ planned old old.id → new.own ≡ old.own → own_applied new ≡ own_applied old
-own_still old new plan own =
-    ap (λ (xs : List Item). take (length (planned new new.id) - length xs) (planned new new.id)) own
-    ∙ ap (λ (xs : List Item). take (length xs - length old.own) xs) plan
+own_still old new plan own = λ q. take (length (plan q) - length (own q)) (plan q)
 
 -- ---- each node's
 
@@ -44,10 +42,7 @@ applied_else node inlet k other = ap (λ b. cond b (own_applied node) (items_wor
 
 pub applied_still : (old new : Node) (before after : Inlet) → new.id ≡ old.id → own_applied new ≡ own_applied old →
     ((k : ℕ) → items_worked after k ≡ items_worked before k) → (k : ℕ) → applied_from new after k ≡ applied_from old before k
-applied_still old new before after id own same k =
-    ap (λ i. cond (eqb k i) (own_applied new) (items_worked after k)) id
-    ∙ ap (λ xs. cond (eqb k old.id) xs (items_worked after k)) own
-    ∙ ap (λ xs. cond (eqb k old.id) (own_applied old) xs) (same k)
+applied_still old new before after id own same k = λ q. cond (eqb k (id q)) (own q) (same k q)
 
 -- ---- what was worked in
 
@@ -71,6 +66,4 @@ worked_else before after batch more k other =
 pub knows_after : (old new : Node) (applied : ℕ → List Item) → new.family ≡ old.family → new.id ≡ old.id → new.n ≡ old.n →
     KnowsRight old.family old.n old.id new.share new.history.settlements applied → KnowsRight new.family new.n new.id new.share new.history.settlements applied
 knows_after old new applied family_is id_is n_is knows =
-    subst (λ (s : Family). KnowsRight s new.n new.id new.share new.history.settlements applied) (sym family_is)
-    (subst (λ (m : ℕ). KnowsRight old.family m new.id new.share new.history.settlements applied) (sym n_is)
-    (subst (λ (i : ℕ). KnowsRight old.family old.n i new.share new.history.settlements applied) (sym id_is) knows))
+    subst (λ (p : Family × ℕ × ℕ). KnowsRight p.0 p.1 p.2 new.share new.history.settlements applied) (λ q. (sym family_is q, sym n_is q, sym id_is q)) knows

@@ -1,6 +1,7 @@
 -- What links, endpoints and runners keep, through one step and the next.
-use Rattle.dob_runner.proofs.Common.{◌++◌, ◌∙◌, ◌∷◌, ◌≡◌, ◌≢◌, ◌⊎◌, List, None, Option, Some, [], ap, append_assoc, arith, inl, inr, length, refl, set, subst}
-use Rattle.dob_runner.proofs.Common.{suc, sym, zero, ℕ, cases_eq, append-nil, same_Some, MatchResult, slice_get, get_set_other, Item, Share, BatchView, Cause}
+use Rattle.dob_runner.proofs.Common.{◌++◌, ◌∙◌, ◌≡◌, ◌≢◌, ◌⊎◌, List, None, Option, Some, [], ap, append_assoc, arith, inl, inr, length, refl, set, subst}
+use Rattle.dob_runner.proofs.Common.{sym, ℕ, cases_eq, append-nil, same_Some, slice_get_within, some_at, MatchResult, slice_get, get_set_other, Item, Share}
+use Rattle.dob_runner.proofs.Common.{BatchView, Cause}
 use Rattle.dob_runner.proofs.Common.{Contradiction, Counts, Held, Memory, TooDeep, HasItemFault, IsUnchanged, outbox_to, IsReason, Node, token_moves_of}
 use Rattle.dob_runner.proofs.Common.{IsSameSeat, KnewOwnFailure, MovesNothing, stand_of, witnessed_by, Halt, Ended, Failed, NodeSeat, Stand, SendsToSame}
 use Rattle.dob_runner.proofs.Common.{TakesFromSame, sent_by, taken_by, SendEnd, TakeEnd, KeepsEach, FailsFor, HasSameLinks, KeepsEndpoint, IsSpared, KeepsInlet}
@@ -68,16 +69,10 @@ pub each_same : {L : Type 0} (Keeps : L → L → Type 0) → ((x : L) → Keeps
 each_same Keeps self xs ys same j before after old new =
     subst (Keeps before) (same_Some before after (sym old ∙ (ap (λ zs. slice_get zs j) (sym same) ∙ new))) (self before)
 
-pub there_is : {L : Type 0} (xs ys : List L) (j : ℕ) (x : L) → length xs ≡ length ys → slice_get xs j ≡ Some x → (y : L) × (slice_get ys j ≡ Some y)
-there_is [] ys j x same at = absurd (cc)
-there_is (a ∷ xs) [] j x same at = absurd (omega (arith, same))
-there_is (a ∷ xs) (b ∷ ys) zero x same at = (b, refl)
-there_is (a ∷ xs) (b ∷ ys) (suc j) x same at = there_is xs ys j x (omega (arith, same)) at
-
 each_trans : {L : Type 0} (Keeps : L → L → Type 0) → ((x y z : L) → Keeps x y → Keeps y z → Keeps x z) → (xs ys zs : List L) → length xs ≡ length ys →
     KeepsEach Keeps xs ys → KeepsEach Keeps ys zs → KeepsEach Keeps xs zs
 each_trans Keeps trans xs ys zs long one two j before after old new =
-    let between = there_is xs ys j before long old in
+    let between = some_at ys j (omega (arith, slice_get_within xs j before old, long)) in
     trans before between.0 after (one j before between.0 old between.1) (two j between.0 after between.1 new)
 
 -- ---- seats and endpoints
@@ -242,6 +237,15 @@ runner_same r = record { endpoint = endpoint_same r.endpoint; family = refl; bat
 
 pub runner_trans : (a b c : Runner) → KeepsRunner a b → KeepsRunner b c → KeepsRunner a c
 runner_trans a b c one two = record { endpoint = endpoint_trans a.endpoint b.endpoint c.endpoint one.endpoint two.endpoint; family = two.family ∙ one.family; batch_size = two.batch_size ∙ one.batch_size }
+
+pub goes_by : {a b : Runner} → KeepsEndpoint a.endpoint b.endpoint → b.family ≡ a.family → b.batch_size ≡ a.batch_size → b.failed ≡ None →
+    b.endpoint.seat.halt ≡ a.endpoint.seat.halt → MovesNothing a.endpoint.seat b.endpoint.seat → GoesOn a b
+goes_by endpoint family size unfailed halt still =
+    record { keeps = record { endpoint = endpoint; family = family; batch_size = size }; unfailed = unfailed; halt = halt; still = still }
+
+-- one of which nothing has changed goes on
+pub goes_same : (r : Runner) → r.failed ≡ None → GoesOn r r
+goes_same r unfailed = goes_by (endpoint_same r.endpoint) refl refl unfailed refl refl
 
 pub goes_trans : (a b c : Runner) → GoesOn a b → GoesOn b c → GoesOn a c
 goes_trans a b c one two = record {

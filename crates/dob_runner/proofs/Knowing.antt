@@ -198,9 +198,8 @@ pub taken_all : (family : Family) (n id : ℕ) (i : ℕ) → i < n → (items : 
     AreKept family n id share history → All HasItemEntries items → AreTaken items share after history grown → later i ≡ applied i ++ items →
     ((k : ℕ) → k ≢ i → later k ≡ applied k) → KnowsRight family n id share history.settlements applied → KnowsRight family n id after grown.settlements later
 taken_all family n id i low [] share after history grown applied later kept entries taken more same knows =
-    subst (λ (x : HistoryView). KnowsRight family n id after x.settlements later) (sym taken.1)
-    (subst (λ (x : Share). KnowsRight family n id x history.settlements later) (sym taken.0)
-    (knows_same family n id share history.settlements applied later all knows))
+    subst (λ (p : Share × HistoryView). KnowsRight family n id p.0 p.1.settlements later) (λ q. (sym taken.0 q, sym taken.1 q))
+    (knows_same family n id share history.settlements applied later all knows)
   where
     all : (k : ℕ) → later k ≡ applied k
     all k = elim (cases_eq k i) [

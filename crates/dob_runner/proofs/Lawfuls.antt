@@ -71,10 +71,10 @@ unchanged_node family size old new endpoint law same sound =
       unused = law.unused;
       own = subst (λ (p : List Item × List Item). AreLast p.0 p.1) (λ q. ((sym own) q, (sym same.kept.2) q)) law.own;
       knows = knows_after old new (applied_from new endpoint.inlet) same.same.0 same.same.1 same.same.2
-          (subst (λ (sh : Share). KnowsRight old.family old.n old.id sh new.history.settlements (applied_from new endpoint.inlet)) (sym same.kept.0)
-          (subst (λ (l : List Settlement). KnowsRight old.family old.n old.id old.share l (applied_from new endpoint.inlet)) (sym settled)
+          (subst (λ (p : Share × List Settlement). KnowsRight old.family old.n old.id p.0 p.1 (applied_from new endpoint.inlet))
+          (λ q. (sym same.kept.0 q, sym settled q))
           (knows_same old.family old.n old.id old.share old.history.settlements (applied_from old endpoint.inlet) (applied_from new endpoint.inlet)
-          (applied_still old new endpoint.inlet endpoint.inlet same.same.1 (own_still old new own same.kept.2) (λ k. refl)) law.knows)));
+          (applied_still old new endpoint.inlet endpoint.inlet same.same.1 (own_still old new own same.kept.2) (λ k. refl)) law.knows));
       white = λ is. (let rest = law.white is in (
         record {
           expanded = same.same.3 ∙ rest.0.expanded ∙ ap length (sym settled);
@@ -128,9 +128,7 @@ planned_same : (old new : Node) (to : ℕ) → new.family ≡ old.family → new
     (more : List Settlement) → new.history.settlements ≡ old.history.settlements ++ more → old.expanded ≤ length old.history.settlements →
     planned new to ≡ planned old to
 planned_same old new to family n expanded more grown within =
-    ap (λ s. items_from (predecessors s) new.n to (take new.expanded new.history.settlements)) family
-    ∙ ap (λ m. items_from (predecessors old.family) m to (take new.expanded new.history.settlements)) n
-    ∙ ap (λ e. items_from (predecessors old.family) old.n to (take e new.history.settlements)) expanded
+    (λ q. items_from (predecessors (family q)) (n q) to (take (expanded q) new.history.settlements))
     ∙ emitted_grown (predecessors old.family) old.n to old.history.settlements more new.history.settlements old.expanded within grown
 
 sends_still : (old new : Node) (size to : ℕ) (batches : List BatchView) → planned new to ≡ planned old to → outbox_to new to ≡ outbox_to old to →
@@ -241,9 +239,7 @@ applied_batch family size from batch node after old new law low apart entries st
 
     elsewhere : (k : ℕ) → k ≢ from → applied_from after new.inlet k ≡ applied_from node old.inlet k
     elsewhere k other =
-        ap (λ i. cond (eqb k i) (own_applied after) (items_worked new.inlet k)) step.same.1
-        ∙ ap (λ xs. cond (eqb k node.id) xs (items_worked new.inlet k)) (own_still node after own_plan step.own)
-        ∙ ap (λ xs. cond (eqb k node.id) (own_applied node) xs) (same_worked k other)
+        λ q. cond (eqb k (step.same.1 q)) (own_still node after own_plan step.own q) (same_worked k other q)
 
 -- a settlement was expanded
 pub expanded_one : (family : Family) (size : ℕ) (old new : Node) (endpoint : Endpoint) → IsLawfulRunner family size old endpoint → IsExpanded old new → IsSound new →
@@ -258,10 +254,10 @@ expanded_one family size old new endpoint law step sound = record {
       (last_more (planned old old.id) old.own (items_of (predecessors old.family) old.n old.id step.settlement) law.own));
   unused = law.unused;
   knows = knows_after old new (applied_from new endpoint.inlet) step.same.0 step.same.1 step.same.2
-      (subst (λ (sh : Share). KnowsRight old.family old.n old.id sh new.history.settlements (applied_from new endpoint.inlet)) (sym step.same.3)
-      (subst (λ (hv : HistoryView). KnowsRight old.family old.n old.id old.share hv.settlements (applied_from new endpoint.inlet)) (sym step.same.4)
+      (subst (λ (p : Share × HistoryView). KnowsRight old.family old.n old.id p.0 p.1.settlements (applied_from new endpoint.inlet))
+      (λ q. (sym step.same.3 q, sym step.same.4 q))
       (knows_same old.family old.n old.id old.share old.history.settlements (applied_from old endpoint.inlet) (applied_from new endpoint.inlet)
-      (applied_still old new endpoint.inlet endpoint.inlet step.same.1 own_same (λ k. refl)) law.knows)));
+      (applied_still old new endpoint.inlet endpoint.inlet step.same.1 own_same (λ k. refl)) law.knows));
   white = λ is. (let all = (law.white is).0.expanded in
       let some = slice_get_within old.history.settlements old.expanded step.settlement step.first in absurd (omega (arith, all, some)));
 }
@@ -271,10 +267,7 @@ expanded_one family size old new endpoint law step sound = record {
 
     plan : (to : ℕ) → planned new to ≡ planned old to ++ items_of (predecessors old.family) old.n to step.settlement
     plan to =
-        ap (λ s. items_from (predecessors s) new.n to (take new.expanded new.history.settlements)) step.same.0
-        ∙ ap (λ m. items_from (predecessors old.family) m to (take new.expanded new.history.settlements)) step.same.2
-        ∙ ap (λ (h : HistoryView). items_from (predecessors old.family) old.n to (take new.expanded h.settlements)) step.same.4
-        ∙ ap (λ e. items_from (predecessors old.family) old.n to (take e old.history.settlements)) step.expanded
+        (λ q. items_from (predecessors (step.same.0 q)) (step.same.2 q) to (take (step.expanded q) (step.same.4 q).settlements))
         ∙ emitted_more (predecessors old.family) old.n to old.history.settlements old.expanded step.settlement step.first
 
     own_same : own_applied new ≡ own_applied old
@@ -309,11 +302,11 @@ cut_one family size to batch node after old new law not_own step sound same_node
   unused = λ outlet at. nothing old.seat.node outlet (subst (λ os. slice_get os old.seat.node ≡ Some outlet) one.4
       (ap (λ i. slice_get new.outlets.items i) (sym same_node) ∙ at)) refl;
   knows = knows_after node after (applied_from after new.inlet) step.same.0 step.same.1 step.same.2
-      (subst (λ (sh : Share). KnowsRight node.family node.n node.id sh after.history.settlements (applied_from after new.inlet)) (sym step.kept.0)
-      (subst (λ (hv : HistoryView). KnowsRight node.family node.n node.id node.share hv.settlements (applied_from after new.inlet)) (sym step.kept.1)
+      (subst (λ (p : Share × HistoryView). KnowsRight node.family node.n node.id p.0 p.1.settlements (applied_from after new.inlet))
+      (λ q. (sym step.kept.0 q, sym step.kept.1 q))
       (knows_same node.family node.n node.id node.share node.history.settlements (applied_from node old.inlet) (applied_from after new.inlet)
       (applied_still node after old.inlet new.inlet step.same.1
-      (own_still node after (ap (λ i. planned after i) step.same.1 ∙ plan node.id) step.kept.2) (same_inlet old new inlet)) law.knows)));
+      (own_still node after (ap (λ i. planned after i) step.same.1 ∙ plan node.id) step.kept.2) (same_inlet old new inlet)) law.knows));
   white = λ is. absurd (true≢false (sym black ∙ is));
 }
   where
@@ -376,10 +369,9 @@ begun family size node endpoint is = record {
 
     knows_at_start : (applied : ℕ → List Item) → ((k : ℕ) → applied k ≡ []) → KnowsRight node.family node.n node.id node.share node.history.settlements applied
     knows_at_start applied none =
-        subst (λ (s : Family). KnowsRight s node.n node.id node.share node.history.settlements applied) (sym is.opened.of.0)
-        (subst (λ (i : ℕ). KnowsRight family node.n i node.share node.history.settlements applied) (sym is.opened.of.1)
-        (subst (λ (m : ℕ). KnowsRight family m endpoint.seat.node node.share node.history.settlements applied) (sym is.opened.of.2)
-        (knows_opened family endpoint.seat.nodes endpoint.seat.node is.openings node is.are_openings is.opened is.sound applied none)))
+        subst (λ (p : Family × ℕ × ℕ). KnowsRight p.0 p.1 p.2 node.share node.history.settlements applied)
+        (λ q. (sym is.opened.of.0 q, sym is.opened.of.2 q, sym is.opened.of.1 q))
+        (knows_opened family endpoint.seat.nodes endpoint.seat.node is.openings node is.are_openings is.opened is.sound applied none)
 
     none_there : (batches : List BatchView) → batches ≡ [] → (k : ℕ) (b : BatchView) → slice_get batches k ≡ Some b → ⊥
     none_there [] none k b there = absurd (cc)

@@ -1,14 +1,14 @@
 -- How many batches go over each link in so many turns.
 use Rattle.dob_runner.proofs.Common.{◌+◌, ◌<◌, ◌∙◌, ◌≡◌, Bool, Err, List, None, Ok, Result, Some, ap, arith, inl, inr, length, subst, sym, ℕ, cases_eq}
-use Rattle.dob_runner.proofs.Common.{same_Some, slice_get_within, MatchResult, slice_get, Cause, taken_by, KeepsEndpoint, offered, GoesOn, HasFailed, StepsBy}
+use Rattle.dob_runner.proofs.Common.{same_Some, slice_get_within, some_at, MatchResult, slice_get, Cause, taken_by, KeepsEndpoint, offered, GoesOn}
+use Rattle.dob_runner.proofs.Common.{HasFailed, StepsBy}
 use Rattle.dob_runner.proofs.Common.{AddsFew, RunnerTakesBatch, SendsAll, Works, Endpoint, Runner, Inlet, Outlet}
-use Rattle.dob_runner.proofs.Keeping.{there_is}
 
 -- and one more in one turn more
 pub adds_more : (count : ℕ) (a b c : Endpoint) → KeepsEndpoint a b → AddsFew count a b → AddsFew 1 b c → AddsFew (count + 1) a c
 adds_more count a b c kept few one = record {
   out = λ j before after was is.
-      let there = there_is a.outlets.items b.outlets.items j before (omega (arith, a.outlets_len, b.outlets_len, kept.seat.nodes)) was in
+      let there = some_at b.outlets.items j (omega (arith, slice_get_within a.outlets.items j before was, a.outlets_len, b.outlets_len, kept.seat.nodes)) in
       omega (arith, few.out j before there.0 was there.1, one.out j there.0 after there.1 is);
   into = omega (arith, few.into, one.into);
 }

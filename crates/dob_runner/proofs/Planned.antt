@@ -1,7 +1,8 @@
 -- How a history goes on with the items taken, the last of a list of items, and lists of batches.
 use Rattle.dob_runner.proofs.Common.{◌++◌, ◌-◌, ◌∙◌, ◌∷◌, ◌≡◌, List, Some, [], ap, append_assoc, arith, drop, length, length-append, length-drop, subst, suc}
 use Rattle.dob_runner.proofs.Common.{sym, zero, ℕ, append-nil, drop-append-le, Item, Settlement, Share, BatchView, HistoryView, AreTaken, listed, AreLast}
-use Rattle.std.proofs.Common.{slice_get}
+use Rattle.std.proofs.Common.{inl, inr, slice_get}
+use Rattle.dob_pieces.proofs.Elements.{at_end}
 
 -- items that are taken make a history that goes on
 pub history_grown : (items : List Item) (share after : Share) (history grown : HistoryView) → AreTaken items share after history grown →
@@ -43,10 +44,4 @@ last_less whole item last are =
 pub each_more : (P : BatchView → Type 0) (batches : List BatchView) (batch : BatchView) →
     ((k : ℕ) (b : BatchView) → slice_get batches k ≡ Some b → P b) → P batch →
     (k : ℕ) (b : BatchView) → slice_get (batches ++ batch ∷ []) k ≡ Some b → P b
-each_more P [] batch each last zero b at = subst P (same_batch batch b at) last
-  where
-    same_batch : (x y : BatchView) → Some x ≡ Some y → x ≡ y
-    same_batch x y e = cc
-each_more P [] batch each last (suc k) b at = absurd (cc)
-each_more P (x ∷ xs) batch each last zero b at = each zero b at
-each_more P (x ∷ xs) batch each last (suc k) b at = each_more P xs batch (λ j. each (suc j)) last k b at
+each_more P batches batch each last k b at = elim (at_end batches batch b k at) [ inl before ↦ each k b before | inr here ↦ subst P here.1 last ]

@@ -5,7 +5,7 @@ use Rattle.dob_runner.proofs.Common.{append_cancel_right, same_Some, slice_get, 
 use Rattle.dob_runner.proofs.Common.{HasChangedOne, KeepsEndpoint, IsOffered, offered, GoesOn, KeepsRunner, StepsBy, in_slot, CutsFor, CutsLeft, FillsFor}
 use Rattle.dob_runner.proofs.Common.{HasSentOne, HasToSend, IsMoreOut, IsSent, IsToFill, SendsBelow, SendsTo, Endpoint, Runner, Outlet}
 use Rattle.std.specs.Prelude.{vec_len, ◌^◌}
-use Rattle.dob_runner.proofs.Keeping.{endpoint_same, runner_same, goes_trans, still_same}
+use Rattle.dob_runner.proofs.Keeping.{endpoint_same, goes_by, goes_same, goes_trans, still_same}
 use Rattle.dob_runner.proofs.Taking.{changed_there, changed_at, changed_else}
 
 -- ---- to all nodes
@@ -28,7 +28,7 @@ sent_still small to b c one before after outbox size sent = record {
 -- none yet
 pub none_sent : (small : Bool) (r : Runner) → r.failed ≡ None → SendsBelow 0 small r r false
 none_sent small r unfailed = record {
-  goes = record { keeps = runner_same r; unfailed = unfailed; halt = refl; still = refl };
+  goes = goes_same r unfailed;
   sent = λ to low apart before after was is. absurd (omega (arith, low));
   some = λ never. absurd (cc);
   itself = refl;
@@ -109,7 +109,7 @@ module _ (endpoint : Endpoint) (to : ℕ) (x : Outlet) (low : to < endpoint.seat
 -- nothing is cut
 pub uncut : (to : ℕ) (r : Runner) → r.failed ≡ None → CutsFor to r r false
 uncut to r unfailed = record {
-  goes = record { keeps = runner_same r; unfailed = unfailed; halt = refl; still = refl };
+  goes = goes_same r unfailed;
   one = λ never. absurd (cc);
   nothing = λ is. (refl, refl);
   own = refl;
@@ -122,12 +122,8 @@ pub cut_nothing : (to : ℕ) (old new : Runner) → old.failed ≡ None → new.
     (outbox_to old.node to).items ≡ [] → CutsLeft to old new false
 cut_nothing to old new going unfailed node endpoint family size empty = (
   record {
-    goes = record {
-      keeps = record { endpoint = subst (KeepsEndpoint old.endpoint) (sym endpoint) (endpoint_same old.endpoint); family = family; batch_size = size };
-      unfailed = unfailed;
-      halt = ap (λ (m : Endpoint). m.seat.halt) endpoint;
-      still = still_same old.endpoint.seat new.endpoint.seat (ap (λ (m : Endpoint). m.seat) endpoint);
-    };
+    goes = goes_by (subst (KeepsEndpoint old.endpoint) (sym endpoint) (endpoint_same old.endpoint)) family size unfailed
+        (ap (λ (m : Endpoint). m.seat.halt) endpoint) (still_same old.endpoint.seat new.endpoint.seat (ap (λ (m : Endpoint). m.seat) endpoint));
     one = λ never. absurd (cc);
     nothing = λ is. (node, endpoint);
     own = ap (λ n. n.own) node;
@@ -173,7 +169,7 @@ fills_of to small old new (Err why) fill broken = broken
 -- nothing to itself
 pub own_unsent : (small : Bool) (r : Runner) (to : ℕ) → r.failed ≡ None → to ≡ r.endpoint.seat.node → SendsTo to small r r false
 own_unsent small r to unfailed is = record {
-  goes = record { keeps = runner_same r; unfailed = unfailed; halt = refl; still = refl };
+  goes = goes_same r unfailed;
   itself = λ same. (refl, refl);
   sent = λ apart before after was there. absurd (apart is);
   some = λ never. absurd (cc);
@@ -307,35 +303,27 @@ module _ (to : ℕ) (small : Bool) (old mid : Runner) (any : Bool) (apart : to �
 
     -- it still lies there, or not
     pub sends_offered : (still : Bool) → (still ≡ true → offer.1.slot ≢ None) → (still ≡ false → offer.1.slot ≡ None) → SendsTo to small old new (not still)
-    sends_offered true unsent out = record {
+    sends_offered still unsent out = record {
       goes = goes;
       itself = λ is. absurd (apart is);
       sent = λ _ before after was is. record {
         few = few_offered before after was is;
-        one = λ never. absurd (cc);
-        none = λ left. left_it before after was is (λ none. unsent refl (sym (in_slot_of after is) ∙ none));
-        spent = λ left empty has. unsent refl (sym (in_slot_of after is) ∙ empty);
+        one = λ sent. took_it before after was is (in_slot_of after is ∙ out (sent_away still sent));
+        none = λ left. left_it before after was is (λ none. unsent (left_there still left) (sym (in_slot_of after is) ∙ none));
+        spent = λ left empty has. unsent (left_there still left) (sym (in_slot_of after is) ∙ empty);
         full = λ left stuck. (is_offered after is).full stuck;
       };
-      some = λ never. absurd (cc);
+      some = λ sent. one_more offer.1 there (out (sent_away still sent));
       own = ap (λ n. n.own) node ∙ fills.0.own;
       outboxes = λ j other. ap (λ n. outbox_to n j) node ∙ fills.0.others j other;
       others = else_where;
       inlet = inlet ∙ fills.0.inlet;
     }
-    sends_offered false unsent out = record {
-      goes = goes;
-      itself = λ is. absurd (apart is);
-      sent = λ _ before after was is. record {
-        few = few_offered before after was is;
-        one = λ sent. took_it before after was is (in_slot_of after is ∙ out refl);
-        none = λ never. absurd (cc);
-        spent = λ never. absurd (cc);
-        full = λ never. absurd (cc);
-      };
-      some = λ sent. one_more offer.1 there (out refl);
-      own = ap (λ n. n.own) node ∙ fills.0.own;
-      outboxes = λ j other. ap (λ n. outbox_to n j) node ∙ fills.0.others j other;
-      others = else_where;
-      inlet = inlet ∙ fills.0.inlet;
-    }
+      where
+        sent_away : (b : Bool) → not b ≡ true → b ≡ false
+        sent_away true is = absurd (cc)
+        sent_away false is = refl
+
+        left_there : (b : Bool) → not b ≡ false → b ≡ true
+        left_there true is = refl
+        left_there false is = absurd (cc)

@@ -38,10 +38,9 @@ least_more known loss None is = (
 least_more known loss (Some least) is = (
   elim (cases_order least loss) [
     | inl same ↦ behind known (Loss loss) (Loss (min least loss)) (subst (λ k. Contains known (Loss k)) (let e : least ≡ min least loss = omega arith in e) is.0)
-    | inr order ↦ elim order [
-      | inl less ↦ behind known (Loss loss) (Loss (min least loss)) (subst (λ k. Contains known (Loss k)) (let e : least ≡ min least loss = omega arith in e) is.0)
-      | inr more ↦ subst (λ k. Contains (Loss loss ∷ known) (Loss k)) (let e : loss ≡ min least loss = omega arith in e) (head_in (Loss loss) known)
-    ]
+    | inr (inl less) ↦ behind known (Loss loss) (Loss (min least loss))
+        (subst (λ k. Contains known (Loss k)) (let e : least ≡ min least loss = omega arith in e) is.0)
+    | inr (inr more) ↦ subst (λ k. Contains (Loss loss ∷ known) (Loss k)) (let e : loss ≡ min least loss = omega arith in e) (head_in (Loss loss) known)
   ],
   λ plies there. elim (cons_cases (Loss loss) known (Loss plies) there) [
     | inl here ↦ (let same : loss ≡ plies = same_loss loss plies here in omega arith)

@@ -21,7 +21,7 @@ changed_else {L} R xs ys k j one other = ap (λ (l : List L). slice_get l j) one
 -- ---- the batch in the slot
 
 -- the batch that is handed out is the one that was tested
-module _ (family : Family) (n from to : ℕ) (inlet : Inlet) (batch : BatchView) (tested : HoldsFor family n from to inlet) (held : inlet.slot ≡ Some batch) where
+module _ {family : Family} {n from to : ℕ} {inlet : Inlet} {batch : BatchView} (tested : HoldsFor family n from to inlet) (held : inlet.slot ≡ Some batch) where
   same_batch : tested.batch ≡ batch
   same_batch = same_Some tested.batch batch (sym tested.held ∙ held)
 

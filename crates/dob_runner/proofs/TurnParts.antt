@@ -1,11 +1,12 @@
 -- What the parts of a turn do, by what their steps do.
-use Rattle.dob_runner.proofs.Common.{◌+◌, ◌-◌, ◌<◌, ◌↔◌, ◌∙◌, ◌≡◌, ◌≢◌, ◌≤◌, ◌⊎◌, Bool, None, Ok, Option, Result, Some, ap, arith, false, inl, inr, length, not}
-use Rattle.dob_runner.proofs.Common.{refl, subst, sym, true, ℕ, both_ways, cases_Bool, cases_eq, cases_lt, same_Some, slice_get_within, Settlement, Cause}
+use Rattle.dob_runner.proofs.Common.{◌-◌, ◌<◌, ◌↔◌, ◌∙◌, ◌≡◌, ◌≢◌, ◌≤◌, ◌⊎◌, Bool, None, Ok, Option, Result, Some, ap, arith, false, inl, inr, length, not}
+use Rattle.dob_runner.proofs.Common.{refl, subst, sym, true, ℕ, both_ways, cases_Bool, cases_eq, cases_lt, same_Some, slice_get_within, Cause}
 use Rattle.dob_runner.proofs.Common.{NodeView, IsExpanded, HistoryView, Node, NodeSeat, GoesOn, ExpandsOne, ExpandsSome, IsAbove, IsHeldUp, IsLevel, IsWithin}
 use Rattle.dob_runner.proofs.Common.{SendsSmall, EndsTurn, GateIsTold, HasSameWork, SeeksToken, Runner}
 use Rattle.std.proofs.Common.{IsTrue, MatchOption, slice_get}
 use Rattle.dob_node.specs.Levels.{level_of, HasLevel}
 use Rattle.dob_runner.specs.TurnToken.{HasLooked, HandsOn, MovesToken}
+use Rattle.dob_runner.proofs.Keeping.{goes_trans}
 
 -- ---- answers
 
@@ -46,7 +47,7 @@ ends_idle did old new found idle seeks = record {
 -- ---- settlements
 
 -- no fewer are expanded than before
-pub more_expanded : (old new : Runner) (did : Bool) (first : ℕ) → ExpandsOne old new did → first < old.node.expanded → first < new.node.expanded
+more_expanded : (old new : Runner) (did : Bool) (first : ℕ) → ExpandsOne old new did → first < old.node.expanded → first < new.node.expanded
 more_expanded old new did first one low = elim (cases_Bool did) [
   | inl is ↦ (let more = one.expanded is in omega (arith, more.expanded, low))
   | inr none ↦ (let same = ap (λ (n : Node). n.expanded) (one.nothing none) in omega (arith, same, low))
@@ -68,7 +69,7 @@ within_more limit old mid new so_far low step = λ number s from below there.
       | inr other ↦ so_far number s from (omega (arith, below, step.expanded, other)) here
     ]
 
-pub within_one : (limit : ℕ) (old : NodeView) (mid new : Runner) (did above : Bool) → IsWithin limit old mid.node → above ≡ false →
+within_one : (limit : ℕ) (old : NodeView) (mid new : Runner) (did above : Bool) → IsWithin limit old mid.node → above ≡ false →
     (IsAbove limit mid.node → above ≡ true) → ExpandsOne mid new did → IsWithin limit old new.node
 within_one limit old mid new did above so_far low is_above one = elim (cases_Bool did) [
   | inl is ↦ within_more limit old mid.node new.node so_far (λ it. both_ways above low (is_above it)) (one.expanded is)
@@ -102,14 +103,24 @@ some_expanded limit old new held above any goes endpoint more within free up low
     λ never. absurd (cc),
     λ why. elim why [
       | inl holds ↦ absurd (both_ways held free (up holds))
-      | inr rest ↦ elim rest [
-        | inl over ↦ absurd (both_ways above low (is_above over))
-        | inr all ↦ absurd (both_ways any (none_left all) is)
-      ]
+      | inr (inl over) ↦ absurd (both_ways above low (is_above over))
+      | inr (inr all) ↦ absurd (both_ways any (none_left all) is)
     ],
   );
   expanded = λ did. more;
   within = within;
+  nothing = λ never. absurd (cc);
+}
+
+-- and another
+pub expanded_more : (limit : ℕ) (old mid new : Runner) (more above : Bool) → ExpandsSome limit old mid true → ExpandsOne mid new more → above ≡ false →
+    (IsAbove limit mid.node → above ≡ true) → ExpandsSome limit old new true
+expanded_more limit old mid new more above so_far one low is_above = record {
+  goes = goes_trans old mid new so_far.goes one.goes;
+  endpoint = one.endpoint ∙ so_far.endpoint;
+  done = so_far.done;
+  expanded = λ did. more_expanded mid new more old.node.expanded one (so_far.expanded did);
+  within = within_one limit old.node mid new more above so_far.within low is_above one;
   nothing = λ never. absurd (cc);
 }
 
@@ -143,10 +154,8 @@ small_idle true limit before node all = (
   λ never. absurd (cc),
   λ it. elim it [
     | inl idle ↦ absurd (let no = idle.0 in cc)
-    | inr rest ↦ elim rest [
-      | inl above ↦ absurd (level_none node above.0 all above.1)
-      | inr risen ↦ absurd (level_none node risen.2.0 all risen.2.1)
-    ]
+    | inr (inl above) ↦ absurd (level_none node above.0 all above.1)
+    | inr (inr risen) ↦ absurd (level_none node risen.2.0 all risen.2.1)
   ],
 )
 
@@ -154,40 +163,32 @@ small_idle true limit before node all = (
 pub small_above : (took : Bool) (limit level : ℕ) (before node : NodeView) → HasLevel node level → limit < level → IsTrue true ↔ SendsSmall took limit before node
 small_above took limit level before node here above = (λ _. inr (inl (level, here, above)), λ _. refl)
 
--- what is left isn't, and the node was on a level
-small_risen : (took small : Bool) (limit was level : ℕ) (before node : NodeView) → HasLevel node level → level ≤ limit → HasLevel before was →
-    (small ≡ true → was < level) → (was < level → small ≡ true) → IsTrue small ↔ SendsSmall took limit before node
-small_risen took small limit was level before node here low then if_so so = (
-  λ yes. inr (inr (was, then, (level, here, if_so yes))),
-  λ it. elim it [
-    | inl idle ↦ absurd (level_none node level idle.1 here)
-    | inr rest ↦ elim rest [
-      | inl above ↦ (let is = level_once node above.0 level above.1 here in let more = above.2 in absurd (omega (arith, is, more, low)))
-      | inr risen ↦ (let old = level_once before risen.0 was risen.1 then in let new = level_once node risen.2.0 level risen.2.1 here in
-          let more = risen.2.2 in so (omega (arith, old, new, more)))
-    ]
-  ],
-)
+-- of a node that is on a level
+small_level : (took : Bool) (limit level : ℕ) (before node : NodeView) → HasLevel node level → SendsSmall took limit before node →
+    (limit < level) ⊎ ((was : ℕ) × HasLevel before was × (was < level))
+small_level took limit level before node here it = elim it [
+  | inl idle ↦ absurd (level_none node level idle.1 here)
+  | inr (inl above) ↦ inl (subst (λ (k : ℕ). limit < k) (level_once node above.0 level above.1 here) above.2)
+  | inr (inr risen) ↦ inr (risen.0, risen.1, subst (λ (k : ℕ). risen.0 < k) (level_once node risen.2.0 level risen.2.1 here) risen.2.2)
+]
 
--- and it was on none
-small_first : (took : Bool) (limit level : ℕ) (before node : NodeView) → HasLevel node level → level ≤ limit →
-    before.expanded ≡ length before.history.settlements → IsTrue false ↔ SendsSmall took limit before node
-small_first took limit level before node here low none = (
-  λ never. absurd (cc),
-  λ it. elim it [
-    | inl idle ↦ absurd (level_none node level idle.1 here)
-    | inr rest ↦ elim rest [
-      | inl above ↦ (let is = level_once node above.0 level above.1 here in let more = above.2 in absurd (omega (arith, is, more, low)))
-      | inr risen ↦ absurd (level_none before risen.0 none risen.1)
-    ]
-  ],
-)
-
+-- what is left isn't, and the node was on a level or on none
 pub small_later : (took small : Bool) (limit level : ℕ) (was : Option ℕ) (before node : NodeView) → HasLevel node level → level ≤ limit → IsLevel before was →
     MatchOption was (small ≡ false) (λ b. IsTrue small ↔ (b < level)) → IsTrue small ↔ SendsSmall took limit before node
-small_later took small limit level None before node here low none is =
-    subst (λ (b : Bool). IsTrue b ↔ SendsSmall took limit before node) (sym is) (small_first took limit level before node here low none)
-small_later took small limit level (Some was) before node here low then is = small_risen took small limit was level before node here low then is.0 is.1
+small_later took small limit level None before node here low none is = (
+  λ yes. absurd (both_ways small is yes),
+  λ it. elim (small_level took limit level before node here it) [
+    | inl above ↦ absurd (omega (arith, above, low))
+    | inr risen ↦ absurd (level_none before risen.0 none risen.1)
+  ],
+)
+small_later took small limit level (Some was) before node here low then is = (
+  λ yes. inr (inr (was, then, (level, here, is.0 yes))),
+  λ it. elim (small_level took limit level before node here it) [
+    | inl above ↦ absurd (omega (arith, above, low))
+    | inr risen ↦ is.1 (subst (λ (k : ℕ). k < level) (level_once before risen.0 was risen.1 then) risen.2)
+  ],
+)
 
 -- ---- what a gate is told
 

@@ -33,13 +33,22 @@ impl Pause {
         self.sleep.store(SHORTEST, Ordering::SeqCst);
     }
 
-    // Pauses for a moment, without sleep.
-    pub(crate) fn snooze(&self) {
+    // Follows a turn that had no work: where that found the token the next pause is as short as the first one, and else this is one,
+    // without sleep while a batch lies in a slot.
+    pub(crate) fn follow<R: Wait>(&self, rt: &R, found: bool, empty: bool) {
+        if found {
+            self.reset();
+            return;
+        }
+        if empty {
+            self.rest(rt);
+            return;
+        }
         self.backoff.snooze();
     }
 
     // Pauses for a moment, and sleeps where the pauses before it were too short.
-    pub(crate) fn rest<R: Wait>(&self, rt: &R) {
+    fn rest<R: Wait>(&self, rt: &R) {
         if !self.backoff.is_completed() {
             self.backoff.snooze();
             return;

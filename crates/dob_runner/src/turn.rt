@@ -149,15 +149,9 @@ impl Runner {
             self.pause.reset();
             return;
         }
-        if self.seeks_token() {
-            self.pause.reset();
-            return;
-        }
-        if self.endpoint.has_empty_slots() {
-            self.pause.rest(rt);
-        } else {
-            self.pause.snooze();
-        }
+        let found = self.seeks_token();
+        let empty = self.endpoint.has_empty_slots();
+        self.pause.follow(rt, found, empty);
     }
 
     // A turn's work; then the gate learns how many settlements it has expanded, also if it has failed.

@@ -25,15 +25,19 @@ loop-seat-preserved c =
           inv.first c.in-Some.ensures.items (ap (λ (me : Seated). me.0.witnessed) c.join_last.ensures.rest);
     }
 
-pub join_last-requires-clause-nodes : goal.join_last-requires-clause-nodes
-join_last-requires-clause-nodes c =
-    (last_seat c.args.rest.now.table_id c.args.nodes (map stand_of c.args.seats.items) c.loop-seat.seats.items c.pop.new.self.items c.in-Some.seat
-    c.loop-seat.rest.me c.loop-seat.invariant.left c.in-Some.ensures.items).0.nodes
-
-pub join_last-requires-clause-before : goal.join_last-requires-clause-before
-join_last-requires-clause-before c =
-    (last_seat c.args.rest.now.table_id c.args.nodes (map stand_of c.args.seats.items) c.loop-seat.seats.items c.pop.new.self.items c.in-Some.seat
-    c.loop-seat.rest.me c.loop-seat.invariant.left c.in-Some.ensures.items).1
+pub join_last-requires : goal.join_last-requires
+join_last-requires c =
+    let last = last_seat c.args.rest.now.table_id c.args.nodes (map stand_of c.args.seats.items) c.loop-seat.seats.items c.pop.new.self.items c.in-Some.seat
+    c.loop-seat.rest.me c.loop-seat.invariant.left c.in-Some.ensures.items in
+    record {
+      board = search rules;
+      key = search rules;
+      of_board = search rules;
+      seat_of_board = search rules;
+      nodes = last.0.nodes;
+      before = last.1;
+      no_slot = search rules;
+    }
 
 pub returns-clause-witnessed : goal.returns-clause-witnessed
 returns-clause-witnessed c seat e =

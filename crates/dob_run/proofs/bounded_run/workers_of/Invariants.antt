@@ -1,8 +1,12 @@
 -- So many nodes have their slots and are workers, and the other nodes and rows of slots are left.
-use Rattle.std.specs.Vec.Iter.{into_iter_items}
-use Rattle.dob_run.proofs.CrewLeaves.{IsJoining}
+use Rattle.dob_run.proofs.Common.{length, map, into_iter_items, AreWorkers, row_of}
+use Rattle.dob_run.proofs.Places.{HaveGone}
 use Rattle.dob_run.proofs.bounded_run.workers_of.Given as goal
 
 abbrev pub invariant-loop-node : goal.invariant-loop-node
-invariant-loop-node l =
-    IsJoining l.fn.nodes.items l.fn.sending.items l.fn.taking.items (into_iter_items l.node-iterator) (into_iter_items l.sending_left) (into_iter_items l.taking_left) l.workers.items
+invariant-loop-node l = record {
+  nodes_are : HaveGone l.fn.nodes.items (into_iter_items l.node-iterator) (length l.workers.items);
+  sending_are : HaveGone l.fn.sending.items (into_iter_items l.sending_left) (length l.workers.items);
+  taking_are : HaveGone l.fn.taking.items (into_iter_items l.taking_left) (length l.workers.items);
+  so_far : AreWorkers (length l.workers.items) l.fn.nodes.items (map row_of l.fn.sending.items) (map row_of l.fn.taking.items) l.workers.items;
+}

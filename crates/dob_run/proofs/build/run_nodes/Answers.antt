@@ -1,65 +1,60 @@
 -- The crew that was run has stopped: it leaves a table within the limits, or the fault says why it leaves nothing.
-use Rattle.dob_run.proofs.Common.{subst, sym, ℕ, IfOk, Family, carried, says_no, Halted, IsUnheld, StopsSo, HaveStopped, IsFailureOf, IsBuilt, HasBuildFault}
-use Rattle.dob_run.proofs.ByThreads.{still_crew, have_stopped, is_built, is_within, has_fault, is_stopped, all_let_on, if_unheld}
-use Rattle.dob_run.proofs.RunFaults.{outside_none, unbegun_fault, unbegun_stops, unbegun_unheld}
+use Rattle.dob_run.proofs.Common.{rules, subst, sym, ℕ, IfOk, Family, carried, says_no, Halted, IsUnheld, StopsSo, HaveStopped, IsFailureOf, IsBuilt}
+use Rattle.dob_run.proofs.Common.{HasBuildFault}
+use Rattle.dob_run.proofs.ByThreads.{still_crew, have_stopped, is_built, is_within, fault_for, all_let_on, unheld}
+use Rattle.dob_run.proofs.RunFaults.{outside_none, stops_so, unbegun_fault, unbegun_stops, unbegun_unheld}
+use Rattle.std.proofs.lemmas.Result.{IfErr-weaker, IfOk-weaker}
 use Rattle.dob_run.proofs.build.run_nodes.Goals as goal
 
-pub returns-in_err-sizes-clause-fault : goal.returns-in_err-sizes-clause-fault
-returns-in_err-sizes-clause-fault g c =
+pub returns-in_err-sizes : goal.returns-in_err-sizes
+returns-in_err-sizes g c =
     let fault = c.in_err-sizes.field-0.0 in
-    carried (HasBuildFault c.args.nodes c.args.batch_size c.args.capacity) c.from_residual.result fault c.from_residual.ensures.1
-    (unbegun_fault c.args.nodes c.args.batch_size c.args.capacity fault (outside_none _ _ _ fault c.in_err-sizes.ensures.fault))
-
-pub returns-in_err-sizes-clause-stopped : goal.returns-in_err-sizes-clause-stopped
-returns-in_err-sizes-clause-stopped g c =
-    let fault = c.in_err-sizes.field-0.0 in
-    carried (StopsSo IsFailureOf (says_no (g.G.Gate.says c.args.gate.now)) Halted c.args.family c.args.nodes c.args.batch_size c.args.capacity) c.from_residual.result fault c.from_residual.ensures.1
-    (unbegun_stops IsFailureOf (says_no (g.G.Gate.says c.args.gate.now)) Halted c.args.family c.args.nodes c.args.batch_size c.args.capacity fault (outside_none _ _ _ fault c.in_err-sizes.ensures.fault))
+    let refused = c.from_residual.result in
+    let is = c.from_residual.ensures.1 in
+    let none = outside_none _ _ _ fault c.in_err-sizes.ensures.fault in
+    record {
+      built = search rules;
+      let_on = search rules;
+      unheld = λ never. carried IsUnheld refused fault is (unbegun_unheld c.args.nodes c.args.batch_size c.args.capacity fault none);
+      within = search rules;
+      fault = carried (HasBuildFault c.args.nodes c.args.batch_size c.args.capacity) refused fault is
+          (unbegun_fault c.args.nodes c.args.batch_size c.args.capacity fault none);
+      stopped = carried (StopsSo IsFailureOf (says_no (g.G.Gate.says c.args.gate.now)) Halted c.args.family c.args.nodes c.args.batch_size c.args.capacity)
+          refused fault is
+          (unbegun_stops IsFailureOf (says_no (g.G.Gate.says c.args.gate.now)) Halted c.args.family c.args.nodes c.args.batch_size c.args.capacity fault none);
+    }
 
 pub finish-requires-clause-crew : goal.finish-requires-clause-crew
 finish-requires-clause-crew g c = λ κs lives.
-    still_crew (says_no (g.G.Gate.says c.args.gate.now)) Halted c.args.family c.args.nodes c.args.batch_size c.args.capacity c.in_ok-classes.field-0.board c.in_ok-classes.field-0.runners.items (c.in_ok-classes.ensures.ran _ _ _ c.in_ok-sizes.ensures.sizes)
+    still_crew (c.in_ok-classes.ensures.ran _ _ _ c.in_ok-sizes.ensures.sizes)
 
 pub finish-requires-clause-stopped : goal.finish-requires-clause-stopped
 finish-requires-clause-stopped g c = λ κs lives. (
   c.args.batch_size,
   subst (λ (s : Family). HaveStopped s c.args.batch_size c.in_ok-classes.field-0.runners.items) (sym c.in_ok-classes.ensures.family)
-      (have_stopped (says_no (g.G.Gate.says c.args.gate.now)) c.args.family c.args.nodes c.args.batch_size c.args.capacity c.in_ok-classes.field-0.board c.in_ok-classes.field-0.runners.items (c.in_ok-classes.ensures.ran _ _ _ c.in_ok-sizes.ensures.sizes)),
+      (have_stopped (c.in_ok-classes.ensures.ran _ _ _ c.in_ok-sizes.ensures.sizes)),
 )
 
-pub returns-clause-built : goal.returns-clause-built
-returns-clause-built g c =
-    is_built (says_no (g.G.Gate.says c.args.gate.now)) c.args.family c.args.nodes c.args.batch_size c.args.capacity c.in_ok-classes.field-0.board c.in_ok-classes.field-0.runners.items (c.in_ok-classes.ensures.ran _ _ _ c.in_ok-sizes.ensures.sizes)
-    c.finish.result (subst (λ (s : Family). IfOk c.finish.result (λ built. (m : ℕ) → HaveStopped s m c.in_ok-classes.field-0.runners.items → IsBuilt s c.in_ok-classes.field-0.board.nodes m built))
-    c.in_ok-classes.ensures.family c.finish.ensures.built)
-
-pub returns-clause-within : goal.returns-clause-within
-returns-clause-within g c =
-    is_within (says_no (g.G.Gate.says c.args.gate.now)) Halted c.args.family c.args.nodes c.args.batch_size c.args.capacity c.in_ok-classes.field-0.board c.in_ok-classes.field-0.runners.items (c.in_ok-classes.ensures.ran _ _ _ c.in_ok-sizes.ensures.sizes) c.finish.result
-
-pub returns-clause-fault : goal.returns-clause-fault
-returns-clause-fault g c =
-    has_fault (says_no (g.G.Gate.says c.args.gate.now)) c.args.family c.args.nodes c.args.batch_size c.args.capacity c.in_ok-classes.field-0.board c.in_ok-classes.field-0.runners.items (c.in_ok-classes.ensures.ran _ _ _ c.in_ok-sizes.ensures.sizes)
-    c.finish.result c.finish.ensures.failed
-
-pub returns-clause-stopped : goal.returns-clause-stopped
-returns-clause-stopped g c =
-    is_stopped (says_no (g.G.Gate.says c.args.gate.now)) c.args.family c.args.nodes c.args.batch_size c.args.capacity c.in_ok-classes.field-0.board c.in_ok-classes.field-0.runners.items (c.in_ok-classes.ensures.ran _ _ _ c.in_ok-sizes.ensures.sizes)
-    c.finish.result c.finish.ensures.failed
-
-pub returns-in_err-sizes-clause-unheld : goal.returns-in_err-sizes-clause-unheld
-returns-in_err-sizes-clause-unheld g c = λ never.
-    let fault = c.in_err-sizes.field-0.0 in
-    carried IsUnheld c.from_residual.result fault c.from_residual.ensures.1 (unbegun_unheld c.args.nodes c.args.batch_size c.args.capacity fault (outside_none _ _ _ fault c.in_err-sizes.ensures.fault))
-
-pub returns-clause-let_on : goal.returns-clause-let_on
-returns-clause-let_on g c =
-    let ran = (c.in_ok-classes.ensures.ran _ _ _ c.in_ok-sizes.ensures.sizes) in
-    all_let_on (g.G.Gate.says c.args.gate.now) c.args.nodes c.in_ok-classes.field-0.board c.in_ok-classes.field-0.runners.items ran.opened.nodes
-    (still_crew (says_no (g.G.Gate.says c.args.gate.now)) Halted c.args.family c.args.nodes c.args.batch_size c.args.capacity c.in_ok-classes.field-0.board c.in_ok-classes.field-0.runners.items ran)
-    c.in_ok-classes.ensures.let_on c.finish.result c.finish.ensures.unfailed
-
-pub returns-clause-unheld : goal.returns-clause-unheld
-returns-clause-unheld g c = if_unheld (says_no (g.G.Gate.says c.args.gate.now)) c.args.family c.args.nodes c.args.batch_size c.args.capacity c.finish.result
-    (is_stopped (says_no (g.G.Gate.says c.args.gate.now)) c.args.family c.args.nodes c.args.batch_size c.args.capacity c.in_ok-classes.field-0.board c.in_ok-classes.field-0.runners.items (c.in_ok-classes.ensures.ran _ _ _ c.in_ok-sizes.ensures.sizes)
-    c.finish.result c.finish.ensures.failed)
+pub returns : goal.returns
+returns g c =
+    let ran = c.in_ok-classes.ensures.ran _ _ _ c.in_ok-sizes.ensures.sizes in
+    let runners = c.in_ok-classes.field-0.runners.items in
+    let board = c.in_ok-classes.field-0.board in
+    let made = c.finish.result in
+    let No = says_no (g.G.Gate.says c.args.gate.now) in
+    let Stops = StopsSo IsFailureOf No Halted c.args.family c.args.nodes c.args.batch_size c.args.capacity in
+    let stopped = IfErr-weaker made (IsFailureOf runners) Stops
+    (λ fault failure. stops_so IsFailureOf No Halted c.args.family c.args.nodes c.args.batch_size c.args.capacity board runners fault ran failure)
+    c.finish.ensures.failed in
+    record {
+      built = IfOk-weaker made (λ built. (m : ℕ) → HaveStopped c.args.family m runners → IsBuilt c.args.family board.nodes m built)
+          (IsBuilt c.args.family c.args.nodes c.args.batch_size) (is_built ran)
+          (subst (λ (s : Family). IfOk made (λ built. (m : ℕ) → HaveStopped s m runners → IsBuilt s board.nodes m built)) c.in_ok-classes.ensures.family
+          c.finish.ensures.built);
+      let_on = all_let_on (g.G.Gate.says c.args.gate.now) c.args.nodes board runners ran.opened.nodes (still_crew ran) c.in_ok-classes.ensures.let_on made
+          c.finish.ensures.unfailed;
+      unheld = λ never. IfErr-weaker made Stops IsUnheld (unheld No c.args.family c.args.nodes c.args.batch_size c.args.capacity never) stopped;
+      within = is_within ran made;
+      fault = IfErr-weaker made (IsFailureOf runners) (HasBuildFault c.args.nodes c.args.batch_size c.args.capacity) (fault_for ran) c.finish.ensures.failed;
+      stopped = stopped;
+    }

@@ -1,9 +1,10 @@
 -- The things left are those from the place on, and those before it stand at the ends of their rows.
-use Rattle.dob_run.proofs.Common.{◌≡◌, drop, into_iter_items, AreDealt}
+use Rattle.dob_run.proofs.Common.{into_iter_items, AreDealt}
+use Rattle.dob_run.proofs.Places.{HaveGone}
 use Rattle.dob_run.proofs.rows.deal.Given as goal
 
 abbrev pub invariant-loop-place : goal.invariant-loop-place
 invariant-loop-place g l = record {
-  rest : into_iter_items l.left ≡ drop l.place l.fn.things.items;
+  rest : HaveGone l.fn.things.items (into_iter_items l.left) l.place;
   dealt : AreDealt l.place l.fn.things.items l.fn.rows.items l.rows.items;
 }

@@ -1,20 +1,28 @@
 -- The next row goes behind the others, and after the last all things stand row by row.
-use Rattle.dob_run.proofs.Common.{◌≡◌, length, rules, subst, vec_len, ℕ, AreInOrder}
-use Rattle.dob_run.proofs.InboxesClosed.{order_begins, order_goes_on, order_done, next_row}
+use Rattle.dob_run.proofs.Common.{◌+◌, ◌∙◌, ap, arith, length, refl, rules, subst, ℕ, AreInOrder}
+use Rattle.dob_run.proofs.Places.{gone_all, next_at, none_gone, one_gone}
+use Rattle.dob_run.proofs.InboxesClosed.{joined_more}
 use Rattle.dob_run.proofs.rows.join.Goals as goal
 
 pub loop-row-init : goal.loop-row-init
-loop-row-init g c = order_begins c.args.width c.args.rows.items _ _ c.into_iter-row-iterator.ensures.into_iter_gives.0 (search rules)
+loop-row-init g c = record {
+  done = 0;
+  gone = none_gone c.into_iter-row-iterator.ensures.into_iter_gives.0 refl;
+  so_far = record { count = omega (arith, ap length c.new-things.ensures.items); each = λ i j x below there. absurd (omega (arith, below)) };
+}
 
 pub loop-row-preserved : goal.loop-row-preserved
 loop-row-preserved g c =
-    let step = c.in-Some.ensures.steps.0 in
-    let at = next_row c.args.width c.args.rows.items _ _ c.in-Some.row _ c.loop-row.invariant step in
-    order_goes_on c.args.width c.args.rows.items _ _ c.in-Some.row _ _ c.loop-row.invariant step (c.requires.each at.0 c.in-Some.row at.1) c.in_ok-add_row.ensures
+    let on = c.loop-row.invariant in
+    let at = next_at on.gone c.in-Some.ensures.steps.0 in
+    record {
+      done = on.done + 1;
+      gone = one_gone on.gone c.in-Some.ensures.steps.0 refl;
+      so_far = joined_more c.args.width on.done c.args.rows.items c.in-Some.row c.loop-row.things.items c.append.new.self.items on.so_far at
+          (c.requires.each on.done c.in-Some.row at) c.in_ok-append.ensures.items;
+    }
 
 pub returns : goal.returns
-returns g c =
-    let rows = c.args.rows in
-    let long : length rows.items ≡ vec_len rows = search rules in
-    subst (λ (k : ℕ). AreInOrder c.args.width k rows.items c.loop-row.things.items) long
-    (order_done c.args.width rows.items _ _ c.loop-row.invariant (search rules))
+returns g c = subst (λ (k : ℕ). AreInOrder c.args.width k c.args.rows.items c.loop-row.things.items)
+    (gone_all c.loop-row.invariant.gone (search rules) ∙ search rules)
+    c.loop-row.invariant.so_far

@@ -1,8 +1,8 @@
 -- The runners of a new crew suit the classes of its family, so they have run, of sizes within the limits.
-use Rattle.dob_run.proofs.Common.{rules, subst, Family, says_no, IsNewCrew, AllSuit}
+use Rattle.dob_run.proofs.Common.{rules, subst, Family, KeepsRunner, says_no, Ends, EndsBy, IsNewCrew, AllSuit}
 use Rattle.dob_run.proofs.ByThreads.{are_let_on}
 use Rattle.dob_run.proofs.CrewRunners.{all_suit, crew_kept, run_sized}
-use Rattle.dob_run.proofs.Threaded.{all_by, all_kept}
+use Rattle.rayon.proofs.ListFacts.{AllZip-weaken}
 use Rattle.dob_run.proofs.threads.run_crew.Goals as goal
 
 pub run_each-requires : goal.run_each-requires
@@ -20,7 +20,8 @@ returns-clause-ran g c = λ nodes batch_size capacity these.
       old = old;
       opened = subst (λ (family : Family). IsNewCrew family c.args.sizes.now.nodes c.args.sizes.now.batch_size c.args.sizes.now.capacity c.in_ok-board.board old)
           c.in_ok-classes.ensures.family c.in_ok-board.ensures;
-      ends = all_by Says c.args.until.now old c.in_ok-ended.ended.items c.in_ok-ended.ensures;
+      ends = AllZip-weaken (EndsBy Says c.args.until.now) (Ends (says_no Says) c.args.until.now) (λ before after ends. ends.0) old c.in_ok-ended.ended.items
+          c.in_ok-ended.ensures;
     })
 
 pub returns-clause-let_on : goal.returns-clause-let_on
@@ -30,4 +31,4 @@ returns-clause-let_on g c =
     let ended = c.in_ok-ended.ended.items in
     are_let_on Says c.args.until.now c.in_ok-classes.classes.family c.args.sizes.now.nodes c.args.sizes.now.batch_size c.args.sizes.now.capacity c.in_ok-board.board old ended c.in_ok-board.ensures c.in_ok-ended.ensures
     (crew_kept c.in_ok-board.board old ended c.in_ok-board.ensures.crew
-    (all_kept (says_no Says) c.args.until.now old ended (all_by Says c.args.until.now old ended c.in_ok-ended.ensures)))
+    (AllZip-weaken (EndsBy Says c.args.until.now) KeepsRunner (λ before after ends. ends.0.0) old ended c.in_ok-ended.ensures))

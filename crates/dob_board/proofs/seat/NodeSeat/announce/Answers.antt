@@ -25,15 +25,14 @@ invariant_of-self c =
     let white = is.white in
     search rules
 
-pub returns-clause-found : goal.returns-clause-found
-returns-clause-found c = (let is = (done (goal.at.returns-clause-found c).After-halt_of-self).holds in
-    record { noted = refl; halt_is = refl; within = is.within; stays = is.stays })
-
-pub returns-clause-told : goal.returns-clause-told
-returns-clause-told c = (done (goal.at.returns-clause-told c).After-halt_of-self).holds.told
-
-pub returns-clause-event : goal.returns-clause-event
-returns-clause-event c = (done (goal.at.returns-clause-event c).After-halt_of-self).event
-
-pub returns-clause-own : goal.returns-clause-own
-returns-clause-own c = (done (goal.at.returns-clause-own c).After-halt_of-self).own
+pub returns : goal.returns
+returns c =
+    let is = done (goal.at.returns c).After-halt_of-self in
+    record {
+      found = record { noted = refl; halt_is = refl; within = is.holds.within; stays = is.holds.stays };
+      stopped = search rules;
+      same = search rules;
+      event = is.event;
+      told = is.holds.told;
+      own = is.own;
+    }

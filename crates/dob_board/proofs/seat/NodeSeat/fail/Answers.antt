@@ -26,19 +26,16 @@ invariant_of-self c =
     let white = is.noted.fit.white in
     search rules
 
-pub returns-clause-found : goal.returns-clause-found
-returns-clause-found c = (let is = (done (goal.at.returns-clause-found c).After-halt_of-self).1.holds in
-    record { noted = refl; halt_is = refl; within = is.within; stays = is.stays })
-
-pub returns-clause-told : goal.returns-clause-told
-returns-clause-told c = (done (goal.at.returns-clause-told c).After-halt_of-self).1.holds.told
-
-pub returns-clause-observed : goal.returns-clause-observed
-returns-clause-observed c = (let is = done (goal.at.returns-clause-observed c).After-halt_of-self in
-    record { found = is.0; observed = is.1.noted.observed; answer = is.2 })
-
-pub returns-clause-unannounced : goal.returns-clause-unannounced
-returns-clause-unannounced c = (done (goal.at.returns-clause-unannounced c).After-halt_of-self).1.unannounced
-
-pub returns-clause-black : goal.returns-clause-black
-returns-clause-black c = (done (goal.at.returns-clause-black c).After-halt_of-self).1.black
+pub returns : goal.returns
+returns c =
+    let is = done (goal.at.returns c).After-halt_of-self in
+    let looked = is.1 in
+    record {
+      found = record { noted = refl; halt_is = refl; within = looked.holds.within; stays = looked.holds.stays };
+      stopped = search rules;
+      same = search rules;
+      observed = record { found = is.0; observed = looked.noted.observed; answer = is.2 };
+      told = looked.holds.told;
+      unannounced = looked.unannounced;
+      black = looked.black;
+    }

@@ -25,21 +25,16 @@ invariant_of-self c =
     let white = is.noted.fit.white in
     search rules
 
-pub returns-clause-found : goal.returns-clause-found
-returns-clause-found c = (let is = (done (goal.at.returns-clause-found c).After-halt_of-self).0.holds in
-    record { noted = refl; halt_is = refl; within = is.within; stays = is.stays })
-
-pub returns-clause-told : goal.returns-clause-told
-returns-clause-told c = (done (goal.at.returns-clause-told c).After-halt_of-self).0.holds.told
-
-pub returns-clause-observed : goal.returns-clause-observed
-returns-clause-observed c = (done (goal.at.returns-clause-observed c).After-halt_of-self).0.noted.observed
-
-pub returns-clause-own : goal.returns-clause-own
-returns-clause-own c = (done (goal.at.returns-clause-own c).After-halt_of-self).1
-
-pub returns-clause-unannounced : goal.returns-clause-unannounced
-returns-clause-unannounced c = (done (goal.at.returns-clause-unannounced c).After-halt_of-self).0.unannounced
-
-pub returns-clause-black : goal.returns-clause-black
-returns-clause-black c = (done (goal.at.returns-clause-black c).After-halt_of-self).0.black
+pub returns : goal.returns
+returns c =
+    let is = done (goal.at.returns c).After-halt_of-self in
+    let looked = is.0 in
+    record {
+      found = record { noted = refl; halt_is = refl; within = looked.holds.within; stays = looked.holds.stays };
+      same = search rules;
+      observed = looked.noted.observed;
+      told = looked.holds.told;
+      own = is.1;
+      unannounced = looked.unannounced;
+      black = looked.black;
+    }

@@ -28,14 +28,7 @@ invariant_of-self c =
     let view = (done (goal.at.invariant_of-self c).After-load-number).0.view_is in
     search rules
 
-pub returns-clause-not_less : goal.returns-clause-not_less
-returns-clause-not_less c = (done (goal.at.returns-clause-not_less c).After-load-number).1
-
-pub returns-clause-taken_first : goal.returns-clause-taken_first
-returns-clause-taken_first c = (done (goal.at.returns-clause-taken_first c).After-load-number).2
-
-pub returns-clause-observed : goal.returns-clause-observed
-returns-clause-observed c = (done (goal.at.returns-clause-observed c).After-load-number).0.observed
-
-pub returns-clause-noted : goal.returns-clause-noted
-returns-clause-noted c = search rules fits 100
+pub returns : goal.returns
+returns c =
+    let is = done (goal.at.returns c).After-load-number in
+    record { noted = search rules fits 100; same = search rules; not_less = is.1; taken_first = is.2; observed = is.0.observed }

@@ -10,17 +10,16 @@ passed_is : (c : After-passed-token) → c.passed-token.result ≡ passed_by c.a
 passed_is c = c.passed-token.ensures ∙ ap (λ (z : ℤ). passed_on c.args.self.now.nodes c.in-Some.token z c.args.self.now.black)
     (to_z-of_z w64 c.counter.result (search rules) ∙ c.counter.ensures.counter)
 
-pub passed-token-requires-clause-low : goal.passed-token-requires-clause-low
-passed-token-requires-clause-low c ne =
+pub passed-token-requires : goal.passed-token-requires
+passed-token-requires c =
     let seat = c.args.self.now in
     let bounds = seat.in_bounds c.in-Some.token c.in-Some.is in
-    rw (to_z-of_z w64 c.counter.result (search rules)) (omega (arith, ints, bounds.1, c.counter.ensures.low, seat.size, seat.within))
-
-pub passed-token-requires-clause-high : goal.passed-token-requires-clause-high
-passed-token-requires-clause-high c ne =
-    let seat = c.args.self.now in
-    let bounds = seat.in_bounds c.in-Some.token c.in-Some.is in
-    rw (to_z-of_z w64 c.counter.result (search rules)) (omega (arith, ints, bounds.2, c.counter.ensures.high, seat.size, seat.within))
+    let same = to_z-of_z w64 c.counter.result (search rules) in
+    record {
+      some = search rules;
+      low = λ ne. rw same (omega (arith, ints, bounds.1, c.counter.ensures.low, seat.size, seat.within));
+      high = λ ne. rw same (omega (arith, ints, bounds.2, c.counter.ensures.high, seat.size, seat.within));
+    }
 
 pub pack-requires : goal.pack-requires
 pack-requires c =

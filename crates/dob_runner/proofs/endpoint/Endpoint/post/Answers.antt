@@ -12,10 +12,7 @@ there c = read_there c.args.self.now.outlets.items c.args.to c.index_mut.result.
 
 pub hold-requires-clause-own : goal.hold-requires-clause-own
 hold-requires-clause-own c =
-    let endpoint = c.args.self.now in
-    let old = c.index_mut.result.now in
-    let at = there (goal.at.hold-requires-clause-own c).After-index_mut in
-    c.requires.own ∙ sym (endpoint.own c.args.to old at)
+    c.requires.own ∙ sym (c.args.self.now.own c.args.to c.index_mut.result.now (there (goal.at.hold-requires-clause-own c).After-index_mut))
 
 pub invariant_of-self : goal.invariant_of-self
 invariant_of-self c =
@@ -36,20 +33,20 @@ invariant_of-self c =
       taken = subst (λ (p : ℕ × List ℕ). AreBatchesTaken p.0 p.1 endpoint.inlet) (λ q. ((sym c.post.ensures.same.nodes) q, (sym taken_is) q)) endpoint.taken;
     }
 
-pub returns-clause-offered : goal.returns-clause-offered
-returns-clause-offered c =
-    let endpoint = c.args.self.now in
-    let old = c.index_mut.result.now in
-    let at = there (goal.at.returns-clause-offered c).After-index_mut in
-    (old, c.hold.new.self, at, (c.hold.ensures.end, c.hold.ensures.offered), refl)
-
-pub returns-clause-keeps : goal.returns-clause-keeps
-returns-clause-keeps c =
-    let endpoint = c.args.self.now in
-    let old = c.index_mut.result.now in
-    let at = there (goal.at.returns-clause-keeps c).After-index_mut in
+pub returns : goal.returns
+returns c =
+    let outlets = c.args.self.now.outlets.items in
+    let before = c.index_mut.result.now in
+    let after = c.hold.new.self in
+    let at = there (goal.at.returns c).After-index_mut in
     record {
-      seat = c.post.ensures.same;
-      outlets = one_kept KeepsOutlet outlet_same endpoint.outlets.items c.args.to old c.hold.new.self at (outlet_kept old c.hold.new.self c.hold.ensures.end);
-      inlet = inlet_same endpoint.inlet;
+      counted = c.post.ensures.counted;
+      event = c.post.ensures.event;
+      offered = (before, after, at, (c.hold.ensures.end, c.hold.ensures.offered), refl);
+      inlet = refl;
+      keeps = record {
+        seat = c.post.ensures.same;
+        outlets = one_kept KeepsOutlet outlet_same outlets c.args.to before after at (outlet_kept before after c.hold.ensures.end);
+        inlet = inlet_same c.args.self.now.inlet;
+      };
     }

@@ -1,6 +1,6 @@
 -- The runner stays lawful where its first own items are applied, and none is left where all can be.
 use Rattle.dob_runner.proofs.Common.{◌↔◌, ◌∷◌, ◌≡◌, List, [], arith, false, inl, length, ltb, refl, subst, sym, ℕ, ltb-false, Item}
-use Rattle.dob_runner.proofs.Keeping.{endpoint_same, broken_for, own_reason, some_cause, node_goes, agrees_going, agrees_failed}
+use Rattle.dob_runner.proofs.Keeping.{endpoint_same, goes_by, broken_for, own_reason, some_cause, node_goes, agrees_going, agrees_failed}
 use Rattle.dob_runner.proofs.Lawfuls.{applied_items, still_coloured}
 use Rattle.dob_runner.proofs.runner.Runner.apply_all.Goals as goal
 
@@ -43,7 +43,7 @@ returns-in-Err c = broken_for c.args.self.now _ c.in-Err.why c.fail_for.ensures 
 
 pub returns-in-Ok : goal.returns-in-Ok
 returns-in-Ok c = record {
-  goes = record { keeps = record { endpoint = endpoint_same c.args.self.now.endpoint; family = refl; batch_size = refl }; unfailed = c.requires; halt = refl; still = refl };
+  goes = goes_by (endpoint_same c.args.self.now.endpoint) refl refl c.requires refl refl;
   endpoint = refl;
   done = none_left c.args.self.now.node.own c.left_for_itself-count.result c.left_for_itself-count.ensures;
   none = c.in-Ok.ensures.step.all;

@@ -1,10 +1,10 @@
 -- A slot is filled just where it is empty and there is something to send. A node that cuts a batch was black and had cut fewer than 2^40; with the batch in the slot the runner is lawful.
-use Rattle.dob_runner.proofs.Common.{◌<◌, ◌^◌, ◌∙◌, ◌≡◌, ◌≤◌, Err, None, Ok, Option, Result, Some, ap, arith, false, inl, inr, refl, subst, sym, true}
-use Rattle.dob_runner.proofs.Common.{both_ways, cases_Bool, some_at, BatchView, OutboxView, Cause, HasCut, outbox_to, token_moves_of, Stand, IsToFill}
+use Rattle.dob_runner.proofs.Common.{◌<◌, ◌^◌, ◌∙◌, ◌≡◌, ◌≤◌, Err, None, Ok, Option, Result, Some, ap, arith, false, inl, refl, subst, sym, true}
+use Rattle.dob_runner.proofs.Common.{both_ways, some_at, BatchView, OutboxView, Cause, HasCut, outbox_to, token_moves_of, Stand, IsToFill}
 use Rattle.std.proofs.Common.{IfSome}
 use Rattle.dob_board.proofs.Halting.{same_halt}
-use Rattle.dob_runner.proofs.Keeping.{own_still, broken_for, cut_reason, outbox_still, some_cause, node_goes, agrees_going, agrees_failed}
-use Rattle.dob_runner.proofs.Lawfuls.{cut_one, few_cut, unchanged_failed}
+use Rattle.dob_runner.proofs.Keeping.{goes_by, own_still, broken_for, cut_reason, outbox_still, some_cause, node_goes, agrees_going, agrees_failed}
+use Rattle.dob_runner.proofs.Lawfuls.{busy_black, cut_one, few_cut, unchanged_failed}
 use Rattle.dob_runner.proofs.Sending.{outlet_at, slot_empty, uncut, fills_of, cut_nothing, cut_more}
 use Rattle.dob_runner.proofs.runner.Runner.cut_for.Goals as goal
 use Rattle.dob_runner.proofs.runner.Runner.cut_for.Goals.{After-has_to_send, In-Some}
@@ -74,10 +74,8 @@ invariant_of-self-2 c =
     let r = c.args.self.now in
     let law = r.lawful (inl c.requires.unfailed) in
     let cut = batch_cut (goal.at.invariant_of-self-2 c).In-Some in
-    let was_black : r.endpoint.seat.black ≡ true = elim (cases_Bool r.endpoint.seat.black) [
-      | inl black ↦ black
-      | inr white ↦ absurd (cut_none c.in-Ok.cut c.in-Some.batch c.in-Some.is (c.in-Ok.ensures.step.none.1 ((law.white white).0.sent c.args.to)))
-    ] in
+    let was_black = busy_black r.family r.batch_size r.node r.endpoint law
+    (λ idle. cut_none c.in-Ok.cut c.in-Some.batch c.in-Some.is (c.in-Ok.ensures.step.none.1 (idle.sent c.args.to))) in
     record {
       going = λ _. c.requires.unfailed;
       own = λ found. r.own (own_still r.endpoint.seat c.post.new.self.seat
@@ -99,12 +97,9 @@ returns c =
     let cut = batch_cut (goal.at.returns c).In-Some in
     fills_of c.args.to c.args.small r _ (Ok true) (fills (goal.at.returns c).After-has_to_send c.if-not-has_to_send.false)
     (cut_more c.args.to r.batch_size c.in-Some.batch r _
-    (record {
-      keeps = record { endpoint = c.post.ensures.keeps; family = refl; batch_size = refl };
-      unfailed = c.requires.unfailed;
-      halt = same_halt c.post.new.self.seat.halt r.endpoint.seat.halt (ap (λ (s : Stand). s.halt) c.post.ensures.counted);
-      still = ap (token_moves_of r.endpoint.seat.node) c.post.ensures.event.is_next ∙ c.post.ensures.event.alone;
-    })
+    (goes_by c.post.ensures.keeps refl refl c.requires.unfailed
+    (same_halt c.post.new.self.seat.halt r.endpoint.seat.halt (ap (λ (s : Stand). s.halt) c.post.ensures.counted))
+    (ap (token_moves_of r.endpoint.seat.node) c.post.ensures.event.is_next ∙ c.post.ensures.event.alone))
     cut c.post.ensures.offered c.post.ensures.inlet
     (λ empty. cut_none c.in-Ok.cut c.in-Some.batch c.in-Some.is (c.in-Ok.ensures.step.none.1 empty)))
 

@@ -13,14 +13,5 @@ returns-then-did-clause-ends g c =
       idle = λ idle. absurd (both_ways c.args.did idle c.if-did.true);
     }
 
-pub returns-then-seeks_token-clause-ends : goal.returns-then-seeks_token-clause-ends
-returns-then-seeks_token-clause-ends g c = ends_idle c.args.did c.args.self.now _ c.seeks_token.result c.if-did.false
-    (record { same = c.seeks_token.ensures.seeks.same; rests = c.seeks_token.ensures.seeks.rests; stays = c.seeks_token.ensures.seeks.stays })
-
-pub returns-then-has_empty_slots-clause-ends : goal.returns-then-has_empty_slots-clause-ends
-returns-then-has_empty_slots-clause-ends g c = ends_idle c.args.did c.args.self.now _ c.seeks_token.result c.if-did.false
-    (record { same = c.seeks_token.ensures.seeks.same; rests = c.seeks_token.ensures.seeks.rests; stays = c.seeks_token.ensures.seeks.stays })
-
-pub returns-else-has_empty_slots-clause-ends : goal.returns-else-has_empty_slots-clause-ends
-returns-else-has_empty_slots-clause-ends g c = ends_idle c.args.did c.args.self.now _ c.seeks_token.result c.if-did.false
-    (record { same = c.seeks_token.ensures.seeks.same; rests = c.seeks_token.ensures.seeks.rests; stays = c.seeks_token.ensures.seeks.stays })
+pub returns-clause-ends : goal.returns-clause-ends
+returns-clause-ends g c = ends_idle c.args.did c.args.self.now _ c.seeks_token-found.result c.if-did.false c.seeks_token-found.ensures.seeks

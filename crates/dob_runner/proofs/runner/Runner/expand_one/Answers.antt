@@ -1,6 +1,6 @@
 -- An expanded settlement leaves the runner lawful, and so does lack of memory.
 use Rattle.dob_runner.proofs.Common.{Ok, ap, inl, inr, refl, subst, sym, cases_Bool, Node, IsLawfulRunner, no_gate}
-use Rattle.dob_runner.proofs.Keeping.{endpoint_same, broken_for, memory_reason, some_cause, node_goes, agrees_going, agrees_failed}
+use Rattle.dob_runner.proofs.Keeping.{endpoint_same, goes_by, broken_for, memory_reason, some_cause, node_goes, agrees_going, agrees_failed}
 use Rattle.dob_runner.proofs.Lawfuls.{expanded_one, unchanged_failed}
 use Rattle.dob_runner.proofs.TurnParts.{same_answer}
 use Rattle.dob_runner.proofs.runner.Runner.expand_one.Goals as goal
@@ -38,7 +38,7 @@ returns-in-Err c = broken_for c.args.self.now _ c.in-Err.why c.fail_for.ensures 
 
 pub returns-in-Ok : goal.returns-in-Ok
 returns-in-Ok c = record {
-  goes = record { keeps = record { endpoint = endpoint_same c.args.self.now.endpoint; family = refl; batch_size = refl }; unfailed = c.requires.unfailed; halt = refl; still = refl };
+  goes = goes_by (endpoint_same c.args.self.now.endpoint) refl refl c.requires.unfailed refl refl;
   endpoint = refl;
   done = (λ none. c.in-Ok.ensures.step.done.0 (ap Ok none), λ none. same_answer _ _ (c.in-Ok.ensures.step.done.1 none));
   expanded = λ did. c.in-Ok.ensures.step.expanded (ap Ok did);

@@ -3,7 +3,7 @@
 use Rattle.dob_runner.proofs.Common.{◌<◌, ◌≡◌, Some, ap, inl, length, refl, KeepsOutlet, offered, GoesOn, SendsTo}
 use Rattle.std.proofs.Common.{slice_get}
 use Rattle.dob_runner.proofs.Counted.{counts_stay, own_set}
-use Rattle.dob_runner.proofs.Keeping.{runner_same, broken_on, endpoint_trans, outlet_same, inlet_same, one_kept, seat_same}
+use Rattle.dob_runner.proofs.Keeping.{runner_same, broken_on, goes_by, goes_trans, outlet_same, inlet_same, one_kept, seat_same}
 use Rattle.dob_runner.proofs.Lawfuls.{offered_again}
 use Rattle.dob_runner.proofs.Sending.{low_still, in_outlets, outlet_at, slot_empty, slot_full, few_there, own_unsent, sends_none, sends_offered}
 use Rattle.dob_runner.proofs.runner.Runner.send_to.Goals as goal
@@ -81,18 +81,9 @@ returns g c =
     let at = there g back.After-index_mut-outlet within in
     let full = slot_full f.endpoint c.args.to c.index.result.now within c.index.ensures (c.is_full.ensures.full c.if-not-is_full.false) old at in
     sends_offered c.args.to c.args.small r f c.in_ok-cut_for.field-0 c.if-to-self.false fills _
-    (record {
-      keeps = record {
-        endpoint = endpoint_trans r.endpoint f.endpoint _ fills.0.goes.keeps.endpoint (record {
-          seat = seat_same f.endpoint.seat;
-          outlets = one_kept KeepsOutlet outlet_same f.endpoint.outlets.items c.args.to old c.offer.new.self at c.offer.ensures.keeps;
-          inlet = inlet_same f.endpoint.inlet;
-        });
-        family = fills.0.goes.keeps.family;
-        batch_size = fills.0.goes.keeps.batch_size;
-      };
-      unfailed = fills.0.goes.unfailed;
-      halt = fills.0.goes.halt;
-      still = fills.0.goes.still;
-    })
+    (goes_trans r f _ fills.0.goes (goes_by (record {
+      seat = seat_same f.endpoint.seat;
+      outlets = one_kept KeepsOutlet outlet_same f.endpoint.outlets.items c.args.to old c.offer.new.self at c.offer.ensures.keeps;
+      inlet = inlet_same f.endpoint.inlet;
+    }) refl refl fills.0.goes.unfailed refl refl))
     refl refl (old, c.offer.new.self, at, c.offer.ensures, refl) full c.is_full-2.result c.is_full-2.ensures.full c.is_full-2.ensures.empty

@@ -1,17 +1,18 @@
 -- The runner is lawful whether no batch came or one was applied; a refused one blackened its seat before any end, and one for which
 -- there is no memory lies in the slot.
 use Rattle.dob_runner.proofs.Common.{◌++◌, ◌∙◌, ◌≡◌, ◌≢◌, Err, None, ap, arith, inl, inr, refl, subst, sym, Memory, IsSound, IsUnchanged, Node, IsSameSeat}
-use Rattle.dob_runner.proofs.Common.{TakesOne, NodeSeat, Stand, IsBatchFor, KeepsEndpoint, IsLawfulRunner, HoldsFor, KeepsInlet, KeepsOutlet, worked, no_gate}
+use Rattle.dob_runner.proofs.Common.{TakesOne, NodeSeat, Stand, KeepsEndpoint, IsLawfulRunner, HoldsFor, KeepsInlet, KeepsOutlet, worked, no_gate}
 use Rattle.dob_runner.proofs.Common.{Endpoint, Runner, Inlet}
 use Rattle.dob_runner.proofs.Senders.{taken_still}
-use Rattle.dob_runner.proofs.Keeping.{endpoint_trans, links_kept, own_still, some_cause, failed_first, refused_reason, node_goes, agrees_going, agrees_failed}
+use Rattle.dob_runner.proofs.Keeping.{endpoint_trans, goes_by, links_kept, own_still, some_cause, failed_first, refused_reason, node_goes, agrees_going}
+use Rattle.dob_runner.proofs.Keeping.{agrees_failed}
 use Rattle.dob_runner.proofs.Keeping.{unspared_reason, memory_reason, still_trans, seat_same, each_same, outlet_same}
 use Rattle.dob_node.proofs.TakenLists.{before_since}
 use Rattle.dob_runner.proofs.Applied.{worked_again, worked_else, worked_more}
 use Rattle.dob_runner.proofs.Lawfuls.{recoloured, same_inlet, applied_batch, unchanged_node}
 use Rattle.dob_runner.proofs.Taking.{takes_none, takes_one, of_other, fits_node, unchanged_same}
 use Rattle.dob_runner.proofs.runner.Runner.take_one.Goals as goal
-use Rattle.dob_runner.proofs.runner.Runner.take_one.Goals.{In-Err-apply_batch}
+use Rattle.dob_runner.proofs.runner.Runner.take_one.Goals.{After-accept, In-Err-apply_batch}
 
 -- what came into the slot isn't worked yet: the runner stays lawful, and nothing is taken back
 still_lawful : (r : Runner) (node : Node) (new : Endpoint) → r.failed ≡ None → IsUnchanged r.node node → IsSound node → new.seat.node ≡ r.endpoint.seat.node →
@@ -29,8 +30,10 @@ kept_by old mid seat outlets inlet = record {
   inlet = inlet;
 }
 
-kept_after : (old mid new : Endpoint) → KeepsEndpoint mid new → mid.seat ≡ old.seat → mid.outlets ≡ old.outlets → KeepsInlet old.inlet mid.inlet → KeepsEndpoint old new
-kept_after old mid new kept seat outlets inlet = endpoint_trans old mid new (kept_by old mid seat outlets inlet) kept
+-- nor where a batch was accepted, or wasn't
+accepted : (g : _) (c : After-accept g) → KeepsEndpoint c.args.self.now.endpoint c.accept.new.self
+accepted g c = endpoint_trans c.args.self.now.endpoint _ c.accept.new.self (kept_by c.args.self.now.endpoint _ refl refl c.receive.ensures.keeps)
+    c.accept.ensures.keeps
 
 pub reserve-requires-clause-going : goal.reserve-requires-clause-going
 reserve-requires-clause-going g c = (let r = c.args.self.now in node_goes r.node.failed r.failed r.agrees c.requires)
@@ -112,18 +115,17 @@ invariant_of-self-in-Ok-apply_batch g c =
     let n = c.reserve.new.self in
     let inlet = c.receive.new.self in
     let batch = c.in-Some-accept.batch in
-    let law = unchanged_node r.family r.batch_size r.node n r.endpoint (r.lawful (inl c.requires)) c.reserve.ensures.step.unchanged c.reserve.ensures.keeps.sound in
     let taken : TakesOne r.endpoint.seat c.accept.new.self.seat batch.from = c.in-Some-accept.ensures.taken in
     let more = c.in-Some-accept.ensures.worked.1 in
-    let fits : IsBatchFor r.family r.endpoint.seat.nodes batch.from r.endpoint.seat.node batch =
-    fits_node r.family r.endpoint.seat.nodes c.in-Some.from r.endpoint.seat.node inlet batch c.in-Some.ensures c.in-Some-accept.ensures.held in
     record {
       going = λ _. c.requires;
       own = λ found. r.own (own_still r.endpoint.seat c.accept.new.self.seat c.accept.ensures.halt c.accept.ensures.keeps.seat.node found);
       agrees = agrees_going c.apply_batch.new.self.failed _ c.in-Ok-apply_batch.ensures.keeps.going;
-      lawful = λ _. applied_batch r.family r.batch_size batch.from batch n c.apply_batch.new.self r.endpoint c.accept.new.self law c.in-Some-accept.ensures.within
-          (of_other r.family r.endpoint.seat.nodes c.in-Some.from r.endpoint.seat.node inlet batch c.in-Some.ensures c.in-Some-accept.ensures.held)
-          fits.entries c.in-Ok-apply_batch.ensures.step.taken c.in-Ok-apply_batch.ensures.keeps.sound c.accept.ensures.keeps.seat.node c.accept.ensures.keeps.seat.nodes
+      lawful = λ _. applied_batch r.family r.batch_size batch.from batch n c.apply_batch.new.self r.endpoint c.accept.new.self
+          (unchanged_node r.family r.batch_size r.node n r.endpoint (r.lawful (inl c.requires)) c.reserve.ensures.step.unchanged c.reserve.ensures.keeps.sound)
+          c.in-Some-accept.ensures.within (of_other c.in-Some.ensures c.in-Some-accept.ensures.held)
+          (fits_node c.in-Some.ensures c.in-Some-accept.ensures.held).entries
+          c.in-Ok-apply_batch.ensures.step.taken c.in-Ok-apply_batch.ensures.keeps.sound c.accept.ensures.keeps.seat.node c.accept.ensures.keeps.seat.nodes
           (ap (λ (s : Stand). s.black) taken.counted) (ap (λ v. v.items) c.accept.ensures.outlets)
           (λ k other. worked_else inlet c.accept.new.self.inlet batch more k other ∙ worked_again r.endpoint.inlet inlet c.receive.ensures.worked k)
           (worked_more inlet c.accept.new.self.inlet batch more ∙ ap (λ xs. xs ++ batch.items) (worked_again r.endpoint.inlet inlet c.receive.ensures.worked batch.from));
@@ -132,70 +134,56 @@ invariant_of-self-in-Ok-apply_batch g c =
 pub returns-in_default-clause-step : goal.returns-in_default-clause-step
 returns-in_default-clause-step g c =
     let r = c.args.self.now in
-    takes_none r _ c.receive.new.self
-    (record {
-      keeps = record { endpoint = kept_by r.endpoint _ refl refl c.receive.ensures.keeps; family = refl; batch_size = refl };
-      unfailed = c.requires;
-      halt = refl;
-      still = refl;
-    })
+    takes_none r _ c.receive.new.self (goes_by (kept_by r.endpoint _ refl refl c.receive.ensures.keeps) refl refl c.requires refl refl)
     c.receive.ensures.worked c.receive.ensures.asked refl refl (unchanged_same r.node) (inl c.in_default.ensures)
 
-pub returns-in-Err-clause-step : goal.returns-in-Err-clause-step
-returns-in-Err-clause-step g c =
-    let fails = c.fail_for.ensures in
-    let kept = links_kept _ c.fail_for.new.endpoint fails.keeps.links in
-    record {
-      failed = record {
-        keeps = record { endpoint = kept_after c.args.self.now.endpoint _ c.fail_for.new.endpoint kept refl refl c.receive.ensures.keeps; family = refl; batch_size = refl };
-        cause = fails.cause;
-        stopped = fails.stopped;
-      };
-      still = fails.still;
-      reason = memory_reason no_gate _ c.in-Err.refused c.in-Err.ensures.step.memory;
-    }
-
-pub returns-in-Err-clause-refused : goal.returns-in-Err-clause-refused
-returns-in-Err-clause-refused g c =
+pub returns-in-Err : goal.returns-in-Err
+returns-in-Err g c =
     let r = c.args.self.now in
-    let links = c.fail_for.ensures.keeps.links in
-    λ _. record {
-      from = c.in-Some.from;
-      holds = subst (λ (i : Inlet). HoldsFor r.family r.endpoint.seat.nodes c.in-Some.from r.endpoint.seat.node i) (sym links.inlet) c.in-Some.ensures;
-      uncounted = ap (λ (i : Inlet). worked i) links.inlet ∙ c.receive.ensures.worked;
-      outlets = ap (λ v. v.items) links.outlets;
-      node = c.reserve.ensures.step.unchanged;
+    let failed = c.fail_for.new.endpoint in
+    let fails = c.fail_for.ensures in
+    let links = fails.keeps.links in
+    record {
+      step = record {
+        failed = record {
+          keeps = record {
+            endpoint = endpoint_trans r.endpoint _ failed (kept_by r.endpoint _ refl refl c.receive.ensures.keeps) (links_kept _ failed links);
+            family = refl;
+            batch_size = refl;
+          };
+          cause = fails.cause;
+          stopped = fails.stopped;
+        };
+        still = fails.still;
+        reason = memory_reason no_gate _ c.in-Err.refused c.in-Err.ensures.step.memory;
+      };
+      refused = λ _. record {
+        from = c.in-Some.from;
+        holds = subst (λ (i : Inlet). HoldsFor r.family r.endpoint.seat.nodes c.in-Some.from r.endpoint.seat.node i) (sym links.inlet) c.in-Some.ensures;
+        uncounted = ap (λ (i : Inlet). worked i) links.inlet ∙ c.receive.ensures.worked;
+        outlets = ap (λ v. v.items) links.outlets;
+        node = c.reserve.ensures.step.unchanged;
+      };
     }
 
 pub returns-in_default-accept-clause-step : goal.returns-in_default-accept-clause-step
 returns-in_default-accept-clause-step g c =
     let r = c.args.self.now in
+    let kept = c.in_default-accept.ensures.kept in
+    let refused = c.in_default-accept.ensures.refused in
     takes_none r _ c.receive.new.self
-    (record {
-      keeps = record { endpoint = kept_after r.endpoint _ c.accept.new.self c.accept.ensures.keeps refl refl c.receive.ensures.keeps; family = refl; batch_size = refl };
-      unfailed = c.requires;
-      halt = c.accept.ensures.halt;
-      still = c.accept.ensures.still;
-    })
-    c.receive.ensures.worked c.receive.ensures.asked (ap (λ v. v.items) c.accept.ensures.outlets)
-    c.in_default-accept.ensures.kept c.reserve.ensures.step.unchanged
-    (let refused = c.in_default-accept.ensures.refused in inr (
+    (goes_by (accepted g (goal.at.returns-in_default-accept-clause-step g c).After-accept) refl refl c.requires c.accept.ensures.halt c.accept.ensures.still)
+    c.receive.ensures.worked c.receive.ensures.asked (ap (λ v. v.items) c.accept.ensures.outlets) kept c.reserve.ensures.step.unchanged (inr (
       c.in-Some.from,
       refused.0,
-      subst (λ (i : Inlet). HoldsFor r.family r.endpoint.seat.nodes c.in-Some.from r.endpoint.seat.node i) (sym c.in_default-accept.ensures.kept) c.in-Some.ensures,
+      subst (λ (i : Inlet). HoldsFor r.family r.endpoint.seat.nodes c.in-Some.from r.endpoint.seat.node i) (sym kept) c.in-Some.ensures,
       refused.1,
     ))
 
 pub returns-in-Ok-apply_batch-clause-step : goal.returns-in-Ok-apply_batch-clause-step
 returns-in-Ok-apply_batch-clause-step g c =
-    let r = c.args.self.now in
-    takes_one r _ c.receive.new.self
-    (record {
-      keeps = record { endpoint = kept_after r.endpoint _ c.accept.new.self c.accept.ensures.keeps refl refl c.receive.ensures.keeps; family = refl; batch_size = refl };
-      unfailed = c.requires;
-      halt = c.accept.ensures.halt;
-      still = c.accept.ensures.still;
-    })
+    takes_one c.args.self.now _ c.receive.new.self
+    (goes_by (accepted g (goal.at.returns-in-Ok-apply_batch-clause-step g c).After-accept) refl refl c.requires c.accept.ensures.halt c.accept.ensures.still)
     c.receive.ensures.worked c.receive.ensures.asked (ap (λ v. v.items) c.accept.ensures.outlets)
     c.in-Some-accept.batch c.in-Some-accept.ensures.worked.0 c.in-Some-accept.ensures.worked.1
 
@@ -207,8 +195,9 @@ returns-clause-step g c =
     let why = c.in-Err-apply_batch.why in
     let failed = c.fail_for-in-Err-apply_batch.new.endpoint in
     let fails = c.fail_for-in-Err-apply_batch.ensures in
-    let kept = endpoint_trans r.endpoint c.accept.new.self failed
-    (kept_after r.endpoint _ c.accept.new.self c.accept.ensures.keeps refl refl c.receive.ensures.keeps) (links_kept c.accept.new.self failed fails.keeps.links) in
+    let links = fails.keeps.links in
+    let kept = endpoint_trans r.endpoint c.accept.new.self failed (accepted g (goal.at.returns-clause-step g c).After-accept)
+    (links_kept c.accept.new.self failed links) in
     record {
       failed = record { keeps = record { endpoint = kept; family = refl; batch_size = refl }; cause = fails.cause; stopped = fails.stopped };
       still = still_trans r.endpoint.seat c.accept.new.self.seat failed.seat c.accept.ensures.keeps.seat.node c.accept.ensures.still fails.still;
@@ -217,10 +206,10 @@ returns-clause-step g c =
         going = c.requires;
         kept = record { endpoint = kept; family = refl; batch_size = refl };
         from = batch.from;
-        other = of_other r.family r.endpoint.seat.nodes c.in-Some.from r.endpoint.seat.node inlet batch c.in-Some.ensures c.in-Some-accept.ensures.held;
+        other = of_other c.in-Some.ensures c.in-Some-accept.ensures.held;
         batch = batch;
-        fits = fits_node r.family r.endpoint.seat.nodes c.in-Some.from r.endpoint.seat.node inlet batch c.in-Some.ensures c.in-Some-accept.ensures.held;
-        came = same_inlet c.accept.new.self failed fails.keeps.links.inlet batch.from
+        fits = fits_node c.in-Some.ensures c.in-Some-accept.ensures.held;
+        came = same_inlet c.accept.new.self failed links.inlet batch.from
             ∙ worked_more inlet c.accept.new.self.inlet batch c.in-Some-accept.ensures.worked.1
             ∙ ap (λ xs. xs ++ batch.items) (worked_again r.endpoint.inlet inlet c.receive.ensures.worked batch.from);
         before = before_since batch.items r.node c.reserve.new.self c.apply_batch.new.self why c.reserve.ensures.step.unchanged c.in-Err-apply_batch.ensures.step.before;
