@@ -1,8 +1,8 @@
 -- The node that makes a step and the lane that it takes or fills, where they stand, and what the lanes show after the step.
-use Rattle.dob_world.proofs.Common.{◌*◌, ◌+◌, ◌<◌, ◌∙◌, ◌≡◌, ◌≢◌, ◌⊎◌, Bool, List, None, Some, [], ap, cond, false, get_or, inl, inr, nat_lt, refl, set, slice_get}
-use Rattle.dob_world.proofs.Common.{subst, sym, true, ℕ, length-set, ltb-true, same_from_place, same_Some, slice_get_within, get_set_other, get_set_same}
-use Rattle.dob_world.proofs.Common.{classes_of, fresh, owner_of, cell_at, IsUnchanged, outbox_to, Node, LaneStays, LinkView, lane_at, nodes_shown, part}
-use Rattle.dob_world.proofs.Common.{setting_of, world_shown, AreInPlace, IsLaneOf, IsNodeOf, Setting, Lane, World}
+use Rattle.dob_world.proofs.Common.{◌*◌, ◌+◌, ◌<◌, ◌∙◌, ◌≡◌, ◌≢◌, ◌⊎◌, Bool, List, None, Some, [], ap, cond, false, get_or, inl, inr, nat_lt, refl, set}
+use Rattle.dob_world.proofs.Common.{slice_get, subst, sym, true, ℕ, length-set, ltb-true, same_from_place, same_Some, slice_get_within, get_set_other}
+use Rattle.dob_world.proofs.Common.{get_set_same, classes_of, fresh, owner_of, cell_at, IsUnchanged, outbox_to, Node, LaneStays, LinkView, lane_at}
+use Rattle.dob_world.proofs.Common.{nodes_shown, part, setting_of, world_shown, AreInPlace, IsLaneOf, IsNodeOf, Setting, Lane, World}
 use Rattle.dob_world.proofs.Places.{at_link}
 use Rattle.dob_world.proofs.Slots.{NodeAt, lane_slot, set_cases, set_same}
 use Rattle.dob_world.proofs.InPlace.{node_there, slot_found}
@@ -43,7 +43,8 @@ at_lane {k} {nodes} {lanes} places i j m place node lane low_i low_j low_m place
       lane_of = places.lane i j lane lane_there;
     }
 
-module _ {k : Setting} {nodes : List Node} {lanes : List Lane} {i j m place : ℕ} {node : Node} {lane : Lane} (at : AtLane k nodes lanes i j m place node lane) where
+module _ {k : Setting} {nodes : List Node} {lanes : List Lane} {i j m place : ℕ} {node : Node} {lane : Lane}
+    (at : AtLane k nodes lanes i j m place node lane) where
   pub lane_was : {Y : Type 0} (d : Y) (f : Lane → Y) → part d f (lane_at k.n lanes i j) ≡ f lane
   lane_was d f = ap (part d f) at.lane_is
 

@@ -1,7 +1,7 @@
 -- Each batch that a node has cut for another one is posted: at the start, and after each event.
 use Rattle.dob_world.proofs.Common.{◌+◌, ◌<◌, ◌^◌, ◌∙◌, ◌≡◌, ◌≢◌, ◌≤◌, List, None, Option, Some, ap, arith, refl, set, slice_get, sym, ℕ}
-use Rattle.dob_world.proofs.Common.{Family, CountsStay, Ring, Opening, OutboxView, outbox_same, outbox_to, Node, part, AreCutsPosted, AreOpenedNodes, Stand, ring_of}
-use Rattle.dob_world.proofs.Common.{Detector, Setting, Lane}
+use Rattle.dob_world.proofs.Common.{Family, CountsStay, Ring, Opening, OutboxView, outbox_same, outbox_to, Node, part, AreCutsPosted, AreOpenedNodes, Stand}
+use Rattle.dob_world.proofs.Common.{ring_of, Detector, Setting, Lane}
 use Rattle.dob_safra.specs.Rings.{IsStart as IsStartRing, Raises}
 use Rattle.dob_world.specs.Shown.{cut_by}
 use Rattle.dob_world.proofs.Slots.{NodeAt, here, was, elsewhere, stays, stays_else}

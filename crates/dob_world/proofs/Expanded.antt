@@ -69,7 +69,8 @@ module _ {k : Setting} {nodes : List Node} {lanes : List Lane} {detector : Detec
           sound = sound;
           going = going;
           of = (step.same.0 ∙ is.of.0, step.same.1 ∙ is.of.1, step.same.2 ∙ is.of.2);
-          statuses = subst (λ (share : Share). (class : ℕ) → IsOwn share class → HasStatus k.family.profile (class_setup k.family class) (status_at share class))
+          statuses = subst
+              (λ (share : Share). (class : ℕ) → IsOwn share class → HasStatus k.family.profile (class_setup k.family class) (status_at share class))
               (sym step.same.3) is.statuses;
         }) stand.places.node;
         lane = stand.places.lane;

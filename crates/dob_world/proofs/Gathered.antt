@@ -33,4 +33,5 @@ module _ {k : Setting} {nodes : List Node} {lanes : List Lane} {detector : Detec
   -- which a table can have
   pub shows_entry : (v : Value) → HasValueNow node.share class v → IsEntry v
   shows_entry v is = subst (λ w. IsEntry w) (sym (shows v is))
-      (last_now-entry (λ s. eqb s.class class) Draw (shown.history (owner_of k.n class)) tt (stand.lawful.entries (owner_of k.n class) (below_owner k.n class stand.setting.nodes.0)))
+      (last_now-entry (λ s. eqb s.class class) Draw (shown.history (owner_of k.n class)) tt
+      (stand.lawful.entries (owner_of k.n class) (below_owner k.n class stand.setting.nodes.0)))

@@ -68,7 +68,8 @@ module _ {k : Setting} {nodes : List Node} {lanes : List Lane} {detector : Detec
     );
   }
 
-  pub owned : IsSound after → after.failed ≡ None → Outcome k (state_at k nodes lanes detector) (Own i) (set nodes i after) (set lanes place next) (ring_of detector)
+  pub owned : IsSound after → after.failed ≡ None →
+      Outcome k (state_at k nodes lanes detector) (Own i) (set nodes i after) (set lanes place next) (ring_of detector)
   owned sound going = record {
     can = (at.low_i, some_of owns.first);
     happens = (owns, refl);

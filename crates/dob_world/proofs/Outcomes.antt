@@ -5,7 +5,8 @@ use Rattle.dob_world.proofs.Firsts.{none_some, not_none}
 use Rattle.dob_world.proofs.Slots.{was}
 use Rattle.dob_world.proofs.AtLane.{AtLane, lane_was}
 
-module _ {k : Setting} {nodes : List Node} {lanes : List Lane} {i j m place : ℕ} {node : Node} {lane : Lane} (at : AtLane k nodes lanes i j m place node lane) where
+module _ {k : Setting} {nodes : List Node} {lanes : List Lane} {i j m place : ℕ} {node : Node} {lane : Lane}
+    (at : AtLane k nodes lanes i j m place node lane) where
   own_is : (world_shown k.family k.n nodes lanes).own m ≡ node.own
   unfolding world_shown
   own_is = was at.node_at [] (λ (x : Node). x.own)

@@ -2,9 +2,10 @@
 use Rattle.dob_world.proofs.Common.{◌%◌, ◌*◌, ◌++◌, ◌+◌, ◌/◌, ◌<◌, ◌∙◌, ◌≡◌, Bool, List, None, Option, Some, [], ap, arith, cond, false, inr, length, nat_lt}
 use Rattle.dob_world.proofs.Common.{refl, slice_get, subst, sym, take, true, ℕ, mod-add-div', lt-ltb, All-nil, slice_get_within, All, some_at, one_status}
 use Rattle.dob_world.proofs.Common.{HasStatus, Status, Open, class_setup, classes_of, IsEntry, Draw, predecessors, CellValue, SameCell, fresh, owner_of}
-use Rattle.dob_world.proofs.Common.{kept_sound, cell_at, places_of, Settlement, Opening, OutboxView, items_of_batches, items_from, below_owner, start_sums, SumsUp-same}
-use Rattle.dob_world.proofs.Common.{IsChained, value_of, known_of, outbox_to, Node, IsBatchTo, LinkView, lane_at, nodes_shown, part, world_shown, AreInPlace}
-use Rattle.dob_world.proofs.Common.{IsNodeOf, AreEmptyLanes, AreOpenedNodes, IsEmptyLane, AreLawful, HaveFallsIn, IsLinked, Nodes, Setting, value_in, Lane}
+use Rattle.dob_world.proofs.Common.{kept_sound, cell_at, places_of, Settlement, Opening, OutboxView, items_of_batches, items_from, below_owner, start_sums}
+use Rattle.dob_world.proofs.Common.{SumsUp-same, IsChained, value_of, known_of, outbox_to, Node, IsBatchTo, LinkView, lane_at, nodes_shown, part, world_shown}
+use Rattle.dob_world.proofs.Common.{AreInPlace, IsNodeOf, AreEmptyLanes, AreOpenedNodes, IsEmptyLane, AreLawful, HaveFallsIn, IsLinked, Nodes, Setting}
+use Rattle.dob_world.proofs.Common.{value_in, Lane}
 use Rattle.dob_moves.specs.MoveLists.{moves_of}
 use Rattle.dob_share.proofs.Applied.{CellValue-same}
 use Rattle.dob_node.specs.Quiet.{FollowsAtStatus}

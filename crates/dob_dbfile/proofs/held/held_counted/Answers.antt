@@ -40,7 +40,8 @@ pub returns-clause-named : goal.returns-clause-named
 returns-clause-named c =
     let format = c.in-Ok.format in
     family_lifts (header_len format) c.args.bytes.now (header_long format) (there (goal.at.returns-clause-named c).After-header_len-2) format
-    c.in_ok-family.family (subst (λ (n : ℕ). NamesFamily format c.in_ok-family.family (take n c.args.bytes.now)) c.header_len-2.ensures c.in_ok-family.ensures.some.0)
+    c.in_ok-family.family
+    (subst (λ (n : ℕ). NamesFamily format c.in_ok-family.family (take n c.args.bytes.now)) c.header_len-2.ensures c.in_ok-family.ensures.some.0)
 
 pub returns-clause-counted : goal.returns-clause-counted
 returns-clause-counted c =
