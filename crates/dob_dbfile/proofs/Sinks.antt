@@ -3,7 +3,6 @@ use Rattle.dob_dbfile.proofs.Common.{◌++◌, ◌+◌, ◌∙◌, ◌∷◌, �
 use Rattle.dob_dbfile.proofs.Common.{refl, sym, take, take-add, true, ℕ, or-false, or_right, drop_at, length-append, take-append-le, take_at, ◌||◌, AddsFlush}
 use Rattle.dob_dbfile.proofs.Common.{IsNotFlushed, IsSame, Puts, SinkState, SinkWorks, StopsAfter, TakesPiece, Writes, change}
 use Rattle.std.proofs.KnownBytes.{Appends-kept, Appends-nil, Appends-trans, Keeps-refl, Keeps-trans}
-use Rattle.std.proofs.Math.Seq.{take-length}
 use Rattle.std.specs.Io.KnownBytes.{Appends, Keeps, append_known}
 use Rattle.dob_dbfile.specs.declared.device.FailedAfter.{FailedAfter}
 use Rattle.dob_dbfile.specs.Writing.{StopsBehind}
@@ -20,13 +19,6 @@ Keeps-Appends (Some a) None c xs p q = absurd p
 Keeps-Appends (Some a) (Some b) None xs p q = absurd q
 Keeps-Appends (Some a) (Some b) (Some c) xs p q = q ∙ ap (λ l. l ++ xs) p
 
--- the flush after some bytes
-pub flushed_after : (a b f g h : Option (List ℕ)) (xs : List ℕ) → Appends a b xs → Keeps f g → AddsFlush b g h → AddsFlush (append_known a xs) f h
-flushed_after None b f g h xs p kept adds = λ bytes is. absurd (cc)
-flushed_after (Some a) None f g h xs p kept adds = absurd p
-flushed_after (Some a) (Some b) f g h xs p kept adds = λ bytes is.
-    Keeps-Appends f g h (length bytes ∷ []) kept (adds bytes (ap Some p ∙ is))
-
 -- a call that doesn't fail after others that didn't
 pub works_on : (a b c : SinkState) → SinkWorks (change a b) → c.has_failed ≡ (b.has_failed || false) → SinkWorks (change a c)
 works_on a b c works notes = notes ∙ or-false b.has_failed ∙ works
@@ -42,22 +34,6 @@ stops_after a b c bytes count within part unflushed same kept flushes again note
   fails = notes ∙ or_right b.has_failed true refl;
   same = again ∙ same;
 }
-
--- all of it, and then a flush
-pub put_whole : (a b c : SinkState) (bytes : List ℕ) → Writes (change a b) bytes → Keeps b.received c.received → AddsFlush b.received b.flushes c.flushes
-    → c.writer ≡ b.writer → c.has_failed ≡ (b.has_failed || false) → Puts (change a c) bytes
-put_whole a b c bytes wrote kept flushed again notes = record {
-  all = Appends-kept a.received b.received c.received bytes wrote.all kept;
-  flushed = flushed_after a.received b.received a.flushes b.flushes c.flushes bytes wrote.all wrote.unflushed flushed;
-  works = works_on a b c wrote.works notes;
-  same = again ∙ wrote.same;
-}
-
--- all of it, and then a flush that failed
-pub put_unflushed : (a b c : SinkState) (bytes : List ℕ) → Writes (change a b) bytes → Keeps b.received c.received → Keeps b.flushes c.flushes
-    → c.writer ≡ b.writer → c.has_failed ≡ (b.has_failed || true) → StopsAfter (change a c) bytes (length bytes)
-put_unflushed a b c bytes wrote kept flushes again notes =
-    stops_after a b c bytes (length bytes) (omega arith) (rw (take-length bytes) wrote.all) wrote.unflushed wrote.same kept flushes again notes
 
 -- ---- pieces, one after the other
 

@@ -1,5 +1,5 @@
 -- What is left of a world after a stop: of the promise the first part, and after lack of memory all of it.
-use Rattle.dob_world.proofs.Common.{◌++◌, ◌<◌, ◌∙◌, ◌∷◌, ◌≡◌, ◌≢◌, None, Some, ap, append_assoc, false, inl, inr, subst, sym, ℕ, cases_Bool, MatchOption}
+use Rattle.dob_world.proofs.Common.{◌++◌, ◌<◌, ◌∙◌, ◌∷◌, ◌≡◌, ◌≢◌, Some, ap, append_assoc, false, inl, inr, subst, sym, ℕ, cases_Bool, MatchOption}
 use Rattle.dob_world.proofs.Common.{predecessors, Ring, items_of_batches, items_from, Fault, Stopped, items_from-append, IsStopped, CanHappen, AreBeginnings}
 use Rattle.dob_world.proofs.Common.{Headline, ring_of, setting_of, state_of, IsLeft, IsStanding, StandsOrStopped, IsForMemory, IsLeftBy, TakesFront, AreLawful}
 use Rattle.dob_world.proofs.Common.{IsLinked, Nodes, Setting, State, WorldView, items_in, Detector, Event, Take, World}
@@ -117,9 +117,6 @@ stop_leaves old new event fault standing stopped =
     }
 
 -- ---- kept
-
-pub kept_standing : (world : World) → IsStanding world → world.failed ≡ None → StandsOrStopped world
-kept_standing world standing going = subst (λ failed. MatchOption failed (IsStanding world) (λ (fault : Fault). IsLeft fault world)) (sym going) standing
 
 pub kept_left : (world : World) (fault : Fault) → world.failed ≡ Some fault → StandsOrStopped world → IsLeft fault world
 kept_left world fault failed kept = subst (λ f. MatchOption f (IsStanding world) (λ (why : Fault). IsLeft why world)) failed kept
