@@ -1,9 +1,11 @@
 -- Each step of a pass keeps the rule of an inbox.
 use Rattle.dob_chan.proofs.Common.{◌++◌, ◌<◌, ◌∙◌, ◌∷◌, ◌≡◌, ◌≢◌, ◌≤◌, List, [], ap, append_assoc, arith, cond, length, length-append, nat_eq, refl, set}
-use Rattle.dob_chan.proofs.Common.{slice_index_or, subst, suc, sym, true, true≢false, zero, ℕ, ⊎_elim, eqb_tells, append-nil, All, Forks, Learns, Merges, Pops}
+use Rattle.dob_chan.proofs.Common.{subst, suc, sym, true, true≢false, zero, ℕ, ⊎_elim, eqb_tells, append-nil, All, Forks, Learns, Merges, Pops}
 use Rattle.dob_chan.proofs.Common.{Pushes, BatchView, AreLeft, IsLawfulInbox, batches_of, sent_by_ended, taking, untold, Note}
 use Rattle.std.proofs.lemmas.Bool.{cond-true, cond-false, eq-eqb, cases_lt}
-use Rattle.std.proofs.lemmas.List.Elements.{filter-append, All-append}
+use Rattle.std.proofs.Math.Seq.{get_or-append_seam}
+use Rattle.std.proofs.lemmas.List.{get_or_append_left}
+use Rattle.std.proofs.lemmas.List.Elements.{filter-append, All-head, All-push}
 use mathlib.Core.Option.{Option, some, none, some-ne-none, some-injective}
 use lib.ListN.{get_elem?}
 use Rattle.crossbeam_queue.proofs.Lists.{at_set, at_snoc}
@@ -28,17 +30,10 @@ each_set F views pass w mine others j u e =
     ⊎_elim (λ (x : (j ≡ pass) × (w ≡ u)). subst (λ (y : ℕ × Note). F y.0 y.1) (λ i. (sym x.0 i, x.1 i)) mine)
     (λ (x : (j ≢ pass) × (get_elem? views j ≡ some u)). others j u x.0 x.1) (at_set views pass j w u e)
 
--- what holds of all holds of the last of them, and of the first
+-- what holds of all holds of the last of them
 of_last : {X : Type 0} → (P : X → Type 0) (xs ys : List X) → All P (xs ++ ys) → All P ys
 of_last P [] ys all = all
 of_last P (x ∷ xs) ys all = of_last P xs ys (λ k d below. all (suc k) d (omega (arith, below)))
-
-of_first : {X : Type 0} → (P : X → Type 0) (x : X) (xs : List X) → All P (x ∷ xs) → P x
-of_first P x xs all = all 0 x (omega arith)
-
-of_one : {X : Type 0} → (P : X → Type 0) (x : X) → P x → All P (x ∷ [])
-of_one P x p zero d below = p
-of_one P x p (suc k) d below = absurd (omega (arith, below))
 
 -- of each sender, what was sent is what was taken and then what is held
 pub of_each : (from : ℕ) (sent taken held : List BatchView) → IsLawfulInbox sent taken held
@@ -93,6 +88,25 @@ sent_on told sent taken x is = (begins_more told.sent sent x is.0, is.1)
 taken_on : (told : Told) (sent taken : List BatchView) (x : BatchView) → IsAfterTold told sent taken → IsAfterTold told sent (taken ++ x ∷ [])
 taken_on told sent taken x is = (is.0, begins_more told.taken taken x is.1)
 
+-- the pass fits as a sender's and as the taker's
+abbrev Fits : ℕ → ℕ → (ℕ → Option ℕ) → List BatchView → List BatchView → ℕ → Note → Type 0
+Fits senders taker seat sent taken pass v = FitsSender senders seat sent taken pass v × FitsTaker senders taker seat sent taken pass v
+
+-- the same batches, where the passes fit other seats
+reseated : {held : List BatchView} {views : List Note} (h : IsDelivered held views) (senders : ℕ) (seat : ℕ → Option ℕ) (now : List Note)
+    → h.senders ≤ senders → Each (Fits senders h.taker seat h.sent h.taken) now → IsDelivered held now
+reseated h senders seat now more each = record {
+  senders = senders;
+  taker = h.taker;
+  seat = seat;
+  sent = h.sent;
+  taken = h.taken;
+  lawful = h.lawful;
+  of_senders = λ k d below. (let some = h.of_senders k d below in omega (arith, some, more));
+  few = h.few;
+  each = each;
+}
+
 -- a new inbox is lawful
 pub begins : IsDelivered [] (taking 0 0 [] [] untold ∷ [])
 begins = record {
@@ -104,20 +118,19 @@ begins = record {
   lawful = refl;
   of_senders = λ k d below. absurd (omega (arith, below));
   few = λ from. omega arith;
-  each = each_set (λ pass v. FitsSender 0 (λ _. none) [] [] pass v × FitsTaker 0 0 (λ _. none) [] [] pass v) (taking 0 0 [] [] untold ∷ []) 0
-      (taking 0 0 [] [] untold) (
-        (λ p. absurd (true≢false (sym p))),
-        λ _. (
-          refl,
-          refl,
-          refl,
-          omega arith,
-          omega arith,
-          (λ k _. (refl, refl)),
-          (λ k below. absurd (omega (arith, below))),
-          (begins_it [], begins_it []),
-        ),
-      )
+  each = each_set (Fits 0 0 (λ _. none) [] []) (taking 0 0 [] [] untold ∷ []) 0 (taking 0 0 [] [] untold) (
+    (λ p. absurd (true≢false (sym p))),
+    λ _. (
+      refl,
+      refl,
+      refl,
+      omega arith,
+      omega arith,
+      (λ k _. (refl, refl)),
+      (λ k below. absurd (omega (arith, below))),
+      (begins_it [], begins_it []),
+    ),
+  )
       (λ j u other e. absurd (other (at_end [] _ u j (λ x. some-ne-none u (sym x)) e)));
 }
 
@@ -139,10 +152,9 @@ posts n port v x role own few held views _ h at =
         sent = sent;
         taken = h.taken;
         lawful = ap (λ l. l ++ x ∷ []) h.lawful ∙ append_assoc h.taken held (x ∷ []);
-        of_senders = All-append (λ (b : BatchView). b.from < h.senders) h.sent (x ∷ []) h.of_senders
-            (of_one (λ (b : BatchView). b.from < h.senders) x (subst (λ (k : ℕ). k < h.senders) (sym own) mine.1));
+        of_senders = All-push (λ (b : BatchView). b.from < h.senders) h.sent x h.of_senders (subst (λ (k : ℕ). k < h.senders) (sym own) mine.1);
         few = few_more h.sent x most_batches (subst (λ (l : List BatchView). length l < most_batches) (mine.3 ∙ ap (λ k. batches_of k h.sent) (sym own)) few) h.few;
-        each = each_set (λ pass y. FitsSender h.senders h.seat sent h.taken pass y × FitsTaker h.senders h.taker h.seat sent h.taken pass y) views port w
+        each = each_set (Fits h.senders h.taker h.seat sent h.taken) views port w
             ((λ _. (mine.0, mine.1, mine.2, own_sent, (begins_it sent, begins_it h.taken))), λ p. absurd (true≢false (sym p)))
             (λ j u other e. (
               (λ p. let f = (h.each j u e).0 p in (
@@ -207,7 +219,7 @@ one_taken port v x items views may h at =
       lawful = h.lawful ∙ sym (append_assoc h.taken (x ∷ []) items);
       of_senders = h.of_senders;
       few = h.few;
-      each = each_set (λ pass y. FitsSender h.senders h.seat h.sent taken pass y × FitsTaker h.senders h.taker h.seat h.sent taken pass y) views port
+      each = each_set (Fits h.senders h.taker h.seat h.sent taken) views port
           (taking v.senders v.opened (v.taken ++ x ∷ []) v.ended (told_next h.sent h.taken x)) (
             (λ p. absurd (true≢false (sym p))),
             λ _. (mine.0, mine.1, ap (λ l. l ++ x ∷ []) mine.2, mine.3, mine.4, mine.5, mine.6, (begins_it h.sent, begins_it taken)),
@@ -222,7 +234,7 @@ one_taken port v x items views may h at =
 of_sender : (port : ℕ) (v : Note) (x : BatchView) (items : List BatchView) (views : List Note) → v.takes ≡ true
     → IsDelivered (x ∷ items) views → get_elem? views port ≡ some v → x.from < v.senders
 of_sender port v x items views may h at =
-    of_first (λ (b : BatchView). b.from < v.senders) x items
+    All-head (λ (b : BatchView). b.from < v.senders) x items
     (of_last (λ (b : BatchView). b.from < v.senders) h.taken (x ∷ items)
     (subst (λ (y : ℕ × List BatchView). AreOf y.0 y.1) (λ i. (sym ((h.each port v at).1 may).0 i, h.lawful i)) h.of_senders))
 
@@ -284,29 +296,19 @@ pub counts : (port : ℕ) (v : Note) → v.takes ≡ true → v.opened ≡ 0
 counts port v may unopened held views h at =
     let mine = (h.each port v at).1 may in
     let l : Note = taking (suc v.senders) v.opened v.taken v.ended v.told in
-    let Now : ℕ → Note → Type 0 = λ j u. FitsSender (suc h.senders) h.seat h.sent h.taken j u × FitsTaker (suc h.senders) h.taker h.seat h.sent h.taken j u in
-    let now : Each Now (set views port l) = each_set Now views port l (
+    let now : Each (Fits (suc h.senders) h.taker h.seat h.sent h.taken) (set views port l) = each_set _ views port l (
       (λ p. absurd (true≢false (sym p))),
       λ _. (ap suc mine.0, mine.1, mine.2, (let some = mine.3 in omega (arith, some)), mine.4, mine.5, mine.6, mine.7),
     )
     (λ j u other e. (
       (λ p. absurd (some-ne-none j (sym ((h.each j u e).0 p).2 ∙ (mine.5 u.from (omega (arith, unopened))).0))),
       λ p. absurd (other (((h.each j u e).1 p).1 ∙ sym mine.1)),
-    )) in record {
-      senders = suc h.senders;
-      taker = h.taker;
-      seat = h.seat;
-      sent = h.sent;
-      taken = h.taken;
-      lawful = h.lawful;
-      of_senders = λ k d below. (let some = h.of_senders k d below in omega (arith, some));
-      few = h.few;
-      each = λ j u e. ⊎_elim (λ x. now j u x)
-          (λ (is : resting ≡ u). (
-            (λ p. absurd (true≢false (sym (ap (λ (y : Note). y.sends) is ∙ p)))),
-            λ p. absurd (true≢false (sym (ap (λ (y : Note). y.takes) is ∙ p))),
-          )) (at_snoc (set views port l) resting u j e);
-    }
+    )) in
+    reseated h (suc h.senders) h.seat _ (omega arith) (λ j u e. ⊎_elim (λ x. now j u x)
+    (λ (is : resting ≡ u). (
+      (λ p. absurd (true≢false (sym (ap (λ (y : Note). y.sends) is ∙ p)))),
+      λ p. absurd (true≢false (sym (ap (λ (y : Note). y.takes) is ∙ p))),
+    )) (at_snoc (set views port l) resting u j e))
 
 -- the next sender gets its pass
 pub opens : (port : ℕ) (v : Note) → v.takes ≡ true → v.opened < v.senders
@@ -333,44 +335,23 @@ opens port v may more held views h at =
         mine.7,
       ),
     )
-    (λ j u other e. ((h.each j u e).0, λ p. absurd (other (((h.each j u e).1 p).1 ∙ sym mine.1)))) in record {
-      senders = h.senders;
-      taker = h.taker;
-      seat = seat;
-      sent = h.sent;
-      taken = h.taken;
-      lawful = h.lawful;
-      of_senders = h.of_senders;
-      few = h.few;
-      each = λ j u e. ⊎_elim
-          (λ x. let o = old j u x in
-          ((λ p. let f = o.0 p in (f.0, f.1, kept u.from (seats_apart h.seat u.from v.opened j f.2 free) ∙ f.2, f.3, f.4)), o.1))
-          (λ (is : r ≡ u). (
-            (λ p.
-                let place : j ≡ length vs = at_end vs r u j
-                (λ x. some-ne-none j (sym ((old j u x).0 p).2 ∙ ap h.seat (sym (ap (λ (y : Note). y.from) is)) ∙ free)) e in (
-                  sym (ap (λ (y : Note). y.senders) is) ∙ mine.0,
-                  subst (λ (y : ℕ × ℕ). y.0 < y.1) (λ i. ((ap (λ (y : Note). y.from) is) i, mine.0 i)) more,
-                  seat_here v.opened (some (length vs)) h.seat u.from (sym (ap (λ (y : Note). y.from) is)) ∙ ap some (sym place),
-                  sym (ap (λ (y : Note). y.sent) is) ∙ sym (mine.5 v.opened (omega arith)).1 ∙ ap (λ k. batches_of k h.sent) (ap (λ (y : Note). y.from) is),
-                  subst (λ (t : Told). IsAfterTold t h.sent h.taken) (ap (λ (y : Note). y.told) is) ((h.sent, refl), (h.taken, refl)),
-                )),
-            λ p. absurd (true≢false (sym (ap (λ (y : Note). y.takes) is ∙ p))),
-          ))
-          (at_snoc vs r u j e);
-    }
-
--- what stands in a list with one thing more
-before_end : {X : Type 0} → (xs : List X) (x d : X) (k : ℕ) → k < length xs → slice_index_or (xs ++ x ∷ []) k d ≡ slice_index_or xs k d
-before_end [] x d k below = absurd (omega (arith, below))
-before_end (y ∷ ys) x d zero below = refl
-before_end (y ∷ ys) x d (suc k) below = before_end ys x d k (omega (arith, below))
-
-the_end : {X : Type 0} → (xs : List X) (x d : X) (k : ℕ) → k ≡ length xs → slice_index_or (xs ++ x ∷ []) k d ≡ x
-the_end xs x d k is = ap (λ j. slice_index_or (xs ++ x ∷ []) j d) is ∙ at xs where
-  at : (ys : List _) → slice_index_or (ys ++ x ∷ []) (length ys) d ≡ x
-  at [] = refl
-  at (y ∷ ys) = at ys
+    (λ j u other e. ((h.each j u e).0, λ p. absurd (other (((h.each j u e).1 p).1 ∙ sym mine.1)))) in
+    reseated h h.senders seat _ (omega arith) (λ j u e. ⊎_elim
+    (λ x. let o = old j u x in
+    ((λ p. let f = o.0 p in (f.0, f.1, kept u.from (seats_apart h.seat u.from v.opened j f.2 free) ∙ f.2, f.3, f.4)), o.1))
+    (λ (is : r ≡ u). (
+      (λ p.
+          let place : j ≡ length vs = at_end vs r u j
+          (λ x. some-ne-none j (sym ((old j u x).0 p).2 ∙ ap h.seat (sym (ap (λ (y : Note). y.from) is)) ∙ free)) e in (
+            sym (ap (λ (y : Note). y.senders) is) ∙ mine.0,
+            subst (λ (y : ℕ × ℕ). y.0 < y.1) (λ i. ((ap (λ (y : Note). y.from) is) i, mine.0 i)) more,
+            seat_here v.opened (some (length vs)) h.seat u.from (sym (ap (λ (y : Note). y.from) is)) ∙ ap some (sym place),
+            sym (ap (λ (y : Note). y.sent) is) ∙ sym (mine.5 v.opened (omega arith)).1 ∙ ap (λ k. batches_of k h.sent) (ap (λ (y : Note). y.from) is),
+            subst (λ (t : Told). IsAfterTold t h.sent h.taken) (ap (λ (y : Note). y.told) is) ((h.sent, refl), (h.taken, refl)),
+          )),
+      λ p. absurd (true≢false (sym (ap (λ (y : Note). y.takes) is ∙ p))),
+    ))
+    (at_snoc vs r u j e))
 
 -- the next sender has ended
 pub ends : (port : ℕ) (v : Note) (other : ℕ) (u : Note) → v.takes ≡ true → u.sends ≡ true → u.from ≡ length v.ended
@@ -385,7 +366,7 @@ ends port v other u may sends place held views h at two at' =
     let gone : (k : ℕ) → h.seat k ≡ none → seat k ≡ none = λ k free. seat_else u.from none h.seat k (λ same. seats_apart h.seat u.from k other theirs.2 free (sym same)) ∙ free in
     let unended : length v.ended < v.opened = ⊎_elim (λ x. x)
     (λ x. absurd (some-ne-none other (sym theirs.2 ∙ (mine.5 u.from (omega (arith, x, place))).0))) (cases_lt (length v.ended) v.opened) in
-    let Now : ℕ → Note → Type 0 = λ j y. j ≢ other → FitsSender h.senders seat h.sent h.taken j y × FitsTaker h.senders h.taker seat h.sent h.taken j y in
+    let Now : ℕ → Note → Type 0 = λ j y. j ≢ other → Fits h.senders h.taker seat h.sent h.taken j y in
     let now : Each Now vs = each_set Now views port both
     (λ _. (
       (λ p. absurd (true≢false (sym p))),
@@ -397,11 +378,11 @@ ends port v other u may sends place held views h at two at' =
         omega (arith, unended, length-append v.ended (u.sent ∷ [])),
         (λ k from. let g = mine.5 k from in (gone k g.0, g.1)),
         (λ k below. ⊎_elim
-            (λ earlier. let g = mine.6 k earlier in (gone k g.0, before_end v.ended u.sent [] k earlier ∙ g.1))
+            (λ earlier. let g = mine.6 k earlier in (gone k g.0, get_or_append_left v.ended (u.sent ∷ []) [] k earlier ∙ g.1))
             (λ later.
             let here : k ≡ length v.ended = omega (arith, later, below, length-append v.ended (u.sent ∷ [])) in (
               seat_here u.from none h.seat k (here ∙ sym place),
-              the_end v.ended u.sent [] k here ∙ theirs.3 ∙ ap (λ j. batches_of j h.sent) (place ∙ sym here),
+              ap (sent_by_ended (v.ended ++ u.sent ∷ [])) here ∙ get_or-append_seam v.ended u.sent [] [] ∙ theirs.3 ∙ ap (λ j. batches_of j h.sent) (place ∙ sym here),
             ))
             (cases_lt k (length v.ended))),
         mine.7,
@@ -411,15 +392,6 @@ ends port v other u may sends place held views h at two at' =
       (λ p. let f = (h.each j y e).0 p in
           (f.0, f.1, seat_else u.from none h.seat y.from (passes_apart h.seat y.from u.from j other f.2 theirs.2 (λ same. apart (sym same))) ∙ f.2, f.3, f.4)),
       λ p. absurd (away (((h.each j y e).1 p).1 ∙ sym mine.1)),
-    )) in record {
-      senders = h.senders;
-      taker = h.taker;
-      seat = seat;
-      sent = h.sent;
-      taken = h.taken;
-      lawful = h.lawful;
-      of_senders = h.of_senders;
-      few = h.few;
-      each = each_set (λ j y. FitsSender h.senders seat h.sent h.taken j y × FitsTaker h.senders h.taker seat h.sent h.taken j y) vs other resting
-          ((λ p. absurd (true≢false (sym p))), λ p. absurd (true≢false (sym p))) (λ j y apart e. now j y e apart);
-    }
+    )) in
+    reseated h h.senders seat _ (omega arith) (each_set _ vs other resting ((λ p. absurd (true≢false (sym p))), λ p. absurd (true≢false (sym p)))
+    (λ j y apart e. now j y e apart))

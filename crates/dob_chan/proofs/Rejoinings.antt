@@ -1,10 +1,11 @@
 -- The ends of an inbox are joined again: passes end, and what is left goes into its sender's room.
 use Rattle.dob_chan.proofs.Common.{◌++◌, ◌<◌, ◌∙◌, ◌∷◌, ◌≡◌, ◌≢◌, ◌≤◌, List, [], ap, append_assoc, arith, length, length-append, refl, slice_index}
-use Rattle.dob_chan.proofs.Common.{slice_index_or, subst, suc, sym, vec_len, zero, ℕ, ⊎_elim, eqb_tells, append-nil, map-append, slice_get, Held, IsSamePass}
+use Rattle.dob_chan.proofs.Common.{slice_index_or, subst, sym, vec_len, ℕ, ⊎_elim, eqb_tells, append-nil, map-append, slice_get, Held, IsSamePass}
 use Rattle.dob_chan.proofs.Common.{Pass, view, at_end, middle, some_at, BatchView, AreEndsOf, AreRejoined, place_of, sent_by, taken_by, AreLeft, IsLawfulInbox}
 use Rattle.dob_chan.proofs.Common.{batches_of, sent_by_ended, taking, AreFilled, AreRooms, AreRoomy, HasRoom, SendEnd, TakeEnd, Note}
 use Rattle.std.proofs.Common.{◌+◌, map, Some, vec_capacity}
-use Rattle.std.proofs.lemmas.Option.{slice_get_within, same_Some}
+use Rattle.std.proofs.lemmas.List.{get_or-map, length-map}
+use Rattle.std.proofs.lemmas.Option.{get_or_from_slice_get, slice_get_within, same_Some}
 use Rattle.dob_chan.specs.declared.ends.Rejoined.{Rejoined}
 use Rattle.dob_chan.specs.Rooms.{HasOneMoreWaiting}
 use Rattle.dob_chan.proofs.Deliveries.{own_more, others_more}
@@ -13,9 +14,7 @@ one_thing : {X : Type 0} → (xs : List X) (k : ℕ) (a b : X) → slice_get xs 
 one_thing xs k a b here there = same_Some a b (sym here ∙ there)
 
 mapped : {X Y : Type 0} → (f : X → Y) (xs : List X) (k : ℕ) (x : X) (d : Y) → slice_get xs k ≡ Some x → slice_index_or (map f xs) k d ≡ f x
-mapped f [] k x d e = absurd (cc)
-mapped f (y ∷ ys) zero x d e = ap f (same_Some y x e)
-mapped f (y ∷ ys) (suc k) x d e = mapped f ys k x d e
+mapped f xs k x d e = get_or-map f xs k x d (slice_get_within xs k x e) ∙ ap f (get_or_from_slice_get xs k x x e)
 
 -- Senders have ended one after another, and these are left.
 pub record IsEnding (all left : List SendEnd) (old new : Pass BatchView Note) : Type 0 where
@@ -32,10 +31,7 @@ next_ends all left after send old new inv is ends =
     let at : slice_get all (length inv.done) ≡ Some send =
     ap (λ l. slice_get l (length inv.done)) (inv.split ∙ ap (λ l. inv.done ++ l) is) ∙ middle inv.done after send in
     let one = ends (length inv.done) send at in
-    (one.0 ∙ sym inv.same.0, one.1 ∙ sym (ap (λ (v : Note). length v.ended) inv.ended ∙ many sent_by inv.done)) where
-      many : {X Y : Type 0} → (f : X → Y) (xs : List X) → length (map f xs) ≡ length xs
-      many f [] = refl
-      many f (x ∷ xs) = ap suc (many f xs)
+    (one.0 ∙ sym inv.same.0, one.1 ∙ sym (ap (λ (v : Note). length v.ended) inv.ended ∙ length-map inv.done sent_by))
 
 pub ending_goes_on : (all left after : List SendEnd) (send : SendEnd) (old now new : Pass BatchView Note) (inv : IsEnding all left old now) → left ≡ send ∷ after
     → IsSamePass now new
@@ -140,28 +136,37 @@ all_filled first now olds news inv many held = (
   none_left [] e = refl
   none_left (x ∷ xs) e = absurd (omega (arith, e))
 
+-- each of the inbox's senders has a room
+pub record HasRooms (sends : List SendEnd) (take : TakeEnd) (rooms : List Rejoined) : Type 0 where
+  pub count : length sends ≡ vec_len take.taken
+  pub many : length rooms ≡ length sends
+  pub all : AreRooms sends take.taken.items rooms
+
 -- the rooms are wide enough for what was sent beyond what was taken
-pub rooms_are_wide : (sends : List SendEnd) (take : TakeEnd) (rooms : List Rejoined) → length sends ≡ vec_len take.taken → length rooms ≡ length sends
-    → AreRooms sends take.taken.items rooms → AreRoomy (map sent_by sends) (taken_by take) rooms
-rooms_are_wide sends take rooms count many all k room at =
+pub rooms_are_wide : (sends : List SendEnd) (take : TakeEnd) (rooms : List Rejoined) → HasRooms sends take rooms →
+    AreRoomy (map sent_by sends) (taken_by take) rooms
+rooms_are_wide sends take rooms has_rooms k room at =
     let within = slice_get_within rooms k room at in
+    let many = has_rooms.many in
+    let count = has_rooms.count in
     let send = some_at sends k (omega (arith, within, many)) in
-    let has = all k send.0 room send.1 at in
+    let has = has_rooms.all k send.0 room send.1 at in
     let sent : length (sent_by_ended (map sent_by sends) k) ≡ send.0.sent = ap length (mapped sent_by sends k send.0 [] send.1) ∙ sym send.0.counted in
     let received = take.counted k (omega (arith, within, many, count)) in
     let wide = has.3 in
     (has.2, omega (arith, sent, received, wide))
 
 -- for each sender, what it sent is what was received and then what is left
-pub all_rejoined : (sends : List SendEnd) (take : TakeEnd) (rooms joined : List Rejoined) → AreEndsOf take sends → length sends ≡ vec_len take.taken
-    → length rooms ≡ length sends → AreRooms sends take.taken.items rooms
+pub all_rejoined : (sends : List SendEnd) (take : TakeEnd) (rooms joined : List Rejoined) → AreEndsOf take sends → HasRooms sends take rooms
     → AreFilled (map sent_by sends) (taken_by take) rooms joined → AreRejoined sends (taken_by take) joined
-all_rejoined sends take rooms joined ends count many all filled = (
-  filled.0 ∙ many,
+all_rejoined sends take rooms joined ends has_rooms filled = (
+  filled.0 ∙ has_rooms.many,
   λ k send this at there.
       let within = slice_get_within sends k send at in
+      let many = has_rooms.many in
+      let count = has_rooms.count in
       let room = some_at rooms k (omega (arith, within, many)) in
-      let has = all k send room.0 at room.1 in
+      let has = has_rooms.all k send room.0 at room.1 in
       let so = filled.1 k room.0 this room.1 there in
       let place : place_of send ≡ k = (ends.1 k send at).1 in
       subst (λ (p : ℕ). (this.sent ≡ length (sent_by send)) × (this.received ≡ length (batches_of p (taken_by take)))

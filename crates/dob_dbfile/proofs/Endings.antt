@@ -1,19 +1,14 @@
 -- What the end of a file shows.
 use Rattle.dob_dbfile.proofs.Common.{◌*◌, ◌++◌, ◌-◌, ◌∙◌, ◌≡◌, ◌≤◌, List, [], ap, arith, drop, false, length, length-drop, subst, sym, take, take_all, ℕ}
 use Rattle.dob_dbfile.proofs.Common.{sha256, Stream, after, whole, code_bytes, EndsWith, GivesFewer, HasDigestFault, IsDigest, ReadsCodes, TakesBytes, Fault}
-use Rattle.dob_dbfile.specs.declared.fault.Fault.TheVariants.{Truncated, Magic, SetByte, ClassCount, Trailing, Digest, Memory, Io, ProfileByte}
+use Rattle.dob_dbfile.specs.declared.fault.Fault.TheVariants.{Truncated, Memory, Io}
 
 -- a digest that is cut short
 pub digest_cut : (message : List ℕ) (before : ℕ) (stream : Stream) (fault : Fault) → GivesFewer 32 before stream fault → HasDigestFault message before stream fault
 digest_cut message before stream Truncated cut = cut
 digest_cut message before stream (Io count) cut = (omega (arith, cut.0), cut.1, cut.2)
 digest_cut message before stream Memory cut = tt
-digest_cut message before stream Magic cut = cut
-digest_cut message before stream SetByte cut = cut
-digest_cut message before stream ClassCount cut = cut
-digest_cut message before stream Trailing cut = absurd cut
-digest_cut message before stream Digest cut = absurd cut
-digest_cut message before stream ProfileByte cut = cut
+digest_cut message before stream _ cut = absurd cut
 
 -- the room holds all of a stream that ends after as many bytes
 pub record IsAll (stream : Stream) (room : List ℕ) : Type 0 where

@@ -1,8 +1,8 @@
 -- The bytes of a table's file, part after part.
-use Rattle.dob_dbfile.proofs.Common.{◌*◌, ◌++◌, ◌+◌, ◌∙◌, ◌≡◌, List, [], ap, append_assoc, arith, drop, inl, inr, length, refl, sym, take, ℕ, drop_at}
+use Rattle.dob_dbfile.proofs.Common.{◌*◌, ◌++◌, ◌+◌, ◌∙◌, ◌≡◌, List, ap, append_assoc, arith, drop, inl, inr, length, refl, sym, take, ℕ, drop_at}
 use Rattle.dob_dbfile.proofs.Common.{length-append, length-map, take_at, sha256, Family, Profile, A, value_of_code, values_of_codes, ClassTable, class_table}
-use Rattle.dob_dbfile.proofs.Common.{header_len, IsFile, bytes_in, code_bytes, contents_in, count_bytes, digest_of, front_of, header_in, profile_bytes, records}
-use Rattle.dob_dbfile.proofs.Common.{set_bytes, title, Format, First, Second}
+use Rattle.dob_dbfile.proofs.Common.{header_len, IsFile, bytes_in, code_bytes, contents_in, digest_of, front_of, header_in, records}
+use Rattle.dob_dbfile.proofs.Common.{Format, First, Second}
 use Rattle.dob_dbfile.proofs.CodeBytes.{records-codes}
 use Rattle.dob_dbfile.proofs.Decoded.{length-records}
 
@@ -17,6 +17,11 @@ pub file_parts : (format : Format) (table : ClassTable)
 file_parts format table =
     ap (λ (front : List ℕ). front ++ sha256 (contents_in format table)) (sym (header_records format table))
     ∙ append_assoc (header_in format table) (records table.values) (sha256 (contents_in format table))
+
+-- the same where the header's bytes were put in a piece
+pub parts_behind : (table : ClassTable) (piece : List ℕ) → piece ≡ header_in Second table
+    → bytes_in Second table ≡ piece ++ (records table.values ++ sha256 (contents_in Second table))
+parts_behind table piece is = file_parts Second table ∙ ap (λ (h : List ℕ). h ++ (records table.values ++ sha256 (contents_in Second table))) (sym is)
 
 -- what is named of the family and the number of classes is the header's
 pub header_is : (table : ClassTable) (family : Family) (count : ℕ) → family ≡ table.family → count ≡ length table.values

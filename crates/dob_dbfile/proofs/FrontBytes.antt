@@ -47,10 +47,4 @@ pub fault_by_front : (front : List ℕ) (size : ℕ) (file : List ℕ) → IsFro
 fault_by_front front size file is fault.Truncated wrong =
     (inl (subst IsHeaderShort (short_is_all front size file is (short_header front wrong.0)) wrong.0), refl)
 fault_by_front front size file is (fault.Io count) wrong = cc
-fault_by_front front size file is fault.Magic wrong = lifted front size file is fault.Magic wrong
-fault_by_front front size file is fault.SetByte wrong = lifted front size file is fault.SetByte wrong
-fault_by_front front size file is fault.ProfileByte wrong = lifted front size file is fault.ProfileByte wrong
-fault_by_front front size file is fault.ClassCount wrong = lifted front size file is fault.ClassCount wrong
-fault_by_front front size file is fault.Trailing wrong = absurd wrong
-fault_by_front front size file is fault.Digest wrong = absurd wrong
-fault_by_front front size file is fault.Memory wrong = absurd wrong
+fault_by_front front size file is given wrong = lifted front size file is given wrong

@@ -104,11 +104,7 @@ module _ (n : ℕ) (bytes : List ℕ) (long : 20 ≤ n) (there : n ≤ length by
     family_lifts wrong.0 wrong.1 wrong.2,
     λ counts. wrong.3 (counts_falls wrong.0 wrong.1 (fits_in wrong.0 wrong.1.set wrong.2.0) counts),
   )
-  fault_lifts fault.Truncated wrong = absurd wrong
-  fault_lifts fault.Trailing wrong = absurd wrong
-  fault_lifts fault.Digest wrong = absurd wrong
-  fault_lifts fault.Memory wrong = absurd wrong
-  fault_lifts (fault.Io count) wrong = absurd wrong
+  fault_lifts _ wrong = absurd wrong
 
 -- ---- faults of the header as those of the stream
 
@@ -120,11 +116,7 @@ by_fault bytes Holds magic set profile count fault.Magic wrong = magic wrong
 by_fault bytes Holds magic set profile count fault.SetByte wrong = set wrong
 by_fault bytes Holds magic set profile count fault.ProfileByte wrong = profile wrong
 by_fault bytes Holds magic set profile count fault.ClassCount wrong = count wrong
-by_fault bytes Holds magic set profile count fault.Truncated wrong = absurd wrong
-by_fault bytes Holds magic set profile count fault.Trailing wrong = absurd wrong
-by_fault bytes Holds magic set profile count fault.Digest wrong = absurd wrong
-by_fault bytes Holds magic set profile count fault.Memory wrong = absurd wrong
-by_fault bytes Holds magic set profile count (fault.Io bytes_read) wrong = absurd wrong
+by_fault bytes Holds magic set profile count _ wrong = absurd wrong
 
 pub front_refused : (stream : Stream) (given : Fault) → HasHeaderFault stream.bytes given → HasFrontFault stream given
 front_refused stream = by_fault stream.bytes (HasFrontFault stream) (λ wrong. wrong) (λ wrong. wrong) (λ wrong. wrong) (λ wrong. wrong)
@@ -143,12 +135,7 @@ front_cut stream format set wanted (fault.Io count) names fits cut known =
     let le : header_len format ≤ length stream.bytes = has.1 in omega (arith, le, fits, cut.0, there, length-drop 20 stream.bytes) in
     (inr (format, set, names, none), cut.1, omega (arith, cut.2, there, length-drop 20 stream.bytes))
 front_cut stream format set wanted fault.Memory names fits cut known = absurd (known refl)
-front_cut stream format set wanted fault.Magic names fits cut known = absurd cut
-front_cut stream format set wanted fault.SetByte names fits cut known = absurd cut
-front_cut stream format set wanted fault.ProfileByte names fits cut known = absurd cut
-front_cut stream format set wanted fault.ClassCount names fits cut known = absurd cut
-front_cut stream format set wanted fault.Trailing names fits cut known = absurd cut
-front_cut stream format set wanted fault.Digest names fits cut known = absurd cut
+front_cut stream format set wanted _ names fits cut known = absurd cut
 
 -- ---- a header that comes in two pieces
 

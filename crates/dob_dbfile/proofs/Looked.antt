@@ -1,23 +1,13 @@
 -- What was read by place, and the record of a class in the file of a table.
-use Rattle.dob_dbfile.proofs.Common.{◌*◌, ◌++◌, ◌<◌, ◌∙◌, ◌∷◌, ◌≡◌, List, Some, [], ap, arith, drop, length, slice_get, slice_index, subst, suc, sym, take}
-use Rattle.dob_dbfile.proofs.Common.{take_all, zero, ℕ, drop-drop, All-tail, All, unwrap_or, little_bytes, little_number, sha256, Family, classes_of}
-use Rattle.dob_dbfile.proofs.Common.{code_of_value, value_of_code, ClassTable, IsEntry, IsTable, Value, Stream, after, whole, CountsClasses, header_len, IsFile}
+use Rattle.dob_dbfile.proofs.Common.{◌*◌, ◌++◌, ◌<◌, ◌∙◌, ◌∷◌, ◌≡◌, List, Some, [], ap, arith, drop, length, slice_get, subst, suc, sym, take}
+use Rattle.dob_dbfile.proofs.Common.{zero, ℕ, drop-drop, All-tail, All, unwrap_or, little_bytes, sha256, Family, classes_of}
+use Rattle.dob_dbfile.proofs.Common.{code_of_value, ClassTable, IsEntry, IsTable, Value, Stream, after, whole, CountsClasses, header_len, IsFile}
 use Rattle.dob_dbfile.proofs.Common.{contents_in, records, HasRecord, RecordsAreEntries, place_of, TakesBytes, Format}
 use Rattle.std.proofs.lemmas.Option.{get_or_from_slice_get, same_Some, slice_get_within}
-use Rattle.dob_dbfile.proofs.CodeBytes.{code_of_code, pair_back}
 use Rattle.dob_dbfile.proofs.Decoded.{same_records}
 use Rattle.dob_dbfile.proofs.FileBytes.{behind_header, format_of}
 use Rattle.dob_dbfile.proofs.Places.{same_head}
 use Rattle.dob_dbfile.proofs.Written.{counts_file, table_classes}
-
--- the value of two bytes has them as its record
-pub record_of : (code : ℕ) (bytes : List ℕ) (value : Value) → length bytes ≡ 2 → ((i : ℕ) → slice_index bytes i < 256)
-    → code ≡ little_number 2 bytes → value ≡ value_of_code code → little_bytes 2 (code_of_value value) ≡ bytes
-record_of code bytes value two fits number means =
-    ap (λ (v : Value). little_bytes 2 (code_of_value v)) means
-    ∙ ap (little_bytes 2) (code_of_code code ∙ number)
-    ∙ pair_back bytes (omega (arith, two)) fits
-    ∙ take_all 2 bytes (omega (arith, two))
 
 -- the two bytes that were read are the class's
 pub record_is : (stream : Stream) (format : Format) (class : ℕ) (room : List ℕ) (value : Value) → length room ≡ 2

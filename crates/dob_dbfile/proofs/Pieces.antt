@@ -3,7 +3,7 @@ use Rattle.dob_dbfile.proofs.Common.{◌*◌, ◌++◌, ◌+◌, ◌-◌, ◌∙
 use Rattle.dob_dbfile.proofs.Common.{min, refl, subst, sym, take, take-add, ℕ, min-le_left, length-append, flat_map-append, little_bytes, Holds256, Stream}
 use Rattle.dob_dbfile.proofs.Common.{after, code_bytes, GivesFewer, HashesNext, ReadsCodes, Fault}
 use Rattle.sha2.specs.declared.Sha256.{Sha256}
-use Rattle.dob_dbfile.specs.declared.fault.Fault.TheVariants.{Truncated, Magic, SetByte, ClassCount, Trailing, Digest, Memory, Io, ProfileByte}
+use Rattle.dob_dbfile.specs.declared.fault.Fault.TheVariants.{Truncated, Memory, Io}
 
 -- nothing has been read
 pub reads_none : (stream : Stream) (codes : List ℕ) → ReadsCodes stream 0 codes codes
@@ -49,12 +49,7 @@ cut_later stream done wanted more before Truncated there upto cut = (omega (arit
 cut_later stream done wanted more before (Io count) there upto cut =
     (omega (arith, cut.0, length-drop done stream.bytes), cut.1, omega (arith, cut.2, length-drop done stream.bytes))
 cut_later stream done wanted more before Memory there upto cut = tt
-cut_later stream done wanted more before Magic there upto cut = cut
-cut_later stream done wanted more before SetByte there upto cut = cut
-cut_later stream done wanted more before ClassCount there upto cut = cut
-cut_later stream done wanted more before Trailing there upto cut = cut
-cut_later stream done wanted more before Digest there upto cut = cut
-cut_later stream done wanted more before ProfileByte there upto cut = cut
+cut_later stream done wanted more before _ there upto cut = cut
 
 -- a piece has no more records than are left
 pub few_more : (count done records longest : ℕ) (room : List ℕ) → done ≤ count → records ≡ min (count - done) longest

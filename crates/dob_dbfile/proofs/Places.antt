@@ -77,12 +77,8 @@ down s (suc zero) h = h.1.0
 down s (suc (suc zero)) h = (h.0, h.2.0)
 down s (suc (suc (suc zero))) h = (h.0, h.1, h.2.0)
 down s (suc (suc (suc (suc zero)))) h = (h.0, h.1.set, h.2.0)
-down s (suc (suc (suc (suc (suc zero))))) h = (h.0, h.1, h.2.0)
-down s (suc (suc (suc (suc (suc (suc zero)))))) h = (h.0, h.1, h.2.0)
-down s (suc (suc (suc (suc (suc (suc (suc zero))))))) h = (h.0, h.1, h.2.0)
-down s (suc (suc (suc (suc (suc (suc (suc (suc zero)))))))) h = (h.0, h.1, h.2.0)
-down s (suc (suc (suc (suc (suc (suc (suc (suc (suc zero))))))))) h = (h.0, h.1, h.2.0)
 down s (suc (suc (suc (suc (suc (suc (suc (suc (suc (suc n)))))))))) h = h
+down s _ h = (h.0, h.1, h.2.0)
 
 upto : (s : Stream) (m n : ℕ) → m ≤ n → level s n → level s m
 upto s m zero le h = (let none : zero ≡ m = omega arith in subst (level s) none h)

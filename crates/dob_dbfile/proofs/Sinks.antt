@@ -2,39 +2,15 @@
 use Rattle.dob_dbfile.proofs.Common.{◌++◌, ◌+◌, ◌∙◌, ◌∷◌, ◌≡◌, ◌≤◌, List, None, Option, Some, [], ap, append-nil, append_assoc, arith, drop, false, length}
 use Rattle.dob_dbfile.proofs.Common.{refl, sym, take, take-add, true, ℕ, or-false, or_right, drop_at, length-append, take-append-le, take_at, ◌||◌, AddsFlush}
 use Rattle.dob_dbfile.proofs.Common.{IsNotFlushed, IsSame, Puts, SinkState, SinkWorks, StopsAfter, TakesPiece, Writes, change}
-use Rattle.std.proofs.Math.Seq.{take-length}
+use Rattle.std.proofs.KnownBytes.{Appends-kept, Appends-nil, Appends-trans, Keeps-refl, Keeps-trans}
 use Rattle.std.specs.Io.KnownBytes.{Appends, Keeps, append_known}
 use Rattle.dob_dbfile.specs.declared.device.FailedAfter.{FailedAfter}
 use Rattle.dob_dbfile.specs.Writing.{StopsBehind}
 
--- bytes after bytes
-pub Appends-append : (a b c : Option (List ℕ)) (xs ys : List ℕ) → Appends a b xs → Appends b c ys → Appends a c (xs ++ ys)
-Appends-append None b c xs ys p q = tt
-Appends-append (Some a) None c xs ys p q = absurd p
-Appends-append (Some a) (Some b) None xs ys p q = absurd q
-Appends-append (Some a) (Some b) (Some c) xs ys p q = q ∙ ap (λ l. l ++ ys) p ∙ append_assoc a xs ys
-
--- nothing
-pub Appends-nil : (a : Option (List ℕ)) → Appends a a []
-Appends-nil None = tt
-Appends-nil (Some a) = sym (append-nil a)
-
 -- a beginning, and then the beginning of the rest
 pub Appends-take : (a b c : Option (List ℕ)) (xs : List ℕ) (k n : ℕ) → Appends a b (take k xs) → Appends b c (take n (drop k xs))
     → Appends a c (take (k + n) xs)
-Appends-take a b c xs k n p q = let joined = Appends-append a b c (take k xs) (take n (drop k xs)) p q in rw (take-add k n xs) joined
-
--- what is kept twice is kept
-pub Keeps-trans : (a b c : Option (List ℕ)) → Keeps a b → Keeps b c → Keeps a c
-Keeps-trans None b c p q = tt
-Keeps-trans (Some a) None c p q = absurd p
-Keeps-trans (Some a) (Some b) None p q = absurd q
-Keeps-trans (Some a) (Some b) (Some c) p q = q ∙ p
-
--- what isn't touched is kept
-pub Keeps-self : (a : Option (List ℕ)) → Keeps a a
-Keeps-self None = tt
-Keeps-self (Some a) = refl
+Appends-take a b c xs k n p q = let joined = Appends-trans a b c (take k xs) (take n (drop k xs)) p q in rw (take-add k n xs) joined
 
 -- bytes after what is kept
 pub Keeps-Appends : (a b c : Option (List ℕ)) (xs : List ℕ) → Keeps a b → Appends b c xs → Appends a c xs
@@ -42,20 +18,6 @@ Keeps-Appends None b c xs p q = tt
 Keeps-Appends (Some a) None c xs p q = absurd p
 Keeps-Appends (Some a) (Some b) None xs p q = absurd q
 Keeps-Appends (Some a) (Some b) (Some c) xs p q = q ∙ ap (λ l. l ++ xs) p
-
--- the flush after some bytes
-pub flushed_after : (a b f g h : Option (List ℕ)) (xs : List ℕ) → Appends a b xs → Keeps f g → AddsFlush b g h → AddsFlush (append_known a xs) f h
-flushed_after None b f g h xs p kept adds = λ bytes is. absurd (cc)
-flushed_after (Some a) None f g h xs p kept adds = absurd p
-flushed_after (Some a) (Some b) f g h xs p kept adds = λ bytes is.
-    Keeps-Appends f g h (length bytes ∷ []) kept (adds bytes (ap Some p ∙ is))
-
--- and then nothing more
-pub Appends-keep : (a b c : Option (List ℕ)) (xs : List ℕ) → Appends a b xs → Keeps b c → Appends a c xs
-Appends-keep None b c xs p q = tt
-Appends-keep (Some a) None c xs p q = absurd p
-Appends-keep (Some a) (Some b) None xs p q = absurd q
-Appends-keep (Some a) (Some b) (Some c) xs p q = q ∙ p
 
 -- a call that doesn't fail after others that didn't
 pub works_on : (a b c : SinkState) → SinkWorks (change a b) → c.has_failed ≡ (b.has_failed || false) → SinkWorks (change a c)
@@ -67,38 +29,22 @@ pub stops_after : (a b c : SinkState) (bytes : List ℕ) (count : ℕ) → count
     → StopsAfter (change a c) bytes count
 stops_after a b c bytes count within part unflushed same kept flushes again notes = record {
   within = within;
-  part = Appends-keep a.received b.received c.received (take count bytes) part kept;
+  part = Appends-kept a.received b.received c.received (take count bytes) part kept;
   unflushed = Keeps-trans a.flushes b.flushes c.flushes unflushed flushes;
   fails = notes ∙ or_right b.has_failed true refl;
   same = again ∙ same;
 }
 
--- all of it, and then a flush
-pub put_whole : (a b c : SinkState) (bytes : List ℕ) → Writes (change a b) bytes → Keeps b.received c.received → AddsFlush b.received b.flushes c.flushes
-    → c.writer ≡ b.writer → c.has_failed ≡ (b.has_failed || false) → Puts (change a c) bytes
-put_whole a b c bytes wrote kept flushed again notes = record {
-  all = Appends-keep a.received b.received c.received bytes wrote.all kept;
-  flushed = flushed_after a.received b.received a.flushes b.flushes c.flushes bytes wrote.all wrote.unflushed flushed;
-  works = works_on a b c wrote.works notes;
-  same = again ∙ wrote.same;
-}
-
--- all of it, and then a flush that failed
-pub put_unflushed : (a b c : SinkState) (bytes : List ℕ) → Writes (change a b) bytes → Keeps b.received c.received → Keeps b.flushes c.flushes
-    → c.writer ≡ b.writer → c.has_failed ≡ (b.has_failed || true) → StopsAfter (change a c) bytes (length bytes)
-put_unflushed a b c bytes wrote kept flushes again notes =
-    stops_after a b c bytes (length bytes) (omega arith) (rw (take-length bytes) wrote.all) wrote.unflushed wrote.same kept flushes again notes
-
 -- ---- pieces, one after the other
 
 -- nothing was written
 pub writes_none : (a : SinkState) → Writes (change a a) []
-writes_none a = record { all = Appends-nil a.received; unflushed = Keeps-self a.flushes; works = refl; same = refl }
+writes_none a = record { all = Appends-nil a.received; unflushed = Keeps-refl a.flushes; works = refl; same = refl }
 
 -- one piece, and then another one
 pub writes_more : (a b c : SinkState) (xs ys : List ℕ) → Writes (change a b) xs → Writes (change b c) ys → Writes (change a c) (xs ++ ys)
 writes_more a b c xs ys first second = record {
-  all = Appends-append a.received b.received c.received xs ys first.all second.all;
+  all = Appends-trans a.received b.received c.received xs ys first.all second.all;
   unflushed = Keeps-trans a.flushes b.flushes c.flushes first.unflushed second.unflushed;
   works = second.works ∙ first.works;
   same = second.same ∙ first.same;
@@ -115,7 +61,7 @@ flushed_later (Some a) (Some b) f g h xs ys p kept adds = λ bytes is.
 -- one piece, and then the last one with a flush
 pub puts_more : (a b c : SinkState) (xs ys : List ℕ) → Writes (change a b) xs → Puts (change b c) ys → Puts (change a c) (xs ++ ys)
 puts_more a b c xs ys first second = record {
-  all = Appends-append a.received b.received c.received xs ys first.all second.all;
+  all = Appends-trans a.received b.received c.received xs ys first.all second.all;
   flushed = flushed_later a.received b.received a.flushes b.flushes c.flushes xs ys first.all first.unflushed second.flushed;
   works = second.works ∙ first.works;
   same = second.same ∙ first.same;
@@ -145,7 +91,7 @@ stops_behind a b c base before xs ys rest whole failed first long is stops =
       record {
         within = omega (arith, le, all, behind);
         part = rw (front_is xs ys rest whole count is le)
-            (Appends-append a.received b.received c.received xs (take count ys) first.all part.part);
+            (Appends-trans a.received b.received c.received xs (take count ys) first.all part.part);
         unflushed = Keeps-trans a.flushes b.flushes c.flushes first.unflushed part.unflushed;
         fails = part.fails;
         same = part.same ∙ first.same;

@@ -87,10 +87,7 @@ rest_fault stream format family (fault.Io count) is wrong =
     )
 rest_fault stream format family fault.Truncated is wrong = inr (cut_short stream format family is wrong.0, wrong.1)
 rest_fault stream format family fault.Memory is wrong = inl refl
-rest_fault stream format family fault.Magic is wrong = absurd wrong
-rest_fault stream format family fault.SetByte is wrong = absurd wrong
-rest_fault stream format family fault.ProfileByte is wrong = absurd wrong
-rest_fault stream format family fault.ClassCount is wrong = absurd wrong
+rest_fault stream format family _ is wrong = absurd wrong
 
 -- ---- a file that is right
 

@@ -1,5 +1,5 @@
 // The records of a file: two bytes for each class, the lower first.
-ghost use Rattle.std.specs.Prelude.{◌≡◌, ℕ, List, ◌+◌, ◌*◌, ◌%◌, ◌-◌, ◌<◌, ◌≤◌, ◌++◌, length, take, vec_capacity, vec_len, All, IfOk, OnErr, OnOk};
+ghost use Rattle.std.specs.Prelude.{◌≡◌, ℕ, List, ◌+◌, ◌*◌, ◌%◌, ◌-◌, ◌<◌, ◌≤◌, ◌++◌, length, take, vec_capacity, vec_len, All, IfOk, OnOk};
 ghost use Rattle.byteorder.specs.Endian.{little_bytes};
 ghost use Rattle.dob_value.specs.Codes.{code_of_value};
 ghost use Rattle.dob_value.specs.Follows.{IsEntry};
@@ -27,17 +27,17 @@ pub(crate) fn piece_room(alloc: Global) -> Result<Vec<u8>, Memory>
     Ok(vec![in alloc; 0u8; PIECE_LEN]?)
 }
 
-// Appends a record; `Memory` only if there is no room for it.
-fn push_record(bytes: &mut Vec<u8>, code: u16) -> Result<(), Memory>
-    ensures items { OnOk result (bytes.new.items ≡ bytes.old.items ++ little_bytes 2 code) }
-    ensures len { OnOk result (vec_len bytes.new ≡ vec_len bytes.old + 2) }
-    ensures full { OnErr result (vec_capacity bytes.old < vec_len bytes.old + 2) }
+// Appends a record, for which there is room.
+fn push_record(bytes: &mut Vec<u8>, code: u16)
+    requires { vec_len bytes.old + 2 ≤ vec_capacity bytes.old }
+    ensures items { bytes.new.items ≡ bytes.old.items ++ little_bytes 2 code }
+    ensures len { vec_len bytes.new ≡ vec_len bytes.old + 2 }
     ensures capacity { vec_capacity bytes.old ≤ vec_capacity bytes.new }
 {
     let mut record = [0; RECORD_LEN];
     LittleEndian::write_u16(&mut record, code);
-    bytes.extend_from_slice(&record)?;
-    Ok(())
+    bytes.push_reserved(record[0]);
+    bytes.push_reserved(record[1]);
 }
 
 /// Puts the records of the table's classes from the first on, up to the end, in place of the bytes, which have room for them.
@@ -51,9 +51,7 @@ pub(crate) fn put_records(bytes: &mut Vec<u8>, table: &Table, first: u64, end: u
 {
     bytes.clear();
     for class in first..end {
-        let Ok(()) = push_record(bytes, code_of_value(table.value(class))) else {
-            unreachable!()
-        };
+        push_record(bytes, code_of_value(table.value(class)));
     }
 }
 
@@ -67,9 +65,7 @@ pub(crate) fn put_codes(bytes: &mut Vec<u8>, codes: &[u16], first: usize, end: u
 {
     bytes.clear();
     for place in first..end {
-        let Ok(()) = push_record(bytes, codes[place]) else {
-            unreachable!()
-        };
+        push_record(bytes, codes[place]);
     }
 }
 

@@ -311,18 +311,14 @@ moved_kept n old new Announce size lawful moved few = announces_kept n old new s
 -- ---- after the end
 
 announced_stays : (n : ℕ) (old new : Ring) (event : RingEvent) → old.announced ≡ true → Moved n old event new → new.announced ≡ true
-announced_stays n old new (Post from to) ended moved = moved.announced ∙ ended
-announced_stays n old new (Take from to) ended moved = moved.announced ∙ ended
-announced_stays n old new (Pass node) ended moved = moved.announced ∙ ended
 announced_stays n old new Announce ended moved = moved.announced
+announced_stays n old new _ ended moved = moved.announced ∙ ended
 
 -- no event after the end raises a posted count
 few_stay : (n : ℕ) (old new : Ring) (event : RingEvent) → IsLawfulRing n old → old.announced ≡ true → Moved n old event new → HasFew n new
 few_stay n old new (Post from to) lawful ended moved i j i_in j_in =
     absurd (let is_white : old.black from ≡ false = lawful.all_white ended from moved.from in let is_black : old.black from ≡ true = moved.is_black in cc)
-few_stay n old new (Take from to) lawful ended moved i j i_in j_in = omega (arith, moved.posted i j i_in j_in, lawful.few i j i_in j_in)
-few_stay n old new (Pass node) lawful ended moved i j i_in j_in = omega (arith, moved.posted i j i_in j_in, lawful.few i j i_in j_in)
-few_stay n old new Announce lawful ended moved i j i_in j_in = omega (arith, moved.posted i j i_in j_in, lawful.few i j i_in j_in)
+few_stay n old new _ lawful ended moved i j i_in j_in = omega (arith, moved.posted i j i_in j_in, lawful.few i j i_in j_in)
 
 pub end_stays : (n : ℕ) (old new : Ring) (event : RingEvent) → IsSize n → IsLawfulRing n old → old.announced ≡ true → Moved n old event new →
     (new.announced ≡ true) × IsRingQuiet n new

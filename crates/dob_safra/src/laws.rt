@@ -12,6 +12,7 @@ pub fn start_is_lawful()
 {}
 
 /// Each event leads from a lawful state to a lawful one, while no link has more than 2^40 posted batches.
+#[tactic(auto, using(crate::proofs::Kept::moved_kept))]
 pub fn moved_keeps_lawful()
     ensures { MovedKeepsLawful }
 {}
@@ -27,6 +28,7 @@ pub fn announceable_is_quiet()
 {}
 
 /// Once the end is announced it stays announced, all nodes stay white, and each batch posted stays taken.
+#[tactic(auto, using(crate::proofs::Kept::end_stays))]
 pub fn end_stays()
     ensures { EndStays }
 {}

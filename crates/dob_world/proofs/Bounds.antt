@@ -1,12 +1,12 @@
 -- Each event leaves every settlement a fall, and for few classes no item goes too deep: a node stops for lack of memory.
-use Rattle.dob_world.proofs.Common.{◌++◌, ◌<◌, ◌∙◌, ◌∷◌, ◌≡◌, ◌≢◌, List, [], ap, append_assoc, drop, inl, inr, subst, sym, ℕ, classes_of, predecessors, Item}
+use Rattle.dob_world.proofs.Common.{◌++◌, ◌<◌, ◌∷◌, ◌≡◌, ◌≢◌, List, [], drop, inl, inr, subst, sym, ℕ, classes_of, predecessors, Item}
 use Rattle.dob_world.proofs.Common.{items_of_batches, items_from, Fault, Applies, AppliesItems, AppliesOwn, CanHappen, Happens, NodesStay, TakesBatch}
 use Rattle.dob_world.proofs.Common.{GoesTooDeep, IsForMemory, IsStopBy, OwnGoesTooDeep, TakenGoesTooDeep, AreLawful, HaveFallsIn, IsLinked, Nodes, Setting}
 use Rattle.dob_world.proofs.Common.{State, WorldView, items_in, value_in, Event, Announce, Expand, Own, Pass, Post, Take}
 use Rattle.dob_node.proofs.Rises.{falls_stay, not_too_deep}
 use Rattle.dob_world.proofs.Places.{nodes_same}
-use Rattle.dob_world.proofs.Applied.{lawful_step, step_grows, next_after, all_applied}
-use Rattle.dob_world.proofs.Kept.{next_own, next_waiting}
+use Rattle.dob_world.proofs.Applied.{lawful_step, step_grows, next_after}
+use Rattle.dob_world.proofs.Kept.{front_applied, next_own, next_waiting}
 
 -- ---- items
 
@@ -55,41 +55,34 @@ module _ (k : Setting) (some : 0 < k.n) (old : WorldView) (lawful : AreLawful k 
 
   taken_not_deep : (i j : ℕ) → classes_of k.family < 65535 → i < k.n → j < k.n → i ≢ j → TakenGoesTooDeep k old i j → ⊥
   taken_not_deep i j few low_i low_j differs deep =
-      let others = items_of_batches deep.batches ++ (old.outbox i j ++ later i j) in
-      let next : items_in k old.nodes i j ≡ old.nodes.applied i j ++ (deep.front ++ ((deep.item ∷ deep.behind) ++ others)) =
-      next_waiting k old i j deep.batch deep.batches linked low_i low_j differs deep.first
-      ∙ ap (λ xs. old.nodes.applied i j ++ (xs ++ others)) deep.items_are
-      ∙ ap (λ xs. old.nodes.applied i j ++ xs) (append_assoc deep.front (deep.item ∷ deep.behind) others) in
-      let both = all_applied k some i j low_i low_j differs deep.front ((deep.item ∷ deep.behind) ++ others) old.nodes deep.between lawful next deep.applied in
-      next_not_deep k some i j low_i low_j deep.item deep.between both.0
-      (all_fall k some i j low_i low_j differs deep.front ((deep.item ∷ deep.behind) ++ others) old.nodes deep.between lawful falls next deep.applied)
-      (deep.behind ++ others)
-      (next_after k i j deep.front ((deep.item ∷ deep.behind) ++ others) old.nodes deep.between differs both.1 next) few deep.deep
+      let left = front_applied k old i j deep.batch deep.batches deep.front (deep.item ∷ deep.behind) deep.between some lawful linked low_i low_j differs
+      deep.first deep.items_are deep.applied in
+      next_not_deep k some i j low_i low_j deep.item deep.between left.lawful
+      (all_fall k some i j low_i low_j differs deep.front ((deep.item ∷ deep.behind) ++ left.rest) old.nodes deep.between lawful falls left.before deep.applied)
+      (deep.behind ++ left.rest) left.next few deep.deep
 
 -- ---- events
 
 pub happening_keeps_falls : (k : Setting) (old new : State) (event : Event) → 0 < k.n → AreLawful k old.world.nodes → IsLinked k old.world →
     HaveFallsIn k old.world.nodes → CanHappen k old event → Happens k old event new → HaveFallsIn k new.world.nodes
-happening_keeps_falls k old new (Expand i) some lawful linked falls can step = bound_stays k old.world.nodes new.world.nodes step.0.nodes falls
 happening_keeps_falls k old new (Own i) some lawful linked falls can step = owned_falls k some old.world lawful linked falls i new.world can.0 step.0
-happening_keeps_falls k old new (Post i j) some lawful linked falls can step = bound_stays k old.world.nodes new.world.nodes step.0.nodes falls
 happening_keeps_falls k old new (Take i j) some lawful linked falls can step =
     taken_falls k some old.world lawful linked falls i j new.world can.0 can.1 can.2 step.0
 happening_keeps_falls k old new (Pass i) some lawful linked falls can step = subst (λ (w : WorldView). HaveFallsIn k w.nodes) (sym step.0) falls
 happening_keeps_falls k old new Announce some lawful linked falls can step = subst (λ (w : WorldView). HaveFallsIn k w.nodes) (sym step.0) falls
+happening_keeps_falls k old new _ some lawful linked falls can step = bound_stays k old.world.nodes new.world.nodes step.0.nodes falls
 
 -- for few classes a node stops for lack of memory alone
 pub few_stop : (k : Setting) (state : State) (event : Event) (fault : Fault) → 0 < k.n → AreLawful k state.world.nodes → IsLinked k state.world →
     HaveFallsIn k state.world.nodes → classes_of k.family < 65535 → IsStopBy k state event fault → IsForMemory fault
-few_stop k state (Expand i) fault some lawful linked falls few stop = (i, stop.1)
 few_stop k state (Own i) fault some lawful linked falls few stop = elim stop.1 [
   | inl memory ↦ (i, memory)
   | inr deep ↦ absurd (own_not_deep k some state.world lawful linked falls i few stop.0.0 deep.1)
 ]
-few_stop k state (Post i j) fault some lawful linked falls few stop = (i, stop.1)
 few_stop k state (Take i j) fault some lawful linked falls few stop = elim stop.1 [
   | inl memory ↦ (j, memory)
   | inr deep ↦ absurd (taken_not_deep k some state.world lawful linked falls i j few stop.0.0 stop.0.1 stop.0.2 deep.1)
 ]
-few_stop k state (Pass i) fault some lawful linked falls few stop = absurd stop.1
-few_stop k state Announce fault some lawful linked falls few stop = absurd stop.1
+few_stop k state (Expand i) fault some lawful linked falls few stop = (i, stop.1)
+few_stop k state (Post i j) fault some lawful linked falls few stop = (i, stop.1)
+few_stop k state _ fault some lawful linked falls few stop = absurd stop.1

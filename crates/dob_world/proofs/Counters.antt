@@ -1,10 +1,11 @@
 -- The detector's lists after an event, and what they show.
 use Rattle.dob_world.proofs.Common.{◌*◌, ◌+◌, ◌<◌, ◌^◌, ◌∙◌, ◌≡◌, ◌≢◌, ◌≤◌, Bool, FitsSigned, List, ap, arith, false, get_or, get_or-set_other, get_or-set_same}
-use Rattle.dob_world.proofs.Common.{inl, inr, length, of_z, refl, set, subst, sym, to_z, true, w64, ℕ, cases_eq, ints, to_z-of_z, get_or-replicate}
-use Rattle.dob_world.proofs.Common.{get_or_default, mul-add-lt, same_from_place, ◌≤ℤ◌, replicate, slice_index, slice_index_or, sum_same, sum_zeros, CountsStay}
+use Rattle.dob_world.proofs.Common.{inl, inr, length, of_z, set, sym, to_z, w64, ℕ, ints, to_z-of_z, get_or-replicate}
+use Rattle.dob_world.proofs.Common.{get_or_default, mul-add-lt, same_from_place, ◌≤ℤ◌, replicate, slice_index, slice_index_or, sum_same, sum_zeros}
 use Rattle.dob_world.proofs.Common.{IsLawfulRing, Ring, counter, sum_below, Token, ring_of, IsCounted, Detector}
 use Rattle.std.proofs.Math.IntN.{ℤ, pos, neg_ℤ, ◌+ℤ◌, ◌-ℤ◌}
 use Rattle.dob_safra.specs.Rings.{Raises, Posts, Takes}
+use Rattle.dob_world.proofs.Places.{at_node}
 use Rattle.dob_safra.proofs.Counts.{flipped, row_stays, flipped_stay, row_raised, other_row, flipped_raises, posted_bound, taken_bound}
 
 -- ---- counters
@@ -19,44 +20,6 @@ zero_counter n ring i posted taken =
     let one : sum_below n (λ j. ring.posted i j) ≡ 0 = sum_same n (λ j. 0) (λ j. ring.posted i j) posted ∙ sum_zeros n in
     let other : sum_below n (λ j. ring.taken j i) ≡ 0 = sum_same n (λ j. 0) (λ j. ring.taken j i) taken ∙ sum_zeros n in
     omega (arith, ints, one, other)
-
--- what comes of a post
-module _ (n i j : ℕ) (old new : Ring) (low_i : i < n) (low_j : j < n) (posted : Raises n old.posted new.posted i j)
-    (taken : CountsStay n old.taken new.taken) where
-  pub post_here : counter n new i ≡ counter n old i +ℤ pos 1
-  post_here = omega (
-    arith,
-    ints,
-    row_raised n i j old.posted new.posted low_i low_j posted,
-    row_stays n i (flipped old.taken) (flipped new.taken) low_i (flipped_stay n old.taken new.taken taken),
-  )
-
-  pub post_else : (k : ℕ) → k < n → k ≢ i → counter n new k ≡ counter n old k
-  post_else k low apart = omega (
-    arith,
-    ints,
-    other_row n i j k old.posted new.posted low apart posted,
-    row_stays n k (flipped old.taken) (flipped new.taken) low (flipped_stay n old.taken new.taken taken),
-  )
-
--- what comes of a take
-module _ (n i j : ℕ) (old new : Ring) (low_i : i < n) (low_j : j < n) (posted : CountsStay n old.posted new.posted)
-    (taken : Raises n old.taken new.taken i j) where
-  pub take_here : counter n new j ≡ counter n old j -ℤ pos 1
-  take_here = omega (
-    arith,
-    ints,
-    row_stays n j old.posted new.posted low_j posted,
-    row_raised n j i (flipped old.taken) (flipped new.taken) low_j low_i (flipped_raises n i j old.taken new.taken taken),
-  )
-
-  pub take_else : (k : ℕ) → k < n → k ≢ j → counter n new k ≡ counter n old k
-  take_else k low apart = omega (
-    arith,
-    ints,
-    row_stays n k old.posted new.posted low posted,
-    other_row n j i k (flipped old.taken) (flipped new.taken) low apart (flipped_raises n i j old.taken new.taken taken),
-  )
 
 -- a lawful ring's counters are small
 pub small_counter : (n : ℕ) (ring : Ring) (i : ℕ) → n ≤ 16 → i < n → IsLawfulRing n ring →
@@ -107,10 +70,8 @@ raised n counts i j was now low_i low_j whole there more = record {
 -- a list of each node's value, of which one is written
 pub listed : {X : Type 0} (n : ℕ) (xs : List X) (i : ℕ) (x d : X) (f : ℕ → X) → i < n → length xs ≡ n → x ≡ f i →
     ((k : ℕ) → k < n → k ≢ i → slice_index_or xs k d ≡ f k) → (k : ℕ) → k < n → slice_index_or (set xs i x) k d ≡ f k
-listed n xs i x d f low whole here elsewhere k low_k = elim (cases_eq k i) [
-  | inl same ↦ subst (λ (a : ℕ). slice_index_or (set xs i x) a d ≡ f a) (sym same) (get_or-set_same xs i x d (omega (arith, low, whole)) ∙ here)
-  | inr other ↦ get_or-set_other xs i k x d other ∙ elsewhere k low_k other
-]
+listed n xs i x d f low whole here elsewhere k low_k = at_node (λ (a : ℕ). slice_index_or (set xs i x) a d ≡ f a) i k
+    (get_or-set_same xs i x d (omega (arith, low, whole)) ∙ here) (λ other. get_or-set_other xs i k x d other ∙ elsewhere k low_k other)
 
 abbrev pub shown : ℕ → List ℕ → List ℕ → List Bool → Token → Bool → Ring
 shown n posted taken black token announced = record {
@@ -121,68 +82,53 @@ shown n posted taken black token announced = record {
   announced = announced;
 }
 
-module _ (n : ℕ) (posted taken : List ℕ) (black : List Bool) (token : Token) (announced : Bool) where
-  abbrev pub ring_was : Ring
-  ring_was = shown n posted taken black token announced
+-- a batch posted
+module _ {n i j : ℕ} {old new : Ring} (posts : Posts n old i j new) where
+  post_here : counter n new i ≡ counter n old i +ℤ pos 1
+  post_here = omega (
+    arith,
+    ints,
+    row_raised n i j old.posted new.posted posts.from posts.to posts.posted,
+    row_stays n i (flipped old.taken) (flipped new.taken) posts.from (flipped_stay n old.taken new.taken posts.taken),
+  )
 
-  -- a batch posted
-  module _ (i j was now : ℕ) (low_i : i < n) (low_j : j < n) (whole : length posted ≡ n * n) (there : was ≡ get_or posted (i * n + j) was)
-      (more : now ≡ was + 1) where
-    abbrev pub new : Ring
-    new = shown n (set posted (i * n + j) now) taken black token announced
+  post_else : (k : ℕ) → k < n → k ≢ i → counter n new k ≡ counter n old k
+  post_else k low apart = omega (
+    arith,
+    ints,
+    other_row n i j k old.posted new.posted low apart posts.posted,
+    row_stays n k (flipped old.taken) (flipped new.taken) low (flipped_stay n old.taken new.taken posts.taken),
+  )
 
-    pub posts_shown : slice_index_or black i false ≡ true → Posts n ring_was i j (shown n (set posted (i * n + j) now) taken black token announced)
-    posts_shown is_black = record {
-      from = low_i;
-      to = low_j;
-      is_black = is_black;
-      posted = raised n posted i j was now low_i low_j whole there more;
-      taken = λ k l low_k low_l. refl;
-      colours = λ k low. refl;
-      token = refl;
-      announced = refl;
-    }
+  pub posts_counted : (counters : List ℤ) (z : ℤ) → length counters ≡ n → z ≡ counter n old i +ℤ pos 1 →
+      ((k : ℕ) → k < n → slice_index_or counters k (pos 0) ≡ counter n old k) → (k : ℕ) → k < n →
+      slice_index_or (set counters i z) k (pos 0) ≡ counter n new k
+  posts_counted counters z whole is counted = listed n counters i z (pos 0) (counter n new) posts.from whole (is ∙ sym post_here)
+      (λ k low apart. counted k low ∙ sym (post_else k low apart))
 
-    pub posts_counted : (counters : List ℤ) (z : ℤ) → length counters ≡ n → z ≡ counter n ring_was i +ℤ pos 1 →
-        ((k : ℕ) → k < n → slice_index_or counters k (pos 0) ≡ counter n ring_was k) → (k : ℕ) → k < n →
-        slice_index_or (set counters i z) k (pos 0) ≡ counter n (shown n (set posted (i * n + j) now) taken black token announced) k
-    posts_counted counters z whole_c is counted = listed n counters i z (pos 0) (counter n new) low_i whole_c
-        (is ∙ sym (post_here n i j ring_was new low_i low_j up (λ k l low_k low_l. refl)))
-        (λ k low apart. counted k low ∙ sym (post_else n i j ring_was new low_i low_j up (λ a b low_a low_b. refl) k low apart))
-      where
-        up : Raises n ring_was.posted new.posted i j
-        up = raised n posted i j was now low_i low_j whole there more
+-- a batch taken
+module _ {n i j : ℕ} {old new : Ring} (takes : Takes n old i j new) where
+  take_here : counter n new j ≡ counter n old j -ℤ pos 1
+  take_here = omega (
+    arith,
+    ints,
+    row_stays n j old.posted new.posted takes.to takes.posted,
+    row_raised n j i (flipped old.taken) (flipped new.taken) takes.to takes.from (flipped_raises n i j old.taken new.taken takes.taken),
+  )
 
-  -- a batch taken
-  module _ (i j was now : ℕ) (low_i : i < n) (low_j : j < n) (whole : length taken ≡ n * n) (there : was ≡ get_or taken (i * n + j) was)
-      (more : now ≡ was + 1) where
-    pub takes_shown : length black ≡ n → slice_index taken (i * n + j) < slice_index posted (i * n + j) →
-        Takes n ring_was i j (shown n posted (set taken (i * n + j) now) (set black j true) token announced)
-    takes_shown whole_b waiting = record {
-      from = low_i;
-      to = low_j;
-      waiting = waiting;
-      posted = λ k l low_k low_l. refl;
-      taken = raised n taken i j was now low_i low_j whole there more;
-      colours = record {
-        colour_is = get_or-set_same black j true false (omega (arith, low_j, whole_b));
-        others = λ k low apart. get_or-set_other black j k true false apart;
-      };
-      token = refl;
-      announced = refl;
-    }
+  take_else : (k : ℕ) → k < n → k ≢ j → counter n new k ≡ counter n old k
+  take_else k low apart = omega (
+    arith,
+    ints,
+    row_stays n k old.posted new.posted low takes.posted,
+    other_row n j i k (flipped old.taken) (flipped new.taken) low apart (flipped_raises n i j old.taken new.taken takes.taken),
+  )
 
-    pub takes_counted : (counters : List ℤ) (z : ℤ) (after : List Bool) → length counters ≡ n → z ≡ counter n ring_was j -ℤ pos 1 →
-        ((k : ℕ) → k < n → slice_index_or counters k (pos 0) ≡ counter n ring_was k) → (k : ℕ) → k < n →
-        slice_index_or (set counters j z) k (pos 0) ≡ counter n (shown n posted (set taken (i * n + j) now) after token announced) k
-    takes_counted counters z after whole_c is counted = listed n counters j z (pos 0) (counter n
-        (shown n posted (set taken (i * n + j) now) after token announced)) low_j whole_c
-        (is ∙ sym (take_here n i j ring_was (shown n posted (set taken (i * n + j) now) after token announced) low_i low_j (λ k l low_k low_l. refl) up))
-        (λ k low apart. counted k low ∙ sym (take_else n i j ring_was (shown n posted (set taken (i * n + j) now) after token announced) low_i low_j
-        (λ a b low_a low_b. refl) up k low apart))
-      where
-        up : Raises n ring_was.taken (λ k l. slice_index (set taken (i * n + j) now) (k * n + l)) i j
-        up = raised n taken i j was now low_i low_j whole there more
+  pub takes_counted : (counters : List ℤ) (z : ℤ) → length counters ≡ n → z ≡ counter n old j -ℤ pos 1 →
+      ((k : ℕ) → k < n → slice_index_or counters k (pos 0) ≡ counter n old k) → (k : ℕ) → k < n →
+      slice_index_or (set counters j z) k (pos 0) ≡ counter n new k
+  takes_counted counters z whole is counted = listed n counters j z (pos 0) (counter n new) takes.to whole (is ∙ sym take_here)
+      (λ k low apart. counted k low ∙ sym (take_else k low apart))
 
 -- the counters of a ring at its start
 pub opened_counter : (n : ℕ) (posted taken : List ℕ) (counters : List ℤ) (black : List Bool) (token : Token) (announced : Bool) →

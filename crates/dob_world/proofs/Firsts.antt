@@ -19,6 +19,17 @@ some_first xs x there is = let e : Some x ≡ None = sym there ∙ ap (λ zs. sl
 pub none_some : {X : Type 0} (xs : List X) → xs ≡ [] → 0 < length xs → ⊥
 none_some xs is some = let e : length xs ≡ 0 = ap length is in omega arith
 
+pub not_none : {X : Type 0} (xs : List X) → (xs ≡ [] → ⊥) → 0 < length xs
+not_none [] some = absurd (some refl)
+not_none (x ∷ xs) some = omega arith
+
+pub nothing_in : {X : Type 0} (xs : List X) → (0 < length xs → ⊥) → xs ≡ []
+nothing_in [] none = refl
+nothing_in (x ∷ xs) none = absurd (none (omega arith))
+
+pub some_of : {X : Type 0} {xs rest : List X} {x : X} → xs ≡ x ∷ rest → 0 < length xs
+some_of is = let e = ap length is in omega arith
+
 pub went_well : {T E : Type 0} (r : Result T E) (A B : Type 0) → OnOk r A → OnErr r B → (B → ⊥) → A
 went_well (Ok v) A B good bad not = good
 went_well (Err e) A B good bad not = absurd (not bad)

@@ -2,7 +2,7 @@
 use Rattle.dob_world.proofs.Common.{◌++◌, ◌<◌, ◌∙◌, ◌∷◌, ◌≡◌, ◌≢◌, List, [], ap, append_assoc, drop, inl, inr, subst, sym, ℕ, predecessors, Item, BatchView}
 use Rattle.dob_world.proofs.Common.{items_of_batches, items_from, emitted_all, AppliesItems, AppliesOwn, ExpandsAt, Posts, TakesBatch, EventsKeepAll}
 use Rattle.dob_world.proofs.Common.{HappeningKeepsAll, ListsAreBeginnings, OwnItemFits, TakenItemFits, AreLawful, IsLinked, Nodes, Setting, State, WorldView}
-use Rattle.dob_world.proofs.Common.{items_in, Announce, Expand, Own, Pass, Post, Take}
+use Rattle.dob_world.proofs.Common.{items_in, Expand, Own, Post, Take}
 use Rattle.dob_world.proofs.Places.{lawful_stay}
 use Rattle.dob_world.proofs.Applied.{Grows, next_fits, lawful_step, step_grows, next_after, all_applied}
 use Rattle.dob_world.proofs.Linked.{linked_expanded, linked_own, linked_posted, linked_taken}
@@ -76,8 +76,7 @@ happening_keeps_all k old new (Post i j) some lawful linked can step =
     posted_keeps k old.world new.world lawful linked i j can.0 can.1 can.2 step.0
 happening_keeps_all k old new (Take i j) some lawful linked can step =
     taken_keeps k old.world new.world lawful linked i j some can.0 can.1 can.2 step.0
-happening_keeps_all k old new (Pass i) some lawful linked can step = world_keeps k old.world new.world lawful linked step.0
-happening_keeps_all k old new Announce some lawful linked can step = world_keeps k old.world new.world lawful linked step.0
+happening_keeps_all k old new _ some lawful linked can step = world_keeps k old.world new.world lawful linked step.0
 
 pub events_keep_all : EventsKeepAll
 events_keep_all k old new [] some lawful linked after = (
@@ -119,6 +118,7 @@ pub record FrontApplied (k : Setting) (i j : ℕ) (front behind : List Item) (ol
   pub lawful : AreLawful k new
   pub grows : Grows i j front old new
   pub rest : List Item
+  pub before : items_in k old i j ≡ old.applied i j ++ (front ++ (behind ++ rest))
   pub next : items_in k new i j ≡ new.applied i j ++ (behind ++ rest)
 
 pub front_applied : (k : Setting) (world : WorldView) (i j : ℕ) (batch : BatchView) (batches : List BatchView) (front behind : List Item) (nodes : Nodes) →
@@ -136,6 +136,7 @@ front_applied k world i j batch batches front behind nodes some lawful linked lo
       lawful = both.0;
       grows = both.1;
       rest = others;
+      before = next;
       next = next_after k i j front (behind ++ others) world.nodes nodes differs both.1 next;
     }
 

@@ -1,8 +1,8 @@
 -- What is left of a world after a stop: of the promise the first part, and after lack of memory all of it.
-use Rattle.dob_world.proofs.Common.{◌++◌, ◌<◌, ◌∙◌, ◌∷◌, ◌≡◌, ◌≢◌, None, Some, ap, append_assoc, false, inl, inr, subst, sym, ℕ, cases_Bool, MatchOption}
+use Rattle.dob_world.proofs.Common.{◌++◌, ◌<◌, ◌∙◌, ◌∷◌, ◌≡◌, ◌≢◌, Some, ap, append_assoc, false, inl, inr, subst, sym, ℕ, cases_Bool, MatchOption}
 use Rattle.dob_world.proofs.Common.{predecessors, Ring, items_of_batches, items_from, Fault, Stopped, items_from-append, IsStopped, CanHappen, AreBeginnings}
 use Rattle.dob_world.proofs.Common.{Headline, ring_of, setting_of, state_of, IsLeft, IsStanding, StandsOrStopped, IsForMemory, IsLeftBy, TakesFront, AreLawful}
-use Rattle.dob_world.proofs.Common.{IsLinked, Nodes, Setting, State, WorldView, items_in, Detector, Event, Announce, Expand, Own, Pass, Post, Take, World}
+use Rattle.dob_world.proofs.Common.{IsLinked, Nodes, Setting, State, WorldView, items_in, Detector, Event, Take, World}
 use Rattle.dob_pieces.specs.Lists.{IsBeginning}
 use Rattle.dob_stops.specs.declared.cause.Cause.TheVariants as cause
 use Rattle.dob_world.proofs.Places.{at_link}
@@ -74,28 +74,20 @@ same_begins k old new lawful linked same = subst (λ (w : WorldView). AreBeginni
 -- whatever stops a node, what is left of lists and cells is as it should be
 pub left_begins : (k : Setting) (old : State) (event : Event) (fault : Fault) (new : WorldView) → 0 < k.n → AreLawful k old.world.nodes →
     IsLinked k old.world → CanHappen k old event → IsLeftBy k old.world event fault new → AreBeginnings k new
-left_begins k old (Expand i) fault new some lawful linked can left = same_begins k old.world new lawful linked left
-left_begins k old (Own i) fault new some lawful linked can left = same_begins k old.world new lawful linked left
-left_begins k old (Post i j) fault new some lawful linked can left = same_begins k old.world new lawful linked left
 left_begins k old (Take i j) fault new some lawful linked can left = elim left [
   | inl memory ↦ same_begins k old.world new lawful linked memory.1
   | inr deep ↦ front_left k old.world new some lawful linked i j can.0 can.1 can.2 deep.1
 ]
-left_begins k old (Pass i) fault new some lawful linked can left = same_begins k old.world new lawful linked left
-left_begins k old Announce fault new some lawful linked can left = same_begins k old.world new lawful linked left
+left_begins k old _ fault new some lawful linked can left = same_begins k old.world new lawful linked left
 
 -- after lack of memory it is all that there was
 pub left_shown : (k : Setting) (old : WorldView) (event : Event) (fault : Fault) (new : WorldView) → IsLeftBy k old event fault new → IsForMemory fault →
     new ≡ old
-left_shown k old (Expand i) fault new left memory = left
-left_shown k old (Own i) fault new left memory = left
-left_shown k old (Post i j) fault new left memory = left
 left_shown k old (Take i j) fault new left memory = elim left [
   | inl same ↦ same.1
   | inr deep ↦ absurd (let e : Stopped j cause.TooDeep ≡ Stopped memory.0 cause.Memory = sym deep.0 ∙ memory.1 in cc)
 ]
-left_shown k old (Pass i) fault new left memory = left
-left_shown k old Announce fault new left memory = left
+left_shown k old _ fault new left memory = left
 
 abbrev pub with_ring : WorldView → Ring → State
 with_ring world ring = record { world = world; ring = ring }
@@ -125,9 +117,6 @@ stop_leaves old new event fault standing stopped =
     }
 
 -- ---- kept
-
-pub kept_standing : (world : World) → IsStanding world → world.failed ≡ None → StandsOrStopped world
-kept_standing world standing going = subst (λ failed. MatchOption failed (IsStanding world) (λ (fault : Fault). IsLeft fault world)) (sym going) standing
 
 pub kept_left : (world : World) (fault : Fault) → world.failed ≡ Some fault → StandsOrStopped world → IsLeft fault world
 kept_left world fault failed kept = subst (λ f. MatchOption f (IsStanding world) (λ (why : Fault). IsLeft why world)) failed kept

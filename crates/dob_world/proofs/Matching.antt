@@ -158,6 +158,4 @@ posted_most k old new (Own i) bound step few m l low_m low_l = let is : new.ring
 posted_most k old new (Post i j) bound step few m l low_m low_l = at_link (λ a b. a < k.n → b < k.n → new.ring.posted a b ≤ bound + 1) i j m l
     (λ low_a low_b. omega (arith, step.1.posted.one_more, few i j low_a low_b))
     (λ other low_a low_b. omega (arith, step.1.posted.others m l low_a low_b other, few m l low_a low_b)) low_m low_l
-posted_most k old new (Take i j) bound step few m l low_m low_l = omega (arith, step.1.posted m l low_m low_l, few m l low_m low_l)
-posted_most k old new (Pass i) bound step few m l low_m low_l = omega (arith, step.1.posted m l low_m low_l, few m l low_m low_l)
-posted_most k old new Announce bound step few m l low_m low_l = omega (arith, step.1.posted m l low_m low_l, few m l low_m low_l)
+posted_most k old new _ bound step few m l low_m low_l = omega (arith, step.1.posted m l low_m low_l, few m l low_m low_l)

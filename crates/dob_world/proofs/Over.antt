@@ -1,13 +1,9 @@
 -- Where nothing is left to do, and what the promise of the whole says of every world.
-use Rattle.dob_world.proofs.Common.{◌+◌, ◌-◌, ◌∙◌, ◌∷◌, ◌≡◌, List, [], arith, length, refl, sym, true, true≢false, sum_same, IsRingQuiet, AllTaken, AllWhite}
+use Rattle.dob_world.proofs.Common.{◌+◌, ◌-◌, ◌∙◌, ◌≡◌, arith, length, sym, true, true≢false, sum_same, IsRingQuiet, AllTaken, AllWhite}
 use Rattle.dob_world.proofs.Common.{in_flight, sum_below, CanHappen, EndIsRest, EndIsSilent, RestStays, IsAtRest, Matches, Setting, State, waiting_batches}
 use Rattle.dob_world.proofs.Common.{Event, Announce, Expand, Own, Pass, Post, Take}
 use Rattle.dob_safra.proofs.Quiet.{quiet}
-use Rattle.dob_world.proofs.Firsts.{none_some}
-
-none_long : {X : Type 0} (xs : List X) → length xs ≡ 0 → xs ≡ []
-none_long [] is = refl
-none_long (x ∷ xs) is = absurd (omega (arith, is))
+use Rattle.dob_world.proofs.Firsts.{none_some, nothing_in}
 
 -- where all nodes are white and each batch is taken, nothing is left to do
 pub white_rest : (k : Setting) (state : State) → Matches k state → AllWhite k.n state.ring → AllTaken k.n state.ring → IsAtRest k state.world
@@ -15,10 +11,10 @@ white_rest k state matches white taken = record {
   expanded = λ i low. (matches.idle i low (white i low)).expanded;
   own = λ i low. (matches.idle i low (white i low)).own;
   outboxes = λ i j low_i low_j differs. (matches.idle i low_i (white i low_i)).outboxes j low_j (λ same. differs (sym same));
-  links = λ i j low_i low_j differs. none_long (state.world.waiting i j)
-      (let is : state.ring.posted i j ≡ state.ring.taken i j + length (state.world.waiting i j) = matches.posted i j low_i low_j in
+  links = λ i j low_i low_j differs. nothing_in (state.world.waiting i j) (λ some.
+      let is : state.ring.posted i j ≡ state.ring.taken i j + length (state.world.waiting i j) = matches.posted i j low_i low_j in
       let all : state.ring.posted i j ≡ state.ring.taken i j = taken i j low_i low_j in
-      omega (arith, is, all));
+      omega (arith, is, all, some));
 }
 
 pub end_is_rest : EndIsRest
@@ -34,8 +30,7 @@ rest_stays k old new (Expand i) rest can step = absurd (let e : old.world.expand
 rest_stays k old new (Own i) rest can step = absurd (none_some (old.world.own i) (rest.own i can.0) can.1)
 rest_stays k old new (Post i j) rest can step = absurd (none_some (old.world.outbox i j) (rest.outboxes i j can.0 can.1 can.2) can.3)
 rest_stays k old new (Take i j) rest can step = absurd (none_some (old.world.waiting i j) (rest.links i j can.0 can.1 can.2) can.3)
-rest_stays k old new (Pass i) rest can step = step.0
-rest_stays k old new Announce rest can step = step.0
+rest_stays k old new _ rest can step = step.0
 
 pub end_is_silent : EndIsSilent
 end_is_silent k state matches ended = record {

@@ -54,9 +54,10 @@ module _ (k : Setting) (setting : IsSetting k) (openings : HasOpenings k.family)
     quiet = λ may. end_is_rest k state setting.nodes matches may;
   }
 
-  -- ---- events
+-- ---- events
 
-  kept_once : (old new : State) (event : Event) (steps : ℕ) → steps < 2 ^ 40 → CanHappen k old event → Happens k old event new → Keeps k old steps →
+module _ (k : Setting) (setting : IsSetting k) where
+  pub kept_once : (old new : State) (event : Event) (steps : ℕ) → steps < 2 ^ 40 → CanHappen k old event → Happens k old event new → Keeps k old steps →
       Keeps k new (steps + 1)
   kept_once old new event steps room can happens keeps =
       let both = happening_keeps_all k old new event setting.nodes.0 keeps.lawful keeps.linked can happens in
@@ -132,8 +133,7 @@ kept_start k state setting start = record {
 
 pub headline_holds : HeadlineHolds
 headline_holds k start state events setting is_start room after =
-    let keeps = (kept_after k setting (is_start.openings, is_start.are_openings) start state events 0 (omega (arith, room)) after
-    (kept_start k start setting is_start)).1 in
+    let keeps = (kept_after k setting start state events 0 (omega (arith, room)) after (kept_start k start setting is_start)).1 in
     headline_of k setting (is_start.openings, is_start.are_openings) state keeps.lawful keeps.linked keeps.matches
 
 pub standing_headline : (world : World) → IsStanding world → Headline (setting_of world) (state_of world)

@@ -25,6 +25,3 @@ empty_more capacity m lanes new lane are empty is = subst (λ xs. AreEmptyLanes 
 
 pub none_opened : (openings : List Opening) (family : Family) (n : ℕ) → AreOpenedNodes openings family n 0 []
 none_opened openings family n = record { whole = refl; each = λ i node there. absurd cc }
-
-pub none_empty : (capacity : ℕ) → AreEmptyLanes capacity 0 []
-none_empty capacity = record { whole = refl; each = λ i lane there. absurd cc }

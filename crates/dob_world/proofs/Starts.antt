@@ -2,9 +2,10 @@
 use Rattle.dob_world.proofs.Common.{◌%◌, ◌*◌, ◌++◌, ◌+◌, ◌/◌, ◌<◌, ◌∙◌, ◌≡◌, Bool, List, None, Option, Some, [], ap, arith, cond, false, inr, length, nat_lt}
 use Rattle.dob_world.proofs.Common.{refl, slice_get, subst, sym, take, true, ℕ, mod-add-div', lt-ltb, All-nil, slice_get_within, All, some_at, one_status}
 use Rattle.dob_world.proofs.Common.{HasStatus, Status, Open, class_setup, classes_of, IsEntry, Draw, predecessors, CellValue, SameCell, fresh, owner_of}
-use Rattle.dob_world.proofs.Common.{cell_at, places_of, Settlement, Opening, OutboxView, items_of_batches, items_from, below_owner, start_sums, SumsUp-same}
-use Rattle.dob_world.proofs.Common.{IsChained, value_of, known_of, outbox_to, Node, IsBatchTo, LinkView, lane_at, nodes_shown, part, world_shown, AreInPlace}
-use Rattle.dob_world.proofs.Common.{IsNodeOf, AreEmptyLanes, AreOpenedNodes, IsEmptyLane, AreLawful, HaveFallsIn, IsLinked, Nodes, Setting, value_in, Lane}
+use Rattle.dob_world.proofs.Common.{kept_sound, cell_at, places_of, Settlement, Opening, OutboxView, items_of_batches, items_from, below_owner, start_sums}
+use Rattle.dob_world.proofs.Common.{SumsUp-same, IsChained, value_of, known_of, outbox_to, Node, IsBatchTo, LinkView, lane_at, nodes_shown, part, world_shown}
+use Rattle.dob_world.proofs.Common.{AreInPlace, IsNodeOf, AreEmptyLanes, AreOpenedNodes, IsEmptyLane, AreLawful, HaveFallsIn, IsLinked, Nodes, Setting}
+use Rattle.dob_world.proofs.Common.{value_in, Lane}
 use Rattle.dob_moves.specs.MoveLists.{moves_of}
 use Rattle.dob_share.proofs.Applied.{CellValue-same}
 use Rattle.dob_node.specs.Quiet.{FollowsAtStatus}
@@ -13,7 +14,7 @@ use Rattle.dob_node.specs.OpeningLists.{opening_value, opening_settlements, open
 use Rattle.dob_node.specs.Falls.{IsFirst}
 use Rattle.dob_node.proofs.Rises.{opened_first, fresh_within, falls_start}
 use Rattle.dob_node.proofs.AloneOpens.{listed_opening}
-use Rattle.dob_world.proofs.Made.{kept_of, node_opened, low_own}
+use Rattle.dob_world.proofs.InPlace.{kept_of}
 use Rattle.dob_node.proofs.Beginnings.{or_else, closed_follows, opened_value, opened_chained, opened_entries}
 
 part_nil : {X Y : Type 0} (f : X → List Y) (o : Option X) → ((x : X) → o ≡ Some x → f x ≡ []) → part [] f o ≡ []
@@ -35,9 +36,13 @@ module _ (k : Setting) (openings : List Opening) (nodes : List Node) (lanes : Li
   low_by i node there = subst (λ (m : ℕ). i < m) opened.whole (slice_get_within nodes i node there)
 
   is_node : (i : ℕ) (node : Node) → slice_get nodes i ≡ Some node → IsNodeOf k i node
-  is_node i node there = let o = opened.each i node there in
-      node_opened k i node o.1 o.0.of (λ class own. subst (λ (s : Status). HasStatus k.family.profile (class_setup k.family class) s) (sym (o.0.statuses class own))
-      (listed_opening k.family openings class are (low_own k i node o.1 o.0.of class own)).status) o.0.going
+  is_node i node there = let o = opened.each i node there in record {
+    sound = o.1;
+    of = o.0.of;
+    statuses = λ class own. subst (λ (s : Status). HasStatus k.family.profile (class_setup k.family class) s) (sym (o.0.statuses class own))
+        (listed_opening k.family openings class are (((kept_sound k.family k.n i node o.0.of o.1).owned class).0 own).1).status;
+    going = o.0.going;
+  }
 
   lane_empty : (i j : ℕ) (lane : Lane) → lane_at k.n lanes i j ≡ Some lane → IsEmptyLane k.capacity lane
   lane_empty i j lane there = by (nat_lt j k.n) refl
@@ -94,7 +99,7 @@ module _ (k : Setting) (openings : List Opening) (nodes : List Node) (lanes : Li
       ∙ ap (part (fresh 0) (λ (x : Node). cell_at x.share p)) there in
       subst (λ c. SameCell c (fresh (length (moves_of k.family.profile (class_setup k.family p))))) (sym at)
       (subst (λ (m : ℕ). SameCell (cell_at node.share p) (fresh m)) (listed_opening k.family openings p are low).moves
-      ((opened.each i node there).0.cells p (((kept_of k i node (is_node i node there)).owned p).1 (refl, low))))
+      ((opened.each i node there).0.cells p (((kept_of (is_node i node there)).owned p).1 (refl, low))))
 
   chained_start : (i : ℕ) → i < k.n → IsChained (classes_of k.family) k.n i (shown.history i)
   chained_start i low = let at = of_n i low in

@@ -1,42 +1,49 @@
 -- A world that stands after an event, and what standing gives of the ring and of idle nodes.
-use Rattle.dob_world.proofs.Common.{◌+◌, ◌<◌, ◌^◌, ◌∙◌, ◌∷◌, ◌≡◌, ◌≢◌, ◌≤◌, List, Some, [], ap, arith, inl, inr, length, refl, slice_get, subst, suc, sym, true}
+use Rattle.dob_world.proofs.Common.{◌+◌, ◌<◌, ◌^◌, ◌∙◌, ◌∷◌, ◌≡◌, ◌≢◌, ◌≤◌, List, [], ap, arith, inl, inr, length, refl, subst, suc, sym, true}
 use Rattle.dob_world.proofs.Common.{zero, ℕ, cases_eq, cases_lt, slice_index_or, IsLawfulRing, Moved, Ring, OutboxView, empty_outbox, outbox_to, Node}
-use Rattle.dob_world.proofs.Common.{CanHappen, Happens, nodes_shown, ring_of, world_shown, AreCutsPosted, AreInPlace, CanCount, HasAtMost, IsCounted, Stand}
+use Rattle.dob_world.proofs.Common.{CanHappen, Happens, nodes_shown, ring_of, world_shown, AreCutsPosted, AreInPlace, CanCount, IsCounted, Stand}
 use Rattle.dob_world.proofs.Common.{IsNodeIdle, Setting, State, Detector, Event, Lane}
 use Rattle.dob_safra.specs.declared.event.RingEvent.{RingEvent}
 use Rattle.dob_safra.specs.Rings.{IsAnnounceable}
 use Rattle.dob_node.specs.Nodes.{IsIdle as IsIdleNode}
 use Rattle.dob_world.proofs.Firsts.{none_some}
-use Rattle.dob_world.proofs.Slots.{was}
-use Rattle.dob_world.proofs.Kept.{happening_keeps_all}
+use Rattle.dob_world.proofs.Slots.{NodeAt, was}
 use Rattle.dob_world.proofs.Bounds.{happening_keeps_falls}
-use Rattle.dob_world.proofs.Matching.{busy_black, happening_keeps_match, posted_most}
+use Rattle.dob_world.proofs.Matching.{busy_black}
+use Rattle.dob_world.proofs.Promise.{kept_once}
 
 abbrev pub state_at : Setting → List Node → List Lane → Detector → State
 state_at k nodes lanes detector = record { world = world_shown k.family k.n nodes lanes; ring = ring_of detector }
 
-module _ (k : Setting) (nodes : List Node) (lanes : List Lane) (detector : Detector) (steps : ℕ) (stand : Stand k nodes lanes detector steps) where
-  pub stand_after : (after : List Node) (next : List Lane) (new : Detector) (event : Event) → steps < 2 ^ 40 → AreInPlace k after next → IsCounted new →
-      new.nodes ≡ detector.nodes → AreCutsPosted k.n after (ring_of new) → CanHappen k (state_at k nodes lanes detector) event →
-      Happens k (state_at k nodes lanes detector) event (state_at k after next new) → Stand k after next new (steps + 1)
-  stand_after after next new event room places counted same cuts can happens =
-      let both = happening_keeps_all k (state_at k nodes lanes detector) (state_at k after next new) event stand.setting.nodes.0 stand.lawful stand.linked
-      can happens in
-      let few : HasAtMost k.n (steps + 1) (ring_of new) =
-      posted_most k (state_at k nodes lanes detector) (state_at k after next new) event steps happens stand.few in
+-- the event could happen and happened, and nodes and lanes stand in their places
+pub record Outcome (k : Setting) (old : State) (event : Event) (nodes : List Node) (lanes : List Lane) (ring : Ring) : Type 0 where
+  pub can : CanHappen k old event
+  pub happens : Happens k old event (record { world = world_shown k.family k.n nodes lanes; ring = ring })
+  pub places : AreInPlace k nodes lanes
+
+module _ {k : Setting} {nodes : List Node} {lanes : List Lane} {detector : Detector} {steps : ℕ} (stand : Stand k nodes lanes detector steps) where
+  abbrev before : State
+  before = state_at k nodes lanes detector
+
+  pub stand_after : (after : List Node) (next : List Lane) (new : Detector) (event : Event) → steps < 2 ^ 40 →
+      Outcome k (state_at k nodes lanes detector) event after next (ring_of new) → IsCounted new → new.nodes ≡ detector.nodes →
+      AreCutsPosted k.n after (ring_of new) → Stand k after next new (steps + 1)
+  stand_after after next new event room out counted same cuts =
+      let later = state_at k after next new in
+      let setting = stand.setting in
+      let kept = kept_once k setting before later event steps room out.can out.happens
+      (record { lawful = stand.lawful; linked = stand.linked; matches = stand.matches; few = stand.few }) in
       record {
-        setting = stand.setting;
+        setting = setting;
         openings = stand.openings;
-        places = places;
+        places = out.places;
         counted = counted;
         same_n = same ∙ stand.same_n;
-        lawful = both.0;
-        falls = happening_keeps_falls k (state_at k nodes lanes detector) (state_at k after next new) event stand.setting.nodes.0 stand.lawful stand.linked
-            stand.falls can happens;
-        linked = both.1;
-        matches = happening_keeps_match k (state_at k nodes lanes detector) (state_at k after next new) event stand.setting.nodes stand.matches can happens
-            (λ i j low_i low_j. omega (arith, few i j low_i low_j, room));
-        few = few;
+        lawful = kept.lawful;
+        falls = happening_keeps_falls k before later event setting.nodes.0 stand.lawful stand.linked stand.falls out.can out.happens;
+        linked = kept.linked;
+        matches = kept.matches;
+        few = kept.few;
         cuts = cuts;
       }
 
@@ -61,7 +68,7 @@ module _ (k : Setting) (nodes : List Node) (lanes : List Lane) (detector : Detec
   announceable_there may = subst (λ (m : ℕ). IsAnnounceable m (ring_of detector) true) (sym stand.same_n) may
 
   pub sender_black : (i j : ℕ) → i < k.n → j < k.n → i ≢ j → 0 < length ((world_shown k.family k.n nodes lanes).outbox i j) → (ring_of detector).black i ≡ true
-  sender_black i j low_i low_j differs some = busy_black k (state_at k nodes lanes detector) stand.matches i low_i
+  sender_black i j low_i low_j differs some = busy_black k before stand.matches i low_i
       (λ idle. none_some ((world_shown k.family k.n nodes lanes).outbox i j) (idle.outboxes j low_j (λ same. differs (sym same))) some)
 
   pub room_to_post : (i j : ℕ) → i < k.n → j < k.n → steps < 2 ^ 40 → (ring_of detector).posted i j < 2 ^ 40
@@ -81,32 +88,29 @@ beyond [] i d past = refl
 beyond (x ∷ xs) zero d past = absurd (omega arith)
 beyond (x ∷ xs) (suc i) d past = beyond xs i d (omega arith)
 
-module _ (k : Setting) (nodes : List Node) (lanes : List Lane) (places : AreInPlace k nodes lanes) (i : ℕ) (node : Node) (low : i < k.n)
-    (there : slice_get nodes i ≡ Some node) where
+module _ {k : Setting} {nodes : List Node} {lanes : List Lane} {i : ℕ} {node : Node} (places : AreInPlace k nodes lanes) (there : NodeAt nodes i node) where
   pub idle_shown : IsIdleNode node → IsNodeIdle k (world_shown k.family k.n nodes lanes) i
   unfolding world_shown nodes_shown
   idle_shown idle = record {
-    expanded = was nodes i node node there 0 (λ (x : Node). x.expanded) ∙ idle.expanded
-        ∙ ap length (sym (was nodes i node node there [] (λ (x : Node). x.history.settlements)));
-    own = was nodes i node node there [] (λ (x : Node). x.own) ∙ idle.applied;
-    outboxes = λ j low_j differs. was nodes i node node there [] (λ (x : Node). (outbox_to x j).items) ∙ idle.sent j;
+    expanded = was there 0 (λ (x : Node). x.expanded) ∙ idle.expanded ∙ ap length (sym (was there [] (λ (x : Node). x.history.settlements)));
+    own = was there [] (λ (x : Node). x.own) ∙ idle.applied;
+    outboxes = λ j low_j differs. was there [] (λ (x : Node). (outbox_to x j).items) ∙ idle.sent j;
   }
 
   pub shown_idle : IsNodeIdle k (world_shown k.family k.n nodes lanes) i → IsIdleNode node
   unfolding world_shown nodes_shown
   shown_idle idle = record {
-    expanded = sym (was nodes i node node there 0 (λ (x : Node). x.expanded)) ∙ idle.expanded
-        ∙ ap length (was nodes i node node there [] (λ (x : Node). x.history.settlements));
-    applied = sym (was nodes i node node there [] (λ (x : Node). x.own)) ∙ idle.own;
+    expanded = sym (was there 0 (λ (x : Node). x.expanded)) ∙ idle.expanded ∙ ap length (was there [] (λ (x : Node). x.history.settlements));
+    applied = sym (was there [] (λ (x : Node). x.own)) ∙ idle.own;
     sent = λ to. elim (cases_lt to k.n) [
       | inl within ↦ elim (cases_eq to i) [
-        | inl itself ↦ ap (λ (m : ℕ). (outbox_to node m).items) (itself ∙ sym (places.node i node there).of.1) ∙
-            (places.node i node there).sound.nothing_to_self
-        | inr other ↦ sym (was nodes i node node there [] (λ (x : Node). (outbox_to x to).items)) ∙ idle.outboxes to within other
+        | inl itself ↦ ap (λ (m : ℕ). (outbox_to node m).items) (itself ∙ sym (places.node i node there.is).of.1) ∙
+            (places.node i node there.is).sound.nothing_to_self
+        | inr other ↦ sym (was there [] (λ (x : Node). (outbox_to x to).items)) ∙ idle.outboxes to within other
       ]
       | inr past ↦ ap (λ (o : OutboxView). o.items) (beyond node.outboxes to (empty_outbox node.family node.n node.id to)
-          (let count : length node.outboxes ≡ node.n = (places.node i node there).sound.receivers in
-          let of : node.n ≡ k.n = (places.node i node there).of.2 in
+          (let count : length node.outboxes ≡ node.n = (places.node i node there.is).sound.receivers in
+          let of : node.n ≡ k.n = (places.node i node there.is).of.2 in
           omega (arith, count, of, past)))
     ];
   }

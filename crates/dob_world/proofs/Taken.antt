@@ -18,6 +18,9 @@ use Rattle.dob_world.proofs.Applied.{next_fits, lawful_step, step_grows, next_af
 abbrev pub own_test : Setting → ℕ → ℕ → Bool
 own_test k j class = nat_lt class (classes_of k.family) && eqb (owner_of k.n class) j
 
+pub own_is : (k : Setting) (j class : ℕ) → class < classes_of k.family → owner_of k.n class ≡ j → own_test k j class ≡ true
+own_is k j class low own = ap (λ b. b && eqb (owner_of k.n class) j) (lt-ltb class (classes_of k.family) low) ∙ eq-eqb (owner_of k.n class) j own
+
 abbrev pub with_share : Setting → ℕ → ℕ → Nodes → Share → List Settlement → List Item → Nodes
 with_share k i j nodes share history items = record {
   history = λ m. cond (eqb m j) history (nodes.history m);
@@ -50,11 +53,8 @@ module _ (k : Setting) (i j : ℕ) (nodes : Nodes) (share : Share) (history : Li
   applied_else m l (inl other) = ap (λ b. cond (b && eqb l j) items (nodes.applied m l)) (ne_eqb m i other)
   applied_else m l (inr other) = applied_receiver m l other
 
-  pub own_is : (class : ℕ) → class < classes_of k.family → owner_of k.n class ≡ j → own_test k j class ≡ true
-  own_is class low own = ap (λ b. b && eqb (owner_of k.n class) j) (lt-ltb class (classes_of k.family) low) ∙ eq-eqb (owner_of k.n class) j own
-
   pub cell_here : (class : ℕ) → class < classes_of k.family → owner_of k.n class ≡ j → given.cell class ≡ cell_at share class
-  cell_here class low own = ap (λ b. cond b (cell_at share class) (nodes.cell class)) (own_is class low own)
+  cell_here class low own = ap (λ b. cond b (cell_at share class) (nodes.cell class)) (own_is k j class low own)
 
 -- ---- what is taken
 

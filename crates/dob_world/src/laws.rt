@@ -9,16 +9,19 @@ pub fn links_keep_order()
 {}
 
 /// Each event leaves a lawful and linked world lawful and linked.
+#[tactic(auto, using(crate::proofs::Kept::happening_keeps_all))]
 pub fn happening_keeps_all()
     ensures { HappeningKeepsAll }
 {}
 
 /// So do events one after another, done or skipped.
+#[tactic(auto, using(crate::proofs::Kept::events_keep_all))]
 pub fn events_keep_all()
     ensures { EventsKeepAll }
 {}
 
 /// Each event leaves a ring that matches its world matching it, while no link has more than 2^40 posted batches.
+#[tactic(auto, using(crate::proofs::Matching::happening_keeps_match))]
 pub fn happening_keeps_match()
     ensures { HappeningKeepsMatch }
 {}
@@ -30,6 +33,7 @@ pub fn lists_are_beginnings()
 {}
 
 /// In a lawful and linked world the first own item of a node fits its cell.
+#[tactic(auto, using(crate::proofs::Kept::own_item_fits))]
 pub fn own_item_fits()
     ensures { OwnItemFits }
 {}
@@ -45,11 +49,13 @@ pub fn rest_is_right()
 {}
 
 /// Where the end may be announced, nothing is left to do.
+#[tactic(auto, using(crate::proofs::Over::end_is_rest))]
 pub fn end_is_rest()
     ensures { EndIsRest }
 {}
 
 /// Where nothing is left to do, that stays: an event changes nothing of nodes and links.
+#[tactic(auto, using(crate::proofs::Over::rest_stays))]
 pub fn rest_stays()
     ensures { RestStays }
 {}
@@ -67,6 +73,7 @@ pub fn still_is_ended()
 /// For every list of at most 2^40 events: what each owner has applied from a sender is a beginning of what that sender sent,
 /// in its order and each update once; once the end is announced nothing more is sent or applied, and the values are those
 /// of the game.
+#[tactic(auto, using(crate::proofs::Promise::headline_holds))]
 pub fn headline_holds()
     ensures { HeadlineHolds }
 {}

@@ -5,6 +5,11 @@ use Rattle.dob_dbfile.proofs.Headers.{set_lifts, family_lifts, counts_falls, cou
 use Rattle.dob_dbfile.proofs.HeldBytes.{refused, no_digest}
 use Rattle.dob_dbfile.proofs.Places.{only_digest, same_head, same_format, same_set}
 use Rattle.dob_dbfile.proofs.held.held_counted.Goals as goal
+use Rattle.dob_dbfile.proofs.held.held_counted.Goals.{After-header_len-2}
+
+-- the bytes are as many as the header's
+there : (c : After-header_len-2) → header_len c.in-Ok.format ≤ length c.args.bytes.now
+there c = omega (arith, c.header_len.ensures, c.if-bytes-header_len.false)
 
 -- there is no family and one
 both : (found : Option Family) (family : Family) → found ≡ None → found ≡ Some family → ⊥
@@ -33,26 +38,19 @@ returns-in_err-family-clause-some c = λ format family classes is.
 
 pub returns-clause-named : goal.returns-clause-named
 returns-clause-named c =
-    let bytes = c.args.bytes.now in
     let format = c.in-Ok.format in
-    let there : header_len format ≤ length bytes = omega (arith, c.header_len.ensures, c.if-bytes-header_len.false) in
-    family_lifts (header_len format) bytes (header_long format) there format c.in_ok-family.family
-    (subst (λ (n : ℕ). NamesFamily format c.in_ok-family.family (take n bytes)) c.header_len-2.ensures c.in_ok-family.ensures.some.0)
+    family_lifts (header_len format) c.args.bytes.now (header_long format) (there (goal.at.returns-clause-named c).After-header_len-2) format
+    c.in_ok-family.family
+    (subst (λ (n : ℕ). NamesFamily format c.in_ok-family.family (take n c.args.bytes.now)) c.header_len-2.ensures c.in_ok-family.ensures.some.0)
 
 pub returns-clause-counted : goal.returns-clause-counted
 returns-clause-counted c =
-    let bytes = c.args.bytes.now in
-    let format = c.in-Ok.format in
-    let there : header_len format ≤ length bytes = omega (arith, c.header_len.ensures, c.if-bytes-header_len.false) in
-    sym (count_part (header_len format) bytes (header_long format) there format (omega arith))
-    ∙ subst (λ (n : ℕ). take 8 (drop (count_place format) (take n bytes)) ≡ count_bytes c.args.classes) c.header_len-2.ensures c.in_ok-family.ensures.some.1
+    let found = c.in-Ok.format in
+    let file = c.args.bytes.now in
+    sym (count_part (header_len found) file (header_long found) (there (goal.at.returns-clause-counted c).After-header_len-2) found (omega arith))
+    ∙ subst (λ (n : ℕ). take 8 (drop (count_place found) (take n file)) ≡ count_bytes c.args.classes) c.header_len-2.ensures c.in_ok-family.ensures.some.1
 
 pub returns-clause-some : goal.returns-clause-some
 returns-clause-some c = λ format family classes is.
-    let bytes = c.args.bytes.now in
-    let found = c.in-Ok.format in
-    let there : header_len found ≤ length bytes = omega (arith, c.header_len.ensures, c.if-bytes-header_len.false) in
-    let names = family_lifts (header_len found) bytes (header_long found) there found c.in_ok-family.family
-    (subst (λ (n : ℕ). NamesFamily found c.in_ok-family.family (take n bytes)) c.header_len-2.ensures c.in_ok-family.ensures.some.0) in
-    let same = same_head found format c.in_ok-family.family family bytes names is.0.0.0 in
+    let same = same_head c.in-Ok.format format c.in_ok-family.family family c.args.bytes.now (returns-clause-named c) is.0.0.0 in
     ap (λ (f : Format). Some (f, c.in_ok-family.family)) same.0 ∙ ap (λ (p : Family). Some (format, p)) same.1

@@ -10,12 +10,12 @@ loop-class-preserved c =
     let value = c.value.result in
     let front = records (take c.args.first values) in
     let below : class < length values = omega (arith, c.requires.within, c.loop-class-test.true) in (
-      ap (λ (bytes : List ℕ). front ++ bytes) c.in-Ok.ensures.items
+      ap (λ (bytes : List ℕ). front ++ bytes) c.push_record.ensures.items
           ∙ ap (λ (code : ℕ). front ++ (c.loop-class.bytes.items ++ little_bytes 2 code)) c.code_of_value.ensures.code
           ∙ sym (append_assoc front c.loop-class.bytes.items (little_bytes 2 (code_of_value value)))
           ∙ ap (λ (all : List ℕ). all ++ little_bytes 2 (code_of_value value)) c.loop-class.invariant.0
           ∙ sym (records_more values class value below c.value.ensures),
-      omega (arith, c.in-Ok.ensures.len, c.loop-class.invariant.1, c.loop-class.invariant.3),
+      omega (arith, c.push_record.ensures.len, c.loop-class.invariant.1, c.loop-class.invariant.3),
       omega (arith, c.push_record.ensures.capacity, c.loop-class.invariant.2),
       omega (arith, c.loop-class.invariant.3),
     )

@@ -3,23 +3,24 @@ use Rattle.dob_dbfile.proofs.Common.{◌*◌, ◌++◌, ◌∙◌, ◌≡◌, Li
 use Rattle.dob_dbfile.proofs.Sinks.{stops_behind, writes_more, writes_none}
 use Rattle.dob_dbfile.proofs.Hashed.{records_len, records_part}
 use Rattle.dob_dbfile.proofs.write.write_records.Goals as goal
+use Rattle.dob_dbfile.proofs.write.write_records.Goals.{After-deref}
+
+-- the piece goes on from the records before it
+joined : (g : _) (c : After-deref g)
+    → records (take c.pieces.class c.args.table.now.values) ++ c.deref.result.now ≡ records (take c.min-end.result c.args.table.now.values)
+joined g c = ap (λ (bytes : List ℕ). records (take c.pieces.class c.args.table.now.values) ++ bytes) c.deref.ensures.value ∙ c.put_records.ensures.records
 
 pub pieces-init : goal.pieces-init
 pieces-init g c = (omega arith, c.requires.room, writes_none (g.W.Sink.state c.args.sink.now))
 
 pub pieces-preserved : goal.pieces-preserved
-pieces-preserved g c =
-    let values = c.args.table.now.values in
-    let front = records (take c.pieces.class values) in
-    let piece = c.deref.result.now in
-    let joined : front ++ piece ≡ records (take c.min-end.result values) =
-    ap (λ (bytes : List ℕ). front ++ bytes) c.deref.ensures.value ∙ c.put_records.ensures.records in (
-      omega (arith, c.min-end.ensures),
-      omega (arith, c.put_records.ensures.capacity, c.pieces.invariant.1),
-      subst (Writes (change (g.W.Sink.state c.args.sink.now) (g.W.Sink.state c.write_behind.new.sink))) joined
-          (writes_more (g.W.Sink.state c.args.sink.now) (g.W.Sink.state c.pieces.sink) (g.W.Sink.state c.write_behind.new.sink) front
-          piece c.pieces.invariant.2 c.in_ok-write_behind.ensures.done),
-    )
+pieces-preserved g c = (
+  omega (arith, c.min-end.ensures),
+  omega (arith, c.put_records.ensures.capacity, c.pieces.invariant.1),
+  subst (Writes (change (g.W.Sink.state c.args.sink.now) (g.W.Sink.state c.write_behind.new.sink))) (joined g (goal.at.pieces-preserved g c).After-deref)
+      (writes_more (g.W.Sink.state c.args.sink.now) (g.W.Sink.state c.pieces.sink) (g.W.Sink.state c.write_behind.new.sink)
+      (records (take c.pieces.class c.args.table.now.values)) c.deref.result.now c.pieces.invariant.2 c.in_ok-write_behind.ensures.done),
+)
 
 pub put_records-requires-clause-entries : goal.put_records-requires-clause-entries
 put_records-requires-clause-entries g c = c.requires.table.entries
@@ -29,11 +30,8 @@ returns-in_err-write_behind-clause-part g c =
     let p = err_from_is_err_and c.from_residual.result c.from_residual.ensures.1 in
     let values = c.args.table.now.values in
     let class = c.pieces.class in
-    let front = records (take class values) in
-    let piece = c.deref.result.now in
-    let joined : front ++ piece ≡ records (take c.min-end.result values) =
-    ap (λ (bytes : List ℕ). front ++ bytes) c.deref.ensures.value ∙ c.put_records.ensures.records in
     rw (p.1, p.2) (stops_behind (g.W.Sink.state c.args.sink.now) (g.W.Sink.state c.pieces.sink) (g.W.Sink.state c.write_behind.new.sink) 21 (2 * class)
-    front piece (records (drop c.min-end.result values)) (records values) _ c.pieces.invariant.2
+    (records (take class values)) c.deref.result.now (records (drop c.min-end.result values)) (records values) _ c.pieces.invariant.2
     (records_len values class (omega (arith, c.pieces.invariant.0, c.requires.counted)))
-    (records_part values class c.min-end.result piece joined) c.in_err-write_behind.ensures.part)
+    (records_part values class c.min-end.result c.deref.result.now (joined g (goal.at.returns-in_err-write_behind-clause-part g c).After-deref))
+    c.in_err-write_behind.ensures.part)

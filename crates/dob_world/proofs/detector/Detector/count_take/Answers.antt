@@ -1,7 +1,7 @@
 -- One count is one more, one counter is one less, and the taker is black.
-use Rattle.dob_world.proofs.Common.{◌*◌, ◌+◌, ◌∙◌, ◌≡◌, ap, get_or, pos, refl, set, subst, true, ℕ, length-set, counter, ring_of}
-use Rattle.std.proofs.Common.{◌-ℤ◌}
-use Rattle.dob_world.proofs.Counters.{counter_read, small_counter, fall_fits, fall_is, takes_shown, takes_counted}
+use Rattle.dob_world.proofs.Common.{◌*◌, ◌+◌, ◌∙◌, ◌≡◌, ap, arith, false, get_or, pos, refl, subst, true, ℕ, length-set, counter, ring_of}
+use Rattle.std.proofs.Common.{◌-ℤ◌, ◌^◌, ◌≤ℤ◌, neg_ℤ, get_or-set_other, get_or-set_same}
+use Rattle.dob_world.proofs.Counters.{counter_read, small_counter, fall_fits, fall_is, raised, takes_counted}
 use Rattle.dob_world.proofs.detector.Detector.count_take.Goals as goal
 use Rattle.dob_world.proofs.detector.Detector.count_take.Goals.{After-index_mut, After-index_mut-2}
 
@@ -13,36 +13,45 @@ count_there c = subst (λ (k : ℕ). c.index_mut.result.now ≡ get_or c.args.se
 counter_is : (c : After-index_mut-2) → c.index_mut-2.result.now ≡ counter c.args.self.now.nodes (ring_of c.args.self.now) c.args.to
 counter_is c = counter_read c.args.self.now c.args.to c.index_mut-2.result.now c.requires.ready.counted c.requires.ready.to c.index_mut-2.ensures.value
 
+small : (c : After-index_mut-2) → (neg_ℤ (pos (2 ^ 44)) ≤ℤ c.index_mut-2.result.now) × (c.index_mut-2.result.now ≤ℤ pos (2 ^ 44))
+small c = let d = c.args.self.now in
+    rw (counter_is c) (small_counter d.nodes (ring_of d) c.args.to c.requires.ready.counted.nodes.1 c.requires.ready.to c.requires.ready.lawful)
+
 pub overflow_sub-index_mut : goal.overflow_sub-index_mut
-overflow_sub-index_mut c =
-    let d = c.args.self.now in
-    let z = c.index_mut-2.result.now in
-    let is = counter_is (goal.at.overflow_sub-index_mut c).After-index_mut-2 in
-    fall_fits z (rw is (small_counter d.nodes (ring_of d) c.args.to c.requires.ready.counted.nodes.1 c.requires.ready.to c.requires.ready.lawful))
+overflow_sub-index_mut c = fall_fits c.index_mut-2.result.now (small (goal.at.overflow_sub-index_mut c).After-index_mut-2)
 
 pub returns-clause-moved : goal.returns-clause-moved
 returns-clause-moved c =
     let d = c.args.self.now in
+    let ready = c.requires.ready in
     let there = count_there (goal.at.returns-clause-moved c).After-index_mut in
-    rw c.get.ensures.value (takes_shown d.nodes d.posted.items d.taken.items d.black.items d.token d.announced c.args.from c.args.to c.index_mut.result.now (c.index_mut.result.now + 1)
-    c.requires.ready.from c.requires.ready.to c.requires.ready.counted.taken there refl c.requires.ready.counted.black c.requires.waiting)
+    rw c.get.ensures.value (record {
+      from = ready.from;
+      to = ready.to;
+      waiting = c.requires.waiting;
+      posted = λ k l low_k low_l. refl;
+      taken = raised d.nodes d.taken.items c.args.from c.args.to c.index_mut.result.now _ ready.from ready.to ready.counted.taken there refl;
+      colours = record {
+        colour_is = get_or-set_same d.black.items c.args.to true false (omega (arith, ready.to, ready.counted.black));
+        others = λ k low apart. get_or-set_other d.black.items c.args.to k true false apart;
+      };
+      token = refl;
+      announced = refl;
+    })
 
 pub returns-clause-counted : goal.returns-clause-counted
 returns-clause-counted c =
     let d = c.args.self.now in
-    let there = count_there (goal.at.returns-clause-counted c).After-index_mut in
-    let z = c.index_mut-2.result.now in
-    let is = counter_is (goal.at.returns-clause-counted c).After-index_mut-2 in
-    let less = fall_is z (rw is (small_counter d.nodes (ring_of d) c.args.to c.requires.ready.counted.nodes.1 c.requires.ready.to c.requires.ready.lawful)) in (
+    let ready = c.requires.ready.counted in
+    let at = (goal.at.returns-clause-counted c).After-index_mut-2 in
+    let less = fall_is c.index_mut-2.result.now (small at) ∙ ap (λ y. y -ℤ pos 1) (counter_is at) in (
       record {
-        nodes = c.requires.ready.counted.nodes;
-        posted = c.requires.ready.counted.posted;
-        taken = length-set d.taken.items (c.args.from * c.get.result + c.args.to) (c.index_mut.result.now + 1) ∙ c.requires.ready.counted.taken;
-        black = length-set d.black.items c.args.to true ∙ c.requires.ready.counted.black;
-        counters = length-set d.counters.items c.args.to _ ∙ c.requires.ready.counted.counters;
-        counted = rw c.get.ensures.value (takes_counted d.nodes d.posted.items d.taken.items d.black.items d.token d.announced c.args.from c.args.to c.index_mut.result.now
-            (c.index_mut.result.now + 1) c.requires.ready.from c.requires.ready.to c.requires.ready.counted.taken there refl d.counters.items _
-            (set d.black.items c.args.to true) c.requires.ready.counted.counters (less ∙ ap (λ y. y -ℤ pos 1) is) c.requires.ready.counted.counted);
+        nodes = ready.nodes;
+        posted = ready.posted;
+        taken = length-set d.taken.items (c.args.from * c.get.result + c.args.to) (c.index_mut.result.now + 1) ∙ ready.taken;
+        black = length-set d.black.items c.args.to true ∙ ready.black;
+        counters = length-set d.counters.items c.args.to _ ∙ ready.counters;
+        counted = takes_counted (returns-clause-moved c) d.counters.items _ ready.counters less ready.counted;
       },
       refl,
     )

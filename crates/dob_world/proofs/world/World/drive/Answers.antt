@@ -1,6 +1,6 @@
 -- One round more, after which the world is still or not.
 use Rattle.dob_world.proofs.Common.{◌+◌, ◌<◌, ◌≤◌, Bool, arith, false, subst, sym, true, classes_of, HasMadeRound, Setting}
-use Rattle.dob_world.proofs.Left.{kept_standing, kept_left}
+use Rattle.dob_world.proofs.Left.{kept_left}
 use Rattle.dob_world.proofs.Driven.{no_rounds, round_more, still_longer, drive_stops}
 use Rattle.dob_world.proofs.world.World.drive.Goals as goal
 
@@ -22,18 +22,9 @@ pub returns-in-Err-clause-memory : goal.returns-in-Err-clause-memory
 returns-in-Err-clause-memory c = λ few.
     c.in-Err.ensures.memory (subst (λ (k : Setting). classes_of k.family < 65535) (sym c.loop-round.invariant.setting) few)
 
-pub returns-in-Ok-true-clause-falls : goal.returns-in-Ok-true-clause-falls
-returns-in-Ok-true-clause-falls c = c.in-Ok-true.ensures.made.standing.falls
-
-pub returns-clause-falls : goal.returns-clause-falls
-returns-clause-falls c = c.loop-round.invariant.standing.falls
-
 pub returns-in-Err-clause-stopped : goal.returns-in-Err-clause-stopped
 returns-in-Err-clause-stopped c = drive_stops c.args.self.now c.loop-round.self c.round.new.self c.loop-round._round c.args.rounds c.in-Err.fault
     c.loop-round.invariant c.loop-round-test.true c.in-Err.ensures.stopped
 
 pub returns-in-Err-clause-unannounced : goal.returns-in-Err-clause-unannounced
 returns-in-Err-clause-unannounced c = (kept_left c.round.new.self c.in-Err.fault c.in-Err.ensures.stopped.failed c.in-Err.ensures.kept).unannounced
-
-pub returns-clause-kept : goal.returns-clause-kept
-returns-clause-kept c = kept_standing c.loop-round.self c.loop-round.invariant.standing c.loop-round.invariant.going

@@ -1,8 +1,9 @@
 -- The node that applies an own item.
-use Rattle.dob_world.proofs.Common.{◌*◌, ◌+◌, ◌<◌, Ok, ap, false, refl, subst, sym, true, ℕ, mul-add-lt, vec_len, ring_of, setting_of, Own}
-use Rattle.dob_world.proofs.AtLane.{AtLane, at_lane, same_at, unseen_at, owned_at}
+use Rattle.dob_world.proofs.Common.{◌*◌, ◌+◌, ◌<◌, Ok, ap, false, refl, subst, sym, true, ℕ, mul-add-lt, vec_len, ring_of, Own}
+use Rattle.dob_world.proofs.AtLane.{InWorld, at_lane, same_at, unseen_at}
 use Rattle.dob_world.proofs.Cuts.{cuts_stay, next_same}
 use Rattle.dob_world.proofs.Done.{event_done}
+use Rattle.dob_world.proofs.Made.{owned}
 use Rattle.dob_world.proofs.Outcomes.{cant_own, some_own}
 use Rattle.dob_world.proofs.Stopped.{own_stops}
 use Rattle.dob_world.proofs.Firsts.{ok_is}
@@ -10,13 +11,12 @@ use Rattle.dob_world.proofs.world.World.own.Goals as goal
 use Rattle.dob_world.proofs.world.World.own.Goals.{After-index_mut-2}
 
 -- the node and the lane of its own items
-here : (c : After-index_mut-2) → AtLane (setting_of c.args.self.now) c.args.self.now.nodes.items c.args.self.now.lanes.items c.args.node c.args.node c.args.node
-    c.lane_place-place.result c.index_mut.result.now c.index_mut-2.result.now
+here : (c : After-index_mut-2) → InWorld c.args.self.now c.args.node c.args.node c.args.node c.lane_place-place.result c.index_mut.result.now
+    c.index_mut-2.result.now
 here c =
     let low = c.has.ensures.0 c.if-not-has.false in
-    at_lane (setting_of c.args.self.now) c.args.self.now.nodes.items c.args.self.now.lanes.items c.args.node c.args.node c.args.node c.lane_place-place.result
-    c.index_mut.result.now c.index_mut-2.result.now c.requires.standing.places low low low c.lane_place-place.ensures c.index_mut.ensures.value
-    c.index_mut-2.ensures.value
+    at_lane c.requires.standing.places c.args.node c.args.node c.args.node c.lane_place-place.result c.index_mut.result.now c.index_mut-2.result.now low low low
+    c.lane_place-place.ensures c.index_mut.ensures.value c.index_mut-2.ensures.value
 
 pub index_mut-requires-2 : goal.index_mut-requires-2
 index_mut-requires-2 c =
@@ -34,46 +34,33 @@ apply_own-requires-clause-going c = (here (goal.at.apply_own-requires-clause-goi
 
 pub returns-in-Ok-clause-done : goal.returns-in-Ok-clause-done
 returns-in-Ok-clause-done c = λ e.
-    let world = c.args.self.now in
     let stand = c.requires.standing in
     let at = here (goal.at.returns-in-Ok-clause-done c).After-index_mut-2 in
+    let after = c.apply_own.new.node in
     let step = c.in-Ok.ensures.applied (ap Ok (ok_is c.in-Ok.happened true e)) in
-    let out = owned_at (setting_of world) world.nodes.items world.lanes.items world.detector world.steps stand c.lane_place-place.result
-    c.index_mut.result.now c.apply_own.new.node c.index_mut-2.result.now c.apply_own.new.lane c.in-Ok.ensures.sound c.in-Ok.ensures.going c.args.node at step in
-    event_done world _ (Own c.args.node) stand c.requires.few refl out.places (stand.counted, refl)
-    (cuts_stay world.node_count world.nodes.items c.args.node c.index_mut.result.now c.apply_own.new.node (ring_of world.detector) (ring_of world.detector)
-    at.node_is stand.cuts
-    (λ j low differs. next_same c.index_mut.result.now c.apply_own.new.node step.applied.same.0 step.applied.same.1 step.applied.same.2 step.applied.outboxes j)
-    (λ m l low_m low_l. refl))
-    out.can (out.happens, refl) (refl, refl)
+    event_done c.args.self.now _ (Own c.args.node) stand c.requires.few refl
+    (owned stand at after c.apply_own.new.lane step c.in-Ok.ensures.sound c.in-Ok.ensures.going) (stand.counted, refl)
+    (cuts_stay stand at.node_at after (ring_of c.args.self.now.detector)
+    (λ j low differs. next_same c.index_mut.result.now after step.applied.same step.applied.outboxes j) (λ m l low_m low_l. refl)) (refl, refl)
 
 pub returns-in-Ok-clause-skipped : goal.returns-in-Ok-clause-skipped
 returns-in-Ok-clause-skipped c = λ e.
-    let world = c.args.self.now in
     let at = here (goal.at.returns-in-Ok-clause-skipped c).After-index_mut-2 in
     let no = ap Ok (ok_is c.in-Ok.happened false e) in
     let same = same_at at c.apply_own.new.node c.apply_own.new.lane (c.in-Ok.ensures.nothing no) in
     record {
-      cannot = λ can. cant_own (setting_of world) world.nodes.items world.lanes.items c.index_mut.result.now c.index_mut-2.result.now at.places.lanes_whole
-          c.args.node at.node_is (c.in-Ok.ensures.none.0 no) can.1;
+      cannot = λ can. cant_own at (c.in-Ok.ensures.none.0 no) can.1;
       unchanged = record { setting = refl; nodes = same.0; lanes = same.1; detector = refl; steps = refl; failed = refl };
     }
 
 pub returns-in-Err-clause-stopped : goal.returns-in-Err-clause-stopped
 returns-in-Err-clause-stopped c =
-    let world = c.args.self.now in
-    let stand = c.requires.standing in
     let at = here (goal.at.returns-in-Err-clause-stopped c).After-index_mut-2 in
     record {
       setting = refl;
       stop = (
-        (
-          at.low_i,
-          some_own (setting_of world) world.nodes.items world.lanes.items c.index_mut.result.now c.index_mut-2.result.now at.places.lanes_whole c.args.node
-              at.node_is (λ empty. let no = c.in-Err.ensures.none.1 empty in absurd (cc)),
-        ),
-        own_stops (setting_of world) world.nodes.items world.lanes.items stand.setting.nodes.0 stand.places stand.lawful stand.linked c.args.node
-            c.index_mut.result.now c.index_mut-2.result.now c.in-Err.cause at.low_i at.node_is at.lane_is c.in-Err.ensures.stopped,
+        (at.low_i, some_own at (λ empty. let no = c.in-Err.ensures.none.1 empty in absurd (cc))),
+        own_stops c.requires.standing at c.in-Err.cause c.in-Err.ensures.stopped,
       );
       left = unseen_at at c.apply_own.new.node c.apply_own.new.lane c.in-Err.ensures.unchanged;
       same = (refl, refl);

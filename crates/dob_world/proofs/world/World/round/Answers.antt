@@ -1,7 +1,6 @@
 -- One event more is made, or skipped.
-use Rattle.dob_world.proofs.Common.{◌<◌, ◌∙◌, ◌≡◌, Ok, ap, arith, refl, subst, sym, ℕ, classes_of, IsStopped, round_event, round_length, Setting, Event}
+use Rattle.dob_world.proofs.Common.{◌<◌, ◌∙◌, ◌≡◌, Ok, ap, arith, refl, subst, sym, ℕ, classes_of, IsStopped, Setting, Event}
 use Rattle.dob_world.proofs.Ran.{Stepped, stepped}
-use Rattle.dob_world.proofs.Left.{kept_standing}
 use Rattle.dob_world.proofs.Driven.{one_more, round_done, round_stops}
 use Rattle.dob_world.proofs.world.World.round.Goals as goal
 
@@ -35,6 +34,3 @@ returns-in-Err-clause-stopped c =
     let low = subst (λ (k : ℕ). c.loop-place.place < k) c.round_length-place-end.ensures c.loop-place-test.true in
     round_stops c.args.self.now mid c.step.new.self c.loop-place.place c.in-Err.fault way low
     (subst (λ (e : Event). IsStopped e c.in-Err.fault mid c.step.new.self) event (c.in-Err.ensures.named way.going)) c.in-Err.ensures.stopped.1
-
-pub returns-clause-kept : goal.returns-clause-kept
-returns-clause-kept c = kept_standing c.loop-place.self c.loop-place.invariant.way.standing c.loop-place.invariant.way.going

@@ -1,5 +1,5 @@
 -- The world stands on after the event, and so the promise of the whole holds of it; or it has stopped, and is left as that stop leaves it.
-use Rattle.dob_world.proofs.Common.{◌+◌, ◌∙◌, ◌≡◌, None, Ok, ap, refl, rules, IsEventDone, IsSkipped, setting_of, state_of, IsLeft, IsStanding}
+use Rattle.dob_world.proofs.Common.{◌+◌, ◌∙◌, ◌≡◌, None, Ok, ap, rules, IsEventDone, IsSkipped, setting_of, state_of, IsLeft, IsStanding}
 use Rattle.dob_world.proofs.Bounds.{few_stop}
 use Rattle.dob_world.proofs.Promise.{standing_headline, stood_headline, stand_unchanged}
 use Rattle.dob_world.proofs.Left.{left_shown, stop_leaves}
@@ -26,9 +26,6 @@ returns-in-Ok-true-clause-done c = λ e.
     let is = done (goal.at.returns-in-Ok-true-clause-done c).In-Ok-true in
     (record { setting = is.made.setting; can = is.made.can; happens = is.made.happens }, ap (λ n. n + 1) is.same.1)
 
-pub returns-in-Ok-true-clause-setting : goal.returns-in-Ok-true-clause-setting
-returns-in-Ok-true-clause-setting c = (done (goal.at.returns-in-Ok-true-clause-setting c).In-Ok-true).made.setting
-
 pub returns-in-Ok-true-clause-headline : goal.returns-in-Ok-true-clause-headline
 returns-in-Ok-true-clause-headline c =
     let world = c.make.new.self in
@@ -41,22 +38,10 @@ returns-in-Ok-true-clause-beginnings c =
     (stood_headline (setting_of world) world.nodes.items world.lanes.items world.detector (world.steps + 1)
     (done (goal.at.returns-in-Ok-true-clause-beginnings c).In-Ok-true).stands).beginnings
 
-pub returns-in-Ok-true-clause-going : goal.returns-in-Ok-true-clause-going
-returns-in-Ok-true-clause-going c =
-    let is = done (goal.at.returns-in-Ok-true-clause-going c).In-Ok-true in
-    let none : c.args.self.now.failed ≡ None = search rules in
-    (is.same.0 ∙ none, is.stands)
-
-pub returns-in-Ok-true-clause-falls : goal.returns-in-Ok-true-clause-falls
-returns-in-Ok-true-clause-falls c = (done (goal.at.returns-in-Ok-true-clause-falls c).In-Ok-true).stands.falls
-
 pub returns-in-Ok-true-clause-silent : goal.returns-in-Ok-true-clause-silent
 returns-in-Ok-true-clause-silent c = λ ended.
     let standing : IsStanding c.args.self.now = search rules in
     absurd (((standing_headline c.args.self.now standing).silence ended).nothing c.args.event (done (goal.at.returns-in-Ok-true-clause-silent c).In-Ok-true).made.can)
-
-pub returns-in-Ok-false-clause-setting : goal.returns-in-Ok-false-clause-setting
-returns-in-Ok-false-clause-setting c = (skipped (goal.at.returns-in-Ok-false-clause-setting c).In-Ok-false).unchanged.setting
 
 pub returns-in-Ok-false-clause-headline : goal.returns-in-Ok-false-clause-headline
 returns-in-Ok-false-clause-headline c = standing_headline c.make.new.self (still (goal.at.returns-in-Ok-false-clause-headline c).In-Ok-false)
@@ -70,29 +55,10 @@ returns-in-Ok-false-clause-going c =
     let at = (goal.at.returns-in-Ok-false-clause-going c).In-Ok-false in
     ((skipped at).unchanged.failed ∙ (let none : c.args.self.now.failed ≡ None = search rules in none), still at)
 
-pub returns-in-Ok-false-clause-falls : goal.returns-in-Ok-false-clause-falls
-returns-in-Ok-false-clause-falls c = (still (goal.at.returns-in-Ok-false-clause-falls c).In-Ok-false).falls
-
-pub returns-in-Err-clause-setting : goal.returns-in-Err-clause-setting
-returns-in-Err-clause-setting c = c.in-Err.ensures.stopped.setting
-
-pub returns-in-Err-clause-stopped : goal.returns-in-Err-clause-stopped
-returns-in-Err-clause-stopped c =
-    let old = c.args.self.now in
-    ((setting_of old, state_of old, c.args.event, c.in-Err.ensures.stopped.stop), refl)
-
-pub returns-in-Err-clause-ring : goal.returns-in-Err-clause-ring
-returns-in-Err-clause-ring c = c.in-Err.ensures.stopped.same
-
 pub returns-in-Err-clause-shown : goal.returns-in-Err-clause-shown
 returns-in-Err-clause-shown c = λ memory.
     let old = c.args.self.now in
     left_shown (setting_of old) (state_of old).world c.args.event c.in-Err.fault (state_of c.make.new.self).world c.in-Err.ensures.stopped.left memory
-
-pub returns-in-Err-clause-named : goal.returns-in-Err-clause-named
-returns-in-Err-clause-named c = λ going.
-    let stopped = c.in-Err.ensures.stopped in
-    record { setting = stopped.setting; stop = stopped.stop; left = stopped.left; same = stopped.same }
 
 pub returns-in-Err-clause-unannounced : goal.returns-in-Err-clause-unannounced
 returns-in-Err-clause-unannounced c = (left (goal.at.returns-in-Err-clause-unannounced c).In-Err).unannounced

@@ -1,19 +1,21 @@
 -- The node that takes a batch.
 use Rattle.dob_world.proofs.Common.{Err, Ok, ap, refl, subst, sym, ℕ, All, Family, BatchView, IsBatchTo, ring_of, setting_of, Take}
 use Rattle.dob_safra.specs.declared.event.RingEvent.TheVariants as ring
-use Rattle.dob_world.proofs.AtLane.{AtLane, at_lane, same_at, received_at, stopped_at}
+use Rattle.dob_world.proofs.AtLane.{InWorld, at_lane, same_at}
 use Rattle.dob_world.proofs.Cuts.{cuts_stay, next_same}
 use Rattle.dob_world.proofs.Done.{event_done}
+use Rattle.dob_world.proofs.Made.{received}
 use Rattle.dob_world.proofs.Outcomes.{cant_take, some_waits}
+use Rattle.dob_world.proofs.Stopped.{take_stops}
 use Rattle.dob_world.proofs.Stood.{can_count, moved_here, batch_waits}
 use Rattle.dob_world.proofs.world.World.take.Goals as goal
 use Rattle.dob_world.proofs.world.World.take.Goals.{After-index_mut-2}
 
 -- the node and the lane that it names
-here : (c : After-index_mut-2) → AtLane (setting_of c.args.self.now) c.args.self.now.nodes.items c.args.self.now.lanes.items c.args.from c.args.to c.args.to
-    c.in-Some.place c.index_mut.result.now c.index_mut-2.result.now
-here c = at_lane (setting_of c.args.self.now) c.args.self.now.nodes.items c.args.self.now.lanes.items c.args.from c.args.to c.args.to c.in-Some.place
-    c.index_mut.result.now c.index_mut-2.result.now c.requires.standing.places c.in-Some.ensures.two.0 c.in-Some.ensures.two.1 c.in-Some.ensures.two.1
+here : (c : After-index_mut-2) → InWorld c.args.self.now c.args.from c.args.to c.args.to c.in-Some.place c.index_mut.result.now c.index_mut-2.result.now
+here c =
+    let two = c.in-Some.ensures.two in
+    at_lane c.requires.standing.places c.args.from c.args.to c.args.to c.in-Some.place c.index_mut.result.now c.index_mut-2.result.now two.0 two.1 two.1
     c.in-Some.ensures.place c.index_mut.ensures.value c.index_mut-2.ensures.value
 
 pub receive-requires-clause-sound : goal.receive-requires-clause-sound
@@ -33,68 +35,48 @@ receive-requires-clause-batches c =
     (subst (λ (m : ℕ). All (λ (b : BatchView). IsBatchTo k.family k.n m b) waiting) (sym at.node_of.of.1) at.lane_of.batches))
 
 pub count_take-requires-clause-ready : goal.count_take-requires-clause-ready
-count_take-requires-clause-ready c =
-    let world = c.args.self.now in
-    can_count (setting_of world) world.nodes.items world.lanes.items world.detector world.steps c.requires.standing c.args.from c.args.to
-    c.in-Some.ensures.two.0 c.in-Some.ensures.two.1
+count_take-requires-clause-ready c = can_count c.requires.standing c.args.from c.args.to c.in-Some.ensures.two.0 c.in-Some.ensures.two.1
 
 pub count_take-requires-clause-waiting : goal.count_take-requires-clause-waiting
 count_take-requires-clause-waiting c =
-    let world = c.args.self.now in
     let at = here (goal.at.count_take-requires-clause-waiting c).After-index_mut-2 in
-    batch_waits (setting_of world) world.nodes.items world.lanes.items world.detector world.steps c.requires.standing c.args.from c.args.to at.low_i at.low_j
-    (some_waits (setting_of world) world.nodes.items world.lanes.items c.index_mut.result.now c.index_mut-2.result.now at.places.lanes_whole c.args.from
-    c.args.to at.low_i at.low_j at.lane_is
-    (λ empty. let no = c.in-Ok-true.ensures.none.1 empty in let yes = c.in-Ok-true.field-0-test in absurd (cc)))
+    batch_waits c.requires.standing c.args.from c.args.to at.low_i at.low_j
+    (some_waits at (λ empty. let no = c.in-Ok-true.ensures.none.1 empty in let yes = c.in-Ok-true.field-0-test in absurd (cc)))
 
 pub returns-in-Ok-true-clause-done : goal.returns-in-Ok-true-clause-done
 returns-in-Ok-true-clause-done c = λ e.
-    let world = c.args.self.now in
     let stand = c.requires.standing in
     let at = here (goal.at.returns-in-Ok-true-clause-done c).After-index_mut-2 in
+    let after = c.receive.new.node in
     let step = c.in-Ok-true.ensures.received (ap Ok c.in-Ok-true.field-0-test) in
-    let out = received_at (setting_of world) world.nodes.items world.lanes.items world.detector world.steps stand c.in-Some.place c.index_mut.result.now
-    c.receive.new.node c.index_mut-2.result.now c.receive.new.lane c.in-Ok-true.ensures.sound c.in-Ok-true.ensures.going c.args.from c.args.to
-    c.in-Some.ensures.two.2 at step in
-    let moved = moved_here (setting_of world) world.nodes.items world.lanes.items world.detector world.steps stand (ring.Take c.args.from c.args.to)
-    (ring_of c.count_take.new.self) c.count_take.ensures.moved in
-    event_done world _ (Take c.args.from c.args.to) stand c.requires.few refl out.places c.count_take.ensures.counted
-    (cuts_stay world.node_count world.nodes.items c.args.to c.index_mut.result.now c.receive.new.node (ring_of world.detector) (ring_of c.count_take.new.self)
-    at.node_is stand.cuts
-    (λ l low differs. next_same c.index_mut.result.now c.receive.new.node step.taken.same.0 step.taken.same.1 step.taken.same.2 step.taken.outboxes l)
-    moved.posted)
-    out.can (out.happens, moved) (refl, refl)
+    let now = ring_of c.count_take.new.self in
+    let moved = moved_here stand (ring.Take c.args.from c.args.to) now c.count_take.ensures.moved in
+    event_done c.args.self.now _ (Take c.args.from c.args.to) stand c.requires.few refl
+    (received stand at c.in-Some.ensures.two.2 after c.receive.new.lane step c.in-Ok-true.ensures.sound c.in-Ok-true.ensures.going now moved)
+    c.count_take.ensures.counted
+    (cuts_stay stand at.node_at after now (λ l low differs. next_same c.index_mut.result.now after step.taken.same step.taken.outboxes l) moved.posted)
+    (refl, refl)
 
 pub returns-in-Ok-false-clause-skipped : goal.returns-in-Ok-false-clause-skipped
 returns-in-Ok-false-clause-skipped c = λ e.
-    let world = c.args.self.now in
     let at = here (goal.at.returns-in-Ok-false-clause-skipped c).After-index_mut-2 in
     let none = ap Ok c.in-Ok-false.field-0-test in
     let same = same_at at c.receive.new.node c.receive.new.lane (c.in-Ok-false.ensures.nothing none) in
     record {
-      cannot = λ can. cant_take (setting_of world) world.nodes.items world.lanes.items c.index_mut.result.now c.index_mut-2.result.now at.places.lanes_whole
-          c.args.from c.args.to at.low_i at.low_j at.lane_is (c.in-Ok-false.ensures.none.0 none) can.3;
+      cannot = λ can. cant_take at (c.in-Ok-false.ensures.none.0 none) can.3;
       unchanged = record { setting = refl; nodes = same.0; lanes = same.1; detector = refl; steps = refl; failed = refl };
     }
 
 pub returns-in-Err-clause-stopped : goal.returns-in-Err-clause-stopped
 returns-in-Err-clause-stopped c =
-    let world = c.args.self.now in
     let at = here (goal.at.returns-in-Err-clause-stopped c).After-index_mut-2 in
     let differs = c.in-Some.ensures.two.2 in
-    let why = stopped_at (setting_of world) world.nodes.items world.lanes.items world.detector world.steps c.requires.standing c.in-Some.place
-    c.index_mut.result.now c.receive.new.node c.index_mut-2.result.now c.receive.new.lane c.in-Err.ensures.sound c.args.from c.args.to c.in-Err.cause differs at
+    let why = take_stops c.requires.standing at differs c.receive.new.node c.receive.new.lane c.in-Err.ensures.sound c.in-Err.cause
     (λ memory. c.in-Err.ensures.unchanged (ap Err memory)) c.in-Err.ensures.front in
     record {
       setting = refl;
       stop = (
-        (
-          at.low_i,
-          at.low_j,
-          differs,
-          some_waits (setting_of world) world.nodes.items world.lanes.items c.index_mut.result.now c.index_mut-2.result.now at.places.lanes_whole c.args.from
-              c.args.to at.low_i at.low_j at.lane_is (λ empty. let no = c.in-Err.ensures.none.1 empty in absurd (cc)),
-        ),
+        (at.low_i, at.low_j, differs, some_waits at (λ empty. let no = c.in-Err.ensures.none.1 empty in absurd (cc))),
         why.0,
       );
       left = why.1;
