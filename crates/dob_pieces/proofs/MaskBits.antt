@@ -23,15 +23,13 @@ bit_is test mask square index is at lt =
 
 min-bits : (a b : Bool) → min (bit_if a) (bit_if b) ≡ bit_if (a && b)
 min-bits true true = refl
-min-bits true false = refl
 min-bits false true = refl
-min-bits false false = refl
+min-bits _ _ = refl
 
 max-bits : (a b : Bool) → max (bit_if a) (bit_if b) ≡ bit_if (a || b)
 max-bits true true = refl
-max-bits true false = refl
 max-bits false true = refl
-max-bits false false = refl
+max-bits _ _ = refl
 
 -- the squares of both
 pub IsMask-and : (f g : ℕ → Bool) (a b : ℕ) → IsMask f a → IsMask g b → IsMask (λ square. f square && g square) (bit_and a b)
@@ -53,9 +51,8 @@ IsMask-or f g a b is are = record {
 
 without-bits : (a b : Bool) → min (bit_if a) (1 - bit_if b) ≡ bit_if (a && not b)
 without-bits true true = refl
-without-bits true false = refl
 without-bits false true = refl
-without-bits false false = refl
+without-bits _ _ = refl
 
 -- the squares of the first that the second doesn't have
 pub IsMask-without : (f g : ℕ → Bool) (a b : ℕ) → IsMask f a → IsMask g b → IsMask (λ square. f square && not (g square)) (bit_and a (bit_not w16 b))
