@@ -3,9 +3,9 @@ ghost use Rattle.std.specs.Prelude.{◌≡◌, ◌<◌, ◌+◌, ◌*◌, ℕ, M
 ghost use Rattle.dob_moves.specs.declared.game_move.Move.{Move as AnyMove};
 ghost use Rattle.dob_moves.specs.Moves.{CanGo, hand_place, place as place_of};
 ghost use Rattle.dob_moves.specs.Statuses.{HasStatus};
-ghost use Rattle.dob_moves.specs.AtPlaces.{IsMoveAt, IsCatchAt, step_between, drop_on};
+ghost use Rattle.dob_moves.specs.AtPlaces.{IsMoveAt, IsCatchAt, drop_on};
 
-use crate::first_moves::{Aim, own_kind, put_on, step_onto};
+use crate::first_moves::{Aim, put_on, step_between};
 use crate::game_move::Move;
 use crate::position_status::Status;
 use crate::status_of::status;
@@ -73,22 +73,6 @@ fn squares_at(place: usize) -> (Square, Square)
         Square::new(place / Square::COUNT),
         Square::new(place % Square::COUNT),
     )
-}
-
-// The mover's step from the one square to the other, if it ends where it is aimed.
-fn step_between(setup: &Setup, aim: Aim, from: Square, to: Square) -> Option<Move>
-    ensures { result ≡ step_between aim setup.now from to }
-{
-    match own_kind(setup.at(from)) {
-        Some(kind) => {
-            if kind.leads(from, to) {
-                step_onto(aim, setup.at(to), kind, from, to)
-            } else {
-                None
-            }
-        }
-        None => None,
-    }
 }
 
 // The drop of that kind on that square by the rules of the profile.
