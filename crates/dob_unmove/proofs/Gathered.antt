@@ -1,7 +1,7 @@
 -- What the ways add, one list after the other: nothing where none can lead to an open representative.
 use Rattle.dob_unmove.proofs.Common.{◌++◌, ◌<◌, ◌∷◌, ◌≡◌, ◌≤◌, Bool, Contains, List, None, [], append-nil, arith, false, inl, inr, option_to_list, refl, subst}
 use Rattle.dob_unmove.proofs.Common.{suc, sym, true, zero, ℕ, cases_lt, Contains-append_right, trailing_zeros, w16, head_in, IsLeft, all_left, next_left}
-use Rattle.dob_unmove.proofs.Common.{none_left, without, each_below, IsMask, Setup, Gathers, IsOpenRepresentative, earlier, Undo}
+use Rattle.dob_unmove.proofs.Common.{none_left, without, each_below, IsMask, Setup, Gathers, IsOpenRepresentative, earlier, Undo, TakesAll, Adds}
 
 pub gathers_none : (Represents : Setup → ℕ → Type 0) (after : Setup) (xs : List ℕ) → Gathers Represents after [] xs xs
 gathers_none Represents after xs = refl
@@ -19,6 +19,13 @@ pub gathers_cons : (Represents : Setup → ℕ → Type 0) (after : Setup) (u : 
 gathers_cons Represents after u us xs ys zs first second = gathers_append Represents after (u ∷ []) us xs ys zs first second
 
 pub ruleset gathers = (gathers_none, gathers_append, gathers_cons)
+
+-- what the plain walk adds, way by way
+pub gathers_taken : (Represents : Setup → ℕ → Type 0) (after : Setup) (us : List Undo) (xs ys : List ℕ) → TakesAll (λ old undo new. Adds Represents after undo old new) xs us ys
+    → Gathers Represents after us xs ys
+gathers_taken Represents after [] xs ys h = h
+gathers_taken Represents after (u ∷ us) xs ys h =
+    (h.1.0, h.1.1, subst (λ (l : List ℕ). Gathers Represents after us l ys) h.1.2 (gathers_taken Represents after us h.0 ys h.2))
 
 -- the way leads back to no open representative
 abbrev pub IsDead : (Setup → ℕ → Type 0) → Setup → Undo → Type 0

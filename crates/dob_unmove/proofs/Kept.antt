@@ -88,14 +88,6 @@ shown_before family after u bits found can may t home are before =
 pub position_mirrored : (family : Family) (q image : Setup) → IsPositionOf family q → image ≡ mirrored q → IsPositionOf family image
 position_mirrored family q image is e = subst (IsPositionOf family) (sym e) (IsPositionOf-mirrored family q is)
 
--- after a walk over the one position, for the walk over its mirror image
-pub turned_image : (family : Family) (q image t s : Setup) → IsLegal q → image ≡ mirrored q → t ≡ turned q → s ≡ turned image → IsSeenTurned (IsPositionOf family) t
-    → IsSeenTurned (IsPositionOf family) s
-turned_image family q image t s legal im e f walked =
-    let same : walked.0 ≡ q
-    = sym (turned-turned walked.0 walked.1.of_set.legal.squares) ∙ ap turned (sym walked.2 ∙ e) ∙ turned-turned q legal.squares in
-    (image, position_mirrored family q image (subst (IsPositionOf family) same walked.1) im, f)
-
 -- the mirror image of a turned position is a turned one
 pub turned_legal : (q t : Setup) → IsLegal q → t ≡ mirrored (turned q) → IsSeenTurned IsLegal t
 turned_legal q t legal e = (mirrored q, IsLegal-mirrored q legal, e ∙ sym (turned-mirrored q))
