@@ -22,11 +22,8 @@ chick_below from to low_from low_to steps =
 
 departs : (profile : Profile) (kind : Kind) (from to : ℕ) → from < 12 → leads kind from to ≡ true → may_stand profile from (Some (piece_of Mover kind)) ≡ true
 departs A kind from to low steps = refl
-departs B Lion from to low steps = refl
-departs B Giraffe from to low steps = refl
-departs B Elephant from to low steps = refl
 departs B Chick from to low steps = chick_below from to low (leads-to_board Chick from to steps) steps
-departs B Hen from to low steps = refl
+departs B _ from to low steps = refl
 
 module _ (profile : Profile) (q : Setup) (twelve : length q.board ≡ 12) where
   after_stands : IsAllowed profile q → Stand profile (turned q).board

@@ -173,10 +173,7 @@ module _ (after : Setup) (threat : Threat) (t : IsSeenTurned IsLegal after) (h :
     no_lion_caught : (piece : Option Kind) → CanGiveBack after.hands.mover piece → enemy_cell piece ≢ Some (piece_of Enemy Lion)
     no_lion_caught None back e = cc
     no_lion_caught (Some Lion) back e = let none = back.1 in cc
-    no_lion_caught (Some Giraffe) back e = let same : Giraffe ≡ Lion = ap kind_of e in cc
-    no_lion_caught (Some Elephant) back e = let same : Elephant ≡ Lion = ap kind_of e in cc
-    no_lion_caught (Some Chick) back e = let same : Chick ≡ Lion = ap kind_of e in cc
-    no_lion_caught (Some Hen) back e = let same : Hen ≡ Lion = ap kind_of e in cc
+    no_lion_caught (Some kind) back e = let same : kind ≡ Lion = ap kind_of e in cc
 
     enemy_stands_still : (piece : Option Kind) (x y : ℕ) → attacks_by (enemy_cell piece) x y ≡ false
     enemy_stands_still None x y = refl
