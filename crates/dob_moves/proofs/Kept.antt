@@ -74,3 +74,5 @@ IsAllowed-Goes profile p (Put put to) q twelve allowed by =
     subst (λ (r : Setup). IsAllowed profile r) (sym (HasOutcome-is p (Put put to) q g))
     (IsAllowed-turned profile (dropped p put to) (length-dropped p put to twelve g.in_hand g.on_board g.free)
     (allowed-dropped profile p put to twelve allowed g.on_board (may profile p (Put put to) q by)))
+
+pub ruleset kept = (IsAllowed-Goes)

@@ -175,3 +175,5 @@ HasStatus-mirrored_in_A p Tried twelve h = (no_catch p twelve h.0, HasTried-mirr
 HasStatus-mirrored_in_A p Stuck twelve h = (no_catch p twelve h.0, no_try p twelve h.1, no_move p twelve h.2)
 HasStatus-mirrored_in_A p Open twelve h =
     (no_catch p twelve h.0, no_try p twelve h.1, (mirrored_move h.2.0, CanGo-mirrored p h.2.0 twelve h.2.1))
+
+pub ruleset images = (HasOutcome-mirrored)

@@ -288,3 +288,5 @@ held_few p legal k = omega (arith, legal.few k)
 -- a move that can go goes to its one outcome
 pub HasOutcome-moved : (p : Setup) (m : Move) → CanGo A p m → HasOutcome p m (turned (moved p m))
 HasOutcome-moved p m can = subst (λ r. HasOutcome p m r) (HasOutcome-is p m can.0 can.1) can.1
+
+pub ruleset outcomes = (HasOutcome-is, IsLegal-HasOutcome, total-HasOutcome)

@@ -19,6 +19,7 @@ const END: usize = FIRST_DROP + 3 * Square::COUNT;
 /// The move of an open position at that place of the move order, by the rules of the profile, or `None` if it has none there, and of any
 /// other position. The place of a step is 12 times the square that it leaves and the square that it reaches, that of a drop 144, 12 times its
 /// kind's number (chick 0, elephant 1, giraffe 2) and the square. It takes no memory.
+#[tactic(auto, using(crate::proofs::Verdicts::not_open))]
 pub fn move_at(profile: Profile, position: &Position, place: usize) -> Option<Move>
     ensures { MatchOption result ((m : AnyMove) → ¬ IsMoveAt profile position.now.setup place m) (IsMoveAt profile position.now.setup place) }
 {

@@ -78,6 +78,7 @@ fn can_move(position: &Position, masks: &Masks, hand: Hand) -> bool
 
 /// The status of the position by the rules of the profile: a catch is looked for first, then a try, then a move. Each
 /// profile gives the same.
+#[tactic(auto, using(crate::proofs::Shared::share_status))]
 pub fn status(profile: Profile, position: &Position) -> Status
     ensures { HasStatus profile position.now.setup result }
 {

@@ -95,3 +95,5 @@ IsAllowed-turned profile s e h =
     ∙ ap (λ (square : ℕ). may_stand profile square (turned_cell (at s (turned_square k)))) (sym (turned_square_twice k lt))
     ∙ may_stand-turned profile (turned_square k) (at s (turned_square k)) far
     ∙ stands-from_allowed profile s (turned_square k) e h far)
+
+pub ruleset images = (IsAllowed-mirrored)

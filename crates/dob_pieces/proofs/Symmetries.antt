@@ -90,4 +90,4 @@ leads-mirrored kind from to f t =
     beq-true _ _ (all_below-at (test from) 12 to (all_below-at (λ a. all_below (test a) 12) 12 from (steps_mirror kind) f) t)
 
 -- the laws as functions state them
-pub ruleset laws = (turned-turned, mirrored-mirrored, turned-mirrored, total-turned, total-mirrored, IsLegal-mirrored)
+pub ruleset laws = (turned-turned, mirrored-mirrored, turned-mirrored, total-turned, total-mirrored, IsLegal-mirrored, leads-mirrored)
