@@ -7,17 +7,17 @@ use Rattle.dob_unmove.proofs.predecessors.End.gather_kind.Goals as goal
 
 pub returns-in-Lion : goal.returns-in-Lion
 returns-in-Lion c =
-    let end = c.args.self.now in
-    rw (ways_of_lion end.walk.now.after.value end.to (c.requires.stands ∙ ap (λ (kind : Kind). Some (piece_of Mover kind)) c.in-Lion.is)) c.gather_steps.ensures
+    rw (ways_of_lion c.args.self.now.walk.now.after.value c.args.self.now.to (c.requires.stands ∙ ap (λ (kind : Kind). Some (piece_of Mover kind)) c.in-Lion.is))
+    c.gather_steps.ensures
 
 pub returns-in_ok-gather_steps-in-Giraffe : goal.returns-in_ok-gather_steps-in-Giraffe
 returns-in_ok-gather_steps-in-Giraffe c =
-    let end = c.args.self.now in
-    rw (ways_of_giraffe end.walk.now.after.value end.to (c.requires.stands ∙ ap (λ (kind : Kind). Some (piece_of Mover kind)) c.in-Giraffe.is))
+    rw (ways_of_giraffe c.args.self.now.walk.now.after.value c.args.self.now.to
+    (c.requires.stands ∙ ap (λ (kind : Kind). Some (piece_of Mover kind)) c.in-Giraffe.is))
     (search (rules, gathers_append))
 
 pub returns-in_ok-gather_steps-in-Elephant : goal.returns-in_ok-gather_steps-in-Elephant
 returns-in_ok-gather_steps-in-Elephant c =
-    let end = c.args.self.now in
-    rw (ways_of_elephant end.walk.now.after.value end.to (c.requires.stands ∙ ap (λ (kind : Kind). Some (piece_of Mover kind)) c.in-Elephant.is))
+    rw (ways_of_elephant c.args.self.now.walk.now.after.value c.args.self.now.to
+    (c.requires.stands ∙ ap (λ (kind : Kind). Some (piece_of Mover kind)) c.in-Elephant.is))
     (search (rules, gathers_append))

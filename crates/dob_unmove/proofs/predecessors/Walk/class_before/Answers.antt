@@ -1,18 +1,16 @@
 -- The sets show the position before the move, which was open, where the piece that was caught may stand again.
 use Rattle.dob_unmove.proofs.Common.{◌∙◌, refl, sym, IsShown, RepresentsClass, earlier}
 use Rattle.dob_unmove.proofs.Gathering.{finds_from}
-use Rattle.dob_unmove.proofs.Kept.{barred, few_turned, legal_turned, squares_turned, shown_before}
-use Rattle.dob_unmove.proofs.Threats.{was_open}
+use Rattle.dob_unmove.proofs.Kept.{barred, few_turned, legal_turned, shown_before}
+use Rattle.dob_unmove.proofs.Threats.{was_open, turned_squares}
 use Rattle.dob_unmove.proofs.predecessors.Walk.class_before.Goals as goal
 use Rattle.dob_unmove.proofs.predecessors.Walk.class_before.Goals.{After-bits_before}
 
 pub bits_before-requires : goal.bits_before-requires
 bits_before-requires c =
-    let walk = c.args.self.now in
-    let after = walk.after.value in
-    let w = c.requires.walk in
-    let legal = legal_turned walk.classes.now.family after w.of_set in
-    (after, c.requires.can, squares_turned after legal, few_turned after legal, w.ways_are.bits_are)
+    let after = c.args.self.now.after.value in
+    let legal = legal_turned c.args.self.now.classes.now.family after c.requires.walk.of_set in
+    (after, c.requires.can, turned_squares after legal, few_turned after legal, c.requires.walk.ways_are.bits_are)
 
 -- what the sets show
 shown : (c : After-bits_before) → IsShown c.args.self.now.classes.now.family (earlier c.args.self.now.after.value c.args.undo) c.bits_before.result
@@ -37,6 +35,5 @@ returns-then-may_give_back c =
 
 pub returns-else-may_give_back : goal.returns-else-may_give_back
 returns-else-may_give_back c = λ w.
-    let walk = c.args.self.now in
-    barred walk.classes.now.family walk.after.value c.args.undo c.requires.can c.requires.walk.of_set
+    barred c.args.self.now.classes.now.family c.args.self.now.after.value c.args.undo c.requires.can c.requires.walk.of_set
     (sym c.may_give_back.ensures ∙ c.if-may_give_back.false) w.1.0.0.0
