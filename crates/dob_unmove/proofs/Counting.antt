@@ -3,8 +3,8 @@ use Rattle.dob_unmove.proofs.Common.{◌++◌, ◌+◌, ◌-◌, ◌<◌, ◌==�
 use Rattle.dob_unmove.proofs.Common.{cond, get_or, inl, inr, length, length-append, option_to_list, refl, subst, sym, ℕ, cases_eq, cases_lt, eq-eqb, ne_eqb}
 use Rattle.dob_unmove.proofs.Common.{All-contains, All-head, All-nil, All-push, All-tail, Contains-append_cases, Contains-append_left, Contains-append_right}
 use Rattle.dob_unmove.proofs.Common.{AllPairs-cons, sum_by_push, count_by, length-mirrored, length-turned, cons_cases, mirrored, turned, A, Setup}
-use Rattle.dob_unmove.proofs.Common.{HasOutcome-is, HasOutcome, HasStatus, Move, Open, Adds, Finds, Gathers, IsOpenRepresentative, CanUndo, choice, earlier}
-use Rattle.dob_unmove.proofs.Common.{CountEdges, HasEdges, IsNumbering, TakesAll, undoes, Undo}
+use Rattle.dob_unmove.proofs.Common.{HasOutcome-is, HasOutcome, HasStatus, Move, Open, Finds, Gathers, IsOpenRepresentative, CanUndo, choice, earlier}
+use Rattle.dob_unmove.proofs.Common.{CountEdges, HasEdges, IsNumbering, undoes, Undo}
 use Rattle.std.proofs.lemmas.List.{append-nil, get_or_append_left, get_or-append_right, get_or_default}
 pub use Rattle.dob_classes.proofs.OfFamilies.Counted.{pairs-head, pairs-tail}
 use Rattle.dob_unmove.proofs.Undone.{HasOutcome-from_undo, undo_from_HasOutcome, same_undo}

@@ -1,9 +1,9 @@
 -- Ways that lead back to no open representative: where a piece attacked the enemy lion before, or the mover's lion wasn't at home.
 use Rattle.dob_unmove.proofs.Common.{if◌then◌else◌, ◌&&◌, ◌<◌, ◌||◌, ◌∙◌, ◌∷◌, ◌≡◌, ◌≢◌, ◌⊎◌, Bool, List, None, Option, Some, [], ap, arith, cond, false, inl}
 use Rattle.dob_unmove.proofs.Common.{inr, not, refl, subst, sym, true, true≢false, ℕ, and_parts, cases_Bool, not-true, trailing_zeros, w16, is_some, lion_at}
-use Rattle.dob_unmove.proofs.Common.{within-from_piece, each_below, is_empty, is_own, is_piece, leads, Cell, IsLegal, at, piece_of, Kind, Chick, Elephant}
+use Rattle.dob_unmove.proofs.Common.{within-from_piece, is_empty, is_own, is_piece, leads, Cell, IsLegal, at, piece_of, Kind, Chick, Elephant}
 use Rattle.dob_unmove.proofs.Common.{Giraffe, Hen, Lion, Enemy, Mover, Family, Setup, IsSeenTurned, CanWalk, Gathers, elsewhere, stood_before, CanUndo}
-use Rattle.dob_unmove.proofs.Common.{CanUnstep, arrives_at, earlier, stands, uncatch, undoes_at, unsteps, unsteps_between, unsteps_from, comes_home, is_home}
+use Rattle.dob_unmove.proofs.Common.{CanUnstep, arrives_at, earlier, stands, uncatch, undoes_at, unsteps_between, unsteps_from, comes_home, is_home}
 use Rattle.dob_unmove.proofs.Common.{may_come, may_have_ended, Threat, Undo, Unput, Unstep}
 use Rattle.dob_rank.specs.Families.{RepresentsClass}
 use Rattle.dob_unmove.specs.declared.predecessors.Walk.{Walk}

@@ -1,7 +1,7 @@
 -- What the functions that gather classes need, over plain values.
-use Rattle.dob_unmove.proofs.Common.{◌∙◌, ◌≡◌, ◌≢◌, List, None, Option, Some, [], ap, arith, false, inr, subst, sym, true, ℕ, MatchOption, is_some}
-use Rattle.dob_unmove.proofs.Common.{turned-mirrored, IsLegal, mirrored, turned, A, Setup, HasStatus, Open, Classes, Adds, Finds, Gathers, ArePredecessors}
-use Rattle.dob_unmove.proofs.Common.{CountEdges, HasEdges, IsNumbering, IsOpenPosition, TakesAll, undoes, Undo}
+use Rattle.dob_unmove.proofs.Common.{◌∙◌, ◌≡◌, ◌≢◌, List, None, Option, Some, [], arith, false, inr, subst, sym, true, ℕ, MatchOption, is_some}
+use Rattle.dob_unmove.proofs.Common.{turned-mirrored, IsLegal, mirrored, turned, A, Setup, HasStatus, Open, Finds, Gathers, ArePredecessors}
+use Rattle.dob_unmove.proofs.Common.{CountEdges, HasEdges, IsNumbering, IsOpenPosition, undoes}
 use Rattle.std.specs.List.Sorted.{IsPermutation, IsNonDecreasingBy}
 use Rattle.std.proofs.lemmas.List.Sorted.{sum_by-IsPermutation, All-permutation}
 use Rattle.dob_unmove.proofs.Counting.{counts_alone, counts_both}

@@ -1,6 +1,6 @@
 -- Taking a move back keeps the lions and the other pieces.
 use Rattle.dob_unmove.proofs.Common.{◌∙◌, ◌≡◌, ap, arith, false, length, refl, subst, sym, true, true≢false, length-set, count_by, HasFewPieces-turned}
-use Rattle.dob_unmove.proofs.Common.{IsLegal-mirrored, length-turned, turned-mirrored, turned-turned, other_side, IsAllowed, HasFewPieces, HasLionOffFarRow}
+use Rattle.dob_unmove.proofs.Common.{IsLegal-mirrored, length-turned, turned-mirrored, other_side, IsAllowed, HasFewPieces, HasLionOffFarRow}
 use Rattle.dob_unmove.proofs.Common.{HasLions, IsLegal, holds_lion, mirrored, total, turned, HandKind, Side, Enemy, Mover, Family, Setup, lions-HasOutcome}
 use Rattle.dob_unmove.proofs.Common.{total-HasOutcome, IsPositionOf, IsPositionOf-mirrored, AreBitboards, IsShown, Bitboards, IsSeenTurned, CanUndo, choice}
 use Rattle.dob_unmove.proofs.Common.{earlier, may_give_back, Undo, Unput, Unstep}
@@ -64,7 +64,6 @@ barred family after u can t isnt is =
     let there = subst (λ (x : Setup). IsPositionOf family (earlier x u)) t.2 is in
     let may = gives_back family.profile t.0 t.1.of_set.legal.squares u (subst (λ (x : Setup). CanUndo x u) t.2 can) there.of_set.legal.squares there.allowed in
     true≢false (sym may ∙ isnt)
-
 
 pub few_turned : (after : Setup) → IsSeenTurned IsLegal after → HasFewPieces after
 few_turned after t = subst HasFewPieces (sym t.2) (HasFewPieces-turned t.0 t.1.squares t.1.few)

@@ -1,7 +1,7 @@
 -- Before each way that is gone through the mover's lion stood off row 4: it moved from a home, or it stands on one.
-use Rattle.dob_unmove.proofs.Common.{◌&&◌, ◌||◌, ◌∙◌, ◌≡◌, ◌≢◌, ◌≤◌, Bool, None, Option, Some, ap, arith, inl, inr, nat_lt, refl, sym, true, ℕ, and_parts}
-use Rattle.dob_unmove.proofs.Common.{cases_eq, ltb-true, get_or-set_other, one_lion, is_kind, is_piece, is_side, Cell, HasLionOffFarRow, HasLions, IsLegal, at}
-use Rattle.dob_unmove.proofs.Common.{piece_of, HandKind, Kind, Chick, Elephant, Giraffe, Hen, Lion, Side, Enemy, Mover, Setup, kind_of, side_of, IsSeenTurned}
+use Rattle.dob_unmove.proofs.Common.{◌||◌, ◌∙◌, ◌≡◌, ◌≢◌, ◌≤◌, Bool, None, Option, Some, ap, arith, inl, inr, nat_lt, sym, true, ℕ, and_parts}
+use Rattle.dob_unmove.proofs.Common.{cases_eq, ltb-true, get_or-set_other, one_lion, is_piece, HasLionOffFarRow, HasLions, IsLegal, at}
+use Rattle.dob_unmove.proofs.Common.{piece_of, HandKind, Kind, Lion, Enemy, Mover, Setup, kind_of, side_of, IsSeenTurned}
 use Rattle.dob_unmove.proofs.Common.{IsThreat, CanUndo, CanUnstep, earlier, enemy_cell, HasLionHome, TellsHome, comes_home, is_home, may_come, may_have_ended}
 use Rattle.dob_unmove.proofs.Common.{Threat, Unput, Unstep}
 use Rattle.dob_unmove.proofs.Homes.{either_true}

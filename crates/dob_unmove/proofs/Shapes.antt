@@ -1,8 +1,7 @@
 -- Where the ways of a list end, and from where they come.
-use Rattle.dob_unmove.proofs.Common.{◌&&◌, ◌++◌, ◌≡◌, Contains, List, None, Option, Some, ap, inl, inr, not, sym, true, ℕ, Contains-append_cases, is_some}
-use Rattle.dob_unmove.proofs.Common.{cond_sound, cons_cases, each_sound, kind_on_board, leads, at, HandKind, Kind, Chick, Elephant, Giraffe, Hen, Lion, Setup}
+use Rattle.dob_unmove.proofs.Common.{◌&&◌, ◌≡◌, Contains, None, Option, Some, ap, not, sym, true, ℕ, is_some}
+use Rattle.dob_unmove.proofs.Common.{cond_sound, each_sound, kind_on_board, leads, at, HandKind, Kind, Setup}
 use Rattle.dob_unmove.proofs.Common.{holds_caught, stands, uncatch, undoes_at, unputs, unsteps, unsteps_between, unsteps_from, Undo, Unput, Unstep}
-use Rattle.dob_pieces.specs.declared.kind.HandKind.TheVariants as hand
 use Rattle.dob_unmove.proofs.Listed.{if_so_sound, by_catch, by_kind}
 
 -- the square on which the move ended

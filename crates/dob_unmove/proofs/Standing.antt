@@ -1,9 +1,8 @@
 -- What the piece that stands on a square says of the ways that end there: only lists of its own kind have some.
-use Rattle.dob_unmove.proofs.Common.{◌++◌, ◌==◌, ◌∙◌, ◌∷◌, ◌≡◌, Bool, List, Some, [], ap, append-nil, cond, false, refl, subst, sym, true, ℕ, each_below}
-use Rattle.dob_unmove.proofs.Common.{is_kind, kind_on_board, Cell, at, piece_of, row, HandKind, Kind, Chick, Elephant, Giraffe, Hen, Lion, Mover, Setup}
-use Rattle.dob_unmove.proofs.Common.{Gathers, arrives_at, if_so, stands, undoes_at, unputs, unsteps, unsteps_from, Undo, Unput}
+use Rattle.dob_unmove.proofs.Common.{◌++◌, ◌==◌, ◌∷◌, ◌≡◌, Bool, Some, [], ap, append-nil, cond, false, refl, true, ℕ}
+use Rattle.dob_unmove.proofs.Common.{is_kind, kind_on_board, at, piece_of, row, HandKind, Kind, Chick, Elephant, Giraffe, Hen, Lion, Mover, Setup}
+use Rattle.dob_unmove.proofs.Common.{arrives_at, if_so, stands, undoes_at, unputs, unsteps, Unput}
 use Rattle.dob_pieces.specs.declared.kind.HandKind.TheVariants as hand
-use Rattle.dob_unmove.proofs.Gathered.{gathers_append}
 use Rattle.dob_unmove.proofs.Listed.{stands-from}
 
 -- no chick becomes one of the others

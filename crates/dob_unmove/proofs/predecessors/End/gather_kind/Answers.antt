@@ -1,7 +1,7 @@
 -- the lists of the kind, since the others are empty
-use Rattle.dob_unmove.proofs.Common.{◌∙◌, Some, ap, on_ok_weaker, piece_of, Kind, Mover, RepresentsClass}
+use Rattle.dob_unmove.proofs.Common.{◌∙◌, Some, ap, piece_of, Kind, Mover}
 use Rattle.std.proofs.Common.{rules}
-use Rattle.dob_unmove.proofs.Gathered.{gathers, gathers_append}
+use Rattle.dob_unmove.proofs.Gathered.{gathers_append}
 use Rattle.dob_unmove.proofs.Standing.{ways_of_lion, ways_of_giraffe, ways_of_elephant}
 use Rattle.dob_unmove.proofs.predecessors.End.gather_kind.Goals as goal
 

@@ -23,7 +23,7 @@ returns c =
     let twelve = turned_squares after c.requires.legal in
     let low : place < 12 = omega (arith, within, twelve) in
     let known : (stays : Bool) → TellsHome after threat.lion stays → IsMask (may_have_ended after threat stays) c.if-masks-homes-eq0.ends
-        → AreWays after (record { bits = c.args.bits; masks = masks; threat = threat; homes = c.homes_of-homes.result; ends = c.if-masks-homes-eq0.ends })
+    → AreWays after (record { bits = c.args.bits; masks = masks; threat = threat; homes = c.homes_of-homes.result; ends = c.if-masks-homes-eq0.ends })
     = λ stays home ends. record {
       bits_are = c.requires.bits;
       masks_are = are;
