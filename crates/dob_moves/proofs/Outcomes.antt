@@ -190,7 +190,8 @@ module _ (p : Setup) (kind : Kind) (from to : ℕ) (grows : Bool) (twelve : leng
   unfolding stepped
   free-stepped free k low e =
       free-set (set p.board from None) to _ k (own_piece (arrives_as kind grows))
-      (free-set p.board from None k (λ none. cc) (free k low) (within-from_piece p from (piece_of Mover kind) s.own)) (rw length-set (omega (arith, on_board))) e
+      (free-set p.board from None k (λ none. cc) (free k low) (within-from_piece p from (piece_of Mover kind) s.own))
+      (rw length-set (omega (arith, on_board))) e
 
   -- a step keeps a position legal
   legal-stepped : IsLegal p → IsFreeOfTry p → IsLegal (turned (stepped p kind from to grows))

@@ -115,7 +115,8 @@ steps_by_rising aim p kind from lt =
       at_square : (to : ℕ) → Rising place (12 * from + to) (12 * from + suc to) (option_to_list (step_to aim p kind from to))
       at_square to = subst (λ (high : ℕ). Rising place (12 * from + to) high (option_to_list (step_to aim p kind from to)))
           (let e : suc (12 * from + to) ≡ 12 * from + suc to = omega arith in e)
-          (rising-option (12 * from + to) (step_to aim p kind from to) (λ m e. step_place aim kind from to (at p to) m (cond_some (leads kind from to) (step_onto aim (at p to) kind from to) m e).1))
+          (rising-option (12 * from + to) (step_to aim p kind from to)
+          (λ m e. step_place aim kind from to (at p to) m (cond_some (leads kind from to) (step_onto aim (at p to) kind from to) m e).1))
 
 found_in_steps_by : (aim : Aim) (p : Setup) (kind : Kind) (from to : ℕ) (m : Move) → from < 12
     → IsFound aim p kind from to m → Contains (steps_by aim p kind from) m

@@ -63,7 +63,8 @@ listed_goes profile p m h =
     ]
 
 -- where the game isn't over, the steps and then the drops are the moves
-pub going_on : (profile : Profile) (p : Setup) → length p.board ≡ 12 → ¬ CanCatch p → ¬ HasTried p → AreMoves profile p (all_steps Elsewhere p ++ all_drops profile p)
+pub going_on : (profile : Profile) (p : Setup) → length p.board ≡ 12 → ¬ CanCatch p → ¬ HasTried p
+    → AreMoves profile p (all_steps Elsewhere p ++ all_drops profile p)
 going_on profile p len no_catch no_try = record {
   sound = λ m here. let goes = listed_goes profile p m here in ((no_catch, no_try, (m, goes)), goes);
   whole = λ m is_open goes. move_listed profile p len m goes;

@@ -21,7 +21,8 @@ gathers_cons Represents after u us xs ys zs first second = gathers_append Repres
 pub ruleset gathers = (gathers_none, gathers_append, gathers_cons)
 
 -- what the plain walk adds, way by way
-pub gathers_taken : (Represents : Setup → ℕ → Type 0) (after : Setup) (us : List Undo) (xs ys : List ℕ) → TakesAll (λ old undo new. Adds Represents after undo old new) xs us ys
+pub gathers_taken : (Represents : Setup → ℕ → Type 0) (after : Setup) (us : List Undo) (xs ys : List ℕ)
+    → TakesAll (λ old undo new. Adds Represents after undo old new) xs us ys
     → Gathers Represents after us xs ys
 gathers_taken Represents after [] xs ys h = h
 gathers_taken Represents after (u ∷ us) xs ys h =

@@ -10,7 +10,8 @@ pub returns : goal.returns
 returns c =
     let walk = c.args.self.now.walk.now in
     let to = c.args.self.now.to in
-    let steps : Gathers (RepresentsClass walk.classes.now.family) walk.after.value (unsteps walk.after.value Chick to) c.args.found.now.items c.if-row-ne3.found.items
+    let steps : Gathers (RepresentsClass walk.classes.now.family) walk.after.value (unsteps walk.after.value Chick to)
+    c.args.found.now.items c.if-row-ne3.found.items
     = elim c.if-row-ne3.branch [
       | then-row-ne3+in_ok-gather_steps w ↦ rw w.found-is w.in_ok-gather_steps.ensures
       | else-row-ne3 w ↦
@@ -18,5 +19,6 @@ returns c =
     ] in
     rw (ways_of_chick walk.after.value to c.requires.stands)
     (on_ok_weaker c.gather_put.result
-    (gathers_append (RepresentsClass walk.classes.now.family) walk.after.value (unsteps walk.after.value Chick to) (unputs walk.after.value hand.Chick to) _ _ _ steps)
+    (gathers_append (RepresentsClass walk.classes.now.family) walk.after.value (unsteps walk.after.value Chick to)
+    (unputs walk.after.value hand.Chick to) _ _ _ steps)
     c.gather_put.ensures)

@@ -9,7 +9,8 @@ pub returns : goal.returns
 returns c =
     let walk = c.args.self.now.walk.now in
     let to = c.args.self.now.to in
-    let growths : Gathers (RepresentsClass walk.classes.now.family) walk.after.value (unsteps walk.after.value Chick to) c.args.found.now.items c.if-row-eq3.found.items
+    let growths : Gathers (RepresentsClass walk.classes.now.family) walk.after.value (unsteps walk.after.value Chick to)
+    c.args.found.now.items c.if-row-eq3.found.items
     = elim c.if-row-eq3.branch [
       | then-row-eq3+in_ok-gather_steps w ↦ rw w.found-is w.in_ok-gather_steps.ensures
       | else-row-eq3 w ↦
@@ -17,5 +18,6 @@ returns c =
     ] in
     rw (ways_of_hen walk.after.value to c.requires.stands)
     (on_ok_weaker c.gather_steps-2.result
-    (gathers_append (RepresentsClass walk.classes.now.family) walk.after.value (unsteps walk.after.value Chick to) (unsteps walk.after.value Hen to) _ _ _ growths)
+    (gathers_append (RepresentsClass walk.classes.now.family) walk.after.value (unsteps walk.after.value Chick to)
+    (unsteps walk.after.value Hen to) _ _ _ growths)
     c.gather_steps-2.ensures)

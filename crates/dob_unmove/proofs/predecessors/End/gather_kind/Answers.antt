@@ -7,7 +7,8 @@ use Rattle.dob_unmove.proofs.predecessors.End.gather_kind.Goals as goal
 
 pub returns-in-Lion : goal.returns-in-Lion
 returns-in-Lion c =
-    rw (ways_of_lion c.args.self.now.walk.now.after.value c.args.self.now.to (c.requires.stands ∙ ap (λ (kind : Kind). Some (piece_of Mover kind)) c.in-Lion.is))
+    rw (ways_of_lion c.args.self.now.walk.now.after.value c.args.self.now.to
+    (c.requires.stands ∙ ap (λ (kind : Kind). Some (piece_of Mover kind)) c.in-Lion.is))
     c.gather_steps.ensures
 
 pub returns-in_ok-gather_steps-in-Giraffe : goal.returns-in_ok-gather_steps-in-Giraffe
