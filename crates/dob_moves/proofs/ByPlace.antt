@@ -1,13 +1,14 @@
 -- What is looked for at a place of the move order is the move there.
-use Rattle.dob_moves.proofs.Common.{◌&&◌, ◌*◌, ◌+◌, ◌<◌, ◌≡◌, ◌≤◌, Bool, MatchOption, None, Option, Some, arith, cond, false, length, nat_lt, refl, subst, sym}
-use Rattle.dob_moves.proofs.Common.{true, ℕ, and_parts, lt-ltb, ltb-true, leads-to_board, within-from_piece, own_kind, leads, Cell, at, held, piece_of}
-use Rattle.dob_moves.proofs.Common.{HandKind, Kind, Mover, Profile, Setup, CanGo, first_drop, hand_place, may_put, place, put_if, step_onto, Aim, AtLion}
+use Rattle.dob_moves.proofs.Common.{◌&&◌, ◌*◌, ◌+◌, ◌<◌, ◌≡◌, ◌≤◌, Bool, MatchOption, None, Option, Some, arith, length, nat_lt, refl, subst, sym}
+use Rattle.dob_moves.proofs.Common.{true, ℕ, and_parts, lt-ltb, ltb-true, leads-to_board, within-from_piece, own_kind, at, held, piece_of}
+use Rattle.dob_moves.proofs.Common.{HandKind, Kind, Mover, Profile, Setup, CanGo, first_drop, hand_place, may_put, place, put_if, Aim, AtLion}
 use Rattle.dob_moves.proofs.Common.{Elsewhere, Move, Put, Step}
 use Rattle.dob_pieces.specs.declared.kind.HandKind.TheVariants as hand
 use Rattle.dob_moves.specs.AtPlaces.{step_of, step_between, drop_on}
 use Rattle.dob_pieces.proofs.OwnKinds.{own_cell}
 use Rattle.dob_moves.proofs.ByProfile.{goes, may, can_go, can_go_in}
-use Rattle.dob_moves.proofs.Reach.{IsFound, Meets, go_found, lion_found, step_sound, step_place, step_may}
+use Rattle.dob_moves.proofs.Reach.{step_to_is, put_sound, IsFound, Meets, go_found, lion_found, step_may}
+use Rattle.dob_moves.proofs.Runs.{cond_some}
 
 -- the same as one fact of a move
 pub as_pairs : (P : Move → Type 0) (there : ℕ) (o : Option Move) → MatchOption o ((m : Move) → P m → place m ≡ there → ⊥) (λ m. P m × (place m ≡ there))
@@ -20,20 +21,12 @@ as_pairs P there (Some m) is = is
 -- what is found is such a step, and stands there
 step_is : (aim : Aim) (p : Setup) (from to : ℕ) (m : Move) → step_between aim p from to ≡ Some m → Meets aim p m × (place m ≡ 12 * from + to)
 step_is aim p from to m e = by_own (own_kind (at p from)) refl e where
-  by_lead : (kind : Kind) (b : Bool) → at p from ≡ Some (piece_of Mover kind) → leads kind from to ≡ b
-      → cond b (step_onto aim (at p to) kind from to) None ≡ Some m → Meets aim p m × (place m ≡ 12 * from + to)
-  by_lead kind false own leads e = cc
-  by_lead kind true own leads e = (
-    step_sound aim p kind from to (at p to) m (record { own = own; leads = leads }) refl e,
-    step_place aim kind from to (at p to) m e,
-  )
-
   by_own : (o : Option Kind) → own_kind (at p from) ≡ o → step_of aim p o from to ≡ Some m → Meets aim p m × (place m ≡ 12 * from + to)
   by_own None own e = cc
-  by_own (Some kind) own e = by_lead kind (leads kind from to) (own_cell (at p from) kind own) refl e
+  by_own (Some kind) own e = step_to_is aim p kind from to m (own_cell (at p from) kind own) e
 
 -- each such step is found at its place
-found_there : (aim : Aim) (p : Setup) (kind : Kind) (from to : ℕ) (m : Move) → IsFound aim p kind from to m → step_between aim p from to ≡ Some m
+pub found_there : (aim : Aim) (p : Setup) (kind : Kind) (from to : ℕ) (m : Move) → IsFound aim p kind from to m → step_between aim p from to ≡ Some m
 found_there aim p kind from to m h = rw (h.step.own, h.step.leads) h.found
 
 one_place : (f t from to : ℕ) → t < 12 → to < 12 → 12 * f + t ≡ 12 * from + to → f ≡ from
@@ -79,26 +72,10 @@ step_goes profile p from to (Some m) low high e =
 
 drop_is : (profile : Profile) (p : Setup) (kind : HandKind) (to : ℕ) (m : Move) → to < 12 → drop_on profile p kind to ≡ Some m
     → CanGo profile p m × (place m ≡ first_drop + 12 * hand_place kind + to)
-drop_is profile p kind to m lt e = by_test (nat_lt 0 (held p.hands.mover kind) && may_put profile kind to) (at p to) refl refl e where
-  by_test : (b : Bool) (cell : Cell) → nat_lt 0 (held p.hands.mover kind) && may_put profile kind to ≡ b → at p to ≡ cell
-      → cond b (put_if cell kind to) None ≡ Some m → CanGo profile p m × (place m ≡ first_drop + 12 * hand_place kind + to)
-  by_test true None passes free e =
-      let parts = and_parts (nat_lt 0 (held p.hands.mover kind)) (may_put profile kind to) passes in
-      let same : Put kind to ≡ m = cc in
-      subst (λ (x : Move). CanGo profile p x × (place x ≡ first_drop + 12 * hand_place kind + to)) same (
-        can_go_in profile p (Put kind to) (
-          _,
-          record {
-            in_hand = ltb-true 0 (held p.hands.mover kind) parts.0;
-            on_board = lt;
-            free = free;
-            outcome = refl;
-          },
-        ) parts.1,
-        refl,
-      )
-  by_test true (Some piece) passes stands e = cc
-  by_test false cell passes stands e = cc
+drop_is profile p kind to m lt e =
+    let on = cond_some (nat_lt 0 (held p.hands.mover kind) && may_put profile kind to) (put_if (at p to) kind to) m e in
+    let parts = and_parts (nat_lt 0 (held p.hands.mover kind)) (may_put profile kind to) on.0 in
+    put_sound profile p kind to m lt (ltb-true 0 (held p.hands.mover kind) parts.0) parts.1 on.1
 
 drop_found : (profile : Profile) (p : Setup) (kind : HandKind) (to : ℕ) → CanGo profile p (Put kind to) → drop_on profile p kind to ≡ Some (Put kind to)
 drop_found profile p kind to (q, g) =
@@ -112,14 +89,9 @@ drop_square profile p kind to (q, g) = (goes profile p (Put kind to) q g).on_boa
 
 pub one_kind : (a b : HandKind) → hand_place a ≡ hand_place b → a ≡ b
 one_kind hand.Chick hand.Chick e = refl
-one_kind hand.Chick hand.Elephant e = absurd (omega (arith, e))
-one_kind hand.Chick hand.Giraffe e = absurd (omega (arith, e))
-one_kind hand.Elephant hand.Chick e = absurd (omega (arith, e))
 one_kind hand.Elephant hand.Elephant e = refl
-one_kind hand.Elephant hand.Giraffe e = absurd (omega (arith, e))
-one_kind hand.Giraffe hand.Chick e = absurd (omega (arith, e))
-one_kind hand.Giraffe hand.Elephant e = absurd (omega (arith, e))
 one_kind hand.Giraffe hand.Giraffe e = refl
+one_kind _ _ e = absurd (omega (arith, e))
 
 -- a step's place is before those of drops
 pub step_before : (profile : Profile) (p : Setup) (kind : Kind) (from to : ℕ) (catch grows : Bool) → length p.board ≡ 12 → CanGo profile p (Step kind from to catch grows)
@@ -153,8 +125,7 @@ drop_goes profile p kind to (Some m) len lt e = drop_is profile p kind to m lt (
 -- no move stands behind the drops
 few_kinds : (kind : HandKind) → hand_place kind ≤ 2
 few_kinds hand.Chick = omega arith
-few_kinds hand.Elephant = omega arith
-few_kinds hand.Giraffe = omega arith
+few_kinds _ = omega arith
 
 pub none_behind : (profile : Profile) (p : Setup) (there : ℕ) → length p.board ≡ 12 → first_drop + 36 ≤ there → (m : Move) → CanGo profile p m → place m ≡ there → ⊥
 none_behind profile p there len far (Step k f t catch grows) can e =

@@ -1,11 +1,11 @@
 -- What a move by the rules of a profile leads to is allowed by it: no chick is dropped on its far row, and one that steps there grows.
 use Rattle.dob_moves.proofs.Common.{◌<◌, ◌∙◌, ◌≡◌, Bool, List, None, Some, ap, arith, false, get_or, inl, inr, length, not, refl, set, slice_index_or, subst}
 use Rattle.dob_moves.proofs.Common.{sym, true, ℕ, cases_eq, get_or-set_other, get_or-set_same, length-set, leads-to_board, within-from_piece, kind_on_board}
-use Rattle.dob_moves.proofs.Common.{IsAllowed, may_stand, Cell, piece_of, HandKind, Kind, Chick, Elephant, Giraffe, Hen, Lion, Mover, Profile, A, B, Setup}
+use Rattle.dob_moves.proofs.Common.{IsAllowed, may_stand, Cell, piece_of, HandKind, Kind, Chick, Mover, Profile, A, B, Setup}
 use Rattle.dob_moves.proofs.Common.{Goes, HasOutcome, grows_at, may_put, arrives_as, dropped, stepped, Move, Put, Step}
 use Rattle.dob_pieces.proofs.Allowed.{stands-from_allowed, allowed-from_stands, IsAllowed-turned}
 use Rattle.dob_moves.proofs.ByProfile.{goes, may}
-use Rattle.dob_moves.proofs.Outcomes.{HasOutcome-is, length-stepped, length-dropped, IsStep-from}
+use Rattle.dob_moves.proofs.Outcomes.{step_parts, HasOutcome-is, length-stepped, length-dropped, IsStep-from}
 
 -- ---- boards by a profile
 
@@ -34,17 +34,8 @@ arrival_stands : (profile : Profile) (kind : Kind) (to : ℕ) (grows : Bool) →
     → may_stand profile to (Some (piece_of Mover (arrives_as kind grows))) ≡ true
 arrival_stands A kind to grows e = refl
 arrival_stands B kind to true e = refl
-arrival_stands B Lion to false e = refl
-arrival_stands B Giraffe to false e = refl
-arrival_stands B Elephant to false e = refl
 arrival_stands B Chick to false e = ap not e
-arrival_stands B Hen to false e = refl
-
-grows_is : (p : Setup) (kind : Kind) (from to : ℕ) (catch grows : Bool) (q : Setup) → HasOutcome p (Step kind from to catch grows) q → grows_at kind to ≡ grows
-grows_is p kind from to false false q g = g.0
-grows_is p kind from to true false q g = g.0
-grows_is p kind from to false true q g = g.0
-grows_is p kind from to true true q g = g.0
+arrival_stands B _ to false e = refl
 
 -- ---- a step and a drop
 
@@ -58,7 +49,7 @@ allowed-stepped profile p kind from to catch grows q twelve allowed g =
     let lifted : length (set p.board from None) ≡ 12 = length-set p.board from None ∙ twelve in
     allowed-from_stands profile (stepped p kind from to grows) (length-stepped p kind from to grows twelve step)
     (stand-set profile (set p.board from None) to (Some (piece_of Mover (arrives_as kind grows))) (omega (arith, on, lifted))
-    (arrival_stands profile kind to grows (grows_is p kind from to catch grows q g))
+    (arrival_stands profile kind to grows (step_parts p kind from to q catch grows g).grows_is)
     (stand-set profile p.board from None within (none_stands profile from) (λ k lt. stands-from_allowed profile p k twelve allowed lt)))
 
 allowed-dropped : (profile : Profile) (p : Setup) (put : HandKind) (to : ℕ) → length p.board ≡ 12 → IsAllowed profile p → to < 12
@@ -83,3 +74,5 @@ IsAllowed-Goes profile p (Put put to) q twelve allowed by =
     subst (λ (r : Setup). IsAllowed profile r) (sym (HasOutcome-is p (Put put to) q g))
     (IsAllowed-turned profile (dropped p put to) (length-dropped p put to twelve g.in_hand g.on_board g.free)
     (allowed-dropped profile p put to twelve allowed g.on_board (may profile p (Put put to) q by)))
+
+pub ruleset kept = (IsAllowed-Goes)

@@ -1,24 +1,21 @@
 -- What the masks of a position say of its status.
-use Rattle.dob_moves.proofs.Common.{◌&&◌, ◌/◌, ◌<◌, ◌∙◌, ◌≡◌, ◌≢◌, ◌≤◌, Bool, None, Some, ap, arith, bit_and, false, inl, inr, length, refl, sym, true}
+use Rattle.dob_moves.proofs.Common.{◌&&◌, ◌/◌, ◌<◌, ◌∙◌, ◌≡◌, ◌≢◌, ◌≤◌, Bool, None, Some, ap, arith, bit_and, false, inl, inr, length, refl, sym, true, subst}
 use Rattle.dob_moves.proofs.Common.{true≢false, ℕ, and_parts, cases_lt, is_some, attacks_piece, own_attacks, one_lion, within-from_piece, IsLowest, IsMask-and}
-use Rattle.dob_moves.proofs.Common.{lowest_is, none_passes, IsMask, attacks, is_end, is_prey, leads, Cell, HasLions, at, piece_of, Kind, Chick, Elephant}
-use Rattle.dob_moves.proofs.Common.{Giraffe, Hen, Lion, Side, Enemy, Mover, A, Setup, CanGo, CatchesLion, grows_at, place, CanCatch, HasTried, IsFirstCatch}
-use Rattle.dob_moves.proofs.Common.{may_end, step_onto, Elsewhere, Move, Put, Step}
+use Rattle.dob_moves.proofs.Common.{lowest_is, none_passes, IsMask, attacks, is_end, is_prey, leads, Cell, HasLions, at, piece_of, Kind}
+use Rattle.dob_moves.proofs.Common.{Lion, Side, Enemy, Mover, A, Setup, CanGo, CatchesLion, grows_at, place, CanCatch, HasTried, IsFirstCatch}
+use Rattle.dob_moves.proofs.Common.{may_end, step_onto, Elsewhere, Move, Put, Step, Option, MatchOption, AtLion}
 use Rattle.std.specs.Int.{trailing_zeros, w16}
+use Rattle.dob_moves.specs.AtPlaces.{step_between}
 use Rattle.dob_moves.proofs.Reach.{IsStep, step_sound}
+use Rattle.dob_moves.proofs.ByPlace.{found_there}
 
 -- ---- who catches the enemy lion
-
-catches_from : (p : Setup) (from lion : ℕ) (kind : Kind) → at p lion ≡ Some (piece_of Enemy Lion) → at p from ≡ Some (piece_of Mover kind)
-    → attacks p from lion ≡ true → CatchesLion p (Step kind from lion true (grows_at kind lion))
-catches_from p from lion kind stands own is =
-    (own, sym (own_attacks (at p from) kind from lion own) ∙ is, stands, refl)
 
 -- a piece that attacks the lion catches it
 pub catch_by : (p : Setup) (from lion : ℕ) → at p lion ≡ Some (piece_of Enemy Lion) → attacks p from lion ≡ true → CanCatch p
 catch_by p from lion stands is =
     let found = attacks_piece (at p from) from lion is in
-    (Step found.0 from lion true (grows_at found.0 lion), catches_from p from lion found.0 stands found.1 is)
+    (Step found.0 from lion true (grows_at found.0 lion), (found.1, found.2, stands, refl))
 
 -- and one that catches it attacks it
 record IsAttack (p : Setup) (lion from to : ℕ) : Type 0 where
@@ -52,31 +49,27 @@ some_attack p lion mask stands are some =
     catch_by p (trailing_zeros w16 mask) lion stands it.passes
 
 -- the catch from the lowest square is the first
-pub first_attack : (p : Setup) (lion mask from : ℕ) (kind : Kind) → length p.board ≡ 12 → HasLions p → at p lion ≡ Some (piece_of Enemy Lion)
-    → IsMask (λ from. attacks p from lion) mask → mask ≢ 0 → from ≡ trailing_zeros w16 mask → at p from ≡ Some (piece_of Mover kind)
-    → IsFirstCatch p (Step kind from lion true (grows_at kind lion))
-first_attack p lion mask from kind twelve lions stands are some e own =
+pub first_attack : (p : Setup) (lion mask from : ℕ) (o : Option Move) → length p.board ≡ 12 → HasLions p → at p lion ≡ Some (piece_of Enemy Lion)
+    → IsMask (λ from. attacks p from lion) mask → mask ≢ 0 → from ≡ trailing_zeros w16 mask → o ≡ step_between AtLion p from lion
+    → MatchOption o (¬ CanCatch p) (λ m. IsFirstCatch p m)
+first_attack p lion mask from o twelve lions stands are some e looked_for =
     let it = lowest_is (λ from. attacks p from lion) mask from are (omega (arith, some)) e in
-    record { catches = catches_from p from lion kind stands own it.passes; first = least it } where
-      least : IsLowest (λ from. attacks p from lion) mask from → (other : Move) → CatchesLion p other
+    let piece = attacks_piece (at p from) from lion it.passes in
+    let step = Step piece.0 from lion true (grows_at piece.0 lion) in
+    let found = found_there AtLion p piece.0 from lion step (record { step = record { own = piece.1; leads = piece.2 }; found = rw stands refl }) in
+    subst (λ (o : Option Move). MatchOption o (¬ CanCatch p) (λ m. IsFirstCatch p m)) (sym (looked_for ∙ found))
+    (record { catches = (piece.1, piece.2, stands, refl); first = least piece.0 it }) where
+      least : (kind : Kind) → IsLowest (λ from. attacks p from lion) mask from → (other : Move) → CatchesLion p other
           → place (Step kind from lion true (grows_at kind lion)) ≤ place other
-      least it (Step other start to true grows) h =
+      least kind it (Step other start to true grows) h =
           let a = attack_of p lion other start to grows twelve lions stands h in
           let same = a.at_lion in
           elim (cases_lt start from) [
             | inl before ↦ absurd (true≢false (sym a.attacks_it ∙ it.lowest start before))
             | inr after ↦ omega (arith, same, after)
           ]
-      least it (Step other start to false grows) h = absurd h
-      least it (Put other to) h = absurd h
-
--- a piece that attacks is the mover's
-pub own_attacker : (p : Setup) (lion mask from : ℕ) → IsMask (λ from. attacks p from lion) mask → mask ≢ 0 → from ≡ trailing_zeros w16 mask
-    → (kind : Kind) × (at p from ≡ Some (piece_of Mover kind))
-own_attacker p lion mask from are some e =
-    let it = lowest_is (λ from. attacks p from lion) mask from are (omega (arith, some)) e in
-    let found = attacks_piece (at p from) from lion it.passes in
-    (found.0, found.1)
+      least kind it (Step other start to false grows) h = absurd h
+      least kind it (Put other to) h = absurd h
 
 -- ---- a try
 
@@ -94,10 +87,7 @@ end_is (Some piece) = by_piece piece.side piece.kind where
   by_piece : (side : Side) (kind : Kind) → is_prey side kind ≡ may_end Elsewhere (Some (piece_of side kind))
   by_piece Mover kind = refl
   by_piece Enemy Lion = refl
-  by_piece Enemy Giraffe = refl
-  by_piece Enemy Elephant = refl
-  by_piece Enemy Chick = refl
-  by_piece Enemy Hen = refl
+  by_piece Enemy _ = refl
 
 ends_step : (p : Setup) (kind : Kind) (from to : ℕ) → IsStep p kind from to → is_end (at p to) ≡ true → (move : Move) × CanGo A p move
 ends_step p kind from to step is =

@@ -2,10 +2,11 @@
 use Rattle.dob_moves.proofs.Common.{◌<◌, ◌==◌, ◌∙◌, ◌≡◌, ◌≢◌, List, None, Some, ap, arith, false, get_or, length, refl, set, subst, sym, true, ℕ, ⊎_elim}
 use Rattle.dob_moves.proofs.Common.{cases_eq, get_or-set_other, get_or-set_same, length-set, at-board_by, board_by-from_cells, leads-to_board, length-board_by}
 use Rattle.dob_moves.proofs.Common.{length-mirrored, within-from_piece, kind_on_board, Cell, at, board_by, mirrored, piece_of, turned, with_one_less}
-use Rattle.dob_moves.proofs.Common.{mirrored_square, row, Hands, HandKind, Kind, Chick, Elephant, Giraffe, Hen, Lion, Mover, A, Setup, mirrored_move, CanGo}
-use Rattle.dob_moves.proofs.Common.{CanTake, CatchesLion, Drops, HasOutcome, Steps, grows_at, hands_after_catch, CanCatch, HasStatus, HasTried, Move, Put, Step}
-use Rattle.dob_moves.proofs.Common.{Status, Caught, Open, Stuck, Tried}
+use Rattle.dob_moves.proofs.Common.{mirrored_square, row, Hands, HandKind, Kind, Chick, Mover, A, Setup, mirrored_move, CanGo}
+use Rattle.dob_moves.proofs.Common.{CatchesLion, Drops, HasOutcome, Steps, grows_at, CanCatch, HasStatus, HasTried, Move, Put, Step}
+use Rattle.dob_moves.proofs.Common.{Status, Caught, Open, Stuck, Tried, Bool, arrives_as, with_caught}
 use Rattle.dob_pieces.proofs.Symmetries.{mirrored_square_bound, mirrored_square_twice, at-image, mirrored-mirrored, turned-mirrored, leads-mirrored}
+use Rattle.dob_moves.proofs.Outcomes.{Met, hands_stepped, step_parts, HasOutcome-parts}
 
 -- ---- squares
 
@@ -23,11 +24,8 @@ mirrored_apart k i h apart e = apart (sym (mirrored_square_twice k h) ∙ ap mir
 
 -- a chick grows at the image where it grows
 grows_at-mirrored : (kind : Kind) (to : ℕ) → grows_at kind (mirrored_square to) ≡ grows_at kind to
-grows_at-mirrored Lion to = refl
-grows_at-mirrored Giraffe to = refl
-grows_at-mirrored Elephant to = refl
 grows_at-mirrored Chick to = ap (λ r. r == 3) (row-mirrored to)
-grows_at-mirrored Hen to = refl
+grows_at-mirrored _ to = refl
 
 -- ---- boards
 
@@ -108,34 +106,25 @@ Drops-mirrored p kind to q twelve d = record {
       (record p.hands { mover = with_one_less p.hands.mover kind }) twelve d.on_board);
 }
 
--- a catch in the mirror
-CanTake-mirrored : (p : Setup) (to : ℕ) (taken : HandKind) → to < 12 → CanTake p to taken → CanTake (mirrored p) (mirrored_square to) taken
-CanTake-mirrored p to taken k t = (t.0, at-image p to k ∙ t.1, t.2)
+-- what a step meets in the mirror
+Met-mirrored : (p : Setup) (to : ℕ) (catch : Bool) → to < 12 → Met p to catch → Met (mirrored p) (mirrored_square to) catch
+Met-mirrored p to false k free = at-image p to k ∙ free
+Met-mirrored p to true k t = (t.0, (t.1.0, at-image p to k ∙ t.1.1, t.1.2))
 
 -- a move of the mirror image leads to the mirror image
 pub HasOutcome-mirrored : (p : Setup) (move : Move) (q : Setup) → length p.board ≡ 12
     → HasOutcome p move q → HasOutcome (mirrored p) (mirrored_move move) (mirrored q)
 unfolding mirrored
-HasOutcome-mirrored p (Step kind from to false false) q twelve g =
-    let k = leads-to_board kind from to g.2.leads in
-    (grows_at-mirrored kind to ∙ g.0, at-image p to k ∙ g.1, Steps-mirrored p kind from to kind p.hands q twelve g.2)
-HasOutcome-mirrored p (Step kind from to true false) q twelve g =
-    let k = leads-to_board kind from to g.3.leads in (
-      grows_at-mirrored kind to ∙ g.0,
-      g.1,
-      CanTake-mirrored p to g.1 k g.2,
-      Steps-mirrored p kind from to kind (hands_after_catch p.hands g.1) q twelve g.3,
-    )
-HasOutcome-mirrored p (Step kind from to false true) q twelve g =
-    let k = leads-to_board kind from to g.2.leads in
-    (grows_at-mirrored kind to ∙ g.0, at-image p to k ∙ g.1, Steps-mirrored p kind from to Hen p.hands q twelve g.2)
-HasOutcome-mirrored p (Step kind from to true true) q twelve g =
-    let k = leads-to_board kind from to g.3.leads in (
-      grows_at-mirrored kind to ∙ g.0,
-      g.1,
-      CanTake-mirrored p to g.1 k g.2,
-      Steps-mirrored p kind from to Hen (hands_after_catch p.hands g.1) q twelve g.3,
-    )
+HasOutcome-mirrored p (Step kind from to catch grows) q twelve g =
+    let s = step_parts p kind from to q catch grows g in
+    let k = leads-to_board kind from to s.steps.leads in
+    HasOutcome-parts (mirrored p) kind (mirrored_square from) (mirrored_square to) (mirrored q) catch grows (record {
+      grows_is = grows_at-mirrored kind to ∙ s.grows_is;
+      met = Met-mirrored p to catch k s.met;
+      steps = subst (λ (cell : Cell). Steps (mirrored p) kind (mirrored_square from) (mirrored_square to) (arrives_as kind grows)
+          (record p.hands { mover = with_caught p.hands.mover cell }) (mirrored q)) (sym (at-image p to k))
+          (Steps-mirrored p kind from to (arrives_as kind grows) (hands_stepped p to) q twelve s.steps);
+    })
 HasOutcome-mirrored p (Put kind to) q twelve g = Drops-mirrored p kind to q twelve g
 
 -- a move that can go has one that can go for its image
@@ -186,3 +175,5 @@ HasStatus-mirrored_in_A p Tried twelve h = (no_catch p twelve h.0, HasTried-mirr
 HasStatus-mirrored_in_A p Stuck twelve h = (no_catch p twelve h.0, no_try p twelve h.1, no_move p twelve h.2)
 HasStatus-mirrored_in_A p Open twelve h =
     (no_catch p twelve h.0, no_try p twelve h.1, (mirrored_move h.2.0, CanGo-mirrored p h.2.0 twelve h.2.1))
+
+pub ruleset images = (HasOutcome-mirrored)

@@ -87,8 +87,7 @@ count_next p left place after count steps w some e gone is few =
     let it = next_left (own_at p) w.walk.upto left place w.walk.left_are some e in
     let sum = length-append w.items (steps_from Elsewhere p place) in
     let lt = it.on_board in let le = it.not_before in let low = w.few in let number = w.number in
-    let next = walk_next_at (own_at p) (steps_from Elsewhere p) left place after [] w.items (w.items ++ steps_from Elsewhere p place)
-    (from_quiet p) w.walk some e gone (λ passes. refl) in
+    let next = walk_next_at w.walk some e gone {new = w.items ++ steps_from Elsewhere p place} (from_quiet p) (λ passes. refl) in
     let upto = next.1 in
     let less = it.less in
     record {
@@ -105,6 +104,6 @@ count_next p left place after count steps w some e gone is few =
 pub count_end : (p : Setup) (left count : ℕ) → AreCounted p left count → left ≡ 0 → (count ≡ length (all_steps Elsewhere p)) × (count ≤ 12 * 12)
 unfolding all_steps
 count_end p left count w none = (
-  w.number ∙ ap length (walk_end (own_at p) (steps_from Elsewhere p) left [] w.items (from_quiet p) w.walk none),
+  w.number ∙ ap length (walk_end w.walk (from_quiet p) none),
   (let few = w.few in let bound = w.walk.bound in omega (arith, few, bound)),
 )

@@ -1,52 +1,26 @@
 -- The list of a position's moves has just its moves.
-use Rattle.dob_moves.proofs.Common.{if◌then◌else◌, ◌++◌, ◌+◌, ◌<◌, ◌||◌, ◌≡◌, Bool, None, Option, Some, [], ap, arith, false, length, refl, suc, true, zero, ℕ}
-use Rattle.dob_moves.proofs.Common.{is_some, rising-append, rising-pairs, Cell, at, holds_lion, piece_of, Kind, Chick, Elephant, Giraffe, Hen, Lion, Side}
-use Rattle.dob_moves.proofs.Common.{Enemy, Mover, Profile, Setup, first_drop, place, AreMoves, CanCatch, HasTried, all_drops, all_steps, first, AtLion}
+use Rattle.dob_moves.proofs.Common.{if◌then◌else◌, ◌++◌, ◌<◌, ◌||◌, ◌≡◌, Bool, None, Option, Some, [], ap, arith, false, length, refl, suc, true, zero, ℕ}
+use Rattle.dob_moves.proofs.Common.{is_some, at, holds_lion, piece_of, Lion}
+use Rattle.dob_moves.proofs.Common.{Enemy, Profile, Setup, AreMoves, HasTried, all_drops, all_steps, first, AtLion}
 use Rattle.dob_moves.proofs.Common.{Elsewhere, Move, Caught, Tried}
 use Rattle.dob_moves.specs.MoveLists.{has_tried, moves_of}
-use Rattle.dob_moves.proofs.Reach.{steps_rising, drops_rising}
-use Rattle.dob_moves.proofs.Verdicts.{catch_answer, listed_goes, open_answer, other_answer}
-
--- the cell with the enemy lion is the only one that has it
-enemy_lion : (cell : Cell) → holds_lion Enemy cell ≡ true → cell ≡ Some (piece_of Enemy Lion)
-enemy_lion None h = cc
-enemy_lion (Some piece) h = lion_piece piece.side piece.kind h
-  where
-    lion_piece : (side : Side) (kind : Kind) → holds_lion Enemy (Some (piece_of side kind)) ≡ true → Some (piece_of side kind) ≡ Some (piece_of Enemy Lion)
-    lion_piece Enemy Lion h = refl
-    lion_piece Enemy Giraffe h = cc
-    lion_piece Enemy Elephant h = cc
-    lion_piece Enemy Chick h = cc
-    lion_piece Enemy Hen h = cc
-    lion_piece Mover kind h = cc
+use Rattle.dob_moves.proofs.Verdicts.{catch_answer, other_answer, going_on}
+use Rattle.dob_pieces.proofs.Attacks.{is_that_lion}
 
 pub tried_at : (p : Setup) (a b c : Bool) → holds_lion Enemy (at p 0) ≡ a → holds_lion Enemy (at p 1) ≡ b → holds_lion Enemy (at p 2) ≡ c
     → a || (b || c) ≡ true → HasTried p
-tried_at p true b c at_a at_b at_c h = (0, omega arith, enemy_lion (at p 0) at_a)
-tried_at p false true c at_a at_b at_c h = (1, omega arith, enemy_lion (at p 1) at_b)
-tried_at p false false true at_a at_b at_c h = (2, omega arith, enemy_lion (at p 2) at_c)
+tried_at p true b c at_a at_b at_c h = (0, omega arith, is_that_lion Enemy (at p 0) at_a)
+tried_at p false true c at_a at_b at_c h = (1, omega arith, is_that_lion Enemy (at p 1) at_b)
+tried_at p false false true at_a at_b at_c h = (2, omega arith, is_that_lion Enemy (at p 2) at_c)
 tried_at p false false false at_a at_b at_c h = cc
 
 pub not_tried_at : (p : Setup) (a b c : Bool) → holds_lion Enemy (at p 0) ≡ a → holds_lion Enemy (at p 1) ≡ b → holds_lion Enemy (at p 2) ≡ c
     → a || (b || c) ≡ false → (square : ℕ) → square < 3 → at p square ≡ Some (piece_of Enemy Lion) → ⊥
-not_tried_at p true b c at_a at_b at_c h square low e = cc
-not_tried_at p false true c at_a at_b at_c h square low e = cc
-not_tried_at p false false true at_a at_b at_c h square low e = cc
 not_tried_at p false false false at_a at_b at_c h zero low e = let lion : holds_lion Enemy (at p 0) ≡ true = ap (holds_lion Enemy) e in cc
 not_tried_at p false false false at_a at_b at_c h (suc zero) low e = let lion : holds_lion Enemy (at p 1) ≡ true = ap (holds_lion Enemy) e in cc
 not_tried_at p false false false at_a at_b at_c h (suc (suc zero)) low e = let lion : holds_lion Enemy (at p 2) ≡ true = ap (holds_lion Enemy) e in cc
 not_tried_at p false false false at_a at_b at_c h (suc (suc (suc square))) low e = absurd (omega (arith, low))
-
--- where the game isn't over, the steps and then the drops are the moves
-going_on : (profile : Profile) (p : Setup) → length p.board ≡ 12 → ¬ CanCatch p → ¬ HasTried p → AreMoves profile p (all_steps Elsewhere p ++ all_drops profile p)
-going_on profile p twelve no_catch no_try = record {
-  sound = λ m here. let goes = listed_goes profile p m here in ((no_catch, no_try, (m, goes)), goes);
-  whole = λ m is_open goes.
-      let all = open_answer profile p twelve is_open [] (all_steps Elsewhere p) (all_steps Elsewhere p ++ all_drops profile p) refl refl refl in
-      all.whole m is_open goes;
-  ordered = rising-pairs place 0 (first_drop + 36) (all_steps Elsewhere p ++ all_drops profile p)
-      (rising-append place 0 first_drop (first_drop + 36) (all_steps Elsewhere p) (all_drops profile p) (steps_rising Elsewhere p) (drops_rising profile p));
-}
+not_tried_at p _ _ _ at_a at_b at_c h square low e = cc
 
 by_tests : (profile : Profile) (p : Setup) → length p.board ≡ 12 → (o : Option Move) (tried : Bool) → o ≡ first (all_steps AtLion p) → has_tried p ≡ tried
     → AreMoves profile p (if is_some o || tried then [] else all_steps Elsewhere p ++ all_drops profile p)

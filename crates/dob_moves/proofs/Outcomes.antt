@@ -3,47 +3,58 @@ use Rattle.dob_moves.proofs.Common.{◌&&◌, ◌+◌, ◌<◌, ◌∙◌, ◌�
 use Rattle.dob_moves.proofs.Common.{true, ℕ, ⊎_elim, cases_eq, get_or-set_other, get_or-set_same, length-set, count_by, count-moved, count-set, leads-apart}
 use Rattle.dob_moves.proofs.Common.{leads-to_board, lions-turned, one_if, total-turned, within-from_piece, kind_in_hand, kind_on_board, leads, other_side, Cell}
 use Rattle.dob_moves.proofs.Common.{IsLegal, at, held, holds_kind, holds_lion, piece_of, total, turned, with_one_less, with_one_more, Hand, Hands, HandKind}
-use Rattle.dob_moves.proofs.Common.{Kind, Chick, Elephant, Giraffe, Hen, Lion, Side, Enemy, Mover, A, Setup, CanGo, CanTake, Drops, HasOutcome, Steps, grows_at}
+use Rattle.dob_moves.proofs.Common.{Kind, Chick, Elephant, Giraffe, Hen, Lion, Side, Enemy, Mover, A, Setup, CanGo, CanTake, HasOutcome, Steps, grows_at}
 use Rattle.dob_moves.proofs.Common.{hands_after_catch, arrives_as, dropped, moved, stepped, with_caught, HasTried, Move, Put, Step}
 use Rattle.std.proofs.lemmas.Bool.{and_right, false≢true}
 use Rattle.dob_pieces.specs.declared.kind.HandKind.TheVariants as hand
 use Rattle.dob_pieces.specs.Pieces.{is_lion, is_side, counts_as}
 use Rattle.dob_moves.proofs.Turns.{sides_apart, IsFreeOfTry, IsLegal-turned}
 
--- a step's hands are those of `stepped`
-stepped_is : (p : Setup) (kind : Kind) (from to : ℕ) (grows : Bool) (hands : Hands) (q : Setup)
-    → hands ≡ record p.hands { mover = with_caught p.hands.mover (at p to) }
-    → Steps p kind from to (arrives_as kind grows) hands q → q ≡ turned (stepped p kind from to grows)
-unfolding stepped
-stepped_is p kind from to grows hands q same s =
-    s.outcome ∙ ap (λ (h : Hands). turned (record {
-      board = set (set p.board from None) to (Some (piece_of Mover (arrives_as kind grows)));
-      hands = h;
-    })) same
+-- ---- a step, whether or not it catches or grows
+
+-- what stands on its last square, by whether it catches
+abbrev pub Met : Setup → ℕ → Bool → Type 0
+Met p to false = at p to ≡ None
+Met p to true = (taken : HandKind) × CanTake p to taken
+
+-- the hands after it
+abbrev pub hands_stepped : Setup → ℕ → Hands
+hands_stepped p to = record p.hands { mover = with_caught p.hands.mover (at p to) }
+
+pub record StepParts (p : Setup) (kind : Kind) (from to : ℕ) (catch grows : Bool) (q : Setup) : Type 0 where
+  pub grows_is : grows_at kind to ≡ grows
+  pub met : Met p to catch
+  pub steps : Steps p kind from to (arrives_as kind grows) (hands_stepped p to) q
 
 -- a step to an empty square changes no hand
-hands-none : (p : Setup) (to : ℕ) → at p to ≡ None → p.hands ≡ record p.hands { mover = with_caught p.hands.mover (at p to) }
+hands-none : (p : Setup) (to : ℕ) → at p to ≡ None → p.hands ≡ hands_stepped p to
 hands-none p to e = rw e
 
 -- a catch puts the caught piece into the hand
-hands-caught : (p : Setup) (to : ℕ) (taken : HandKind) → CanTake p to taken
-    → hands_after_catch p.hands taken ≡ record p.hands { mover = with_caught p.hands.mover (at p to) }
+hands-caught : (p : Setup) (to : ℕ) (taken : HandKind) → CanTake p to taken → hands_after_catch p.hands taken ≡ hands_stepped p to
 hands-caught p to taken t = rw (t.1, t.2)
 
--- a drop goes to `dropped`
-dropped_is : (p : Setup) (kind : HandKind) (to : ℕ) (q : Setup) → Drops p kind to q → q ≡ turned (dropped p kind to)
-unfolding dropped
-dropped_is p kind to q d = d.outcome
+module _ (p : Setup) (kind : Kind) (from to : ℕ) (q : Setup) where
+  with_hands : (arrives : Kind) (a b : Hands) → a ≡ b → Steps p kind from to arrives a q → Steps p kind from to arrives b q
+  with_hands arrives a b e s = subst (λ (h : Hands). Steps p kind from to arrives h q) e s
+
+  pub step_parts : (catch grows : Bool) → HasOutcome p (Step kind from to catch grows) q → StepParts p kind from to catch grows q
+  step_parts false false g = record { grows_is = g.0; met = g.1; steps = with_hands kind _ _ (hands-none p to g.1) g.2 }
+  step_parts false true g = record { grows_is = g.0; met = g.1; steps = with_hands Hen _ _ (hands-none p to g.1) g.2 }
+  step_parts true false g = record { grows_is = g.0; met = (g.1, g.2); steps = with_hands kind _ _ (hands-caught p to g.1 g.2) g.3 }
+  step_parts true true g = record { grows_is = g.0; met = (g.1, g.2); steps = with_hands Hen _ _ (hands-caught p to g.1 g.2) g.3 }
+
+  pub HasOutcome-parts : (catch grows : Bool) → StepParts p kind from to catch grows q → HasOutcome p (Step kind from to catch grows) q
+  HasOutcome-parts false false s = (s.grows_is, s.met, with_hands kind _ _ (sym (hands-none p to s.met)) s.steps)
+  HasOutcome-parts false true s = (s.grows_is, s.met, with_hands Hen _ _ (sym (hands-none p to s.met)) s.steps)
+  HasOutcome-parts true false s = (s.grows_is, s.met.0, s.met.1, with_hands kind _ _ (sym (hands-caught p to s.met.0 s.met.1)) s.steps)
+  HasOutcome-parts true true s = (s.grows_is, s.met.0, s.met.1, with_hands Hen _ _ (sym (hands-caught p to s.met.0 s.met.1)) s.steps)
 
 -- the outcome of a move is one
 pub HasOutcome-is : (p : Setup) (m : Move) (q : Setup) → HasOutcome p m q → q ≡ turned (moved p m)
-HasOutcome-is p (Step kind from to false false) q g = stepped_is p kind from to false p.hands q (hands-none p to g.1) g.2
-HasOutcome-is p (Step kind from to true false) q g =
-    stepped_is p kind from to false (hands_after_catch p.hands g.1) q (hands-caught p to g.1 g.2) g.3
-HasOutcome-is p (Step kind from to false true) q g = stepped_is p kind from to true p.hands q (hands-none p to g.1) g.2
-HasOutcome-is p (Step kind from to true true) q g =
-    stepped_is p kind from to true (hands_after_catch p.hands g.1) q (hands-caught p to g.1 g.2) g.3
-HasOutcome-is p (Put kind to) q g = dropped_is p kind to q g
+unfolding stepped dropped
+HasOutcome-is p (Step kind from to catch grows) q g = (step_parts p kind from to q catch grows g).steps.outcome
+HasOutcome-is p (Put kind to) q g = g.outcome
 
 -- The cell has no lion, and the mover's hand gets what it has.
 record Yields (c : Cell) : Type 0 where
@@ -72,10 +83,12 @@ Yields-none = record {
 -- no lion is taken
 lion_not_taken : (caught : Kind) (taken : HandKind) → kind_in_hand caught ≡ Some taken → is_lion caught ≡ false
 lion_not_taken Lion taken e = cc
-lion_not_taken Giraffe taken e = refl
-lion_not_taken Elephant taken e = refl
-lion_not_taken Chick taken e = refl
-lion_not_taken Hen taken e = refl
+lion_not_taken _ taken e = refl
+
+-- a hen counts as a chick
+hen_counts : (k : HandKind) → counts_as k Hen ≡ counts_as k Chick
+hen_counts hand.Chick = refl
+hen_counts _ = refl
 
 -- the kind that a caught piece has in hand is the one that it counts as
 counts_as-taken : (caught : Kind) (taken : HandKind) → kind_in_hand caught ≡ Some taken
@@ -84,38 +97,23 @@ counts_as-taken Lion taken e k = cc
 counts_as-taken Giraffe taken e k = let t : hand.Giraffe ≡ taken = cc in ap (λ x. counts_as k (kind_on_board x)) t
 counts_as-taken Elephant taken e k = let t : hand.Elephant ≡ taken = cc in ap (λ x. counts_as k (kind_on_board x)) t
 counts_as-taken Chick taken e k = let t : hand.Chick ≡ taken = cc in ap (λ x. counts_as k (kind_on_board x)) t
-counts_as-taken Hen taken e hand.Chick =
-    let t : hand.Chick ≡ taken = cc in ap (λ x. counts_as hand.Chick (kind_on_board x)) t
-counts_as-taken Hen taken e hand.Elephant =
-    let t : hand.Chick ≡ taken = cc in ap (λ x. counts_as hand.Elephant (kind_on_board x)) t
-counts_as-taken Hen taken e hand.Giraffe =
-    let t : hand.Chick ≡ taken = cc in ap (λ x. counts_as hand.Giraffe (kind_on_board x)) t
+counts_as-taken Hen taken e k = let t : hand.Chick ≡ taken = cc in hen_counts k ∙ ap (λ x. counts_as k (kind_on_board x)) t
 
 -- what a hand with one more holds
 held-one_more : (h : Hand) (taken k : HandKind)
     → held (with_one_more h taken) k ≡ held h k + cond (counts_as k (kind_on_board taken)) 1 0
 held-one_more h hand.Chick hand.Chick = refl
-held-one_more h hand.Chick hand.Elephant = omega arith
-held-one_more h hand.Chick hand.Giraffe = omega arith
-held-one_more h hand.Elephant hand.Chick = omega arith
 held-one_more h hand.Elephant hand.Elephant = refl
-held-one_more h hand.Elephant hand.Giraffe = omega arith
-held-one_more h hand.Giraffe hand.Chick = omega arith
-held-one_more h hand.Giraffe hand.Elephant = omega arith
 held-one_more h hand.Giraffe hand.Giraffe = refl
+held-one_more h _ _ = omega arith
 
 -- what a hand with one less holds
 held-one_less : (h : Hand) (put k : HandKind) → 0 < held h put
     → held (with_one_less h put) k + cond (counts_as k (kind_on_board put)) 1 0 ≡ held h k
 held-one_less h hand.Chick hand.Chick some = omega arith
-held-one_less h hand.Chick hand.Elephant some = omega arith
-held-one_less h hand.Chick hand.Giraffe some = omega arith
 held-one_less h hand.Elephant hand.Chick some = omega arith
-held-one_less h hand.Elephant hand.Elephant some = omega arith
-held-one_less h hand.Elephant hand.Giraffe some = omega arith
 held-one_less h hand.Giraffe hand.Chick some = omega arith
-held-one_less h hand.Giraffe hand.Elephant some = omega arith
-held-one_less h hand.Giraffe hand.Giraffe some = omega arith
+held-one_less h _ _ some = omega arith
 
 -- a piece with a kind in hand yields it
 Yields-taken : (caught : Kind) (taken : HandKind) → kind_in_hand caught ≡ Some taken → Yields (Some (piece_of Enemy caught))
@@ -124,75 +122,35 @@ Yields-taken caught taken e = record {
   catch = λ h k. rw (e, counts_as-taken caught taken e k) (held-one_more h taken k);
 }
 
--- a kind counts as itself
-Keeps-same : (kind : Kind) → Keeps kind kind
-Keeps-same kind = record { lion = refl; counts = λ k. refl }
-
--- a hen counts as a chick
-hen_counts : (k : HandKind) → counts_as k Hen ≡ counts_as k Chick
-hen_counts hand.Chick = refl
-hen_counts hand.Elephant = refl
-hen_counts hand.Giraffe = refl
-
--- and only a chick grows into one
-Keeps-hen : (kind : Kind) (to : ℕ) → grows_at kind to ≡ true → Keeps kind Hen
-Keeps-hen Lion to e = absurd (false≢true e)
-Keeps-hen Giraffe to e = absurd (false≢true e)
-Keeps-hen Elephant to e = absurd (false≢true e)
-Keeps-hen Chick to e = record { lion = refl; counts = hen_counts }
-Keeps-hen Hen to e = absurd (false≢true e)
+-- a kind counts as what it arrives as: only a chick grows, into a hen
+Keeps-arrives : (kind : Kind) (to : ℕ) (grows : Bool) → grows_at kind to ≡ grows → Keeps kind (arrives_as kind grows)
+Keeps-arrives kind to false e = record { lion = refl; counts = λ k. refl }
+Keeps-arrives Chick to true e = record { lion = refl; counts = hen_counts }
+Keeps-arrives _ to true e = absurd (false≢true e)
 
 -- so the last square of a step yields what stands there
-Yields-free : (p : Setup) (to : ℕ) → at p to ≡ None → Yields (at p to)
-Yields-free p to e = subst (λ c. Yields c) (sym e) Yields-none
-
--- the same where it catches
-Yields-catch : (p : Setup) (to : ℕ) (taken : HandKind) → CanTake p to taken → Yields (at p to)
-Yields-catch p to taken t = subst (λ c. Yields c) (sym t.1) (Yields-taken t.0 taken t.2)
-
--- the facts of a step, put together
-step_of : (p : Setup) (kind : Kind) (from to : ℕ) (grows : Bool) (hands : Hands) (q : Setup)
-    → Steps p kind from to (arrives_as kind grows) hands q → Yields (at p to) → Keeps kind (arrives_as kind grows)
-    → IsStep p kind from to grows
-step_of p kind from to grows hands q s yields keeps = record {
-  own = s.own;
-  leads = s.leads;
-  yields = yields;
-  keeps = keeps;
-}
+Yields-met : (p : Setup) (to : ℕ) (catch : Bool) → Met p to catch → Yields (at p to)
+Yields-met p to false free = subst (λ c. Yields c) (sym free) Yields-none
+Yields-met p to true t = subst (λ c. Yields c) (sym t.1.1) (Yields-taken t.1.0 t.0 t.1.2)
 
 -- every step that can go is one
 pub IsStep-from : (p : Setup) (kind : Kind) (from to : ℕ) (catch grows : Bool) (q : Setup)
     → HasOutcome p (Step kind from to catch grows) q → IsStep p kind from to grows
-IsStep-from p kind from to false false q g = step_of p kind from to false _ q g.2 (Yields-free p to g.1) (Keeps-same kind)
-IsStep-from p kind from to true false q g =
-    step_of p kind from to false _ q g.3 (Yields-catch p to g.1 g.2) (Keeps-same kind)
-IsStep-from p kind from to false true q g =
-    step_of p kind from to true _ q g.2 (Yields-free p to g.1) (Keeps-hen kind to g.0)
-IsStep-from p kind from to true true q g =
-    step_of p kind from to true _ q g.3 (Yields-catch p to g.1 g.2) (Keeps-hen kind to g.0)
+IsStep-from p kind from to catch grows q g =
+    let s = step_parts p kind from to q catch grows g in
+    record { own = s.steps.own; leads = s.steps.leads; yields = Yields-met p to catch s.met; keeps = Keeps-arrives kind to grows s.grows_is }
 
--- an empty square holds no lion
-some_is : None ≢ Some (piece_of Enemy Lion)
-some_is e = cc
+-- where a cell without the enemy lion is put there is none
+free-set : (xs : List Cell) (i : ℕ) (cell : Cell) (k : ℕ) → cell ≢ Some (piece_of Enemy Lion) → get_or xs k None ≢ Some (piece_of Enemy Lion)
+    → i < length xs → get_or (set xs i cell) k None ≢ Some (piece_of Enemy Lion)
+free-set xs i cell k other free h e =
+    ⊎_elim
+    (λ (same : k ≡ i). other (sym (ap (λ j. get_or (set xs i cell) j None) same ∙ get_or-set_same xs i cell None h) ∙ e))
+    (λ (apart : k ≡ i → ⊥). free (sym (get_or-set_other xs i k cell None apart) ∙ e)) (cases_eq k i)
 
--- a piece of the mover makes no enemy lion, and nothing does
-free-put : (xs : List Cell) (i : ℕ) (kind : Kind) (k : ℕ) → get_or xs k None ≢ Some (piece_of Enemy Lion) → i < length xs
-    → get_or (set xs i (Some (piece_of Mover kind))) k None ≢ Some (piece_of Enemy Lion)
-free-put xs i kind k free h e =
-    ⊎_elim (λ (same : k ≡ i). sides_apart Lion kind
-    (sym e ∙ ap (λ j. get_or (set xs i (Some (piece_of Mover kind))) j None) same
-    ∙ get_or-set_same xs i (Some (piece_of Mover kind)) None h))
-    (λ (other : k ≡ i → ⊥). free (sym (get_or-set_other xs i k (Some (piece_of Mover kind)) None other) ∙ e)) (cases_eq k i)
-
--- nor does a square that is left
-free-lifted : (xs : List Cell) (i k : ℕ) → get_or xs k None ≢ Some (piece_of Enemy Lion) → i < length xs
-    → get_or (set xs i None) k None ≢ Some (piece_of Enemy Lion)
-free-lifted xs i k free h e =
-    ⊎_elim (λ (same : k ≡ i).
-    let nothing = ap (λ j. get_or (set xs i None) j None) same ∙ get_or-set_same xs i None None h in
-    some_is (sym nothing ∙ e))
-    (λ (other : k ≡ i → ⊥). free (sym (get_or-set_other xs i k None None other) ∙ e)) (cases_eq k i)
+-- a piece of the mover is no enemy lion
+own_piece : (kind : Kind) → Some (piece_of Mover kind) ≢ Some (piece_of Enemy Lion)
+own_piece kind e = sides_apart Lion kind (sym e)
 
 module _ (p : Setup) (kind : Kind) (from to : ℕ) (grows : Bool) (twelve : length p.board ≡ 12) (s : IsStep p kind from to grows) where
   on_board : to < 12
@@ -231,8 +189,9 @@ module _ (p : Setup) (kind : Kind) (from to : ℕ) (grows : Bool) (twelve : leng
   free-stepped : IsFreeOfTry p → IsFreeOfTry (stepped p kind from to grows)
   unfolding stepped
   free-stepped free k low e =
-      free-put (set p.board from None) to (arrives_as kind grows) k
-      (free-lifted p.board from k (free k low) (within-from_piece p from (piece_of Mover kind) s.own)) (rw length-set (omega (arith, on_board))) e
+      free-set (set p.board from None) to _ k (own_piece (arrives_as kind grows))
+      (free-set p.board from None k (λ none. cc) (free k low) (within-from_piece p from (piece_of Mover kind) s.own))
+      (rw length-set (omega (arith, on_board))) e
 
   -- a step keeps a position legal
   legal-stepped : IsLegal p → IsFreeOfTry p → IsLegal (turned (stepped p kind from to grows))
@@ -246,8 +205,7 @@ module _ (p : Setup) (kind : Kind) (from to : ℕ) (grows : Bool) (twelve : leng
 -- no lion is dropped
 put_lion : (put : HandKind) → is_lion (kind_on_board put) ≡ false
 put_lion hand.Chick = refl
-put_lion hand.Elephant = refl
-put_lion hand.Giraffe = refl
+put_lion _ = refl
 
 module _ (p : Setup) (put : HandKind) (to : ℕ) (twelve : length p.board ≡ 12) (some : 0 < held p.hands.mover put)
     (on : to < 12) (free_to : at p to ≡ None) where
@@ -277,7 +235,7 @@ module _ (p : Setup) (put : HandKind) (to : ℕ) (twelve : length p.board ≡ 12
 
   free-dropped : IsFreeOfTry p → IsFreeOfTry (dropped p put to)
   unfolding dropped
-  free-dropped free k low e = free-put p.board to (kind_on_board put) k (free k low) (omega arith) e
+  free-dropped free k low e = free-set p.board to _ k (own_piece (kind_on_board put)) (free k low) (omega arith) e
 
   -- a drop keeps a position legal
   legal-dropped : IsLegal p → IsFreeOfTry p → IsLegal (turned (dropped p put to))
@@ -331,3 +289,5 @@ held_few p legal k = omega (arith, legal.few k)
 -- a move that can go goes to its one outcome
 pub HasOutcome-moved : (p : Setup) (m : Move) → CanGo A p m → HasOutcome p m (turned (moved p m))
 HasOutcome-moved p m can = subst (λ r. HasOutcome p m r) (HasOutcome-is p m can.0 can.1) can.1
+
+pub ruleset outcomes = (HasOutcome-is, IsLegal-HasOutcome, total-HasOutcome)

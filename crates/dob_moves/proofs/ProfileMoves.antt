@@ -72,3 +72,5 @@ pub HasStatus-mirrored : (profile : Profile) (p : Setup) (status : Status) → I
 HasStatus-mirrored profile p status legal has =
     (share_status profile (mirrored p) status (IsLegal-mirrored p legal)).0
     (HasStatus-mirrored_in_A p status legal.squares ((share_status profile p status legal).1 has))
+
+pub ruleset images = (HasStatus-mirrored)

@@ -1,16 +1,18 @@
 -- The lists of steps and of drops have exactly the moves of the rules, in the move order.
-use Rattle.dob_moves.proofs.Common.{◌*◌, ◌++◌, ◌+◌, ◌<◌, ◌∙◌, ◌≡◌, ◌≤◌, Bool, Contains, List, None, Option, Some, ap, arith, cond, false, inl, inr, length}
+use Rattle.dob_moves.proofs.Common.{◌*◌, ◌++◌, ◌+◌, ◌<◌, ◌∙◌, ◌≡◌, Bool, Contains, List, None, Option, Some, ap, arith, cond, false, inl, inr, length}
 use Rattle.dob_moves.proofs.Common.{option_to_list, refl, subst, suc, sym, true, ℕ, lt-ltb, ltb-true, Contains-append_cases, Contains-append_left}
 use Rattle.dob_moves.proofs.Common.{Contains-append_right, is_some, leads-to_board, within-from_piece, Rising, cond_sound, cond_whole, each_sound, each_whole}
 use Rattle.dob_moves.proofs.Common.{none_in_empty, rising-append, rising-cond, rising-each, rising-lower, each_below, own_kind, kind_in_hand, leads, Cell, at}
-use Rattle.dob_moves.proofs.Common.{held, piece_of, HandKind, Kind, Chick, Elephant, Giraffe, Hen, Lion, Side, Enemy, Mover, Profile, A, Setup, CanGo, CanTake}
+use Rattle.dob_moves.proofs.Common.{held, piece_of, HandKind, Kind, Chick, Elephant, Giraffe, Hen, Lion, Side, Enemy, Mover, Profile, A, Setup, CanGo}
 use Rattle.dob_moves.proofs.Common.{CatchesLion, first_drop, grows_at, hand_place, may_go, may_put, place, IsFirstCatch, all_drops, all_steps, drops_of, first}
 use Rattle.dob_moves.proofs.Common.{may_end, put_if, put_on, step_onto, steps_by, steps_from, steps_if, Aim, AtLion, Elsewhere, Move, Put, Step}
 use Rattle.dob_pieces.specs.declared.kind.HandKind.TheVariants as hand
 use Rattle.dob_pieces.proofs.OwnKinds.{own_cell}
 use Rattle.dob_moves.proofs.ByProfile.{goes, may, can_go_in}
-use Rattle.dob_moves.proofs.Runs.{rising-below, option_sound, option_whole, rising-option, first_none, first_some, first_least}
+use Rattle.dob_moves.proofs.Outcomes.{Met, step_parts, HasOutcome-parts}
+use Rattle.dob_moves.proofs.Runs.{cond_some, rising-below, option_sound, option_whole, rising-option, first_none, first_some, first_least}
 use Rattle.dob_moves.proofs.Tables.{step_to, steps_by-squares}
+use Rattle.dob_moves.specs.Walks.{may_take}
 
 -- ---- one step
 
@@ -24,64 +26,59 @@ abbrev pub Meets : Aim → Setup → Move → Type 0
 Meets AtLion p move = CatchesLion p move
 Meets Elsewhere p move = CanGo A p move
 
-go_empty : (p : Setup) (kind : Kind) (from to : ℕ) (grows : Bool) → IsStep p kind from to → at p to ≡ None
-    → grows_at kind to ≡ grows → CanGo A p (Step kind from to false grows)
-go_empty p kind from to false s free e = (_, (e, free, record { own = s.own; leads = s.leads; outcome = refl }))
-go_empty p kind from to true s free e = (_, (e, free, record { own = s.own; leads = s.leads; outcome = refl }))
-
-go_catch : (p : Setup) (kind : Kind) (from to : ℕ) (grows : Bool) (taken : HandKind) → IsStep p kind from to
-    → CanTake p to taken → grows_at kind to ≡ grows → CanGo A p (Step kind from to true grows)
-go_catch p kind from to false taken s take e = (_, (e, taken, take, record { own = s.own; leads = s.leads; outcome = refl }))
-go_catch p kind from to true taken s take e = (_, (e, taken, take, record { own = s.own; leads = s.leads; outcome = refl }))
-
-piece_sound : (aim : Aim) (p : Setup) (side : Side) (stands kind : Kind) (from to : ℕ) (m : Move) → IsStep p kind from to
-    → at p to ≡ Some (piece_of side stands) → step_onto aim (Some (piece_of side stands)) kind from to ≡ Some m → Meets aim p m
-piece_sound AtLion p Mover stands kind from to m s e h = cc
-piece_sound AtLion p Enemy Lion kind from to m s e h =
-    let same : Step kind from to true (grows_at kind to) ≡ m = cc in
-    subst (λ (x : Move). CatchesLion p x) same (s.own, s.leads, e, refl)
-piece_sound AtLion p Enemy Giraffe kind from to m s e h = cc
-piece_sound AtLion p Enemy Elephant kind from to m s e h = cc
-piece_sound AtLion p Enemy Chick kind from to m s e h = cc
-piece_sound AtLion p Enemy Hen kind from to m s e h = cc
-piece_sound Elsewhere p Mover stands kind from to m s e h = cc
-piece_sound Elsewhere p Enemy Lion kind from to m s e h = cc
-piece_sound Elsewhere p Enemy Giraffe kind from to m s e h =
-    let same : Step kind from to true (grows_at kind to) ≡ m = cc in
-    subst (λ (x : Move). CanGo A p x) same (go_catch p kind from to (grows_at kind to) hand.Giraffe s (Giraffe, e, refl) refl)
-piece_sound Elsewhere p Enemy Elephant kind from to m s e h =
-    let same : Step kind from to true (grows_at kind to) ≡ m = cc in
-    subst (λ (x : Move). CanGo A p x) same (go_catch p kind from to (grows_at kind to) hand.Elephant s (Elephant, e, refl) refl)
-piece_sound Elsewhere p Enemy Chick kind from to m s e h =
-    let same : Step kind from to true (grows_at kind to) ≡ m = cc in
-    subst (λ (x : Move). CanGo A p x) same (go_catch p kind from to (grows_at kind to) hand.Chick s (Chick, e, refl) refl)
-piece_sound Elsewhere p Enemy Hen kind from to m s e h =
-    let same : Step kind from to true (grows_at kind to) ≡ m = cc in
-    subst (λ (x : Move). CanGo A p x) same (go_catch p kind from to (grows_at kind to) hand.Chick s (Hen, e, refl) refl)
+go_step : (p : Setup) (kind : Kind) (from to : ℕ) (catch : Bool) → IsStep p kind from to → Met p to catch
+    → CanGo A p (Step kind from to catch (grows_at kind to))
+go_step p kind from to catch s met = (
+  _,
+  HasOutcome-parts p kind from to _ catch (grows_at kind to)
+      (record { grows_is = refl; met = met; steps = record { own = s.own; leads = s.leads; outcome = refl } }),
+)
 
 pub step_sound : (aim : Aim) (p : Setup) (kind : Kind) (from to : ℕ) (cell : Cell) (m : Move) → IsStep p kind from to
     → at p to ≡ cell → step_onto aim cell kind from to ≡ Some m → Meets aim p m
-step_sound AtLion p kind from to None m s e h = cc
-step_sound Elsewhere p kind from to None m s e h =
-    let same : Step kind from to false (grows_at kind to) ≡ m = cc in
-    subst (λ (x : Move). CanGo A p x) same (go_empty p kind from to (grows_at kind to) s e refl)
-step_sound aim p kind from to (Some piece) m s e h = piece_sound aim p piece.side piece.kind kind from to m s e h
+step_sound aim p kind from to cell m s here e =
+    let on = cond_some (may_end aim cell) (Some (Step kind from to (is_some cell) (grows_at kind to))) m e in
+    let same : Step kind from to (is_some cell) (grows_at kind to) ≡ m = cc on.1 in
+    subst (λ (x : Move). Meets aim p x) same (meets aim cell here on.0)
+  where
+    taken : (aim : Aim) (side : Side) (stands : Kind) → at p to ≡ Some (piece_of side stands) → may_take aim side stands ≡ true
+        → Meets aim p (Step kind from to true (grows_at kind to))
+    taken AtLion Enemy Lion there may = (s.own, s.leads, there, refl)
+    taken Elsewhere Enemy Giraffe there may = go_step p kind from to true s (hand.Giraffe, (Giraffe, there, refl))
+    taken Elsewhere Enemy Elephant there may = go_step p kind from to true s (hand.Elephant, (Elephant, there, refl))
+    taken Elsewhere Enemy Chick there may = go_step p kind from to true s (hand.Chick, (Chick, there, refl))
+    taken Elsewhere Enemy Hen there may = go_step p kind from to true s (hand.Chick, (Hen, there, refl))
+    taken _ _ _ there may = cc
+
+    meets : (aim : Aim) (cell : Cell) → at p to ≡ cell → may_end aim cell ≡ true → Meets aim p (Step kind from to (is_some cell) (grows_at kind to))
+    meets AtLion None there may = cc
+    meets Elsewhere None there may = go_step p kind from to false s there
+    meets aim (Some piece) there may = taken aim piece.side piece.kind there may
 
 -- its place
 pub step_place : (aim : Aim) (kind : Kind) (from to : ℕ) (cell : Cell) (m : Move) → step_onto aim cell kind from to ≡ Some m → place m ≡ 12 * from + to
-step_place aim kind from to cell m h = by_end (may_end aim cell) h where
-  by_end : (b : Bool) → cond b (Some (Step kind from to (is_some cell) (grows_at kind to))) None ≡ Some m → place m ≡ 12 * from + to
-  by_end false h = cc
-  by_end true h = let same : Step kind from to (is_some cell) (grows_at kind to) ≡ m = cc in sym (ap place same)
+step_place aim kind from to cell m e =
+    let on = cond_some (may_end aim cell) (Some (Step kind from to (is_some cell) (grows_at kind to))) m e in
+    let same : Step kind from to (is_some cell) (grows_at kind to) ≡ m = cc on.1 in
+    sym (ap place same)
+
+-- the same of the step of a piece that stands there
+pub step_to_is : (aim : Aim) (p : Setup) (kind : Kind) (from to : ℕ) (m : Move) → at p from ≡ Some (piece_of Mover kind)
+    → step_to aim p kind from to ≡ Some m → Meets aim p m × (place m ≡ 12 * from + to)
+step_to_is aim p kind from to m own e =
+    let on = cond_some (leads kind from to) (step_onto aim (at p to) kind from to) m e in
+    (step_sound aim p kind from to (at p to) m (record { own = own; leads = on.0 }) refl on.1, step_place aim kind from to (at p to) m on.1)
 
 -- each step of the rules is found
 catch_found : (p : Setup) (caught kind : Kind) (taken : HandKind) (from to : ℕ) (grows : Bool) → at p to ≡ Some (piece_of Enemy caught)
     → kind_in_hand caught ≡ Some taken → grows_at kind to ≡ grows → step_onto Elsewhere (at p to) kind from to ≡ Some (Step kind from to true grows)
 catch_found p Lion kind taken from to grows e t g = cc
-catch_found p Giraffe kind taken from to grows e t g = rw (e, g) refl
-catch_found p Elephant kind taken from to grows e t g = rw (e, g) refl
-catch_found p Chick kind taken from to grows e t g = rw (e, g) refl
-catch_found p Hen kind taken from to grows e t g = rw (e, g) refl
+catch_found p _ kind taken from to grows e t g = rw (e, g) refl
+
+met_found : (p : Setup) (kind : Kind) (from to : ℕ) (catch grows : Bool) → Met p to catch → grows_at kind to ≡ grows
+    → step_onto Elsewhere (at p to) kind from to ≡ Some (Step kind from to catch grows)
+met_found p kind from to false grows free g = rw (free, g) refl
+met_found p kind from to true grows t g = catch_found p t.1.0 kind t.0 from to grows t.1.1 t.1.2 g
 
 -- a step that is found, and where it starts
 pub record IsFound (aim : Aim) (p : Setup) (kind : Kind) (from to : ℕ) (m : Move) : Type 0 where
@@ -90,12 +87,9 @@ pub record IsFound (aim : Aim) (p : Setup) (kind : Kind) (from to : ℕ) (m : Mo
 
 pub go_found : (p : Setup) (kind : Kind) (from to : ℕ) (catch grows : Bool) → CanGo A p (Step kind from to catch grows)
     → IsFound Elsewhere p kind from to (Step kind from to catch grows)
-go_found p kind from to false false (q, (g, free, s)) = record { step = record { own = s.own; leads = s.leads }; found = rw (free, g) refl }
-go_found p kind from to false true (q, (g, free, s)) = record { step = record { own = s.own; leads = s.leads }; found = rw (free, g) refl }
-go_found p kind from to true false (q, (g, taken, take, s))
-    = record { step = record { own = s.own; leads = s.leads }; found = catch_found p take.0 kind taken from to false take.1 take.2 g }
-go_found p kind from to true true (q, (g, taken, take, s))
-    = record { step = record { own = s.own; leads = s.leads }; found = catch_found p take.0 kind taken from to true take.1 take.2 g }
+go_found p kind from to catch grows can =
+    let s = step_parts p kind from to can.0 catch grows can.1 in
+    record { step = record { own = s.steps.own; leads = s.steps.leads }; found = met_found p kind from to catch grows s.met s.grows_is }
 
 pub lion_found : (p : Setup) (kind : Kind) (from to : ℕ) (catch grows : Bool) → CatchesLion p (Step kind from to catch grows)
     → IsFound AtLion p kind from to (Step kind from to catch grows)
@@ -109,10 +103,7 @@ steps_by_sound : (aim : Aim) (p : Setup) (kind : Kind) (from : ℕ) (m : Move) �
 steps_by_sound aim p kind from m lt own h =
     let g : ℕ → List Move = λ to. option_to_list (step_to aim p kind from to) in
     let w = each_sound g 12 m (subst (λ (ms : List Move). Contains ms m) (steps_by-squares aim p kind from lt) h) in
-    at_square w.0 (leads kind from w.0) refl (option_sound _ m w.2) where
-      at_square : (to : ℕ) (b : Bool) → leads kind from to ≡ b → cond b (step_onto aim (at p to) kind from to) None ≡ Some m → Meets aim p m
-      at_square to false e f = cc
-      at_square to true e f = step_sound aim p kind from to (at p to) m (record { own = own; leads = e }) refl f
+    (step_to_is aim p kind from w.0 m own (option_sound _ m w.2)).0
 
 steps_by_rising : (aim : Aim) (p : Setup) (kind : Kind) (from : ℕ) → from < 12 → Rising place (12 * from) (12 * suc from) (steps_by aim p kind from)
 steps_by_rising aim p kind from lt =
@@ -121,14 +112,11 @@ steps_by_rising aim p kind from lt =
     let low : 12 * from ≡ 12 * from + 0 = omega arith in
     let high : 12 * suc from ≡ 12 * from + 12 = omega arith in
     rw (low, high, steps_by-squares aim p kind from lt) r where
-      its_place : (to : ℕ) (b : Bool) (m : Move) → cond b (step_onto aim (at p to) kind from to) None ≡ Some m → place m ≡ 12 * from + to
-      its_place to false m e = cc
-      its_place to true m e = step_place aim kind from to (at p to) m e
-
       at_square : (to : ℕ) → Rising place (12 * from + to) (12 * from + suc to) (option_to_list (step_to aim p kind from to))
       at_square to = subst (λ (high : ℕ). Rising place (12 * from + to) high (option_to_list (step_to aim p kind from to)))
           (let e : suc (12 * from + to) ≡ 12 * from + suc to = omega arith in e)
-          (rising-option (12 * from + to) (step_to aim p kind from to) (λ m e. its_place to (leads kind from to) m e))
+          (rising-option (12 * from + to) (step_to aim p kind from to)
+          (λ m e. step_place aim kind from to (at p to) m (cond_some (leads kind from to) (step_onto aim (at p to) kind from to) m e).1))
 
 found_in_steps_by : (aim : Aim) (p : Setup) (kind : Kind) (from to : ℕ) (m : Move) → from < 12
     → IsFound aim p kind from to m → Contains (steps_by aim p kind from) m
@@ -191,31 +179,29 @@ pub steps_go : (profile : Profile) (p : Setup) (m : Move) → Contains (all_step
 steps_go profile p m h =
     can_go_in profile p m (steps_sound Elsewhere p m h) (step_may profile m (rising-below 0 first_drop (all_steps Elsewhere p) m (steps_rising Elsewhere p) h))
 
-put_sound : (profile : Profile) (p : Setup) (kind : HandKind) (to : ℕ) (m : Move) → to < 12 → 0 < held p.hands.mover kind
-    → put_on profile p kind to ≡ Some m → CanGo profile p m
-put_sound profile p kind to m lt some e = by_cell (may_put profile kind to) (at p to) refl refl e where
-  by_cell : (b : Bool) (cell : Cell) → may_put profile kind to ≡ b → at p to ≡ cell → cond b (put_if cell kind to) None ≡ Some m → CanGo profile p m
-  by_cell true None here free e =
-      let same : Put kind to ≡ m = cc in
-      subst (λ (x : Move). CanGo profile p x) same
-      (can_go_in profile p (Put kind to) (_, record { in_hand = some; on_board = lt; free = free; outcome = refl }) here)
-  by_cell true (Some piece) here taken e = cc
-  by_cell false cell here stands e = cc
+put_if_some : (cell : Cell) (kind : HandKind) (to : ℕ) (m : Move) → put_if cell kind to ≡ Some m → (cell ≡ None) × (Put kind to ≡ m)
+put_if_some None kind to m e = (refl, (cc))
+put_if_some (Some piece) kind to m e = cc
+
+pub put_sound : (profile : Profile) (p : Setup) (kind : HandKind) (to : ℕ) (m : Move) → to < 12 → 0 < held p.hands.mover kind
+    → may_put profile kind to ≡ true → put_if (at p to) kind to ≡ Some m → CanGo profile p m × (place m ≡ first_drop + 12 * hand_place kind + to)
+put_sound profile p kind to m lt some may e =
+    let on = put_if_some (at p to) kind to m e in
+    subst (λ (x : Move). CanGo profile p x × (place x ≡ first_drop + 12 * hand_place kind + to)) on.1
+    (can_go_in profile p (Put kind to) (_, record { in_hand = some; on_board = lt; free = on.0; outcome = refl }) may, refl)
 
 put_place : (profile : Profile) (p : Setup) (kind : HandKind) (to : ℕ) (m : Move) → put_on profile p kind to ≡ Some m
     → place m ≡ first_drop + 12 * hand_place kind + to
-put_place profile p kind to m e = by_cell (may_put profile kind to) (at p to) e where
-  by_cell : (b : Bool) (cell : Cell) → cond b (put_if cell kind to) None ≡ Some m → place m ≡ first_drop + 12 * hand_place kind + to
-  by_cell true None e = let same : Put kind to ≡ m = cc in sym (ap place same)
-  by_cell true (Some piece) e = cc
-  by_cell false cell e = cc
+put_place profile p kind to m e =
+    sym (ap place (put_if_some (at p to) kind to m (cond_some (may_put profile kind to) (put_if (at p to) kind to) m e).1).1)
 
 drops_of_sound : (profile : Profile) (p : Setup) (kind : HandKind) (m : Move) → Contains (drops_of profile p kind) m → CanGo profile p m
 unfolding drops_of
 drops_of_sound profile p kind m h =
     let found = cond_sound _ _ m h in
     let w = each_sound (λ to. option_to_list (put_on profile p kind to)) 12 m found.1 in
-    put_sound profile p kind w.0 m w.1 (ltb-true 0 (held p.hands.mover kind) found.0) (option_sound (put_on profile p kind w.0) m w.2)
+    let on = cond_some (may_put profile kind w.0) (put_if (at p w.0) kind w.0) m (option_sound (put_on profile p kind w.0) m w.2) in
+    (put_sound profile p kind w.0 m w.1 (ltb-true 0 (held p.hands.mover kind) found.0) on.0 on.1).0
 
 drops_of_rising : (profile : Profile) (p : Setup) (kind : HandKind) → Rising place (first_drop + 12 * hand_place kind) (first_drop + 12 * hand_place kind + 12) (drops_of profile p kind)
 unfolding drops_of
@@ -254,42 +240,29 @@ drops_sound profile p m h =
 pub drops_rising : (profile : Profile) (p : Setup) → Rising place first_drop (first_drop + 36) (all_drops profile p)
 unfolding all_drops
 drops_rising profile p =
-    rising-append place first_drop (first_drop + 24) (first_drop + 36) (drops_of profile p hand.Chick ++ drops_of profile p hand.Elephant) (drops_of profile p hand.Giraffe)
-    (rising-append place first_drop (first_drop + 12) (first_drop + 24) (drops_of profile p hand.Chick) (drops_of profile p hand.Elephant)
-    (drops_of_rising profile p hand.Chick) (drops_of_rising profile p hand.Elephant))
+    rising-append place _ _ _ _ _ (rising-append place _ _ _ _ _ (drops_of_rising profile p hand.Chick) (drops_of_rising profile p hand.Elephant))
     (drops_of_rising profile p hand.Giraffe)
 
 pub drops_whole : (profile : Profile) (p : Setup) (kind : HandKind) (to : ℕ) → CanGo profile p (Put kind to) → Contains (all_drops profile p) (Put kind to)
 unfolding all_drops
-drops_whole profile p hand.Chick to h =
-    Contains-append_left (drops_of profile p hand.Chick ++ drops_of profile p hand.Elephant) (drops_of profile p hand.Giraffe) (Put hand.Chick to)
-    (Contains-append_left (drops_of profile p hand.Chick) (drops_of profile p hand.Elephant) (Put hand.Chick to) (drops_of_whole profile p hand.Chick to h))
-drops_whole profile p hand.Elephant to h =
-    Contains-append_left (drops_of profile p hand.Chick ++ drops_of profile p hand.Elephant) (drops_of profile p hand.Giraffe) (Put hand.Elephant to)
-    (Contains-append_right (drops_of profile p hand.Chick) (drops_of profile p hand.Elephant) (Put hand.Elephant to) (drops_of_whole profile p hand.Elephant to h))
-drops_whole profile p hand.Giraffe to h =
-    Contains-append_right (drops_of profile p hand.Chick ++ drops_of profile p hand.Elephant) (drops_of profile p hand.Giraffe)
-    (Put hand.Giraffe to) (drops_of_whole profile p hand.Giraffe to h)
+drops_whole profile p hand.Chick to h = let there = drops_of_whole profile p hand.Chick to h in search (Contains-append_left, Contains-append_right)
+drops_whole profile p hand.Elephant to h = let there = drops_of_whole profile p hand.Elephant to h in search (Contains-append_left, Contains-append_right)
+drops_whole profile p hand.Giraffe to h = let there = drops_of_whole profile p hand.Giraffe to h in search (Contains-append_left, Contains-append_right)
 
 -- ---- what is found says of the position
 
-pub no_catch : (p : Setup) → length p.board ≡ 12 → first (all_steps AtLion p) ≡ None → (m : Move) → CatchesLion p m → ⊥
-no_catch p len none (Step kind from to catch grows) h =
-    first_none (all_steps AtLion p) none (Step kind from to catch grows)
-    (found_in_steps AtLion p kind from to (Step kind from to catch grows) len (lion_found p kind from to catch grows h))
-no_catch p len none (Put kind to) h = h
+catch_listed : (p : Setup) → length p.board ≡ 12 → (m : Move) → CatchesLion p m → Contains (all_steps AtLion p) m
+catch_listed p len (Step kind from to catch grows) h =
+    found_in_steps AtLion p kind from to (Step kind from to catch grows) len (lion_found p kind from to catch grows h)
+catch_listed p len (Put kind to) h = absurd h
 
-first_step_least : (p : Setup) → length p.board ≡ 12 → (m : Move) → first (all_steps AtLion p) ≡ Some m
-    → (other : Move) → CatchesLion p other → place m ≤ place other
-first_step_least p len m e (Step kind from to catch grows) h =
-    first_least 0 first_drop (all_steps AtLion p) m (Step kind from to catch grows) (steps_rising AtLion p) e
-    (found_in_steps AtLion p kind from to (Step kind from to catch grows) len (lion_found p kind from to catch grows h))
-first_step_least p len m e (Put kind to) h = absurd h
+pub no_catch : (p : Setup) → length p.board ≡ 12 → first (all_steps AtLion p) ≡ None → (m : Move) → CatchesLion p m → ⊥
+no_catch p len none m h = first_none (all_steps AtLion p) none m (catch_listed p len m h)
 
 pub is_first_catch : (p : Setup) → length p.board ≡ 12 → (m : Move) → first (all_steps AtLion p) ≡ Some m → IsFirstCatch p m
 is_first_catch p len m e = record {
   catches = steps_sound AtLion p m (first_some (all_steps AtLion p) m e);
-  first = first_step_least p len m e;
+  first = λ other h. first_least 0 first_drop (all_steps AtLion p) m other (steps_rising AtLion p) e (catch_listed p len other h);
 }
 
 pub no_move : (p : Setup) → length p.board ≡ 12 → first (all_steps Elsewhere p) ≡ None → first (all_drops A p) ≡ None → (m : Move) → CanGo A p m → ⊥

@@ -1,8 +1,13 @@
 -- Optional moves as lists, and the first move of a list.
 use Rattle.dob_moves.proofs.Common.{◌<◌, ◌∷◌, ◌≡◌, ◌≤◌, Contains, List, None, Option, Some, [], ap, arith, inl, inr, option_to_list, refl, subst, suc, sym, ℕ}
-use Rattle.dob_moves.proofs.Common.{Rising, cons_cases, head_in, none_in_empty, rising-after, place, first, Move}
+use Rattle.dob_moves.proofs.Common.{Rising, cons_cases, head_in, none_in_empty, rising-after, place, first, Move, Bool, cond, true, false}
 
 -- ---- an optional move
+
+-- one that a test allows
+pub cond_some : (b : Bool) (o : Option Move) (m : Move) → cond b o None ≡ Some m → (b ≡ true) × (o ≡ Some m)
+cond_some true o m e = (refl, e)
+cond_some false o m e = cc
 
 pub option_sound : (o : Option Move) (m : Move) → Contains (option_to_list o) m → o ≡ Some m
 option_sound None m h = absurd (none_in_empty m h)

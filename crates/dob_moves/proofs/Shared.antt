@@ -1,7 +1,7 @@
 -- A position has the same status by the rules of each profile: where a chick lies in hand, a square below row 4 is empty.
 use Rattle.dob_moves.proofs.Common.{◌+◌, ◌<◌, ◌↔◌, ◌∷◌, ◌≡◌, ◌≤◌, Bool, List, None, Some, [], arith, false, length, refl, slice_index_or, suc, true, zero, ℕ}
-use Rattle.dob_moves.proofs.Common.{count_by, all_below-at, one_if, Cell, IsLegal, at, held, holds_kind, holds_lion, piece_of, total, Kind, Chick, Elephant}
-use Rattle.dob_moves.proofs.Common.{Giraffe, Hen, Lion, Side, Enemy, Mover, Profile, A, B, Setup, CanGo, may_put, HasStatus, Move, Put, Step, Status, Caught}
+use Rattle.dob_moves.proofs.Common.{count_by, all_below-at, one_if, Cell, IsLegal, at, held, holds_kind, holds_lion, piece_of, total, Kind}
+use Rattle.dob_moves.proofs.Common.{Lion, Side, Enemy, Mover, Profile, A, B, Setup, CanGo, may_put, HasStatus, Move, Put, Step, Status, Caught}
 use Rattle.dob_moves.proofs.Common.{Open, Stuck, Tried}
 use Rattle.std.proofs.lemmas.List.Sums.{sum_by-cons}
 use Rattle.dob_pieces.specs.declared.kind.HandKind.TheVariants as hand
@@ -27,15 +27,8 @@ one_each (Some piece) = by_piece piece.side piece.kind where
       + one_if (holds_kind hand.Chick (Some (piece_of side kind))) + one_if (holds_kind hand.Elephant (Some (piece_of side kind)))
       + one_if (holds_kind hand.Giraffe (Some (piece_of side kind)))
   by_piece Mover Lion = refl
-  by_piece Mover Giraffe = refl
-  by_piece Mover Elephant = refl
-  by_piece Mover Chick = refl
-  by_piece Mover Hen = refl
   by_piece Enemy Lion = refl
-  by_piece Enemy Giraffe = refl
-  by_piece Enemy Elephant = refl
-  by_piece Enemy Chick = refl
-  by_piece Enemy Hen = refl
+  by_piece _ _ = refl
 
 pieces_counted : (cells : List Cell) → count_by is_taken cells
     ≡ count_by (holds_lion Mover) cells + count_by (holds_lion Enemy) cells

@@ -1,7 +1,7 @@
 -- The steps of each kind lead, in their order, to exactly the squares to which a step of the kind leads, ascending.
 use Rattle.dob_moves.proofs.Common.{◌&&◌, ◌++◌, ◌<◌, ◌∙◌, ◌∷◌, ◌≡◌, Bool, List, None, Option, Some, [], ap, cond, eqb, false, option_to_list, refl, suc, true}
 use Rattle.dob_moves.proofs.Common.{zero, ℕ, and_parts, eqb-true, filter-append, filter_map-append, cons_option, filter, filter_map, all_below, all_below-at}
-use Rattle.dob_moves.proofs.Common.{each_below, leads, at, Kind, Chick, Elephant, Giraffe, Hen, Lion, Setup, step_by, step_if, step_onto, steps_by, Aim, Move}
+use Rattle.dob_moves.proofs.Common.{each_below, leads, at, Kind, Lion, Setup, step_by, step_if, step_onto, steps_by, Aim, Move}
 use Rattle.dob_pieces.specs.Pieces.{steps_of, square_after}
 
 abbrev same_numbers : List ℕ → List ℕ → Bool
@@ -35,10 +35,7 @@ targets_agree kind from = same_numbers (targets kind from) (filter (leads kind f
 targets_all : (kind : Kind) → all_below (targets_agree kind) 12 ≡ true
 unfolding leads
 targets_all Lion = refl
-targets_all Giraffe = refl
-targets_all Elephant = refl
-targets_all Chick = refl
-targets_all Hen = refl
+targets_all _ = refl
 
 targets_are : (kind : Kind) (from : ℕ) → from < 12 → targets kind from ≡ filter (leads kind from) (numbers 12)
 targets_are kind from h = same_numbers-true _ _ (all_below-at (targets_agree kind) 12 from (targets_all kind) h)

@@ -2,12 +2,14 @@
 use Rattle.dob_moves.proofs.Common.{◌++◌, ◌+◌, ◌∙◌, ◌∷◌, ◌≡◌, ◌≢◌, Bool, Contains, List, MatchOption, None, Option, Some, [], arith, false, inl, inr, length}
 use Rattle.dob_moves.proofs.Common.{refl, subst, sym, true, ℕ, cases_eq, Contains-append_cases, Contains-append_left, Contains-append_right, is_some}
 use Rattle.dob_moves.proofs.Common.{none_in_empty, rising-append, rising-pairs, Profile, A, Setup, CanGo, first_drop, place, AreMoves, CanCatch, HasStatus}
-use Rattle.dob_moves.proofs.Common.{IsFirstCatch, all_drops, all_steps, first, AtLion, Elsewhere, Move, Put, Step, Status, Caught, Open, Stuck, Tried}
+use Rattle.dob_moves.proofs.Common.{IsFirstCatch, all_drops, all_steps, first, AtLion, Elsewhere, Move, Put, Step, Status, Open}
 use Rattle.std.specs.Bool.{IsTrue}
 use Rattle.dob_moves.proofs.ByProfile.{can_go}
 use Rattle.dob_moves.proofs.Firsts.{none_from}
 use Rattle.dob_moves.proofs.Reach.{steps_go, steps_rising, found_in_steps, drops_sound, drops_rising, drops_whole, go_found, no_catch, is_first_catch, no_move}
 use Rattle.dob_moves.proofs.Reach.{step_goes, drop_goes}
+use Rattle.dob_moves.proofs.Common.{HasTried}
+use Rattle.dob_moves.proofs.Cases.{one_status}
 
 pub catch_answer : (p : Setup) (o : Option Move) → length p.board ≡ 12 → o ≡ first (all_steps AtLion p) → MatchOption o (¬ CanCatch p) (λ m. IsFirstCatch p m)
 catch_answer p None len e = λ (w : CanCatch p). no_catch p len (sym e) w.0 w.1
@@ -49,10 +51,9 @@ no_moves p steps drops len e d none w =
 
 move_listed : (profile : Profile) (p : Setup) → length p.board ≡ 12 → (m : Move) → CanGo profile p m → Contains (all_steps Elsewhere p ++ all_drops profile p) m
 move_listed profile p len (Step kind from to catch grows) h =
-    Contains-append_left (all_steps Elsewhere p) (all_drops profile p) (Step kind from to catch grows)
+    Contains-append_left _ _ _
     (found_in_steps Elsewhere p kind from to (Step kind from to catch grows) len (go_found p kind from to catch grows (can_go profile p (Step kind from to catch grows) h)))
-move_listed profile p len (Put kind to) h =
-    Contains-append_right (all_steps Elsewhere p) (all_drops profile p) (Put kind to) (drops_whole profile p kind to h)
+move_listed profile p len (Put kind to) h = Contains-append_right _ _ _ (drops_whole profile p kind to h)
 
 pub listed_goes : (profile : Profile) (p : Setup) (m : Move) → Contains (all_steps Elsewhere p ++ all_drops profile p) m → CanGo profile p m
 listed_goes profile p m h =
@@ -61,9 +62,11 @@ listed_goes profile p m h =
       | inr drop ↦ drops_sound profile p m drop
     ]
 
-open_moves : (profile : Profile) (p : Setup) → length p.board ≡ 12 → HasStatus profile p Open → AreMoves profile p (all_steps Elsewhere p ++ all_drops profile p)
-open_moves profile p len h = record {
-  sound = λ m here. (h, listed_goes profile p m here);
+-- where the game isn't over, the steps and then the drops are the moves
+pub going_on : (profile : Profile) (p : Setup) → length p.board ≡ 12 → ¬ CanCatch p → ¬ HasTried p
+    → AreMoves profile p (all_steps Elsewhere p ++ all_drops profile p)
+going_on profile p len no_catch no_try = record {
+  sound = λ m here. let goes = listed_goes profile p m here in ((no_catch, no_try, (m, goes)), goes);
   whole = λ m is_open goes. move_listed profile p len m goes;
   ordered = rising-pairs place 0 (first_drop + 36) (all_steps Elsewhere p ++ all_drops profile p)
       (rising-append place 0 first_drop (first_drop + 36) (all_steps Elsewhere p) (all_drops profile p) (steps_rising Elsewhere p) (drops_rising profile p));
@@ -74,13 +77,10 @@ pub open_answer : (profile : Profile) (p : Setup) → length p.board ≡ 12 → 
     → steps ≡ none ++ all_steps Elsewhere p → all ≡ steps ++ all_drops profile p → AreMoves profile p all
 open_answer profile p len h none steps all e f g =
     let same : all ≡ all_steps Elsewhere p ++ all_drops profile p = rw (g, f, e) refl in
-    subst (λ (ms : List Move). AreMoves profile p ms) (sym same) (open_moves profile p len h)
+    subst (λ (ms : List Move). AreMoves profile p ms) (sym same) (going_on profile p len h.0 h.1)
 
 pub not_open : (profile : Profile) (p : Setup) (s : Status) → HasStatus profile p s → s ≢ Open → HasStatus profile p Open → ⊥
-not_open profile p Caught h n o = o.0 h
-not_open profile p Tried h n o = o.1 h.1
-not_open profile p Stuck h n o = h.2 o.2.0 o.2.1
-not_open profile p Open h n o = n refl
+not_open profile p s h n is_open = n (one_status profile p s Open h is_open)
 
 -- no other position has moves
 pub other_answer : (profile : Profile) (p : Setup) (s : Status) → HasStatus profile p s → s ≢ Open → (none : List Move) → none ≡ [] → AreMoves profile p none

@@ -3,9 +3,9 @@ ghost use Rattle.std.specs.Prelude.{◌≡◌, ◌<◌, ◌+◌, ◌*◌, ℕ, M
 ghost use Rattle.dob_moves.specs.declared.game_move.Move.{Move as AnyMove};
 ghost use Rattle.dob_moves.specs.Moves.{CanGo, hand_place, place as place_of};
 ghost use Rattle.dob_moves.specs.Statuses.{HasStatus};
-ghost use Rattle.dob_moves.specs.AtPlaces.{IsMoveAt, IsCatchAt, step_between, drop_on};
+ghost use Rattle.dob_moves.specs.AtPlaces.{IsMoveAt, IsCatchAt, drop_on};
 
-use crate::first_moves::{Aim, own_kind, put_on, step_onto};
+use crate::first_moves::{Aim, put_on, step_between};
 use crate::game_move::Move;
 use crate::position_status::Status;
 use crate::status_of::status;
@@ -19,6 +19,7 @@ const END: usize = FIRST_DROP + 3 * Square::COUNT;
 /// The move of an open position at that place of the move order, by the rules of the profile, or `None` if it has none there, and of any
 /// other position. The place of a step is 12 times the square that it leaves and the square that it reaches, that of a drop 144, 12 times its
 /// kind's number (chick 0, elephant 1, giraffe 2) and the square. It takes no memory.
+#[tactic(auto, using(crate::proofs::Verdicts::not_open))]
 pub fn move_at(profile: Profile, position: &Position, place: usize) -> Option<Move>
     ensures { MatchOption result ((m : AnyMove) → ¬ IsMoveAt profile position.now.setup place m) (IsMoveAt profile position.now.setup place) }
 {
@@ -73,22 +74,6 @@ fn squares_at(place: usize) -> (Square, Square)
         Square::new(place / Square::COUNT),
         Square::new(place % Square::COUNT),
     )
-}
-
-// The mover's step from the one square to the other, if it ends where it is aimed.
-fn step_between(setup: &Setup, aim: Aim, from: Square, to: Square) -> Option<Move>
-    ensures { result ≡ step_between aim setup.now from to }
-{
-    match own_kind(setup.at(from)) {
-        Some(kind) => {
-            if kind.leads(from, to) {
-                step_onto(aim, setup.at(to), kind, from, to)
-            } else {
-                None
-            }
-        }
-        None => None,
-    }
 }
 
 // The drop of that kind on that square by the rules of the profile.

@@ -114,6 +114,7 @@ pub fn status_and_count(profile: Profile, position: &Position) -> (Status, u8)
 
 /// Status and number of moves by the position's masks and the mover's hand. The position only says of what they are: a caller that makes it for
 /// this call alone doesn't make it when the program runs.
+#[tactic(auto, using(crate::proofs::Shared::share_status))]
 #[inline(always)]
 pub fn status_and_count_shown(
     profile: Profile,

@@ -2,6 +2,7 @@
 ghost use Rattle.std.specs.Prelude.{◌≡◌};
 ghost use Rattle.dob_pieces.specs.declared.profile.Profile.TheVariants as Profile;
 ghost use Rattle.dob_pieces.specs.Masks.{own_kind};
+ghost use Rattle.dob_moves.specs.AtPlaces.{step_between};
 ghost use Rattle.dob_moves.specs.Moves.{grows_at};
 ghost use Rattle.dob_moves.specs.Walks.{first, may_end, step_onto, step_by, steps_by, steps_from, all_steps, put_on, drops_of, all_drops};
 
@@ -73,6 +74,22 @@ pub(crate) fn step_onto(
         })
     } else {
         None
+    }
+}
+
+/// The mover's step from the one square to the other, if it ends where it is aimed.
+pub(crate) fn step_between(setup: &Setup, aim: Aim, from: Square, to: Square) -> Option<Move>
+    ensures { result ≡ step_between aim setup.now from to }
+{
+    match own_kind(setup.at(from)) {
+        Some(kind) => {
+            if kind.leads(from, to) {
+                step_onto(aim, setup.at(to), kind, from, to)
+            } else {
+                None
+            }
+        }
+        None => None,
     }
 }
 

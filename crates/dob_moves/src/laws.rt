@@ -5,52 +5,62 @@ ghost use Rattle.dob_moves.specs.Laws.{OutcomesMirror, StepsExclude, LionsAreNot
 ghost use Rattle.dob_moves.specs.Laws.{OutcomesAreAllowed, ProfilesShareStatuses};
 
 /// Every outcome of a move of an open position is a position.
+#[tactic(auto, using(crate::proofs::Outcomes::outcomes))]
 pub fn outcomes_are_legal()
     ensures { OutcomesAreLegal }
 {}
 
 /// Every outcome of a move by the rules of a profile is a position of that profile, where the position before is one.
+#[tactic(auto, using(crate::proofs::Kept::kept))]
 pub fn outcomes_are_allowed()
     ensures { OutcomesAreAllowed }
 {}
 
 /// A position has the same status by the rules of each profile: where profile B forbids a drop, there is another one.
+#[tactic(auto, using(crate::proofs::Shared::share_status))]
 pub fn profiles_share_statuses()
     ensures { ProfilesShareStatuses }
 {}
 
 /// No move changes the piece set: of each kind there are as many pieces as before, board and hands together.
+#[tactic(auto, using(crate::proofs::Outcomes::outcomes))]
 pub fn outcomes_keep_pieces()
     ensures { OutcomesKeepPieces }
 {}
 
 /// A move of a position has one outcome.
+#[tactic(auto, using(crate::proofs::Outcomes::outcomes))]
 pub fn moves_have_one_outcome()
     ensures { MovesHaveOneOutcome }
 {}
 
 /// A position has at most one status.
+#[tactic(auto, using(crate::proofs::Cases::one_status))]
 pub fn statuses_exclude()
     ensures { StatusesExclude }
 {}
 
 /// The mirror image of a position has the position's status.
+#[tactic(auto, using(crate::proofs::ProfileMoves::images))]
 pub fn statuses_mirror()
     ensures { StatusesMirror }
 {}
 
 /// The mirror image of a move leads from the mirror image of a position to the mirror image of its outcome.
+#[tactic(auto, using(crate::proofs::Mirrors::images))]
 pub fn outcomes_mirror()
     ensures { OutcomesMirror }
 {}
 
 /// Of all steps from one square to another at most one can go: the position says which piece steps, whether it
 /// catches and whether it grows.
+
 pub fn steps_exclude()
     ensures { StepsExclude }
 {}
 
 /// A step onto the enemy lion isn't a move.
+#[tactic(auto, using(crate::proofs::Cases::lion_not_moved, crate::proofs::ByProfile::can_go))]
 pub fn lions_are_not_taken()
     ensures { LionsAreNotTaken }
 {}

@@ -15,6 +15,7 @@ use dob_pieces::{HandKind, Kind, Memory, Piece, Position, Profile, Setup, Side, 
 use std::alloc::Global;
 
 /// The first step in the move order that catches the enemy lion, or `None` if no step does.
+#[tactic(auto, using(crate::proofs::Verdicts::catch_answer))]
 pub fn first_catch(position: &Position) -> Option<Move>
     ensures { MatchOption result (¬ CanCatch position.now.setup) (λ m. IsFirstCatch position.now.setup m) }
 {
@@ -44,6 +45,7 @@ fn has_tried(position: &Position) -> bool
 }
 
 /// The status of the position by the rules of a profile: a catch is looked for first, then a try, then a move.
+#[tactic(auto, using(crate::proofs::Shared::share_status))]
 pub fn status(profile: Profile, position: &Position) -> Status
     ensures { HasStatus profile position.now.setup result }
 {

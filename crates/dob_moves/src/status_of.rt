@@ -3,12 +3,12 @@ ghost use Rattle.std.specs.Prelude.{◌↔◌, ◌≡◌, IsTrue, MatchOption};
 ghost use Rattle.dob_pieces.specs.declared.profile.Profile.TheVariants.{A};
 ghost use Rattle.dob_pieces.specs.Masks.{AreMasks};
 ghost use Rattle.dob_pieces.specs.Setups.{at, piece_of};
-ghost use Rattle.dob_moves.specs.Moves.{CanGo, grows_at};
+ghost use Rattle.dob_moves.specs.Moves.{CanGo};
 ghost use Rattle.dob_moves.specs.Statuses.{CanCatch, HasStatus, IsFirstCatch};
 ghost use Rattle.dob_moves.specs.declared.game_move.Move.{Move as Moved};
 
 use crate::count::has_move;
-use crate::first_moves::{Aim, first_drop, first_step, grows_at, own_kind};
+use crate::first_moves::{Aim, first_drop, first_step, step_between};
 use crate::game_move::Move;
 use crate::position_status::Status;
 use dob_pieces::{Hand, Kind, Masks, Position, Profile, Side, Square, lowest_square};
@@ -40,16 +40,7 @@ pub fn first_catch(position: &Position) -> Option<Move>
         return None;
     }
     let from = lowest_square(attackers);
-    match own_kind(position.setup.at(from)) {
-        Some(kind) => Some(Move::Step {
-            kind,
-            from,
-            to,
-            catch: true,
-            grows: grows_at(kind, to),
-        }),
-        None => unreachable!(),
-    }
+    step_between(&position.setup, Aim::AtLion, from, to)
 }
 
 // Whether some step of the mover ends on the enemy lion, which stands on that square.
@@ -87,6 +78,7 @@ fn can_move(position: &Position, masks: &Masks, hand: Hand) -> bool
 
 /// The status of the position by the rules of the profile: a catch is looked for first, then a try, then a move. Each
 /// profile gives the same.
+#[tactic(auto, using(crate::proofs::Shared::share_status))]
 pub fn status(profile: Profile, position: &Position) -> Status
     ensures { HasStatus profile position.now.setup result }
 {

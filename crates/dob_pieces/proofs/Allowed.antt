@@ -1,8 +1,8 @@
 -- A setup is allowed by a profile where each of its squares is, and so is its mirror image.
-use Rattle.dob_pieces.proofs.Common.{◌&&◌, ◌+◌, ◌-◌, ◌<◌, ◌==◌, ◌∙◌, ◌∷◌, ◌≡◌, Bool, List, None, Some, [], ap, arith, eqb, false, length, not, refl}
+use Rattle.dob_pieces.proofs.Common.{◌+◌, ◌<◌, ◌==◌, ◌∙◌, ◌∷◌, ◌≡◌, Bool, List, None, Some, [], ap, arith, eqb, length, not, refl}
 use Rattle.dob_pieces.proofs.Common.{slice_index_or, suc, sym, true, zero, ℕ, and_from, and_parts, eqb-true, beq, other_side, IsAllowed, is_allowed, is_far}
 use Rattle.dob_pieces.proofs.Common.{may_all_stand, may_stand, Cell, at, mirrored, turned, turned_cell, mirrored_square, row, turned_square, Kind, Chick}
-use Rattle.dob_pieces.proofs.Common.{Elephant, Giraffe, Hen, Lion, Side, Enemy, Mover, Setup}
+use Rattle.dob_pieces.proofs.Common.{Side, Enemy, Mover, Setup}
 use Rattle.dob_pieces.specs.declared.profile.Profile.{Profile}
 use Rattle.dob_pieces.specs.declared.profile.Profile.TheVariants.{A, B}
 use Rattle.dob_pieces.proofs.Boards.{length-turned, at-turned, length-mirrored, at-mirrored, all_below, all_below-at}
@@ -79,14 +79,7 @@ IsAllowed-mirrored profile s e h =
 turned_stands : (side : Side) (kind : Kind) (k : ℕ) → k < 12 → is_far (other_side side) kind (row (turned_square k)) ≡ is_far side kind (row k)
 turned_stands Mover Chick k lt = same_test (λ n. row (turned_square n) == 0) (λ n. row n == 3) k refl lt
 turned_stands Enemy Chick k lt = same_test (λ n. row (turned_square n) == 3) (λ n. row n == 0) k refl lt
-turned_stands Mover Lion k lt = refl
-turned_stands Mover Giraffe k lt = refl
-turned_stands Mover Elephant k lt = refl
-turned_stands Mover Hen k lt = refl
-turned_stands Enemy Lion k lt = refl
-turned_stands Enemy Giraffe k lt = refl
-turned_stands Enemy Elephant k lt = refl
-turned_stands Enemy Hen k lt = refl
+turned_stands _ _ k lt = refl
 
 may_stand-turned : (profile : Profile) (k : ℕ) (cell : Cell) → k < 12 → may_stand profile (turned_square k) (turned_cell cell) ≡ may_stand profile k cell
 may_stand-turned A k cell lt = refl
@@ -102,3 +95,5 @@ IsAllowed-turned profile s e h =
     ∙ ap (λ (square : ℕ). may_stand profile square (turned_cell (at s (turned_square k)))) (sym (turned_square_twice k lt))
     ∙ may_stand-turned profile (turned_square k) (at s (turned_square k)) far
     ∙ stands-from_allowed profile s (turned_square k) e h far)
+
+pub ruleset images = (IsAllowed-mirrored)

@@ -3,7 +3,7 @@ use Rattle.dob_pieces.proofs.Common.{◌&&◌, ◌+◌, ◌-◌, ◌<◌, ◌∙
 use Rattle.dob_pieces.proofs.Common.{slice_index_or, subst, suc, sym, true, zero, ℕ, ⊎_elim, and_parts, both_ways, cases_eq, cases_lt, ltb-true, not-true}
 use Rattle.dob_pieces.proofs.Common.{get_or-set_other, get_or_past, length-set, fill_by_all, get_or-map-range_with_len, get_or-le-sum_by, sum_by-set, count_by}
 use Rattle.dob_pieces.proofs.Common.{sum_by, is_lion, is_side, leads, other_side, Cell, HasLions, IsLegal, at, board_by, holds_lion, mirrored, piece_of, turned}
-use Rattle.dob_pieces.proofs.Common.{turned_cell, mirrored_square, turned_square, Kind, Chick, Elephant, Giraffe, Hen, Lion, Piece, Side, Enemy, Mover, Setup}
+use Rattle.dob_pieces.proofs.Common.{turned_cell, mirrored_square, turned_square, Kind, Lion, Piece, Side, Enemy, Mover, Setup}
 use Rattle.std.proofs.lemmas.List.Edits.{fill_by_more}
 use Rattle.dob_pieces.specs.declared.kind.HandKind.{HandKind}
 use Rattle.dob_pieces.specs.Setups.{holds_kind, total, HasFewPieces, HasLionOffFarRow}
@@ -96,9 +96,8 @@ turned-holds_kind kind (Some piece) = refl
 
 turned-is_side : (side own : Side) → is_side side (other_side own) ≡ is_side (other_side side) own
 turned-is_side Mover Mover = refl
-turned-is_side Mover Enemy = refl
 turned-is_side Enemy Mover = refl
-turned-is_side Enemy Enemy = refl
+turned-is_side _ _ = refl
 
 turned-holds_lion : (side : Side) (cell : Cell) → holds_lion side (turned_cell cell) ≡ holds_lion (other_side side) cell
 turned-holds_lion side None = refl
@@ -220,10 +219,7 @@ leads-to_board kind from to h = ltb-true to 12 (and_parts (ltb to 12) _ h).0
 stays : (kind : Kind) → all_below (λ k. not (leads kind k k)) 12 ≡ true
 unfolding leads
 stays Lion = refl
-stays Giraffe = refl
-stays Elephant = refl
-stays Chick = refl
-stays Hen = refl
+stays _ = refl
 
 -- no step stays where it is
 pub leads-apart : (kind : Kind) (from to : ℕ) → leads kind from to ≡ true → from ≢ to

@@ -1,30 +1,17 @@
 -- What the tests of a position show.
-use Rattle.dob_pieces.proofs.Common.{◌+◌, ◌-◌, ◌<◌, ◌∙◌, ◌≡◌, List, None, Some, ap, arith, drop, false, length, refl, slice_index_or, sym, true, both_ways}
-use Rattle.dob_pieces.proofs.Common.{false_from_ne_true, get_or-drop, get_or_default, take_all, Any, list_any, Cell, HasLions, at, holds_lion, piece_of, Kind}
-use Rattle.dob_pieces.proofs.Common.{Chick, Elephant, Giraffe, Hen, Lion, Side, Enemy, Mover, Setup}
+use Rattle.dob_pieces.proofs.Common.{◌+◌, ◌-◌, ◌<◌, ◌∙◌, ◌≡◌, List, None, ap, arith, drop, false, length, slice_index_or, sym, true, both_ways}
+use Rattle.dob_pieces.proofs.Common.{false_from_ne_true, get_or-drop, get_or_default, take_all, Any, list_any, Cell, HasLions, at, holds_lion}
+use Rattle.dob_pieces.proofs.Common.{Enemy, Mover, Setup}
 use Rattle.std.proofs.Common.{take, count_by, length-drop}
 use Rattle.std.proofs.lemmas.List.Folds.{Any-from_list_any, list_any_at}
 use Rattle.dob_pieces.specs.Setups.{HasLionOffFarRow}
 use Rattle.dob_pieces.proofs.Boards.{within-from_piece}
+use Rattle.dob_pieces.proofs.Attacks.{is_that_lion}
 
 -- one lion of the mover and one of the enemy
 pub HasLions-from_counts : (s : Setup) → count_by (holds_lion Mover) s.board ≡ 1 → count_by (holds_lion Enemy) s.board ≡ 1 → HasLions s
 HasLions-from_counts s m e Mover = m
 HasLions-from_counts s m e Enemy = e
-
--- the cell with the mover's lion is the only one that has it
-pub mover_lion : (cell : Cell) → holds_lion Mover cell ≡ true → cell ≡ Some (piece_of Mover Lion)
-mover_lion None h = cc
-mover_lion (Some piece) h = mover_lion_piece piece.side piece.kind h
-  where
-    mover_lion_piece : (side : Side) (kind : Kind) → holds_lion Mover (Some (piece_of side kind)) ≡ true
-        → Some (piece_of side kind) ≡ Some (piece_of Mover Lion)
-    mover_lion_piece Mover Lion h = refl
-    mover_lion_piece Mover Giraffe h = cc
-    mover_lion_piece Mover Elephant h = cc
-    mover_lion_piece Mover Chick h = cc
-    mover_lion_piece Mover Hen h = cc
-    mover_lion_piece Enemy kind h = cc
 
 -- no square of row 4 has the mover's lion
 pub HasLionOffFarRow-from_test : (s : Setup) → list_any (holds_lion Mover) (drop 9 s.board) ≡ false → HasLionOffFarRow s
@@ -42,7 +29,7 @@ test-from_HasLionOffFarRow s home =
     false_from_ne_true _ (λ (h : list_any (holds_lion Mover) (drop 9 s.board) ≡ true).
     let some : Any (λ x. holds_lion Mover x ≡ true) (drop 9 s.board) = Any-from_list_any (holds_lion Mover) (drop 9 s.board) h in
     home (9 + some.0) (omega arith)
-    (sym (get_or-drop 9 s.board some.0 None) ∙ get_or_default (drop 9 s.board) some.0 None some.1 some.2 ∙ some.3 ∙ mover_lion some.1 some.4))
+    (sym (get_or-drop 9 s.board some.0 None) ∙ get_or_default (drop 9 s.board) some.0 None some.1 some.2 ∙ some.3 ∙ is_that_lion Mover some.1 some.4))
 
 -- row 4 is the last three of the twelve squares
 pub far_row : (board : List Cell) → length board ≡ 12 → take 3 (drop 9 board) ≡ drop 9 board

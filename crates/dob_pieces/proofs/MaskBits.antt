@@ -1,37 +1,24 @@
 -- Sets of squares as masks: what the operations on bits make of them.
-use Rattle.dob_pieces.proofs.Common.{◌%◌, ◌&&◌, ◌-◌, ◌/◌, ◌<◌, ◌^◌, ◌||◌, ◌∙◌, ◌≡◌, ◌≢◌, ◌≤◌, Bool, ap, arith, bit_and, bit_or, cond, false, inl, inr, not}
+use Rattle.dob_pieces.proofs.Common.{◌%◌, ◌&&◌, ◌-◌, ◌<◌, ◌^◌, ◌||◌, ◌∙◌, ◌≡◌, ◌≢◌, ◌≤◌, Bool, ap, arith, bit_and, bit_or, cond, false, inl, inr, not}
 use Rattle.dob_pieces.proofs.Common.{refl, suc, sym, true, true≢false, ℕ, and_parts, cases_eq, cases_lt, le-leb, leb-true, lt-leb, bit_at, bit_not}
 use Rattle.dob_pieces.proofs.Common.{trailing_zeros, IsMask}
-use Rattle.std.proofs.Common.{◌*◌, min, max, nat_eq, nat_le, w16}
+use Rattle.std.proofs.Common.{◌*◌, min, max, nat_le, w16}
 use Rattle.std.proofs.lemmas.Nat.{and_le_l, or_lt}
-use Rattle.std.proofs.lemmas.Nat.Bits.{shr_and_one, bit_at_and, bit_at_or, bit_at_not, bit_at-trailing_zeros, bit_at_clear_same, bit_at_clear_other}
+use Rattle.std.proofs.lemmas.Nat.Bits.{bit_at_and, bit_at_or, bit_at_not, bit_at-trailing_zeros, bit_at_clear_same, bit_at_clear_other}
 use Rattle.std.proofs.lemmas.Nat.Bits.{bit_at_above, bit_at-zero}
 
 abbrev pub bit_if : Bool → ℕ
 bit_if b = cond b 1 0
 
-bit_if-eq : (b : Bool) → nat_eq (bit_if b) 1 ≡ b
-bit_if-eq true = refl
-bit_if-eq false = refl
-
--- the bit as the code tests it
-pub bit_is : (test : ℕ → Bool) (mask square index : ℕ) → IsMask test mask → index ≡ square → index < 12
-    → nat_eq (bit_and (mask / 2 ^ index) 1) 1 ≡ test square
-bit_is test mask square index is at lt =
-    ap (λ (n : ℕ). nat_eq n 1) (shr_and_one mask index ∙ is.bits index lt)
-    ∙ bit_if-eq (test index) ∙ ap test at
-
 min-bits : (a b : Bool) → min (bit_if a) (bit_if b) ≡ bit_if (a && b)
 min-bits true true = refl
-min-bits true false = refl
 min-bits false true = refl
-min-bits false false = refl
+min-bits _ _ = refl
 
 max-bits : (a b : Bool) → max (bit_if a) (bit_if b) ≡ bit_if (a || b)
 max-bits true true = refl
-max-bits true false = refl
 max-bits false true = refl
-max-bits false false = refl
+max-bits _ _ = refl
 
 -- the squares of both
 pub IsMask-and : (f g : ℕ → Bool) (a b : ℕ) → IsMask f a → IsMask g b → IsMask (λ square. f square && g square) (bit_and a b)
@@ -53,9 +40,8 @@ IsMask-or f g a b is are = record {
 
 without-bits : (a b : Bool) → min (bit_if a) (1 - bit_if b) ≡ bit_if (a && not b)
 without-bits true true = refl
-without-bits true false = refl
 without-bits false true = refl
-without-bits false false = refl
+without-bits _ _ = refl
 
 -- the squares of the first that the second doesn't have
 pub IsMask-without : (f g : ℕ → Bool) (a b : ℕ) → IsMask f a → IsMask g b → IsMask (λ square. f square && not (g square)) (bit_and a (bit_not w16 b))

@@ -3,6 +3,7 @@ use Rattle.dob_pieces.proofs.Common.{◌++◌, ◌<◌, ◌^◌, ◌∙◌, ◌�
 use Rattle.dob_pieces.proofs.Common.{length, map, refl, suc, sym, true, zero, ℕ, cases_lt, length-append, get_or-map-range_with_len, bit_mask_l, mask_l-lt}
 use Rattle.dob_pieces.proofs.Common.{ones-mask_l, trailing_zeros, w16, count_by, range_with_len, each_below, sum_below, IsMask}
 use Rattle.std.specs.Simd.Lanes.{mask_l}
+use Rattle.std.proofs.lemmas.List.Sums.{count_by-le-length}
 use Rattle.std.proofs.lemmas.Nat.Bits.{same_from_bits_below}
 use Rattle.dob_pieces.proofs.MaskBits.{bit_if, IsLeft, without, all_left, next_left, none_left}
 
@@ -39,15 +40,26 @@ module _ {X : Type 0} where
     items_are = sym (append-nil before);
   }
 
-  pub walk_less : (test : ℕ → Bool) (g : ℕ → List X) (left place after : ℕ) (before items : List X) → IsWalked test g left before items
-      → 0 < left → place ≡ trailing_zeros w16 left → after ≡ without left place → after < left
-  walk_less test g left place after before items w some e gone = rw gone (next_left test w.upto left place w.left_are some e).less
+  pub walk_end : {test : ℕ → Bool} {g : ℕ → List X} {left : ℕ} {before items : List X} → IsWalked test g left before items → IsQuiet test g → left ≡ 0
+      → items ≡ before ++ each_below g 12
+  walk_end {test} {g} {left} {before} w quiet none =
+      w.items_are
+      ∙ ap (λ (xs : List X). before ++ xs)
+      (sym (each-quiet g w.upto 12 w.bound (λ k ge lt. quiet k (none_left test w.upto left w.left_are none k ge lt))))
 
-  pub walk_next_at : (test : ℕ → Bool) (g : ℕ → List X) (left place after : ℕ) (before items new : List X)
-      → IsQuiet test g → (w : IsWalked test g left before items)
-      → 0 < left → place ≡ trailing_zeros w16 left → after ≡ without left place → (test place ≡ true → new ≡ items ++ g place)
+  -- each square of the mask gives one item, and each other none
+  abbrev pub IsCounting : (ℕ → Bool) → (ℕ → List X) → Type 0
+  IsCounting test g = (k : ℕ) → length (g k) ≡ bit_if (test k)
+
+-- the lowest square gone over
+module _ {X : Type 0} {test : ℕ → Bool} {g : ℕ → List X} {left place after : ℕ} {before items : List X} (w : IsWalked test g left before items)
+    (some : 0 < left) (e : place ≡ trailing_zeros w16 left) (gone : after ≡ without left place) where
+  pub walk_less : after < left
+  walk_less = rw gone (next_left test w.upto left place w.left_are some e).less
+
+  pub walk_next_at : {new : List X} → IsQuiet test g → (test place ≡ true → new ≡ items ++ g place)
       → (next : IsWalked test g after before new) × (next.upto ≡ suc place)
-  walk_next_at test g left place after before items new quiet w some e gone more =
+  walk_next_at quiet more =
       let it = next_left test w.upto left place w.left_are some e in
       let lt = it.on_board in
       rw gone (
@@ -64,22 +76,8 @@ module _ {X : Type 0} where
         refl,
       )
 
-  pub walk_next : (test : ℕ → Bool) (g : ℕ → List X) (left place after : ℕ) (before items new : List X) → IsQuiet test g → IsWalked test g left before items
-      → 0 < left → place ≡ trailing_zeros w16 left → after ≡ without left place
-      → (test place ≡ true → new ≡ items ++ g place) → IsWalked test g after before new
-  walk_next test g left place after before items new quiet w some e gone more
-      = (walk_next_at test g left place after before items new quiet w some e gone more).0
-
-  pub walk_end : (test : ℕ → Bool) (g : ℕ → List X) (left : ℕ) (before items : List X) → IsQuiet test g → IsWalked test g left before items
-      → left ≡ 0 → items ≡ before ++ each_below g 12
-  walk_end test g left before items quiet w none =
-      w.items_are
-      ∙ ap (λ (xs : List X). before ++ xs)
-      (sym (each-quiet g w.upto 12 w.bound (λ k ge lt. quiet k (none_left test w.upto left w.left_are none k ge lt))))
-
-  -- each square of the mask gives one item, and each other none
-  abbrev pub IsCounting : (ℕ → Bool) → (ℕ → List X) → Type 0
-  IsCounting test g = (k : ℕ) → length (g k) ≡ bit_if (test k)
+  pub walk_next : {new : List X} → IsQuiet test g → (test place ≡ true → new ≡ items ++ g place) → IsWalked test g after before new
+  walk_next quiet more = (walk_next_at quiet more).0
 
 module _ {X : Type 0} where
   -- the lists of each number are as long as the sum of their lengths
@@ -99,10 +97,6 @@ mask_by_bits test mask is =
 pub ones_of_mask : (test : ℕ → Bool) (mask : ℕ) → IsMask test mask → count_ones mask ≡ count_by test (range_with_len 0 12)
 ones_of_mask test mask is = ap count_ones (mask_by_bits test mask is) ∙ ones-mask_l test (range_with_len 0 12)
 
-bit_if-le : (b : Bool) → bit_if b ≤ 1
-bit_if-le true = omega arith
-bit_if-le false = omega arith
-
 -- so many items as the mask has squares
 pub record IsCounted (number ones : ℕ) : Type 0 where
   pub counted : ones ≡ number
@@ -114,22 +108,8 @@ module _ {X : Type 0} where
   counted_ones test g mask h is =
       let e = ones_of_mask test mask is in
       let sum = length-each g 12 in
+      let le = count_by-le-length test (range_with_len 0 12) in
       record {
         counted = omega (arith, e, sum, h 0, h 1, h 2, h 3, h 4, h 5, h 6, h 7, h 8, h 9, h 10, h 11);
-        few = omega (
-          arith,
-          e,
-          bit_if-le (test 0),
-          bit_if-le (test 1),
-          bit_if-le (test 2),
-          bit_if-le (test 3),
-          bit_if-le (test 4),
-          bit_if-le (test 5),
-          bit_if-le (test 6),
-          bit_if-le (test 7),
-          bit_if-le (test 8),
-          bit_if-le (test 9),
-          bit_if-le (test 10),
-          bit_if-le (test 11),
-        );
+        few = omega (arith, e, le);
       }

@@ -25,11 +25,8 @@ no_kind (Some found) l g e c h = of_piece found.side found.kind l g e c h
         → is_piece Mover Elephant (Some (piece_of side own)) ≡ false → is_piece Mover Chick (Some (piece_of side own)) ≡ false
         → is_piece Mover Hen (Some (piece_of side own)) ≡ false → None ≡ own_kind (Some (piece_of side own))
     of_piece Enemy own l g e c h = refl
-    of_piece Mover Lion l g e c h = absurd (true≢false l)
-    of_piece Mover Giraffe l g e c h = absurd (true≢false g)
-    of_piece Mover Elephant l g e c h = absurd (true≢false e)
-    of_piece Mover Chick l g e c h = absurd (true≢false c)
-    of_piece Mover Hen l g e c h = absurd (true≢false h)
+    of_piece Mover Lion l g e c h = cc
+    of_piece Mover _ l g e c h = cc
 
 -- what a cell whose own piece has that kind holds, ..
 pub own_cell : (cell : Cell) (kind : Kind) → own_kind cell ≡ Some kind → cell ≡ Some (piece_of Mover kind)

@@ -1,9 +1,9 @@
 -- Masks made in one pass over the board: several in one word, twelve bits each, which no sum carries over.
 use Rattle.dob_pieces.proofs.Common.{◌%◌, ◌&&◌, ◌+◌, ◌-◌, ◌/◌, ◌<◌, ◌^◌, ◌||◌, ◌∙◌, ◌∷◌, ◌≡◌, ◌≤◌, Bool, List, None, Some, [], ap, arith, bit_and, cond, drop}
-use Rattle.dob_pieces.proofs.Common.{false, length, map, not, refl, slice_index_or, suc, sym, true, ℕ, eqb-true, get_or-map, length-drop, length-map}
-use Rattle.dob_pieces.proofs.Common.{bit_mask_l, mask_l-lt, bit_at, bit_not, AreSquares, IsMask, entry_of, is_empty, is_own, is_piece, kind_place, side_place}
+use Rattle.dob_pieces.proofs.Common.{false, length, map, not, refl, slice_index_or, suc, sym, true, ℕ, get_or-map, length-drop, length-map}
+use Rattle.dob_pieces.proofs.Common.{bit_mask_l, mask_l-lt, bit_not, AreSquares, IsMask, entry_of, is_empty, is_own, is_piece, kind_place, side_place}
 use Rattle.dob_pieces.proofs.Common.{Cell, at, piece_of, Kind, Chick, Elephant, Giraffe, Hen, Lion, Side, Enemy, Mover, ALL_SQUARES, PLANES, Setup}
-use Rattle.std.proofs.Common.{◌*◌, nat_eq, w16}
+use Rattle.std.proofs.Common.{◌*◌, w16}
 use Rattle.std.specs.Simd.Lanes.{mask_l}
 use Rattle.std.proofs.Math.Pow.{pow_mono}
 use Rattle.std.proofs.Math.Seq.{drop-cons}
@@ -53,15 +53,8 @@ word_piece : (side : Side) (kind : Kind) (cells : List Cell)
     → word_of (Some (piece_of side kind) ∷ cells) ≡ 2 * word_of cells + entry_of PLANES (Some (piece_of side kind))
 unfolding word_of
 word_piece Mover Lion cells = omega arith
-word_piece Mover Giraffe cells = omega arith
-word_piece Mover Elephant cells = omega arith
-word_piece Mover Chick cells = omega arith
-word_piece Mover Hen cells = omega arith
 word_piece Enemy Lion cells = omega arith
-word_piece Enemy Giraffe cells = omega arith
-word_piece Enemy Elephant cells = omega arith
-word_piece Enemy Chick cells = omega arith
-word_piece Enemy Hen cells = omega arith
+word_piece _ _ cells = omega arith
 
 word_cell : (cell : Cell) (cells : List Cell) → word_of (cell ∷ cells) ≡ 2 * word_of cells + entry_of PLANES cell
 unfolding word_of
@@ -163,15 +156,8 @@ told_at test cell = slice_index_or (map test all_cells) (place_of cell) false
 
 told_piece : (test : Cell → Bool) (side : Side) (kind : Kind) → test (Some (piece_of side kind)) ≡ told_at test (Some (piece_of side kind))
 told_piece test Mover Lion = refl
-told_piece test Mover Giraffe = refl
-told_piece test Mover Elephant = refl
-told_piece test Mover Chick = refl
-told_piece test Mover Hen = refl
 told_piece test Enemy Lion = refl
-told_piece test Enemy Giraffe = refl
-told_piece test Enemy Elephant = refl
-told_piece test Enemy Chick = refl
-told_piece test Enemy Hen = refl
+told_piece test _ _ = refl
 
 told_cell : (test : Cell → Bool) (cell : Cell) → test cell ≡ told_at test cell
 told_cell test None = refl

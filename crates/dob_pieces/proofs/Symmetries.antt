@@ -1,7 +1,7 @@
 -- Turning and mirroring, done twice and one after the other.
 use Rattle.dob_pieces.proofs.Common.{◌-◌, ◌<◌, ◌∙◌, ◌≡◌, Bool, List, None, Some, ap, arith, eqb, false, length, refl, sym, true, ℕ, eqb-true, beq, leads}
 use Rattle.dob_pieces.proofs.Common.{other_side, Cell, at, board_by, mirrored, piece_of, setup_of, turned, turned_cell, mirrored_square, turned_square, Hands}
-use Rattle.dob_pieces.proofs.Common.{Kind, Chick, Elephant, Giraffe, Hen, Lion, Side, Enemy, Mover, Setup}
+use Rattle.dob_pieces.proofs.Common.{Kind, Lion, Side, Enemy, Mover, Setup}
 use Rattle.dob_pieces.proofs.Boards.{at-board_by, board_by-from_cells, at-turned, at-mirrored, all_below, all_below-at, total-turned, total-mirrored}
 use Rattle.dob_pieces.proofs.Boards.{IsLegal-mirrored}
 
@@ -76,10 +76,7 @@ steps_mirror : (kind : Kind) → all_below
     (λ from. all_below (λ to. beq (leads kind (mirrored_square from) (mirrored_square to)) (leads kind from to)) 12) 12 ≡ true
 unfolding leads
 steps_mirror Lion = refl
-steps_mirror Giraffe = refl
-steps_mirror Elephant = refl
-steps_mirror Chick = refl
-steps_mirror Hen = refl
+steps_mirror _ = refl
 
 pub beq-true : (a b : Bool) → beq a b ≡ true → a ≡ b
 beq-true true true h = refl
@@ -93,4 +90,4 @@ leads-mirrored kind from to f t =
     beq-true _ _ (all_below-at (test from) 12 to (all_below-at (λ a. all_below (test a) 12) 12 from (steps_mirror kind) f) t)
 
 -- the laws as functions state them
-pub ruleset laws = (turned-turned, mirrored-mirrored, turned-mirrored, total-turned, total-mirrored, IsLegal-mirrored)
+pub ruleset laws = (turned-turned, mirrored-mirrored, turned-mirrored, total-turned, total-mirrored, IsLegal-mirrored, leads-mirrored)

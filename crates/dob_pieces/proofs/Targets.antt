@@ -56,45 +56,30 @@ sources_of Hen = hen_sources
 targets_computed : (kind : Kind) → all_below (λ from. has_bits (leads kind from) (get_or (targets_of kind) from 0)) 12 ≡ true
 unfolding leads
 targets_computed Lion = refl
-targets_computed Giraffe = refl
-targets_computed Elephant = refl
-targets_computed Chick = refl
-targets_computed Hen = refl
+targets_computed _ = refl
 
 sources_computed : (kind : Kind) → all_below (λ to. has_bits (λ from. leads kind from to) (get_or (sources_of kind) to 0)) 12 ≡ true
 unfolding leads
 sources_computed Lion = refl
-sources_computed Giraffe = refl
-sources_computed Elephant = refl
-sources_computed Chick = refl
-sources_computed Hen = refl
+sources_computed _ = refl
 
--- a mask read from the table of targets
-target_mask : (kind : Kind) (from index : ℕ) → index ≡ from → index < 12 → IsMask (leads kind from) (get_or (targets_of kind) index 0)
-target_mask kind from index at low =
-    let mask = is_mask (leads kind index) (get_or (targets_of kind) index 0)
-    (all_below-at (λ from. has_bits (leads kind from) (get_or (targets_of kind) from 0)) 12 index (targets_computed kind) low) in
-    subst (λ (i : ℕ). IsMask (leads kind i) (get_or (targets_of kind) index 0)) at mask
+-- a mask read from a table
+table_mask : (test : ℕ → ℕ → Bool) (table : List ℕ) (square index : ℕ) → all_below (λ k. has_bits (test k) (get_or table k 0)) 12 ≡ true
+    → index ≡ square → index < 12 → IsMask (test square) (get_or table index 0)
+table_mask test table square index computed at low =
+    let mask = is_mask (test index) (get_or table index 0) (all_below-at (λ k. has_bits (test k) (get_or table k 0)) 12 index computed low) in
+    subst (λ (i : ℕ). IsMask (test i) (get_or table index 0)) at mask
+
+-- that of targets
 
 pub target_read : (kind : Kind) (row from index : ℕ) → row ≡ kind_place kind → index ≡ from → index < 12
     → IsMask (leads kind from) (slice_index_or (slice_index_or TARGETS row []) index 0)
-target_read Lion row from index is at low = rw is (target_mask Lion from index at low)
-target_read Giraffe row from index is at low = rw is (target_mask Giraffe from index at low)
-target_read Elephant row from index is at low = rw is (target_mask Elephant from index at low)
-target_read Chick row from index is at low = rw is (target_mask Chick from index at low)
-target_read Hen row from index is at low = rw is (target_mask Hen from index at low)
+target_read Lion row from index is at low = rw is (table_mask (leads Lion) (targets_of Lion) from index (targets_computed Lion) at low)
+target_read kind row from index is at low = rw is (table_mask (leads kind) (targets_of kind) from index (targets_computed kind) at low)
 
--- and from that of sources
-source_mask : (kind : Kind) (to index : ℕ) → index ≡ to → index < 12 → IsMask (λ from. leads kind from to) (get_or (sources_of kind) index 0)
-source_mask kind to index at low =
-    let mask = is_mask (λ from. leads kind from index) (get_or (sources_of kind) index 0)
-    (all_below-at (λ to. has_bits (λ from. leads kind from to) (get_or (sources_of kind) to 0)) 12 index (sources_computed kind) low) in
-    subst (λ (i : ℕ). IsMask (λ from. leads kind from i) (get_or (sources_of kind) index 0)) at mask
+-- and that of sources
 
 pub source_read : (kind : Kind) (row to index : ℕ) → row ≡ kind_place kind → index ≡ to → index < 12
     → IsMask (λ from. leads kind from to) (slice_index_or (slice_index_or SOURCES row []) index 0)
-source_read Lion row to index is at low = rw is (source_mask Lion to index at low)
-source_read Giraffe row to index is at low = rw is (source_mask Giraffe to index at low)
-source_read Elephant row to index is at low = rw is (source_mask Elephant to index at low)
-source_read Chick row to index is at low = rw is (source_mask Chick to index at low)
-source_read Hen row to index is at low = rw is (source_mask Hen to index at low)
+source_read Lion row to index is at low = rw is (table_mask (λ k from. leads Lion from k) (sources_of Lion) to index (sources_computed Lion) at low)
+source_read kind row to index is at low = rw is (table_mask (λ k from. leads kind from k) (sources_of kind) to index (sources_computed kind) at low)

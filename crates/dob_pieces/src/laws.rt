@@ -48,6 +48,7 @@ pub fn mirrored_legal()
 {}
 
 /// The mirror image of a setup that a profile allows is allowed by it.
+#[tactic(auto, using(crate::proofs::Allowed::images))]
 pub fn mirrored_allowed()
     ensures { (profile : Profile) (setup : Setup)
         → length setup.board ≡ 12
@@ -56,6 +57,7 @@ pub fn mirrored_allowed()
 {}
 
 /// The mirror image of a step is a step.
+#[tactic(auto, using(crate::proofs::Symmetries::laws))]
 pub fn mirrored_step()
     ensures { (kind : Kind) (from to : ℕ)
         → from < 12

@@ -1,7 +1,7 @@
 -- Taking a move back leads to a setup that the profile allows just where the piece that was caught may stand again.
 use Rattle.dob_unmove.proofs.Common.{if◌then◌else◌, ◌<◌, ◌∙◌, ◌≡◌, Bool, None, Some, ap, arith, length, not, refl, set, sym, true, ℕ, length-set, all_below}
 use Rattle.dob_unmove.proofs.Common.{all_below-at, leads-to_board, length-turned, within-from_piece, kind_on_board, leads, IsAllowed, is_far, may_stand}
-use Rattle.dob_unmove.proofs.Common.{piece_of, turned, row, Kind, Chick, Elephant, Giraffe, Hen, Lion, Mover, Profile, A, B, Setup, Stand, none_stands}
+use Rattle.dob_unmove.proofs.Common.{piece_of, turned, row, Kind, Chick, Mover, Profile, A, B, Setup, Stand, none_stands}
 use Rattle.dob_unmove.proofs.Common.{stand-set, CanUndo, earlier, enemy_cell, may_give_back, Undo, Unput, Unstep}
 use Rattle.dob_pieces.proofs.Allowed.{stands-from_allowed, allowed-from_stands, IsAllowed-turned}
 use Rattle.dob_unmove.proofs.Undone.{at_to}
@@ -22,11 +22,8 @@ chick_below from to low_from low_to steps =
 
 departs : (profile : Profile) (kind : Kind) (from to : ℕ) → from < 12 → leads kind from to ≡ true → may_stand profile from (Some (piece_of Mover kind)) ≡ true
 departs A kind from to low steps = refl
-departs B Lion from to low steps = refl
-departs B Giraffe from to low steps = refl
-departs B Elephant from to low steps = refl
 departs B Chick from to low steps = chick_below from to low (leads-to_board Chick from to steps) steps
-departs B Hen from to low steps = refl
+departs B _ from to low steps = refl
 
 module _ (profile : Profile) (q : Setup) (twelve : length q.board ≡ 12) where
   after_stands : IsAllowed profile q → Stand profile (turned q).board

@@ -3,8 +3,8 @@ use Rattle.dob_unmove.proofs.Common.{◌++◌, ◌+◌, ◌-◌, ◌<◌, ◌==�
 use Rattle.dob_unmove.proofs.Common.{cond, get_or, inl, inr, length, length-append, option_to_list, refl, subst, sym, ℕ, cases_eq, cases_lt, eq-eqb, ne_eqb}
 use Rattle.dob_unmove.proofs.Common.{All-contains, All-head, All-nil, All-push, All-tail, Contains-append_cases, Contains-append_left, Contains-append_right}
 use Rattle.dob_unmove.proofs.Common.{AllPairs-cons, sum_by_push, count_by, length-mirrored, length-turned, cons_cases, mirrored, turned, A, Setup}
-use Rattle.dob_unmove.proofs.Common.{HasOutcome-is, HasOutcome, HasStatus, Move, Open, Adds, Finds, Gathers, IsOpenRepresentative, CanUndo, choice, earlier}
-use Rattle.dob_unmove.proofs.Common.{CountEdges, HasEdges, IsNumbering, TakesAll, undoes, Undo}
+use Rattle.dob_unmove.proofs.Common.{HasOutcome-is, HasOutcome, HasStatus, Move, Open, Finds, Gathers, IsOpenRepresentative, CanUndo, choice, earlier}
+use Rattle.dob_unmove.proofs.Common.{CountEdges, HasEdges, IsNumbering, undoes, Undo}
 use Rattle.std.proofs.lemmas.List.{append-nil, get_or_append_left, get_or-append_right, get_or_default}
 pub use Rattle.dob_classes.proofs.OfFamilies.Counted.{pairs-head, pairs-tail}
 use Rattle.dob_unmove.proofs.Undone.{HasOutcome-from_undo, undo_from_HasOutcome, same_undo}
@@ -36,22 +36,6 @@ pairs-append {X} R (x ∷ xs) ys p q across =
         default_free k d high there = get_or_default ys (k - length xs) _ d (omega arith)
 
 -- ---- what the walk gathered
-
--- one way taken by what gathers numbers, which keeps its classes
-abbrev pub TakesNumber : {S C : Type 0} → (S → C) → (S → List ℕ) → (C → Setup → ℕ → Type 0) → Setup → S → Undo → S → Type 0
-TakesNumber classes found Represents t old u new =
-    (classes new ≡ classes old) × Adds (Represents (classes old)) t u (found old) (found new)
-
-pub all_gathered : {S C : Type 0} (classes : S → C) (found : S → List ℕ) (Represents : C → Setup → ℕ → Type 0) (t : Setup) (us : List Undo) (old new : S)
-    → TakesAll (TakesNumber classes found Represents t) old us new
-    → (classes new ≡ classes old) × Gathers (Represents (classes old)) t us (found old) (found new)
-all_gathered classes found Represents t [] old new e = (ap classes (sym e), ap found e)
-all_gathered classes found Represents t (u ∷ us) old new h =
-    let rest = all_gathered classes found Represents t us h.0 new h.2 in
-    let kept = h.1.0 in
-    let more = h.1.1.2 in
-    let later = subst (λ c. Gathers (Represents c) t us (found h.0) (found new)) kept rest.1 in
-    (rest.0 ∙ kept, (h.1.1.0, h.1.1.1, subst (λ (xs : List ℕ). Gathers (Represents (classes old)) t us xs (found new)) more later))
 
 module _ (Represents : Setup → ℕ → Type 0) (n : IsNumbering Represents) where
   known_more : (p : Setup) (found : Option ℕ) (old : List ℕ) → Finds Represents p found → All (λ class. (p : Setup) × Represents p class) old

@@ -1,9 +1,9 @@
 -- Ways that lead back to no open representative: where a piece attacked the enemy lion before, or the mover's lion wasn't at home.
 use Rattle.dob_unmove.proofs.Common.{if◌then◌else◌, ◌&&◌, ◌<◌, ◌||◌, ◌∙◌, ◌∷◌, ◌≡◌, ◌≢◌, ◌⊎◌, Bool, List, None, Option, Some, [], ap, arith, cond, false, inl}
 use Rattle.dob_unmove.proofs.Common.{inr, not, refl, subst, sym, true, true≢false, ℕ, and_parts, cases_Bool, not-true, trailing_zeros, w16, is_some, lion_at}
-use Rattle.dob_unmove.proofs.Common.{within-from_piece, each_below, is_empty, is_own, is_piece, leads, Cell, IsLegal, at, piece_of, Kind, Chick, Elephant}
+use Rattle.dob_unmove.proofs.Common.{within-from_piece, is_empty, is_own, is_piece, leads, Cell, IsLegal, at, piece_of, Kind, Chick, Elephant}
 use Rattle.dob_unmove.proofs.Common.{Giraffe, Hen, Lion, Enemy, Mover, Family, Setup, IsSeenTurned, CanWalk, Gathers, elsewhere, stood_before, CanUndo}
-use Rattle.dob_unmove.proofs.Common.{CanUnstep, arrives_at, earlier, stands, uncatch, undoes_at, unsteps, unsteps_between, unsteps_from, comes_home, is_home}
+use Rattle.dob_unmove.proofs.Common.{CanUnstep, arrives_at, earlier, stands, uncatch, undoes_at, unsteps_between, unsteps_from, comes_home, is_home}
 use Rattle.dob_unmove.proofs.Common.{may_come, may_have_ended, Threat, Undo, Unput, Unstep}
 use Rattle.dob_rank.specs.Families.{RepresentsClass}
 use Rattle.dob_unmove.specs.declared.predecessors.Walk.{Walk}
@@ -94,11 +94,8 @@ module _ (walk : Walk) (w : CanWalk walk) where
 
   -- a test that fails though its first part and its second hold
   last_fails : (a b c d : Bool) → a ≡ true → b ≡ false → ((a && not b) && (c || d)) ≡ false → (c ≡ false) × (d ≡ false)
-  last_fails true false true d e f off = cc
-  last_fails true false false true e f off = cc
   last_fails true false false false e f off = (refl, refl)
-  last_fails true true c d e f off = cc
-  last_fails false b c d e f off = cc
+  last_fails _ _ _ _ e f off = cc
 
   pub ends_dead : AreDead (RepresentsClass family) after (may_have_ended after threat w.ways_are.stays) (undoes_at after)
   ends_dead k lt off u inside =
@@ -117,15 +114,11 @@ module _ (walk : Walk) (w : CanWalk walk) where
   come_fails : (a b c d : Bool) → a ≡ true → b ≡ true → (((a && b) && not c) && d) ≡ false → (c ≡ true) ⊎ (d ≡ false)
   come_fails true true true d e f off = inl refl
   come_fails true true false d e f off = inr off
-  come_fails true false c d e f off = cc
-  come_fails false b c d e f off = cc
+  come_fails _ _ _ _ e f off = cc
 
   not_home : (kind : Kind) (s : ℕ) → comes_home kind threat.lion s ≡ false → (kind ≡ Lion) × (is_home threat.lion s ≡ false)
   not_home Lion s e = (refl, e)
-  not_home Giraffe s e = cc
-  not_home Elephant s e = cc
-  not_home Chick s e = cc
-  not_home Hen s e = cc
+  not_home _ s e = cc
 
   not_some : (cell : Cell) → not (is_some cell) ≡ true → is_empty cell ≡ true
   not_some None e = refl
@@ -164,9 +157,7 @@ calm_end after threat stays square on =
 -- the step alone, which may come from there
 come_parts : (a b c d : Bool) → (((a && b) && not c) && d) ≡ true → (a ≡ true) × (b ≡ true) × (c ≡ false)
 come_parts true true false d on = (refl, refl, refl)
-come_parts true true true d on = cc
-come_parts true false c d on = cc
-come_parts false b c d on = cc
+come_parts _ _ _ _ on = cc
 
 empty_there : (cell : Cell) → is_empty cell ≡ true → cell ≡ None
 empty_there None e = refl
@@ -189,14 +180,6 @@ module _ (after : Setup) (threat : Threat) (kind : Kind) (from to : ℕ) (there 
   pub comes_step : from < 12 → CanUnstep after kind from to None
   comes_step on_board =
       free_step after kind from to there (ap (λ (c : Cell). is_some c) (empty_there (at after from) parts.1)) parts.0 on_board
-
--- ---- the steps to a square
-
-pub all_steps : (Represents : Setup → ℕ → Type 0) (after : Setup) (kind : Kind) (to : ℕ) (xs ys : List ℕ) → stands (at after to) (arrives_at kind to) ≡ true
-    → Gathers Represents after (each_below (unsteps_from after kind to) 12) xs ys → Gathers Represents after (unsteps after kind to) xs ys
-unfolding unsteps
-all_steps Represents after kind to xs ys there h =
-    subst (λ b. Gathers Represents after (cond b (each_below (unsteps_from after kind to) 12) []) xs ys) (sym there) h
 
 -- a step without a catch, and with each
 pub steps_from : (Represents : Setup → ℕ → Type 0) (after : Setup) (kind : Kind) (from to : ℕ) (a b c d e f : List ℕ)

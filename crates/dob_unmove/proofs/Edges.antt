@@ -220,14 +220,15 @@ module _ (family : Family) (q : Setup) (class : ℕ) (is_q : RepresentsClass fam
 module _ (family : Family) (class : ℕ) (representative : Setup) (numbers sorted : List ℕ) (is : RepresentsClass family representative class)
     (counts : CountEdges A (RepresentsClass family) representative numbers) (moved : IsPermutation numbers sorted)
     (rises : IsNonDecreasingBy (λ (x : ℕ). x) sorted) where
-  pub sorted_predecessors : (q : Setup) → RepresentsClass family q class → ArePredecessors family.profile (RepresentsClass family) q sorted
+  sorted_predecessors : (q : Setup) → RepresentsClass family q class → ArePredecessors family.profile (RepresentsClass family) q sorted
   sorted_predecessors q is_q =
       let same = (IsNumbering-classes family).one_represents representative q class is is_q in
       let all = sorted_counts (RepresentsClass family) q numbers sorted
       (subst (λ (p : Setup). CountEdges A (RepresentsClass family) p numbers) same counts) moved rises in
       record { counts = counts_by family q sorted is_q.0.0 all.counts; ascending = all.ascending }
 
-  pub sorted_list : class < classes_of family → sorted ≡ predecessors family class
-  sorted_list below =
+  pub sorted_answer : class < classes_of family
+      → ((q : Setup) → RepresentsClass family q class → ArePredecessors family.profile (RepresentsClass family) q sorted) × (sorted ≡ predecessors family class)
+  sorted_answer below =
       let is_q = RepresentsClass-class_setup family class below in
-      same_predecessors family (class_setup family class) class is_q sorted (sorted_predecessors (class_setup family class) is_q)
+      (sorted_predecessors, same_predecessors family (class_setup family class) class is_q sorted (sorted_predecessors (class_setup family class) is_q))

@@ -1,7 +1,7 @@
 -- What the ways add, one list after the other: nothing where none can lead to an open representative.
 use Rattle.dob_unmove.proofs.Common.{◌++◌, ◌<◌, ◌∷◌, ◌≡◌, ◌≤◌, Bool, Contains, List, None, [], append-nil, arith, false, inl, inr, option_to_list, refl, subst}
 use Rattle.dob_unmove.proofs.Common.{suc, sym, true, zero, ℕ, cases_lt, Contains-append_right, trailing_zeros, w16, head_in, IsLeft, all_left, next_left}
-use Rattle.dob_unmove.proofs.Common.{none_left, without, each_below, IsMask, Setup, Gathers, IsOpenRepresentative, earlier, Undo}
+use Rattle.dob_unmove.proofs.Common.{none_left, without, each_below, IsMask, Setup, Gathers, IsOpenRepresentative, earlier, Undo, TakesAll, Adds}
 
 pub gathers_none : (Represents : Setup → ℕ → Type 0) (after : Setup) (xs : List ℕ) → Gathers Represents after [] xs xs
 gathers_none Represents after xs = refl
@@ -19,6 +19,14 @@ pub gathers_cons : (Represents : Setup → ℕ → Type 0) (after : Setup) (u : 
 gathers_cons Represents after u us xs ys zs first second = gathers_append Represents after (u ∷ []) us xs ys zs first second
 
 pub ruleset gathers = (gathers_none, gathers_append, gathers_cons)
+
+-- what the plain walk adds, way by way
+pub gathers_taken : (Represents : Setup → ℕ → Type 0) (after : Setup) (us : List Undo) (xs ys : List ℕ)
+    → TakesAll (λ old undo new. Adds Represents after undo old new) xs us ys
+    → Gathers Represents after us xs ys
+gathers_taken Represents after [] xs ys h = h
+gathers_taken Represents after (u ∷ us) xs ys h =
+    (h.1.0, h.1.1, subst (λ (l : List ℕ). Gathers Represents after us l ys) h.1.2 (gathers_taken Represents after us h.0 ys h.2))
 
 -- the way leads back to no open representative
 abbrev pub IsDead : (Setup → ℕ → Type 0) → Setup → Undo → Type 0
@@ -60,19 +68,18 @@ module _ (Represents : Setup → ℕ → Type 0) (after : Setup) (test : ℕ →
   pub gathered_start : (mask : ℕ) (before : List ℕ) → IsMask test mask → IsGathered Represents after test g mask before before
   gathered_start mask before is = record { upto = 0; bound = omega arith; left_are = all_left test mask is; gathered = refl }
 
-  pub gathered_less : (left place rest : ℕ) (before items : List ℕ) → IsGathered Represents after test g left before items
-      → 0 < left → place ≡ trailing_zeros w16 left → rest ≡ without left place → rest < left
-  gathered_less left place rest before items w some e gone = rw gone (next_left test w.upto left place w.left_are some e).less
-
+module _ {Represents : Setup → ℕ → Type 0} {after : Setup} {test : ℕ → Bool} {g : ℕ → List Undo} {left : ℕ} {before items : List ℕ}
+    (w : IsGathered Represents after test g left before items) where
   -- the lowest square passes the test
-  pub passes_lowest : (left place : ℕ) (before items : List ℕ) → IsGathered Represents after test g left before items
-      → 0 < left → place ≡ trailing_zeros w16 left → test place ≡ true
-  passes_lowest left place before items w some e = (next_left test w.upto left place w.left_are some e).passes
+  pub passes_lowest : {place : ℕ} → 0 < left → place ≡ trailing_zeros w16 left → test place ≡ true
+  passes_lowest {place} some e = (next_left test w.upto left place w.left_are some e).passes
 
-  pub gathered_next : AreDead Represents after test g → (left place rest : ℕ) (before items new : List ℕ) → IsGathered Represents after test g left before items
-      → 0 < left → place ≡ trailing_zeros w16 left → rest ≡ without left place → Gathers Represents after (g place) items new
-      → IsGathered Represents after test g rest before new
-  gathered_next dead left place rest before items new w some e gone more =
+  pub gathered_less : {place rest : ℕ} → 0 < left → place ≡ trailing_zeros w16 left → rest ≡ without left place → rest < left
+  gathered_less {place} some e gone = rw gone (next_left test w.upto left place w.left_are some e).less
+
+  pub gathered_next : {place rest : ℕ} {new : List ℕ} → AreDead Represents after test g → 0 < left → place ≡ trailing_zeros w16 left
+      → rest ≡ without left place → Gathers Represents after (g place) items new → IsGathered Represents after test g rest before new
+  gathered_next {place} {new = new} dead some e gone more =
       let it = next_left test w.upto left place w.left_are some e in
       let lt = it.on_board in
       rw gone (record {
@@ -80,10 +87,9 @@ module _ (Represents : Setup → ℕ → Type 0) (after : Setup) (test : ℕ →
         bound = omega (arith, lt);
         left_are = it.left;
         gathered = gathers_append Represents after (each_below g place) (g place) before items new
-            (dead_between dead w.upto place before items it.not_before (omega (arith, lt)) it.between w.gathered) more;
+            (dead_between Represents after test g dead w.upto place before items it.not_before (omega (arith, lt)) it.between w.gathered) more;
       })
 
-  pub gathered_end : AreDead Represents after test g → (left : ℕ) (before items : List ℕ) → IsGathered Represents after test g left before items
-      → left ≡ 0 → Gathers Represents after (each_below g 12) before items
-  gathered_end dead left before items w none =
-      dead_between dead w.upto 12 before items w.bound (omega arith) (none_left test w.upto left w.left_are none) w.gathered
+  pub gathered_end : AreDead Represents after test g → left ≡ 0 → Gathers Represents after (each_below g 12) before items
+  gathered_end dead none =
+      dead_between Represents after test g dead w.upto 12 before items w.bound (omega arith) (none_left test w.upto left w.left_are none) w.gathered

@@ -1,11 +1,10 @@
 -- What the functions that gather classes need, over plain values.
-use Rattle.dob_unmove.proofs.Common.{◌∙◌, ◌≡◌, ◌≢◌, List, None, Option, Some, [], ap, arith, false, inr, subst, sym, true, ℕ, MatchOption, is_some}
-use Rattle.dob_unmove.proofs.Common.{turned-mirrored, IsLegal, mirrored, turned, A, Setup, HasStatus, Open, Classes, Adds, Finds, Gathers, ArePredecessors}
-use Rattle.dob_unmove.proofs.Common.{CountEdges, HasEdges, IsNumbering, IsOpenPosition, TakesAll, undoes, Undo}
+use Rattle.dob_unmove.proofs.Common.{◌∙◌, ◌≡◌, ◌≢◌, List, None, Option, Some, [], arith, false, inr, subst, sym, true, ℕ, MatchOption, is_some}
+use Rattle.dob_unmove.proofs.Common.{turned-mirrored, IsLegal, mirrored, turned, A, Setup, HasStatus, Open, Finds, Gathers, ArePredecessors}
+use Rattle.dob_unmove.proofs.Common.{CountEdges, HasEdges, IsNumbering, IsOpenPosition, undoes}
 use Rattle.std.specs.List.Sorted.{IsPermutation, IsNonDecreasingBy}
 use Rattle.std.proofs.lemmas.List.Sorted.{sum_by-IsPermutation, All-permutation}
-use Rattle.dob_unmove.specs.declared.plain.Gathered.{Gathered}
-use Rattle.dob_unmove.proofs.Counting.{all_gathered, counts_alone, counts_both}
+use Rattle.dob_unmove.proofs.Counting.{counts_alone, counts_both}
 
 -- the answer of the numbering, at the position before the move
 pub finds_from : (Represents : Setup → ℕ → Type 0) (p s : Setup) (o : Option ℕ) → p ≡ s → HasStatus A p Open
@@ -42,51 +41,6 @@ sorted_counts Represents q xs ys c moved rises = record {
   };
   ascending = λ i j d lt within. rises i j d (omega arith) within;
 }
-
--- ---- the walks
-
--- what one way adds to the gathered classes
-abbrev pub Gathering : (Classes → Setup → ℕ → Type 0) → Setup → Gathered → Undo → Gathered → Type 0
-Gathering Represents t old undo new =
-    (new.classes ≡ old.classes) × Adds (Represents old.classes.now) t undo old.found.items new.found.items
-
-gathered_by : (Represents : Classes → Setup → ℕ → Type 0) (t : Setup) (us : List Undo) (old new : Gathered)
-    → TakesAll (Gathering Represents t) old us new
-    → (new.classes ≡ old.classes) × Gathers (Represents old.classes.now) t us old.found.items new.found.items
-gathered_by Represents t us old new h =
-    all_gathered (λ (s : Gathered). s.classes) (λ (s : Gathered). s.found.items) (λ c. Represents c.now) t us old new h
-
--- a walk that begins with no numbers
-fresh_walk : (Represents : Classes → Setup → ℕ → Type 0) (q t : Setup) (old new : Gathered)
-    → t ≡ turned q → old.found.items ≡ [] → TakesAll (Gathering Represents t) old (undoes t) new
-    → Gathers (Represents old.classes.now) (turned q) (undoes (turned q)) [] new.found.items
-fresh_walk Represents q t old new e none h =
-    let g = (gathered_by Represents t (undoes t) old new h).1 in
-    let there = subst (λ (x : Setup). Gathers (Represents old.classes.now) x (undoes x) old.found.items new.found.items) e g in
-    subst (λ (xs : List ℕ). Gathers (Represents old.classes.now) (turned q) (undoes (turned q)) xs new.found.items) none there
-
-pub walked_alone : (Represents : Classes → Setup → ℕ → Type 0) (q t : Setup) (old new : Gathered)
-    → IsNumbering (Represents old.classes.now) → IsLegal q → mirrored q ≡ q
-    → t ≡ turned q → old.found.items ≡ [] → TakesAll (Gathering Represents t) old (undoes t) new
-    → CountEdges A (Represents old.classes.now) q new.found.items
-walked_alone Represents q t old new n legal own e none h =
-    counts_alone (Represents old.classes.now) n q new.found.items legal.squares own (fresh_walk Represents q t old new e none h)
-
--- two walks, of which the second goes on with the classes and the numbers of the first
-pub walked_both : (Represents : Classes → Setup → ℕ → Type 0) (q image t s : Setup) (old mid next new : Gathered)
-    → IsNumbering (Represents old.classes.now) → IsLegal q → mirrored q ≢ q → image ≡ mirrored q
-    → t ≡ turned q → s ≡ turned image → old.found.items ≡ [] → TakesAll (Gathering Represents t) old (undoes t) mid
-    → next.classes ≡ mid.classes → next.found.items ≡ mid.found.items → TakesAll (Gathering Represents s) next (undoes s) new
-    → CountEdges A (Represents old.classes.now) q new.found.items
-walked_both Represents q image t s old mid next new n legal other im e f none h same_classes same_found k =
-    let once = fresh_walk Represents q t old mid e none h in
-    let kept = same_classes ∙ (gathered_by Represents t (undoes t) old mid h).0 in
-    let second = (gathered_by Represents s (undoes s) next new k).1 in
-    let same = subst (λ c. Gathers (Represents c.now) s (undoes s) next.found.items new.found.items) kept second in
-    let going_on = subst (λ (xs : List ℕ). Gathers (Represents old.classes.now) s (undoes s) xs new.found.items) same_found same in
-    let there : s ≡ turned (mirrored q) = f ∙ ap turned im in
-    counts_both (Represents old.classes.now) n q mid.found.items new.found.items legal.squares other once
-    (subst (λ (x : Setup). Gathers (Represents old.classes.now) x (undoes x) mid.found.items new.found.items) there going_on)
 
 -- ---- what was found
 

@@ -1,10 +1,11 @@
 -- Taking a move back keeps the lions and the other pieces.
 use Rattle.dob_unmove.proofs.Common.{◌∙◌, ◌≡◌, ap, arith, false, length, refl, subst, sym, true, true≢false, length-set, count_by, HasFewPieces-turned}
-use Rattle.dob_unmove.proofs.Common.{IsLegal-mirrored, length-turned, turned-mirrored, turned-turned, other_side, IsAllowed, HasFewPieces, HasLionOffFarRow}
+use Rattle.dob_unmove.proofs.Common.{IsLegal-mirrored, length-turned, turned-mirrored, other_side, IsAllowed, HasFewPieces, HasLionOffFarRow}
 use Rattle.dob_unmove.proofs.Common.{HasLions, IsLegal, holds_lion, mirrored, total, turned, HandKind, Side, Enemy, Mover, Family, Setup, lions-HasOutcome}
 use Rattle.dob_unmove.proofs.Common.{total-HasOutcome, IsPositionOf, IsPositionOf-mirrored, AreBitboards, IsShown, Bitboards, IsSeenTurned, CanUndo, choice}
 use Rattle.dob_unmove.proofs.Common.{earlier, may_give_back, Undo, Unput, Unstep}
 use Rattle.dob_unmove.proofs.Allowed.{IsAllowed-earlier, gives_back}
+use Rattle.dob_unmove.proofs.Threats.{turned_squares}
 use Rattle.dob_unmove.proofs.Undone.{HasOutcome-from_undo}
 
 length-earlier : (after : Setup) (u : Undo) → length (earlier after u).board ≡ length after.board
@@ -64,9 +65,6 @@ barred family after u can t isnt is =
     let may = gives_back family.profile t.0 t.1.of_set.legal.squares u (subst (λ (x : Setup). CanUndo x u) t.2 can) there.of_set.legal.squares there.allowed in
     true≢false (sym may ∙ isnt)
 
-pub squares_turned : (after : Setup) → IsSeenTurned IsLegal after → length after.board ≡ 12
-squares_turned after t = ap (λ (s : Setup). length s.board) t.2 ∙ length-turned t.0
-
 pub few_turned : (after : Setup) → IsSeenTurned IsLegal after → HasFewPieces after
 few_turned after t = subst HasFewPieces (sym t.2) (HasFewPieces-turned t.0 t.1.squares t.1.few)
 
@@ -82,19 +80,11 @@ shown_before family after u bits found can may t home are before =
     let legal = legal_turned family after t in
     record {
       position = position_before family after (earlier after u) u can may t refl (legal_before after (earlier after u) u can legal refl home);
-      squares = before after can (squares_turned after legal) are;
+      squares = before after can (turned_squares after legal) are;
     }
 
 pub position_mirrored : (family : Family) (q image : Setup) → IsPositionOf family q → image ≡ mirrored q → IsPositionOf family image
 position_mirrored family q image is e = subst (IsPositionOf family) (sym e) (IsPositionOf-mirrored family q is)
-
--- after a walk over the one position, for the walk over its mirror image
-pub turned_image : (family : Family) (q image t s : Setup) → IsLegal q → image ≡ mirrored q → t ≡ turned q → s ≡ turned image → IsSeenTurned (IsPositionOf family) t
-    → IsSeenTurned (IsPositionOf family) s
-turned_image family q image t s legal im e f walked =
-    let same : walked.0 ≡ q
-    = sym (turned-turned walked.0 walked.1.of_set.legal.squares) ∙ ap turned (sym walked.2 ∙ e) ∙ turned-turned q legal.squares in
-    (image, position_mirrored family q image (subst (IsPositionOf family) same walked.1) im, f)
 
 -- the mirror image of a turned position is a turned one
 pub turned_legal : (q t : Setup) → IsLegal q → t ≡ mirrored (turned q) → IsSeenTurned IsLegal t

@@ -1,28 +1,17 @@
 -- Before each way that is gone through the mover's lion stood off row 4: it moved from a home, or it stands on one.
-use Rattle.dob_unmove.proofs.Common.{◌&&◌, ◌||◌, ◌∙◌, ◌≡◌, ◌≢◌, ◌≤◌, Bool, None, Option, Some, ap, arith, inl, inr, nat_lt, refl, sym, true, ℕ, and_parts}
-use Rattle.dob_unmove.proofs.Common.{cases_eq, ltb-true, get_or-set_other, one_lion, is_kind, is_piece, is_side, Cell, HasLionOffFarRow, HasLions, IsLegal, at}
-use Rattle.dob_unmove.proofs.Common.{piece_of, HandKind, Kind, Chick, Elephant, Giraffe, Hen, Lion, Side, Enemy, Mover, Setup, kind_of, side_of, IsSeenTurned}
+use Rattle.dob_unmove.proofs.Common.{◌||◌, ◌∙◌, ◌≡◌, ◌≢◌, ◌≤◌, Bool, None, Option, Some, ap, arith, inl, inr, nat_lt, sym, true, ℕ, and_parts}
+use Rattle.dob_unmove.proofs.Common.{cases_eq, ltb-true, get_or-set_other, one_lion, is_piece, HasLionOffFarRow, HasLions, IsLegal, at}
+use Rattle.dob_unmove.proofs.Common.{piece_of, HandKind, Kind, Lion, Enemy, Mover, Setup, kind_of, side_of, IsSeenTurned}
 use Rattle.dob_unmove.proofs.Common.{IsThreat, CanUndo, CanUnstep, earlier, enemy_cell, HasLionHome, TellsHome, comes_home, is_home, may_come, may_have_ended}
 use Rattle.dob_unmove.proofs.Common.{Threat, Unput, Unstep}
 use Rattle.dob_unmove.proofs.Homes.{either_true}
+use Rattle.dob_unmove.proofs.WayMasks.{lion_passes}
 use Rattle.dob_unmove.proofs.Threats.{at_from, at_to, at_others, at_drop}
 
 off_far_row : (lion square : ℕ) → 9 ≤ square → is_home lion square ≡ true → ⊥
 off_far_row lion square far home =
     let low = ltb-true square 9 (and_parts (nat_lt square 9) _ home).0 in
     absurd (omega (arith, low, far))
-
-lion_parts : (side : Side) (kind : Kind) → (is_side Mover side && is_kind Lion kind) ≡ true → (side ≡ Mover) × (kind ≡ Lion)
-lion_parts Mover Lion e = (refl, refl)
-lion_parts Mover Giraffe e = cc
-lion_parts Mover Elephant e = cc
-lion_parts Mover Chick e = cc
-lion_parts Mover Hen e = cc
-lion_parts Enemy kind e = cc
-
-is_own_lion : (cell : Cell) → is_piece Mover Lion cell ≡ true → cell ≡ Some (piece_of Mover Lion)
-is_own_lion None e = cc
-is_own_lion (Some piece) e = let parts = lion_parts piece.side piece.kind e in λ i. Some (piece_of (parts.0 i) (parts.1 i))
 
 -- where a move may have ended
 pub end_home : (after : Setup) (threat : Threat) (stays : Bool) (to : ℕ) → HasLions after → TellsHome after threat.lion stays
@@ -31,7 +20,7 @@ end_home after threat stays to lions tells on square there =
     let last = and_parts _ (stays || is_piece Mover Lion (at after to)) on in
     elim (either_true stays (is_piece Mover Lion (at after to)) last.1) [
       | inl at_home ↦ inr (tells square there ∙ at_home)
-      | inr moved ↦ inl (one_lion Mover after square to lions there (is_own_lion (at after to) moved))
+      | inr moved ↦ inl (one_lion Mover after square to lions there (lion_passes Mover (at after to) moved))
     ]
 
 no_enemy : (caught : Option Kind) → enemy_cell caught ≢ Some (piece_of Mover Lion)

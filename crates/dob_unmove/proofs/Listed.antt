@@ -6,7 +6,7 @@ use Rattle.dob_unmove.proofs.Common.{kind_on_board, leads, Cell, at, held, piece
 use Rattle.dob_unmove.proofs.Common.{Mover, Setup, CanGiveBack, CanUndo, CanUnstep, arrives_at, holds_any, holds_caught, if_so, is_movers, stands, uncatch}
 use Rattle.dob_unmove.proofs.Common.{undoes, undoes_at, unputs, unsteps, unsteps_between, unsteps_from, Undo, Unput, Unstep}
 use Rattle.dob_pieces.specs.declared.kind.HandKind.TheVariants as hand
-use Rattle.dob_pieces.proofs.Lists.{cond_whole, each_whole}
+use Rattle.dob_pieces.proofs.Lists.{cond_whole, each_whole, rest_in}
 
 -- ---- the tests
 
@@ -16,33 +16,11 @@ is_kind-same Giraffe Giraffe e = refl
 is_kind-same Elephant Elephant e = refl
 is_kind-same Chick Chick e = refl
 is_kind-same Hen Hen e = refl
-is_kind-same Lion Giraffe e = cc
-is_kind-same Lion Elephant e = cc
-is_kind-same Lion Chick e = cc
-is_kind-same Lion Hen e = cc
-is_kind-same Giraffe Lion e = cc
-is_kind-same Giraffe Elephant e = cc
-is_kind-same Giraffe Chick e = cc
-is_kind-same Giraffe Hen e = cc
-is_kind-same Elephant Lion e = cc
-is_kind-same Elephant Giraffe e = cc
-is_kind-same Elephant Chick e = cc
-is_kind-same Elephant Hen e = cc
-is_kind-same Chick Lion e = cc
-is_kind-same Chick Giraffe e = cc
-is_kind-same Chick Elephant e = cc
-is_kind-same Chick Hen e = cc
-is_kind-same Hen Lion e = cc
-is_kind-same Hen Giraffe e = cc
-is_kind-same Hen Elephant e = cc
-is_kind-same Hen Chick e = cc
+is_kind-same _ _ e = cc
 
 is_kind-itself : (kind : Kind) → is_kind kind kind ≡ true
 is_kind-itself Lion = refl
-is_kind-itself Giraffe = refl
-is_kind-itself Elephant = refl
-is_kind-itself Chick = refl
-is_kind-itself Hen = refl
+is_kind-itself _ = refl
 
 movers : (side : Side) → is_movers side ≡ true → side ≡ Mover
 movers Mover e = refl
@@ -91,53 +69,33 @@ if_so_sound b x u h =
 if_so_whole : (b : Bool) (x : Undo) → b ≡ true → Contains (if_so b x) x
 if_so_whole b x e = cond_whole b (x ∷ []) x e (head_in x [])
 
--- ---- one of several lists, one after the other
+-- ---- the parts of the lists
 
-module _ (a b c d : List Undo) (u : Undo) where
-  first_of_four : Contains a u → Contains (a ++ (b ++ (c ++ d))) u
-  first_of_four i = Contains-append_left a (b ++ (c ++ d)) u i
+either : {P : Type 0} (xs ys : List Undo) (u : Undo) → Contains (xs ++ ys) u → (Contains xs u → P) → (Contains ys u → P) → P
+either xs ys u h first second = elim (Contains-append_cases xs ys u h) [ inl a ↦ first a | inr b ↦ second b ]
 
-  second_of_four : Contains b u → Contains (a ++ (b ++ (c ++ d))) u
-  second_of_four i = Contains-append_right a (b ++ (c ++ d)) u (Contains-append_left b (c ++ d) u i)
+module _ (t : Setup) {P : Type 0} (u : Undo) where
+  -- the step without a catch, or one with it
+  pub by_catch : (kind : Kind) (from to : ℕ) → Contains (unsteps_between t kind from to) u → (Unstep kind from to None ≡ u → P)
+      → ((caught : Kind) → Contains (uncatch t kind from to caught) u → P) → P
+  by_catch kind from to h none some = elim (cons_cases _ _ u h) [
+    | inl e ↦ none e
+    | inr rest ↦
+        either _ _ u rest (some Giraffe) (λ rest. either _ _ u rest (some Elephant) (λ rest. either _ _ u rest (some Chick) (some Hen)))
+  ]
 
-  third_of_four : Contains c u → Contains (a ++ (b ++ (c ++ d))) u
-  third_of_four i = Contains-append_right a (b ++ (c ++ d)) u (Contains-append_right b (c ++ d) u (Contains-append_left c d u i))
-
-  last_of_four : Contains d u → Contains (a ++ (b ++ (c ++ d))) u
-  last_of_four i = Contains-append_right a (b ++ (c ++ d)) u (Contains-append_right b (c ++ d) u (Contains-append_right c d u i))
-
-module _ (a b c d e f g h : List Undo) (u : Undo) where
-  in_a : Contains a u → Contains (a ++ (b ++ (c ++ (d ++ (e ++ (f ++ (g ++ h))))))) u
-  in_a i = Contains-append_left a (b ++ (c ++ (d ++ (e ++ (f ++ (g ++ h)))))) u i
-
-  in_b : Contains b u → Contains (a ++ (b ++ (c ++ (d ++ (e ++ (f ++ (g ++ h))))))) u
-  in_b i = Contains-append_right a (b ++ (c ++ (d ++ (e ++ (f ++ (g ++ h)))))) u (Contains-append_left b (c ++ (d ++ (e ++ (f ++ (g ++ h))))) u i)
-
-  in_c : Contains c u → Contains (a ++ (b ++ (c ++ (d ++ (e ++ (f ++ (g ++ h))))))) u
-  in_c i = Contains-append_right a _ u (Contains-append_right b _ u (Contains-append_left c _ u i))
-
-  in_d : Contains d u → Contains (a ++ (b ++ (c ++ (d ++ (e ++ (f ++ (g ++ h))))))) u
-  in_d i = Contains-append_right a _ u (Contains-append_right b _ u (Contains-append_right c _ u (Contains-append_left d _ u i)))
-
-  in_e : Contains e u → Contains (a ++ (b ++ (c ++ (d ++ (e ++ (f ++ (g ++ h))))))) u
-  in_e i = Contains-append_right a _ u (Contains-append_right b _ u (Contains-append_right c _ u (Contains-append_right d _ u (Contains-append_left e _ u i))))
-
-  in_f : Contains f u → Contains (a ++ (b ++ (c ++ (d ++ (e ++ (f ++ (g ++ h))))))) u
-  in_f i =
-      Contains-append_right a _ u (Contains-append_right b _ u (Contains-append_right c _ u
-      (Contains-append_right d _ u (Contains-append_right e _ u (Contains-append_left f _ u i)))))
-
-  in_g : Contains g u → Contains (a ++ (b ++ (c ++ (d ++ (e ++ (f ++ (g ++ h))))))) u
-  in_g i =
-      Contains-append_right a _ u (Contains-append_right b _ u (Contains-append_right c _ u
-      (Contains-append_right d _ u (Contains-append_right e _ u (Contains-append_right f _ u
-      (Contains-append_left g _ u i))))))
-
-  in_h : Contains h u → Contains (a ++ (b ++ (c ++ (d ++ (e ++ (f ++ (g ++ h))))))) u
-  in_h i =
-      Contains-append_right a _ u (Contains-append_right b _ u (Contains-append_right c _ u
-      (Contains-append_right d _ u (Contains-append_right e _ u (Contains-append_right f _ u
-      (Contains-append_right g _ u i))))))
+  -- a step of one of the kinds, or a drop
+  pub by_kind : (to : ℕ) → Contains (undoes_at t to) u → ((kind : Kind) → Contains (unsteps t kind to) u → P)
+      → ((kind : HandKind) → Contains (unputs t kind to) u → P) → P
+  unfolding undoes_at
+  by_kind to h step put =
+      either _ _ u h (step Lion)
+      (λ rest. either _ _ u rest (step Giraffe)
+      (λ rest. either _ _ u rest (step Elephant)
+      (λ rest. either _ _ u rest (step Chick)
+      (λ rest. either _ _ u rest (step Hen)
+      (λ rest. either _ _ u rest (put hand.Chick)
+      (λ rest. either _ _ u rest (put hand.Elephant) (put hand.Giraffe)))))))
 
 -- ---- every way in the list can undo the last move
 
@@ -154,18 +112,9 @@ module _ (t : Setup) where
         in_hand = holds-true t.hands.mover caught (kind_in_hand caught) refl found.0;
       })
 
-  append_sound : (xs ys : List Undo) (u : Undo) → Contains (xs ++ ys) u → (Contains xs u → CanUndo t u) → (Contains ys u → CanUndo t u) → CanUndo t u
-  append_sound xs ys u h first second = elim (Contains-append_cases xs ys u h) [ inl a ↦ first a | inr b ↦ second b ]
-
   between_sound : (kind : Kind) (from to : ℕ) (u : Undo) → CanUnstep t kind from to None → Contains (unsteps_between t kind from to) u → CanUndo t u
   between_sound kind from to u step h =
-      elim (cons_cases _ _ u h) [
-        | inl e ↦ subst (CanUndo t) e step
-        | inr rest ↦
-            append_sound _ _ u rest (uncatch_sound kind from to Giraffe u step)
-            (λ rest. append_sound _ _ u rest (uncatch_sound kind from to Elephant u step)
-            (λ rest. append_sound _ _ u rest (uncatch_sound kind from to Chick u step) (uncatch_sound kind from to Hen u step)))
-      ]
+      by_catch t u kind from to h (λ e. subst (CanUndo t) e step) (λ caught there. uncatch_sound kind from to caught u step there)
 
   pub from_sound : (kind : Kind) (from to : ℕ) (u : Undo) → at t to ≡ Some (piece_of Mover (arrives_at kind to)) → from < 12
       → Contains (unsteps_from t kind to from) u → CanUndo t u
@@ -190,15 +139,7 @@ module _ (t : Setup) where
       subst (CanUndo t) found.1 (stands-true (at t to) (kind_on_board kind) found.0)
 
   pub at_sound : (to : ℕ) (u : Undo) → Contains (undoes_at t to) u → CanUndo t u
-  unfolding undoes_at
-  at_sound to u h =
-      append_sound _ _ u h (unsteps_sound Lion to u)
-      (λ rest. append_sound _ _ u rest (unsteps_sound Giraffe to u)
-      (λ rest. append_sound _ _ u rest (unsteps_sound Elephant to u)
-      (λ rest. append_sound _ _ u rest (unsteps_sound Chick to u)
-      (λ rest. append_sound _ _ u rest (unsteps_sound Hen to u)
-      (λ rest. append_sound _ _ u rest (unputs_sound hand.Chick to u)
-      (λ rest. append_sound _ _ u rest (unputs_sound hand.Elephant to u) (unputs_sound hand.Giraffe to u)))))))
+  at_sound to u h = by_kind t u to h (λ kind there. unsteps_sound kind to u there) (λ kind there. unputs_sound kind to u there)
 
   pub undoes_sound : (u : Undo) → Contains (undoes t) u → CanUndo t u
   unfolding undoes
@@ -210,34 +151,15 @@ module _ (t : Setup) where
       → Contains (uncatch t kind from to caught) (Unstep kind from to (Some caught))
   uncatch_whole kind from to caught g = if_so_whole (holds_caught t.hands.mover caught) (Unstep kind from to (Some caught)) (holds-from t.hands.mover caught g)
 
-  later : (x : Undo) (xs : List Undo) (u : Undo) → Contains xs u → Contains (x ∷ xs) u
-  later x xs u h = Contains-append_right (x ∷ []) xs u h
-
   between_whole : (kind : Kind) (from to : ℕ) (caught : Option Kind) → CanGiveBack t.hands.mover caught
       → Contains (unsteps_between t kind from to) (Unstep kind from to caught)
   between_whole kind from to None g = head_in _ _
-  between_whole kind from to (Some caught) g =
-      later (Unstep kind from to None) _ _ (caught_whole caught g)
-    where
-      found : (caught : Kind) → CanGiveBack t.hands.mover (Some caught) → Contains (uncatch t kind from to caught) (Unstep kind from to (Some caught))
-      found = uncatch_whole kind from to
-
-      caught_whole : (caught : Kind) → CanGiveBack t.hands.mover (Some caught)
-          → Contains (uncatch t kind from to Giraffe ++ (uncatch t kind from to Elephant ++ (uncatch t kind from to Chick ++ uncatch t kind from to Hen)))
-          (Unstep kind from to (Some caught))
-      caught_whole Lion g = absurd (no_lion_back t.hands.mover g)
-      caught_whole Giraffe g =
-          first_of_four (uncatch t kind from to Giraffe) (uncatch t kind from to Elephant) (uncatch t kind from to Chick) (uncatch t kind from to Hen) _
-          (found Giraffe g)
-      caught_whole Elephant g =
-          second_of_four (uncatch t kind from to Giraffe) (uncatch t kind from to Elephant) (uncatch t kind from to Chick) (uncatch t kind from to Hen) _
-          (found Elephant g)
-      caught_whole Chick g =
-          third_of_four (uncatch t kind from to Giraffe) (uncatch t kind from to Elephant) (uncatch t kind from to Chick) (uncatch t kind from to Hen) _
-          (found Chick g)
-      caught_whole Hen g =
-          last_of_four (uncatch t kind from to Giraffe) (uncatch t kind from to Elephant) (uncatch t kind from to Chick) (uncatch t kind from to Hen) _
-          (found Hen g)
+  between_whole kind from to (Some caught) g = rest_in _ _ _ (by_caught caught g (uncatch_whole kind from to caught g)) where
+    by_caught : (caught : Kind) → CanGiveBack t.hands.mover (Some caught) → Contains (uncatch t kind from to caught) (Unstep kind from to (Some caught))
+        → Contains (uncatch t kind from to Giraffe ++ (uncatch t kind from to Elephant ++ (uncatch t kind from to Chick ++ uncatch t kind from to Hen)))
+        (Unstep kind from to (Some caught))
+    by_caught Lion back i = absurd (no_lion_back t.hands.mover back)
+    by_caught _ back i = search (Contains-append_left, Contains-append_right)
 
   from_whole : (kind : Kind) (from to : ℕ) (caught : Option Kind) → CanUnstep t kind from to caught
       → Contains (unsteps_from t kind to from) (Unstep kind from to caught)
@@ -259,33 +181,13 @@ module _ (t : Setup) where
 
   step_at_whole : (kind : Kind) (to : ℕ) (u : Undo) → Contains (unsteps t kind to) u → Contains (undoes_at t to) u
   unfolding undoes_at
-  step_at_whole Lion to u h =
-      in_a (unsteps t Lion to) (unsteps t Giraffe to) (unsteps t Elephant to) (unsteps t Chick to) (unsteps t Hen to)
-      (unputs t hand.Chick to) (unputs t hand.Elephant to) (unputs t hand.Giraffe to) u h
-  step_at_whole Giraffe to u h =
-      in_b (unsteps t Lion to) (unsteps t Giraffe to) (unsteps t Elephant to) (unsteps t Chick to) (unsteps t Hen to)
-      (unputs t hand.Chick to) (unputs t hand.Elephant to) (unputs t hand.Giraffe to) u h
-  step_at_whole Elephant to u h =
-      in_c (unsteps t Lion to) (unsteps t Giraffe to) (unsteps t Elephant to) (unsteps t Chick to) (unsteps t Hen to)
-      (unputs t hand.Chick to) (unputs t hand.Elephant to) (unputs t hand.Giraffe to) u h
-  step_at_whole Chick to u h =
-      in_d (unsteps t Lion to) (unsteps t Giraffe to) (unsteps t Elephant to) (unsteps t Chick to) (unsteps t Hen to)
-      (unputs t hand.Chick to) (unputs t hand.Elephant to) (unputs t hand.Giraffe to) u h
-  step_at_whole Hen to u h =
-      in_e (unsteps t Lion to) (unsteps t Giraffe to) (unsteps t Elephant to) (unsteps t Chick to) (unsteps t Hen to)
-      (unputs t hand.Chick to) (unputs t hand.Elephant to) (unputs t hand.Giraffe to) u h
+  step_at_whole Lion to u h = search (Contains-append_left, Contains-append_right) depth 9
+  step_at_whole _ to u h = search (Contains-append_left, Contains-append_right) depth 9
 
   put_at_whole : (kind : HandKind) (to : ℕ) (u : Undo) → Contains (unputs t kind to) u → Contains (undoes_at t to) u
   unfolding undoes_at
-  put_at_whole hand.Chick to u h =
-      in_f (unsteps t Lion to) (unsteps t Giraffe to) (unsteps t Elephant to) (unsteps t Chick to) (unsteps t Hen to)
-      (unputs t hand.Chick to) (unputs t hand.Elephant to) (unputs t hand.Giraffe to) u h
-  put_at_whole hand.Elephant to u h =
-      in_g (unsteps t Lion to) (unsteps t Giraffe to) (unsteps t Elephant to) (unsteps t Chick to) (unsteps t Hen to)
-      (unputs t hand.Chick to) (unputs t hand.Elephant to) (unputs t hand.Giraffe to) u h
-  put_at_whole hand.Giraffe to u h =
-      in_h (unsteps t Lion to) (unsteps t Giraffe to) (unsteps t Elephant to) (unsteps t Chick to) (unsteps t Hen to)
-      (unputs t hand.Chick to) (unputs t hand.Elephant to) (unputs t hand.Giraffe to) u h
+  put_at_whole hand.Chick to u h = search (Contains-append_left, Contains-append_right) depth 9
+  put_at_whole _ to u h = search (Contains-append_left, Contains-append_right) depth 9
 
   pub undoes_whole : (u : Undo) → length t.board ≡ 12 → CanUndo t u → Contains (undoes t) u
   unfolding undoes

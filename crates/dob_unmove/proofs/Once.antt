@@ -26,6 +26,10 @@ rising-higher : (low high more : ℕ) (us : List Undo) → high ≤ more → Ris
 rising-higher low high more [] h r = omega arith
 rising-higher low high more (u ∷ us) h r = (r.0, rising-higher (suc (place u)) high more us h r.1)
 
+-- one list behind another
+rising-then : (low mid next high : ℕ) (xs ys : List Undo) → Rising place low mid xs → mid ≤ next → Rising place next high ys → Rising place low high (xs ++ ys)
+rising-then low mid next high xs ys first le second = rising-append place low mid high xs ys first (rising-lower place mid next high ys le second)
+
 rising-one : (u : Undo) (low : ℕ) → place u ≡ low → Rising place low (suc low) (u ∷ [])
 rising-one u low e = (omega (arith, e), omega (arith, e))
 
@@ -48,19 +52,11 @@ module _ (t : Setup) where
       → Rising place low (low + 5) (unsteps_between t kind from to)
   unfolding place caught_place
   rising-between kind from to low e =
-      let first = rising-uncatch kind from to Giraffe (low + 1) (omega arith) in
-      let second = rising-uncatch kind from to Elephant (low + 2) (omega arith) in
-      let third = rising-uncatch kind from to Chick (low + 3) (omega arith) in
-      let last = rising-uncatch kind from to Hen (low + 4) (omega arith) in
-      let giraffe = uncatch t kind from to Giraffe in
-      let elephant = uncatch t kind from to Elephant in
-      let chick = uncatch t kind from to Chick in
-      let hen = uncatch t kind from to Hen in
-      let rest =
-      rising-append place (low + 3) (low + 4) (low + 5) chick hen (rising-higher _ _ _ chick (omega arith) third)
-      (rising-higher _ _ _ hen (omega arith) last) in
-      let more = rising-append place (low + 2) (low + 3) (low + 5) elephant (chick ++ hen) (rising-higher _ _ _ elephant (omega arith) second) rest in
-      let all = rising-append place (low + 1) (low + 2) (low + 5) giraffe (elephant ++ (chick ++ hen)) (rising-higher _ _ _ giraffe (omega arith) first) more in
+      let all =
+      rising-then _ _ _ _ _ _ (rising-uncatch kind from to Giraffe (low + 1) (omega arith)) (omega arith)
+      (rising-then _ _ _ _ _ _ (rising-uncatch kind from to Elephant (low + 2) (omega arith)) (omega arith)
+      (rising-then _ _ _ _ _ _ (rising-uncatch kind from to Chick (low + 3) (omega arith)) (omega arith)
+      (rising-higher _ _ (low + 5) _ (omega arith) (rising-uncatch kind from to Hen (low + 4) (omega arith))))) in
       (omega arith, rising-lower place _ (low + 1) (low + 5) _ (omega arith) all)
 
   rising-from : (kind : Kind) (from to low : ℕ) → low ≡ 1000 * to + (100 * kind_place kind + 5 * from)
@@ -84,22 +80,14 @@ module _ (t : Setup) where
   unfolding undoes_at hand_place
   rising-at to =
       let b = 1000 * to in
-      let lion = rising-unsteps Lion to b (omega arith) in
-      let giraffe = rising-unsteps Giraffe to (b + 100) (omega arith) in
-      let elephant = rising-unsteps Elephant to (b + 200) (omega arith) in
-      let chick = rising-unsteps Chick to (b + 300) (omega arith) in
-      let hen = rising-unsteps Hen to (b + 400) (omega arith) in
-      let put_chick = rising-unputs hand.Chick to (b + 500) (omega arith) in
-      let put_elephant = rising-unputs hand.Elephant to (b + 501) (omega arith) in
-      let put_giraffe = rising-unputs hand.Giraffe to (b + 502) (omega arith) in
-      let eighth = rising-higher _ _ (1000 * suc to) _ (omega arith) put_giraffe in
-      let seventh = rising-append place _ _ _ _ _ (rising-higher _ _ (b + 502) _ (omega arith) put_elephant) eighth in
-      let sixth = rising-append place _ _ _ _ _ (rising-higher _ _ (b + 501) _ (omega arith) put_chick) seventh in
-      let fifth = rising-append place _ _ _ _ _ (rising-higher _ _ (b + 500) _ (omega arith) hen) sixth in
-      let fourth = rising-append place _ _ _ _ _ (rising-higher _ _ (b + 400) _ (omega arith) chick) fifth in
-      let third = rising-append place _ _ _ _ _ (rising-higher _ _ (b + 300) _ (omega arith) elephant) fourth in
-      let second = rising-append place _ _ _ _ _ (rising-higher _ _ (b + 200) _ (omega arith) giraffe) third in
-      rising-append place _ _ _ _ _ (rising-higher _ _ (b + 100) _ (omega arith) lion) second
+      rising-then _ _ _ _ _ _ (rising-unsteps Lion to b (omega arith)) (omega arith)
+      (rising-then _ _ _ _ _ _ (rising-unsteps Giraffe to (b + 100) (omega arith)) (omega arith)
+      (rising-then _ _ _ _ _ _ (rising-unsteps Elephant to (b + 200) (omega arith)) (omega arith)
+      (rising-then _ _ _ _ _ _ (rising-unsteps Chick to (b + 300) (omega arith)) (omega arith)
+      (rising-then _ _ _ _ _ _ (rising-unsteps Hen to (b + 400) (omega arith)) (omega arith)
+      (rising-then _ _ _ _ _ _ (rising-unputs hand.Chick to (b + 500) (omega arith)) (omega arith)
+      (rising-then _ _ _ _ _ _ (rising-unputs hand.Elephant to (b + 501) (omega arith)) (omega arith)
+      (rising-higher _ _ (1000 * suc to) _ (omega arith) (rising-unputs hand.Giraffe to (b + 502) (omega arith)))))))))
 
   pub undoes_once : AllPairs (λ u v. u ≢ v) (undoes t)
   unfolding undoes

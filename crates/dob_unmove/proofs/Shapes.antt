@@ -1,17 +1,13 @@
 -- Where the ways of a list end, and from where they come.
-use Rattle.dob_unmove.proofs.Common.{◌&&◌, ◌++◌, ◌≡◌, Contains, List, None, Option, Some, ap, inl, inr, not, sym, true, ℕ, Contains-append_cases, is_some}
-use Rattle.dob_unmove.proofs.Common.{cond_sound, cons_cases, each_sound, kind_on_board, leads, at, HandKind, Kind, Chick, Elephant, Giraffe, Hen, Lion, Setup}
+use Rattle.dob_unmove.proofs.Common.{◌&&◌, ◌≡◌, Contains, None, Option, Some, ap, not, sym, true, ℕ, is_some}
+use Rattle.dob_unmove.proofs.Common.{cond_sound, each_sound, kind_on_board, leads, at, HandKind, Kind, Setup}
 use Rattle.dob_unmove.proofs.Common.{holds_caught, stands, uncatch, undoes_at, unputs, unsteps, unsteps_between, unsteps_from, Undo, Unput, Unstep}
-use Rattle.dob_pieces.specs.declared.kind.HandKind.TheVariants as hand
-use Rattle.dob_unmove.proofs.Listed.{if_so_sound}
+use Rattle.dob_unmove.proofs.Listed.{if_so_sound, by_catch, by_kind}
 
 -- the square on which the move ended
 abbrev pub ends_on : Undo → ℕ
 ends_on (Unstep kind from to caught) = to
 ends_on (Unput kind to) = to
-
-either : {P : Type 0} (xs ys : List Undo) (u : Undo) → Contains (xs ++ ys) u → (Contains xs u → P) → (Contains ys u → P) → P
-either xs ys u h first second = elim (Contains-append_cases xs ys u h) [ inl a ↦ first a | inr b ↦ second b ]
 
 -- a step from the one square to the other, with a catch or without
 abbrev pub IsStep : Kind → ℕ → ℕ → Undo → Type 0
@@ -22,13 +18,7 @@ module _ (t : Setup) where
   caught_step kind from to caught u h = (Some caught, (if_so_sound (holds_caught t.hands.mover caught) (Unstep kind from to (Some caught)) u h).1)
 
   between_step : (kind : Kind) (from to : ℕ) (u : Undo) → Contains (unsteps_between t kind from to) u → IsStep kind from to u
-  between_step kind from to u h = elim (cons_cases _ _ u h) [
-    | inl e ↦ (None, e)
-    | inr rest ↦
-        either _ _ u rest (caught_step kind from to Giraffe u)
-        (λ rest. either _ _ u rest (caught_step kind from to Elephant u)
-        (λ rest. either _ _ u rest (caught_step kind from to Chick u) (caught_step kind from to Hen u)))
-  ]
+  between_step kind from to u h = by_catch t u kind from to h (λ e. (None, e)) (λ caught there. caught_step kind from to caught u there)
 
   -- a step of the kind between these squares, of which the first is empty
   pub record IsFrom (kind : Kind) (to from : ℕ) (u : Undo) : Type 0 where
@@ -55,12 +45,4 @@ module _ (t : Setup) where
   unputs_end kind to u h = ap ends_on (sym (if_so_sound (stands (at t to) (kind_on_board kind)) (Unput kind to) u h).1)
 
   pub undoes_end : (to : ℕ) (u : Undo) → Contains (undoes_at t to) u → ends_on u ≡ to
-  unfolding undoes_at
-  undoes_end to u h =
-      either _ _ u h (unsteps_end Lion to u)
-      (λ rest. either _ _ u rest (unsteps_end Giraffe to u)
-      (λ rest. either _ _ u rest (unsteps_end Elephant to u)
-      (λ rest. either _ _ u rest (unsteps_end Chick to u)
-      (λ rest. either _ _ u rest (unsteps_end Hen to u)
-      (λ rest. either _ _ u rest (unputs_end hand.Chick to u)
-      (λ rest. either _ _ u rest (unputs_end hand.Elephant to u) (unputs_end hand.Giraffe to u)))))))
+  undoes_end to u h = by_kind t u to h (λ kind there. unsteps_end kind to u there) (λ kind there. unputs_end kind to u there)

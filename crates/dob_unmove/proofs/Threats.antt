@@ -4,8 +4,8 @@ use Rattle.dob_unmove.proofs.Common.{if◌then◌else◌, ◌-◌, ◌<◌, ◌=
 use Rattle.dob_unmove.proofs.Common.{subst, suc, sym, true, true≢false, ℕ, cases_Bool, cases_eq, cases_lt, eq-eqb, ne_eqb, get_or-set_other, get_or-set_same}
 use Rattle.dob_unmove.proofs.Common.{get_or_past, length-set, trailing_zeros, w16, attacks_piece, own_attacks, HasLions-turned, at-turned, leads-apart}
 use Rattle.dob_unmove.proofs.Common.{leads-to_board, length-turned, one_lion, within-from_piece, all_left, next_left, none_left, none_passes, without, IsMask}
-use Rattle.dob_unmove.proofs.Common.{attacks, attacks_by, kind_on_board, leads, Cell, HasLions, IsLegal, at, piece_of, turned_cell, HandKind, Kind, Chick}
-use Rattle.dob_unmove.proofs.Common.{Elephant, Giraffe, Hen, Lion, Enemy, Mover, A, Setup, kind_of, sides_apart, turned_lion, CanGo, HasOutcome, CanCatch}
+use Rattle.dob_unmove.proofs.Common.{attacks, attacks_by, kind_on_board, leads, Cell, HasLions, IsLegal, at, piece_of, turned_cell, HandKind, Kind}
+use Rattle.dob_unmove.proofs.Common.{Lion, Enemy, Mover, A, Setup, kind_of, sides_apart, turned_lion, CanGo, HasOutcome, CanCatch}
 use Rattle.dob_unmove.proofs.Common.{HasStatus, HasTried, Put, Step, Open, IsSeenTurned, AreAttackers, IsThreat, elsewhere, stood_before, CanGiveBack, CanUndo}
 use Rattle.dob_unmove.proofs.Common.{CanUnstep, arrives_at, choice, earlier, enemy_cell, Attackers, Nobody, One, Several, Threat, Undo, Unput, Unstep}
 use Rattle.dob_moves.proofs.Masked.{catch_by}
@@ -173,10 +173,7 @@ module _ (after : Setup) (threat : Threat) (t : IsSeenTurned IsLegal after) (h :
     no_lion_caught : (piece : Option Kind) → CanGiveBack after.hands.mover piece → enemy_cell piece ≢ Some (piece_of Enemy Lion)
     no_lion_caught None back e = cc
     no_lion_caught (Some Lion) back e = let none = back.1 in cc
-    no_lion_caught (Some Giraffe) back e = let same : Giraffe ≡ Lion = ap kind_of e in cc
-    no_lion_caught (Some Elephant) back e = let same : Elephant ≡ Lion = ap kind_of e in cc
-    no_lion_caught (Some Chick) back e = let same : Chick ≡ Lion = ap kind_of e in cc
-    no_lion_caught (Some Hen) back e = let same : Hen ≡ Lion = ap kind_of e in cc
+    no_lion_caught (Some kind) back e = let same : kind ≡ Lion = ap kind_of e in cc
 
     enemy_stands_still : (piece : Option Kind) (x y : ℕ) → attacks_by (enemy_cell piece) x y ≡ false
     enemy_stands_still None x y = refl

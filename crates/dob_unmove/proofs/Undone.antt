@@ -21,8 +21,7 @@ one_more-less h hand.Giraffe some = let e : h.giraffes - 1 + 1 ≡ h.giraffes = 
 
 some_after_more : (h : Hand) (k : HandKind) → 0 < held (with_one_more h k) k
 some_after_more h hand.Chick = omega arith
-some_after_more h hand.Elephant = omega arith
-some_after_more h hand.Giraffe = omega arith
+some_after_more h _ = omega arith
 
 -- two squares written, and then both written back
 written_back : (b : List Cell) (i j : ℕ) (c d x y : Cell) → i ≢ j → get_or b j None ≡ x → get_or b i None ≡ y
@@ -215,9 +214,8 @@ kind_there (Some piece) = Some piece.kind
 
 same_caught : (caught other : Option Kind) → enemy_cell caught ≡ enemy_cell other → caught ≡ other
 same_caught None None e = refl
-same_caught None (Some b) e = cc
-same_caught (Some a) None e = cc
 same_caught (Some a) (Some b) e = ap kind_there e
+same_caught _ _ e = cc
 
 pub same_undo : (q : Setup) (u v : Undo) → length q.board ≡ 12 → CanUndo (turned q) u → CanUndo (turned q) v
     → choice u ≡ choice v → earlier (turned q) u ≡ earlier (turned q) v → u ≡ v
@@ -233,6 +231,5 @@ same_undo q (Unstep kind from to caught) (Unstep kind2 from2 to2 caught2) twelve
     = ap (at (earlier (turned q) (Unstep kind2 from2 to2 caught2))) tos ∙ there in
     let caughts : caught ≡ caught2 = same_caught caught caught2 (sym here ∙ moved ∙ at_same) in
     cc
-same_undo q (Unstep kind from to caught) (Unput kind2 to2) twelve u v e f = cc
-same_undo q (Unput kind to) (Unstep kind2 from2 to2 caught2) twelve u v e f = cc
 same_undo q (Unput kind to) (Unput kind2 to2) twelve u v e f = cc
+same_undo q _ _ twelve u v e f = cc

@@ -20,22 +20,21 @@ use crate::walk::{Taker, take_all};
 use dob_classes::Classes;
 use dob_pieces::{Memory, Position, Setup};
 
-// The classes found so far, and the threat to the enemy lion in the setup from which ways back are taken.
+// What finds classes: their numbering, and the threat to the enemy lion in the setup from which ways back are taken.
 #[derive(Drop)]
-struct Gathered<'a> {
+struct Finder<'a> {
     classes: &'a Classes,
     threat: Threat,
-    found: Vec<u64>,
 }
 
-impl Taker for Gathered<'_> {
-    ghost suits = { λ after gathered. IsSeenTurned (IsPositionOf gathered.classes.now.family) after × IsThreat after gathered.threat };
+impl Taker for Finder<'_> {
+    ghost suits = { λ after finder. IsSeenTurned (IsPositionOf finder.classes.now.family) after × IsThreat after finder.threat };
 
-    ghost takes = { λ after old undo new. (new.classes ≡ old.classes) × Adds (RepresentsClass old.classes.now.family) after undo old.found.items new.found.items };
+    ghost takes = { λ after finder old undo new. Adds (RepresentsClass finder.classes.now.family) after undo old new };
 
-    fn take(&mut self, after: &Setup, undo: Undo) -> Result<(), Memory> {
+    fn take(&self, after: &Setup, undo: Undo, found: &mut Vec<u64>) -> Result<(), Memory> {
         if let Some(class) = class_before(self.classes, after, &self.threat, undo) {
-            self.found.push(class)?;
+            found.push(class)?;
         }
         Ok(())
     }
@@ -78,20 +77,22 @@ fn gather(room: Vec<u64>, classes: &Classes, representative: &Position) -> Resul
     let mut found = room;
     found.clear();
     let after = representative.turned();
-    let mut gathered = Gathered {
+    let finder = Finder {
         classes,
         threat: Threat::of(&after),
-        found,
     };
-    take_all(&mut gathered, &after)?;
+    take_all(&finder, &after, &mut found)?;
     let image = representative.mirrored();
     if class_if_representative(classes, &image).is_some() {
-        return Ok(gathered.found);
+        return Ok(found);
     }
-    let after = image.turned();
-    gathered.threat = Threat::of(&after);
-    take_all(&mut gathered, &after)?;
-    Ok(gathered.found)
+    let image_after = image.turned();
+    let image_finder = Finder {
+        classes,
+        threat: Threat::of(&image_after),
+    };
+    take_all(&image_finder, &image_after, &mut found)?;
+    Ok(found)
 }
 
 /// The classes from which moves lead into the class, ascending, each as often as moves of its representative lead

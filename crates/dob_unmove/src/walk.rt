@@ -1,5 +1,5 @@
 // The ways in which the last move may have been made, gone through one after the other.
-ghost use Rattle.std.specs.Prelude.{◌≡◌, true};
+ghost use Rattle.std.specs.Prelude.{◌≡◌, ℕ, List, true};
 ghost use Rattle.std.specs.Result.{OnOk};
 ghost use Rattle.dob_pieces.specs.declared.setup.Setup.{Setup};
 ghost use Rattle.dob_pieces.specs.Masks.{is_kind};
@@ -12,70 +12,76 @@ ghost use Rattle.dob_unmove.specs.Walks.{TakesAll, stands, holds_caught, uncatch
 use crate::undo::Undo;
 use dob_pieces::{Hand, HandKind, Kind, Memory, Piece, Setup, Side, Square};
 
-/// Takes the ways in which the last move may have been made, one at a time.
+/// Takes the ways in which the last move may have been made, one at a time, and notes numbers.
 pub(crate) trait Taker {
     /// What it asks of the setup from which it takes ways back.
     ghost suits: { Setup → Self → Type 0 };
 
-    /// By `takes after old undo new` taking that way back leads from the one state to the other.
-    ghost takes: { Setup → Self → Undo → Self → Type 0 };
+    /// By `takes after self old undo new` taking that way back leads from the one list of numbers to the other.
+    ghost takes: { Setup → Self → List ℕ → Undo → List ℕ → Type 0 };
 
     // Takes one way to take the last move back from `after`, in which the side that made it is the mover.
-    fn take(&mut self, after: &Setup, undo: Undo) -> Result<(), Memory>
+    fn take(&self, after: &Setup, undo: Undo, found: &mut Vec<u64>) -> Result<(), Memory>
         requires can { CanUndo after.now undo }
-        requires suited { suits after.now self.old }
-        ensures taken { OnOk result (takes after.now self.old undo self.new) }
-        ensures suited { OnOk result (suits after.now self.new) };
+        requires suited { suits after.now self.now }
+        ensures { OnOk result (takes after.now self.now found.old.items undo found.new.items) };
 }
 
 /// Takes all the ways in which the last move may have been made, each once, by square of arrival, kind and square of
 /// departure. In `after` the side that made the move is the mover. Memory: none of its own.
 #[tactic(auto, using(crate::proofs::Runs::runs), unfolding(crate::specs::Walks::undoes))]
-pub(crate) fn take_all<T: Taker>(taker: &mut T, after: &Setup) -> Result<(), Memory>
-    requires { T.suits after.now taker.old }
-    ensures taken { OnOk result (TakesAll (T.takes after.now) taker.old (undoes after.now) taker.new) }
-    ensures suited { OnOk result (T.suits after.now taker.new) }
+pub(crate) fn take_all<T: Taker>(
+    taker: &T,
+    after: &Setup,
+    found: &mut Vec<u64>,
+) -> Result<(), Memory>
+    requires { T.suits after.now taker.now }
+    ensures { OnOk result (TakesAll (T.takes after.now taker.now) found.old.items (undoes after.now) found.new.items) }
 {
     for index in 0..Square::COUNT {
-        take_at(taker, after, Square::new(index))?;
+        take_at(taker, after, Square::new(index), found)?;
     }
     Ok(())
 }
 
 // Takes the ways in which the last move may have ended on the square.
 #[tactic(auto, using(crate::proofs::Runs::runs), unfolding(crate::specs::Walks::undoes_at))]
-fn take_at<T: Taker>(taker: &mut T, after: &Setup, to: Square) -> Result<(), Memory>
-    requires { T.suits after.now taker.old }
-    ensures taken { OnOk result (TakesAll (T.takes after.now) taker.old (undoes_at after.now to) taker.new) }
-    ensures suited { OnOk result (T.suits after.now taker.new) }
+fn take_at<T: Taker>(
+    taker: &T,
+    after: &Setup,
+    to: Square,
+    found: &mut Vec<u64>,
+) -> Result<(), Memory>
+    requires { T.suits after.now taker.now }
+    ensures { OnOk result (TakesAll (T.takes after.now taker.now) found.old.items (undoes_at after.now to) found.new.items) }
 {
-    take_unsteps(taker, after, Kind::Lion, to)?;
-    take_unsteps(taker, after, Kind::Giraffe, to)?;
-    take_unsteps(taker, after, Kind::Elephant, to)?;
-    take_unsteps(taker, after, Kind::Chick, to)?;
-    take_unsteps(taker, after, Kind::Hen, to)?;
-    take_unput(taker, after, HandKind::Chick, to)?;
-    take_unput(taker, after, HandKind::Elephant, to)?;
-    take_unput(taker, after, HandKind::Giraffe, to)
+    take_unsteps(taker, after, Kind::Lion, to, found)?;
+    take_unsteps(taker, after, Kind::Giraffe, to, found)?;
+    take_unsteps(taker, after, Kind::Elephant, to, found)?;
+    take_unsteps(taker, after, Kind::Chick, to, found)?;
+    take_unsteps(taker, after, Kind::Hen, to, found)?;
+    take_unput(taker, after, HandKind::Chick, to, found)?;
+    take_unput(taker, after, HandKind::Elephant, to, found)?;
+    take_unput(taker, after, HandKind::Giraffe, to, found)
 }
 
 // Takes the steps of pieces of that kind to the square.
 #[tactic(auto, using(crate::proofs::Runs::runs), unfolding(crate::specs::Walks::unsteps))]
 fn take_unsteps<T: Taker>(
-    taker: &mut T,
+    taker: &T,
     after: &Setup,
     kind: Kind,
     to: Square,
+    found: &mut Vec<u64>,
 ) -> Result<(), Memory>
-    requires { T.suits after.now taker.old }
-    ensures taken { OnOk result (TakesAll (T.takes after.now) taker.old (unsteps after.now kind to) taker.new) }
-    ensures suited { OnOk result (T.suits after.now taker.new) }
+    requires { T.suits after.now taker.now }
+    ensures { OnOk result (TakesAll (T.takes after.now taker.now) found.old.items (unsteps after.now kind to) found.new.items) }
 {
     if !stands(after.at(to), arrives_at(kind, to)) {
         return Ok(());
     }
     for index in 0..Square::COUNT {
-        take_unsteps_from(taker, after, kind, Square::new(index), to)?;
+        take_unsteps_from(taker, after, kind, Square::new(index), to, found)?;
     }
     Ok(())
 }
@@ -83,16 +89,16 @@ fn take_unsteps<T: Taker>(
 // Takes the steps of a piece of that kind, which stands on the one square now, from the other.
 #[tactic(auto, using(crate::proofs::Runs::runs), unfolding(crate::specs::Walks::unsteps_from))]
 fn take_unsteps_from<T: Taker>(
-    taker: &mut T,
+    taker: &T,
     after: &Setup,
     kind: Kind,
     from: Square,
     to: Square,
+    found: &mut Vec<u64>,
 ) -> Result<(), Memory>
     requires stands { stands (at after.now to) (arrives_at kind to) ≡ true }
-    requires suited { T.suits after.now taker.old }
-    ensures taken { OnOk result (TakesAll (T.takes after.now) taker.old (unsteps_from after.now kind to from) taker.new) }
-    ensures suited { OnOk result (T.suits after.now taker.new) }
+    requires suited { T.suits after.now taker.now }
+    ensures { OnOk result (TakesAll (T.takes after.now taker.now) found.old.items (unsteps_from after.now kind to from) found.new.items) }
 {
     if after.at(from).is_some() || !kind.leads(from, to) {
         return Ok(());
@@ -105,27 +111,28 @@ fn take_unsteps_from<T: Taker>(
             to,
             caught: None,
         },
+        found,
     )?;
-    take_uncatch(taker, after, kind, from, to, Kind::Giraffe)?;
-    take_uncatch(taker, after, kind, from, to, Kind::Elephant)?;
-    take_uncatch(taker, after, kind, from, to, Kind::Chick)?;
-    take_uncatch(taker, after, kind, from, to, Kind::Hen)
+    take_uncatch(taker, after, kind, from, to, Kind::Giraffe, found)?;
+    take_uncatch(taker, after, kind, from, to, Kind::Elephant, found)?;
+    take_uncatch(taker, after, kind, from, to, Kind::Chick, found)?;
+    take_uncatch(taker, after, kind, from, to, Kind::Hen, found)
 }
 
 // Takes the step that caught a piece of that kind, if the hand has it.
 #[tactic(auto, using(crate::proofs::Runs::runs))]
 fn take_uncatch<T: Taker>(
-    taker: &mut T,
+    taker: &T,
     after: &Setup,
     kind: Kind,
     from: Square,
     to: Square,
     caught: Kind,
+    found: &mut Vec<u64>,
 ) -> Result<(), Memory>
     requires step { CanUndo after.now (Undo.Unstep kind from to None) }
-    requires suited { T.suits after.now taker.old }
-    ensures taken { OnOk result (TakesAll (T.takes after.now) taker.old (uncatch after.now kind from to caught) taker.new) }
-    ensures suited { OnOk result (T.suits after.now taker.new) }
+    requires suited { T.suits after.now taker.now }
+    ensures { OnOk result (TakesAll (T.takes after.now taker.now) found.old.items (uncatch after.now kind from to caught) found.new.items) }
 {
     if !holds_caught(&after.hands.mover, caught) {
         return Ok(());
@@ -138,25 +145,26 @@ fn take_uncatch<T: Taker>(
             to,
             caught: Some(caught),
         },
+        found,
     )
 }
 
 // Takes the drop of that kind on the square, if the mover's piece of that kind stands there.
 #[tactic(auto, using(crate::proofs::Runs::runs), unfolding(crate::specs::Walks::unputs))]
 fn take_unput<T: Taker>(
-    taker: &mut T,
+    taker: &T,
     after: &Setup,
     kind: HandKind,
     to: Square,
+    found: &mut Vec<u64>,
 ) -> Result<(), Memory>
-    requires { T.suits after.now taker.old }
-    ensures taken { OnOk result (TakesAll (T.takes after.now) taker.old (unputs after.now kind to) taker.new) }
-    ensures suited { OnOk result (T.suits after.now taker.new) }
+    requires { T.suits after.now taker.now }
+    ensures { OnOk result (TakesAll (T.takes after.now taker.now) found.old.items (unputs after.now kind to) found.new.items) }
 {
     if !stands(after.at(to), kind.on_board()) {
         return Ok(());
     }
-    taker.take(after, Undo::Unput { kind, to })
+    taker.take(after, Undo::Unput { kind, to }, found)
 }
 
 // Whether the mover's piece of that kind stands there.

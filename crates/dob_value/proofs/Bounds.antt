@@ -1,10 +1,10 @@
 -- Of a table that is right, at least up to a depth, no distance up to it is above the number of classes.
-use Rattle.dob_value.proofs.Common.{◌<◌, ◌∙◌, ◌∷◌, ◌≡◌, ◌≢◌, ◌≤◌, ◌⊎◌, AllPairs, Contains, List, [], arith, get_or, inl, inr, length, map, slice_index_or}
-use Rattle.dob_value.proofs.Common.{subst, suc, ℕ, cases_eq, get_or-map, length-map, Contains-append_right, slice_get-get_or, range_with_len, Family, Profile}
+use Rattle.dob_value.proofs.Common.{◌<◌, ◌∙◌, ◌≡◌, ◌≢◌, ◌≤◌, ◌⊎◌, AllPairs, Contains, List, arith, get_or, inl, inr, length, map, slice_index_or}
+use Rattle.dob_value.proofs.Common.{subst, suc, ℕ, get_or-map, length-map, slice_get-get_or, range_with_len, Family, Profile}
 use Rattle.dob_value.proofs.Common.{Setup, HasClass-marked, HasClasses-classes_of, IsPositionOf, IsRepresentative, classes_of, marks_below, rank_of_set}
 use Rattle.dob_value.proofs.Common.{HasDistance, IsCutOff, AreCutOff, HasEntries, SomeHasDistance, HasValue, Lost, Won, Value, Draw, Loss, Win}
 use Rattle.std.proofs.lemmas.List.FromFn.{length-range_with_len, get_or-range_with_len}
-use Rattle.dob_pieces.proofs.Lists.{none_in_empty, head_in, cons_cases, stands_or}
+use Rattle.dob_pieces.proofs.Lists.{stands_or}
 use Rattle.dob_rank.specs.Families.{is_marked, class_setup}
 use Rattle.dob_value.specs.Bounds.{plies_of, DistancesAreFew}
 use Rattle.dob_value.proofs.Depths.{won_stays, lost_stays, won_not_lost}

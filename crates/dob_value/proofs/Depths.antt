@@ -1,6 +1,6 @@
 -- Won and lost positions at different depths.
-use Rattle.dob_value.proofs.Common.{◌+◌, ◌-◌, ◌≡◌, ◌≤◌, ap, arith, inl, inr, refl, subst, suc, zero, ℕ, Profile, Setup, HasStatus, Caught, Open, LostStaysLost}
-use Rattle.dob_value.proofs.Common.{OneValue, WonStaysWon, HasLost, Lost, Won, Draw, Loss, Win}
+use Rattle.dob_value.proofs.Common.{◌+◌, ◌≡◌, ◌≤◌, ap, arith, inl, inr, refl, subst, suc, zero, ℕ, Profile, Setup, HasStatus, Caught, Open, LostStaysLost}
+use Rattle.dob_value.proofs.Common.{OneValue, WonStaysWon, HasLost, Lost, Won, Draw, Loss, Win, cases_lt}
 
 -- one ply more changes nothing
 mutual
@@ -18,24 +18,19 @@ mutual
     | inr open_loss ↦ inr (open_loss.0, λ move q goes. won_one_more profile n q (open_loss.1 move q goes))
   ]
 
--- any number of plies more
-pub won_more : (profile : Profile) (k n : ℕ) (p : Setup) → Won profile n p → Won profile (k + n) p
-won_more profile zero n p h = let e : n ≡ zero + n = omega arith in subst (λ m. Won profile m p) e h
-won_more profile (suc k) n p h =
-    let e : suc (k + n) ≡ suc k + n = omega arith in
-    subst (λ m. Won profile m p) e (won_one_more profile (k + n) p (won_more profile k n p h))
-
-pub lost_more : (profile : Profile) (k n : ℕ) (p : Setup) → Lost profile n p → Lost profile (k + n) p
-lost_more profile zero n p h = let e : n ≡ zero + n = omega arith in subst (λ m. Lost profile m p) e h
-lost_more profile (suc k) n p h =
-    let e : suc (k + n) ≡ suc k + n = omega arith in
-    subst (λ m. Lost profile m p) e (lost_one_more profile (k + n) p (lost_more profile k n p h))
+-- nor does any number of plies more
+stays : (P : ℕ → Type 0) → ((n : ℕ) → P n → P (suc n)) → (n m : ℕ) → n ≤ m → P n → P m
+stays P more n zero le h = let e : n ≡ zero = omega arith in subst P e h
+stays P more n (suc m) le h = elim (cases_lt m n) [
+  | inl last ↦ (let e : n ≡ suc m = omega arith in subst P e h)
+  | inr before ↦ more m (stays P more n m before h)
+]
 
 pub won_stays : WonStaysWon
-won_stays profile n m p more h = let e : (m - n) + n ≡ m = omega arith in subst (λ k. Won profile k p) e (won_more profile (m - n) n p h)
+won_stays profile n m p more h = stays (λ k. Won profile k p) (λ k. won_one_more profile k p) n m more h
 
 pub lost_stays : LostStaysLost
-lost_stays profile n m p more h = let e : (m - n) + n ≡ m = omega arith in subst (λ k. Lost profile k p) e (lost_more profile (m - n) n p h)
+lost_stays profile n m p more h = stays (λ k. Lost profile k p) (λ k. lost_one_more profile k p) n m more h
 
 -- a lost position neither catches the lion nor is open
 pub lost_not_caught : (profile : Profile) (p : Setup) → HasLost profile p → ¬ HasStatus profile p Caught
@@ -47,42 +42,23 @@ lost_not_open profile p over goes_on = elim over [
   | inr stuck ↦ stuck.2 goes_on.2.0 goes_on.2.1
 ]
 
--- no position is both won and lost
-mutual
-  pub won_not_lost : (profile : Profile) (n m : ℕ) (p : Setup) → Won profile n p → ¬ Lost profile m p
-  won_not_lost profile zero m p won lost = absurd won
-  won_not_lost profile (suc n) zero p won lost = elim won [
-    | inl caught ↦ lost_not_caught profile p lost caught
-    | inr open_win ↦ lost_not_open profile p lost open_win.0
+-- no position is both won and lost: not at one depth, and so at no two
+not_both : (profile : Profile) (n : ℕ) (p : Setup) → Won profile n p → ¬ Lost profile n p
+not_both profile zero p won lost = absurd won
+not_both profile (suc n) p won lost = elim won [
+  | inl caught ↦ elim lost [
+    | inl over ↦ lost_not_caught profile p over caught
+    | inr open_loss ↦ open_loss.0.0 caught
   ]
-  won_not_lost profile (suc n) (suc m) p won lost = elim won [
-    | inl caught ↦ elim lost [
-      | inl over ↦ lost_not_caught profile p over caught
-      | inr open_loss ↦ open_loss.0.0 caught
-    ]
-    | inr open_win ↦ elim lost [
-      | inl over ↦ lost_not_open profile p over open_win.0
-      | inr open_loss ↦ lost_not_won profile n m open_win.2 open_win.4 (open_loss.1 open_win.1 open_win.2 open_win.3)
-    ]
+  | inr open_win ↦ elim lost [
+    | inl over ↦ lost_not_open profile p over open_win.0
+    | inr open_loss ↦ not_both profile n open_win.2 (open_loss.1 open_win.1 open_win.2 open_win.3) open_win.4
   ]
+]
 
-  pub lost_not_won : (profile : Profile) (n m : ℕ) (p : Setup) → Lost profile n p → ¬ Won profile m p
-  lost_not_won profile zero zero p lost won = absurd won
-  lost_not_won profile zero (suc m) p lost won = elim won [
-    | inl caught ↦ lost_not_caught profile p lost caught
-    | inr open_win ↦ lost_not_open profile p lost open_win.0
-  ]
-  lost_not_won profile (suc n) zero p lost won = absurd won
-  lost_not_won profile (suc n) (suc m) p lost won = elim won [
-    | inl caught ↦ elim lost [
-      | inl over ↦ lost_not_caught profile p over caught
-      | inr open_loss ↦ open_loss.0.0 caught
-    ]
-    | inr open_win ↦ elim lost [
-      | inl over ↦ lost_not_open profile p over open_win.0
-      | inr open_loss ↦ won_not_lost profile n m open_win.2 (open_loss.1 open_win.1 open_win.2 open_win.3) open_win.4
-    ]
-  ]
+pub won_not_lost : (profile : Profile) (n m : ℕ) (p : Setup) → Won profile n p → ¬ Lost profile m p
+won_not_lost profile n m p won lost =
+    not_both profile (n + m) p (won_stays profile n (n + m) p (omega arith) won) (lost_stays profile m (n + m) p (omega arith) lost)
 
 -- a position has at most one value
 pub at_most_one_value : OneValue

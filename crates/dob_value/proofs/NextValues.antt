@@ -8,24 +8,19 @@ use Rattle.std.proofs.lemmas.List.Sums.{AllPass-from_list_all, list_all-from_All
 use Rattle.std.proofs.lemmas.List.Elements.{All-contains}
 use Rattle.dob_value.proofs.Depths.{won_stays, lost_stays, lost_not_open}
 
--- what is won first at depth n + 1 has that distance, and likewise what is lost
+-- what comes first at depth n + 1
+first_at : (P : ℕ → Type 0) (n : ℕ) → ((m : ℕ) → m ≤ n → P m → P n) → ¬ P n → P (suc n) → P (n + 1) × ((m : ℕ) → P m → n + 1 ≤ m)
+first_at P n stays not_before now = (
+  (let e : suc n ≡ n + 1 = omega arith in subst P e now),
+  λ m at_m. elim (cases_lt n m) [ inl later ↦ omega arith | inr before ↦ absurd (not_before (stays m before at_m)) ],
+)
+
+-- what is won first there has that distance, and likewise what is lost
 pub first_won : (profile : Profile) (n : ℕ) (p : Setup) → ¬ Won profile n p → Won profile (suc n) p → HasValue profile p (Win (n + 1))
-first_won profile n p not_before won =
-    let e : suc n ≡ n + 1 = omega arith in
-    let least : (m : ℕ) → Won profile m p → n + 1 ≤ m = λ m at_m. elim (cases_lt n m) [
-      | inl later ↦ omega arith
-      | inr before ↦ absurd (not_before (won_stays profile m n p before at_m))
-    ] in
-    (subst (λ k. Won profile k p) e won, least)
+first_won profile n p = first_at (λ k. Won profile k p) n (λ m before. won_stays profile m n p before)
 
 pub first_lost : (profile : Profile) (n : ℕ) (p : Setup) → ¬ Lost profile n p → Lost profile (suc n) p → HasValue profile p (Loss (n + 1))
-first_lost profile n p not_before lost =
-    let e : suc n ≡ n + 1 = omega arith in
-    let least : (m : ℕ) → Lost profile m p → n + 1 ≤ m = λ m at_m. elim (cases_lt n m) [
-      | inl later ↦ omega arith
-      | inr before ↦ absurd (not_before (lost_stays profile m n p before at_m))
-    ] in
-    (subst (λ k. Lost profile k p) e lost, least)
+first_lost profile n p = first_at (λ k. Lost profile k p) n (λ m before. lost_stays profile m n p before)
 
 -- a position that is still open at depth n is neither lost already nor, at a depth above 0, a catch
 pub not_lost_yet : (profile : Profile) (n : ℕ) (p : Setup) → ¬ Lost profile n p → ¬ HasLost profile p

@@ -1,5 +1,5 @@
 -- A list of successors' numbers as it grows.
-use Rattle.dob_value.proofs.Common.{◌++◌, ◌+◌, ◌<◌, ◌∙◌, ◌∷◌, ◌≡◌, ◌≤◌, Contains, List, Option, Some, [], ap, arith, get_or, inl, inr, length, slice_get, subst}
+use Rattle.dob_value.proofs.Common.{◌++◌, ◌+◌, ◌<◌, ◌∙◌, ◌∷◌, ◌≡◌, ◌≤◌, Contains, List, Some, [], arith, get_or, inl, inr, length, slice_get, subst}
 use Rattle.dob_value.proofs.Common.{sym, ℕ, Contains-append_left, Contains-get_or, Contains-push, Contains-push_cases, before_or_here, standing, Family}
 use Rattle.dob_value.proofs.Common.{Profile, Setup, IsLegal-Goes, total-Goes, CanGo, Goes, AreMoves, HasStatus, Move, Open, IsPositionOf, AreSuccessors}
 use Rattle.dob_moves.proofs.Kept.{IsAllowed-Goes}

@@ -13,20 +13,16 @@ loop-left-init c = walk_start (can_put c.args.profile c.args.setup.now c.args.ki
     (can_put_mask c.args.profile c.args.setup.now c.args.kind c.args.masks.now.empty c.squares_for.result c.requires.empty_are c.squares_for.ensures)
 
 pub loop-left-smaller : goal.loop-left-smaller
-loop-left-smaller c =
-    walk_less (can_put c.args.profile c.args.setup.now c.args.kind) (puts_on c.args.profile c.args.setup.now c.args.kind) c.loop-left.left c.lowest_square-to.result c.without_square-left.result
-    c.args.moves.now.items c.loop-left.moves.items c.loop-left.invariant (omega arith) c.lowest_square-to.ensures c.without_square-left.ensures
+loop-left-smaller c = walk_less c.loop-left.invariant (omega arith) c.lowest_square-to.ensures c.without_square-left.ensures
 
 pub loop-left-preserved : goal.loop-left-preserved
 loop-left-preserved c =
-    walk_next (can_put c.args.profile c.args.setup.now c.args.kind) (puts_on c.args.profile c.args.setup.now c.args.kind) c.loop-left.left c.lowest_square-to.result c.without_square-left.result
-    c.args.moves.now.items c.loop-left.moves.items _ (puts_quiet c.args.profile c.args.setup.now c.args.kind) c.loop-left.invariant
-    (omega arith) c.lowest_square-to.ensures c.without_square-left.ensures
+    walk_next c.loop-left.invariant (omega arith) c.lowest_square-to.ensures c.without_square-left.ensures
+    (puts_quiet c.args.profile c.args.setup.now c.args.kind)
     (λ passes. c.in_ok-push.ensures.items
     ∙ ap (λ (ms : List Move). c.loop-left.moves.items ++ ms) (sym (put_there c.args.profile c.args.setup.now c.args.kind c.lowest_square-to.result passes)))
 
 pub returns : goal.returns
 returns c =
-    (walk_end (can_put c.args.profile c.args.setup.now c.args.kind) (puts_on c.args.profile c.args.setup.now c.args.kind) c.loop-left.left c.args.moves.now.items c.loop-left.moves.items
-    (puts_quiet c.args.profile c.args.setup.now c.args.kind) c.loop-left.invariant (omega arith))
+    walk_end c.loop-left.invariant (puts_quiet c.args.profile c.args.setup.now c.args.kind) (omega arith)
     ∙ ap (λ (ms : List Move). c.args.moves.now.items ++ ms) (sym (drops_all c.args.profile c.args.setup.now c.args.kind (omega arith)))

@@ -7,18 +7,13 @@ pub loop-left-init : goal.loop-left-init
 loop-left-init c = walk_start (own_at c.args.setup.now) (steps_from Elsewhere c.args.setup.now) _ c.args.moves.now.items c.requires.own_are
 
 pub loop-left-smaller : goal.loop-left-smaller
-loop-left-smaller c =
-    walk_less (own_at c.args.setup.now) (steps_from Elsewhere c.args.setup.now) c.loop-left.left c.lowest_square-from.result c.without_square-left.result
-    c.args.moves.now.items c.loop-left.moves.items c.loop-left.invariant (omega arith) c.lowest_square-from.ensures c.without_square-left.ensures
+loop-left-smaller c = walk_less c.loop-left.invariant (omega arith) c.lowest_square-from.ensures c.without_square-left.ensures
 
 pub loop-left-preserved : goal.loop-left-preserved
 loop-left-preserved c =
-    walk_next (own_at c.args.setup.now) (steps_from Elsewhere c.args.setup.now) c.loop-left.left c.lowest_square-from.result c.without_square-left.result
-    c.args.moves.now.items c.loop-left.moves.items _ (from_quiet c.args.setup.now) c.loop-left.invariant
-    (omega arith) c.lowest_square-from.ensures c.without_square-left.ensures
+    walk_next c.loop-left.invariant (omega arith) c.lowest_square-from.ensures c.without_square-left.ensures (from_quiet c.args.setup.now)
     (λ passes. c.in_ok-push_steps_from.ensures)
 
 pub returns : goal.returns
 unfolding all_steps
-returns c = (walk_end (own_at c.args.setup.now) (steps_from Elsewhere c.args.setup.now) c.loop-left.left c.args.moves.now.items c.loop-left.moves.items
-    (from_quiet c.args.setup.now) c.loop-left.invariant (omega arith))
+returns c = walk_end c.loop-left.invariant (from_quiet c.args.setup.now) (omega arith)

@@ -11,17 +11,12 @@ loop-left-init c = walk_start (may_step c.args.setup.now c.args.kind c.args.from
     c.args.masks.now.ends c.targets.ensures c.requires.ends_are)
 
 pub loop-left-smaller : goal.loop-left-smaller
-loop-left-smaller c =
-    walk_less (may_step c.args.setup.now c.args.kind c.args.from) (steps_to c.args.setup.now c.args.kind c.args.from)
-    c.loop-left.left c.lowest_square-to.result c.without_square-left.result
-    c.args.moves.now.items c.loop-left.moves.items c.loop-left.invariant (omega arith) c.lowest_square-to.ensures c.without_square-left.ensures
+loop-left-smaller c = walk_less c.loop-left.invariant (omega arith) c.lowest_square-to.ensures c.without_square-left.ensures
 
 pub loop-left-preserved : goal.loop-left-preserved
 loop-left-preserved c =
-    walk_next (may_step c.args.setup.now c.args.kind c.args.from) (steps_to c.args.setup.now c.args.kind c.args.from)
-    c.loop-left.left c.lowest_square-to.result c.without_square-left.result
-    c.args.moves.now.items c.loop-left.moves.items _ (steps_quiet c.args.setup.now c.args.kind c.args.from) c.loop-left.invariant
-    (omega arith) c.lowest_square-to.ensures c.without_square-left.ensures
+    walk_next c.loop-left.invariant (omega arith) c.lowest_square-to.ensures c.without_square-left.ensures
+    (steps_quiet c.args.setup.now c.args.kind c.args.from)
     (λ passes.
     let to = c.lowest_square-to.result in
     let step : Step c.args.kind c.args.from to c.is_some.result c.grows_at.result
@@ -32,6 +27,5 @@ loop-left-preserved c =
 
 pub returns : goal.returns
 returns c =
-    (walk_end (may_step c.args.setup.now c.args.kind c.args.from) (steps_to c.args.setup.now c.args.kind c.args.from)
-    c.loop-left.left c.args.moves.now.items c.loop-left.moves.items (steps_quiet c.args.setup.now c.args.kind c.args.from) c.loop-left.invariant (omega arith))
+    walk_end c.loop-left.invariant (steps_quiet c.args.setup.now c.args.kind c.args.from) (omega arith)
     ∙ ap (λ (ms : List Move). c.args.moves.now.items ++ ms) (sym (steps_by-squares Elsewhere c.args.setup.now c.args.kind c.args.from (search rules)))

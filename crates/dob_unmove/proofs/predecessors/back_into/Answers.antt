@@ -1,20 +1,15 @@
 -- Sorting keeps how often each class stands there, and the list that counts the moves into the class is the list of its
 -- predecessors.
 use Rattle.dob_unmove.proofs.Common.{ℕ, IsNonDecreasingBy-from_sort}
-use Rattle.dob_unmove.proofs.Edges.{sorted_predecessors, sorted_list}
+use Rattle.dob_unmove.proofs.Edges.{sorted_answer}
 use Rattle.dob_unmove.proofs.predecessors.back_into.Goals as goal
 
 pub gather-requires-clause-representative : goal.gather-requires-clause-representative
 gather-requires-clause-representative c = (c.shown_at.ensures.representative, c.shown_at.ensures.class)
 
-pub returns-clause-counts : goal.returns-clause-counts
-returns-clause-counts c =
-    sorted_predecessors c.args.classes.now.family c.args.class c.shown_at.result.position.setup c.in_ok-numbers.numbers.items c.sort_unstable.new.self.items
-    (c.shown_at.ensures.representative, c.shown_at.ensures.class) c.in_ok-numbers.ensures c.sort_unstable.ensures.permutation
-    (IsNonDecreasingBy-from_sort (λ (x : ℕ). x) c.sort_unstable.new.self.items c.sort_unstable.ensures.sorted)
-
-pub returns-clause-list : goal.returns-clause-list
-returns-clause-list c =
-    sorted_list c.args.classes.now.family c.args.class c.shown_at.result.position.setup c.in_ok-numbers.numbers.items c.sort_unstable.new.self.items
-    (c.shown_at.ensures.representative, c.shown_at.ensures.class) c.in_ok-numbers.ensures c.sort_unstable.ensures.permutation
-    (IsNonDecreasingBy-from_sort (λ (x : ℕ). x) c.sort_unstable.new.self.items c.sort_unstable.ensures.sorted) c.requires
+pub returns : goal.returns
+returns c =
+    let both = sorted_answer c.args.classes.now.family c.args.class c.shown_at.result.position.setup c.in_ok-numbers.numbers.items
+    c.sort_unstable.new.self.items (c.shown_at.ensures.representative, c.shown_at.ensures.class) c.in_ok-numbers.ensures c.sort_unstable.ensures.permutation
+    (IsNonDecreasingBy-from_sort (λ (x : ℕ). x) c.sort_unstable.new.self.items c.sort_unstable.ensures.sorted) c.requires in
+    record { counts = both.0; list = both.1 }

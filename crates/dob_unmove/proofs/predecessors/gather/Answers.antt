@@ -43,20 +43,15 @@ is_image c = c.is_own_image.ensures c.args.shown.now.position.setup c.requires.r
 
 pub returns-then-is_own_image : goal.returns-then-is_own_image
 returns-then-is_own_image c =
-    let Represents = RepresentsClass c.args.classes.now.family in
-    let n = IsNumbering-classes c.args.classes.now.family in
-    let q = c.args.shown.now.position.setup in
-    alone_found Represents n q c.of.result.value _ c.gather_all.new.found.items c.args.shown.now.position.legal
+    alone_found (RepresentsClass c.args.classes.now.family) (IsNumbering-classes c.args.classes.now.family) c.args.shown.now.position.setup
+    c.of.result.value _ c.gather_all.new.found.items c.args.shown.now.position.legal
     ((is_image (goal.at.returns-then-is_own_image c).After-is_own_image).0 c.if-is_own_image.true) (c.of.ensures ∙ c.turned-after.ensures)
     c.clear.ensures.items c.in_ok-gather_all.ensures
 
 pub returns : goal.returns
 returns c =
-    let Represents = RepresentsClass c.args.classes.now.family in
-    let n = IsNumbering-classes c.args.classes.now.family in
-    let q = c.args.shown.now.position.setup in
-    both_found Represents n q c.of.result.value c.of-2.result.value _ c.gather_all.new.found.items c.gather_all-2.new.found.items
-    c.args.shown.now.position.legal
+    both_found (RepresentsClass c.args.classes.now.family) (IsNumbering-classes c.args.classes.now.family) c.args.shown.now.position.setup
+    c.of.result.value c.of-2.result.value _ c.gather_all.new.found.items c.gather_all-2.new.found.items c.args.shown.now.position.legal
     (λ own. true≢false (sym ((is_image (goal.at.returns c).After-is_own_image).1 own) ∙ c.if-is_own_image.false))
     (c.of.ensures ∙ c.turned-after.ensures) (c.of-2.ensures ∙ c.mirrored-image.ensures ∙ ap mirrored c.turned-after.ensures)
     c.clear.ensures.items c.in_ok-gather_all.ensures c.in_ok-gather_all-2.ensures

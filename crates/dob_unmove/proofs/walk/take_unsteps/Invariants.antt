@@ -3,7 +3,5 @@ use Rattle.dob_unmove.proofs.Common.{each_below, TakesAll, unsteps_from}
 use Rattle.dob_unmove.proofs.walk.take_unsteps.Given as goal
 
 abbrev pub invariant-loop-index : goal.invariant-loop-index
-invariant-loop-index g l = record {
-  taken : TakesAll (g.T.Taker.takes l.after) l.fn.taker (each_below (unsteps_from l.after l.kind l.to) l.index) l.taker;
-  suited : g.T.Taker.suits l.after l.taker;
-}
+invariant-loop-index g l =
+    TakesAll (g.T.Taker.takes l.after l.taker) l.initial.found.items (each_below (unsteps_from l.after l.kind l.to) l.index) l.found.items

@@ -1,5 +1,5 @@
 -- The step may have been made: the piece stands on the one square, and the other is free.
-use Rattle.std.proofs.Common.{rules}
+use Rattle.dob_unmove.proofs.Common.{rules}
 use Rattle.dob_unmove.proofs.Listed.{free_step}
 use Rattle.dob_unmove.proofs.walk.take_unsteps_from.Goals as goal
 

@@ -1,32 +1,30 @@
 -- Each square adds its bits, and the masks are made of the planes of the word.
 use Rattle.dob_pieces.proofs.Common.{◌%◌, ◌/◌, ◌||◌, ◌∙◌, ◌≡◌, ◌≤◌, ap, arith, bit_or, drop, length, refl, rules, true, ℕ, is_empty, is_end, is_own, is_piece}
 use Rattle.dob_pieces.proofs.Common.{at, Chick, Elephant, Giraffe, Hen, Lion, Enemy, Mover, ALL_SQUARES}
+use Rattle.std.proofs.Common.{◌*◌, ◌+◌, ◌-◌, ◌^◌}
 use Rattle.dob_pieces.proofs.MaskBits.{IsMask-or}
 use Rattle.dob_pieces.proofs.Planes.{word_of, word_read, none_read, word_planes, are_squares, all_are, of_both, of_first, is_lion, is_straight, is_aslant}
-use Rattle.dob_pieces.proofs.Planes.{is_chick_or_empty}
+use Rattle.dob_pieces.proofs.Planes.{IsRead, is_chick_or_empty}
 use Rattle.dob_pieces.proofs.masks.Masks.of.Goals as goal
+use Rattle.dob_pieces.proofs.masks.Masks.of.Goals.{After-entry_of-entry}
 
 pub loop-square-init : goal.loop-square-init
 loop-square-init c = none_read c.args.setup.now.board (search rules)
 
+-- one more square is read
+read : (c : After-entry_of-entry) → IsRead c.loop-square.planes (2 * c.loop-square.planes + c.entry_of-entry.result) (2 ^ 60)
+    (word_of (drop (c.loop-square.square - 1) c.args.setup.now.board))
+read c = word_read c.args.setup.now.board c.loop-square.square c.loop-square.planes c.entry_of-entry.result (search rules) (omega arith) (omega arith)
+    c.loop-square.invariant c.entry_of-entry.ensures
+
 pub overflow_mul-planes : goal.overflow_mul-planes
-overflow_mul-planes c =
-    let here = word_read c.args.setup.now.board c.loop-square.square c.loop-square.planes c.entry_of-entry.result (search rules) (omega arith) (omega arith)
-    c.loop-square.invariant c.entry_of-entry.ensures in
-    let small = here.small in
-    record { fits = omega (arith, small) }
+overflow_mul-planes c = let small = (read (goal.at.overflow_mul-planes c).After-entry_of-entry).small in record { fits = omega (arith, small) }
 
 pub overflow_add-planes : goal.overflow_add-planes
-overflow_add-planes c =
-    let here = word_read c.args.setup.now.board c.loop-square.square c.loop-square.planes c.entry_of-entry.result (search rules) (omega arith) (omega arith)
-    c.loop-square.invariant c.entry_of-entry.ensures in
-    let small = here.small_next in
-    record { fits = omega (arith, small) }
+overflow_add-planes c = let small = (read (goal.at.overflow_add-planes c).After-entry_of-entry).small_next in record { fits = omega (arith, small) }
 
 pub loop-square-preserved : goal.loop-square-preserved
-loop-square-preserved c =
-    (word_read c.args.setup.now.board c.loop-square.square c.loop-square.planes c.entry_of-entry.result (search rules) (omega arith) (omega arith)
-    c.loop-square.invariant c.entry_of-entry.ensures).next_is
+loop-square-preserved c = (read (goal.at.loop-square-preserved c).After-entry_of-entry).next_is
 
 pub returns : goal.returns
 returns c =

@@ -1,9 +1,8 @@
 -- nothing where no piece of the mover stands
-use Rattle.dob_unmove.proofs.Common.{◌∙◌, sym, at, RepresentsClass}
+use Rattle.dob_unmove.proofs.Common.{◌∙◌, sym, at}
 use Rattle.dob_pieces.proofs.OwnKinds.{own_cell, none_own}
-use Rattle.dob_unmove.proofs.Gathered.{gathers_none}
 use Rattle.dob_unmove.proofs.OwnKinds.{stands_there}
-use Rattle.dob_unmove.proofs.Standing.{ways_of_none, gathers_same}
+use Rattle.dob_unmove.proofs.Standing.{ways_of_none}
 use Rattle.dob_unmove.proofs.predecessors.End.gather_all.Goals as goal
 
 pub gather_kind-requires-clause-stands : goal.gather_kind-requires-clause-stands
@@ -15,10 +14,6 @@ gather_kind-requires-clause-stands c =
 pub returns-in-None : goal.returns-in-None
 returns-in-None c =
     let end = c.args.self.now in
-    let Represents = RepresentsClass end.walk.now.classes.now.family in
     let after = end.walk.now.after.value in
-    let cell = at after end.to in
-    let old = c.args.found.now.items in
-    let none = none_own cell (sym (c.own_kind.ensures after c.requires.walk.ways_are.masks_are) ∙ c.in-None.is) in
-    gathers_same Represents after _ _ old old (ways_of_none after end.to (λ kind. stands_there kind cell ∙ none kind))
-    (gathers_none Represents after old)
+    let none = none_own (at after end.to) (sym (c.own_kind.ensures after c.requires.walk.ways_are.masks_are) ∙ c.in-None.is) in
+    rw (ways_of_none after end.to (λ kind. stands_there kind (at after end.to) ∙ none kind))

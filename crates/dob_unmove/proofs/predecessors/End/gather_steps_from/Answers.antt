@@ -8,34 +8,30 @@ use Rattle.dob_unmove.proofs.predecessors.End.gather_steps_from.Goals.{After-gat
 
 pub gather_one-requires-clause-home : goal.gather_one-requires-clause-home
 gather_one-requires-clause-home c =
-    let end = c.args.self.now in
-    let after = end.walk.now.after.value in
+    let walk = c.args.self.now.walk.now in
     let w = c.requires.end.walk in
-    step_home after end.walk.now.ways.now.threat (legal_turned end.walk.now.classes.now.family after w.of_set) w.ways_are.threat_is
-    c.args.kind c.args.from end.to None (search rules) c.requires.end.home c.requires.comes
+    step_home walk.after.value walk.ways.now.threat (legal_turned walk.classes.now.family walk.after.value w.of_set) w.ways_are.threat_is
+    c.args.kind c.args.from c.args.self.now.to None (search rules) c.requires.end.home c.requires.comes
 
 pub returns : goal.returns
 returns c =
     let end = c.args.self.now in
-    let after = end.walk.now.after.value in
     on_ok_weaker c.gather_catch-4.result
     (λ last.
-    steps_from (RepresentsClass end.walk.now.classes.now.family) after c.args.kind c.args.from end.to c.args.found.now.items c.gather_one.new.found.items
-    c.gather_catch.new.found.items c.gather_catch-2.new.found.items c.gather_catch-3.new.found.items c.gather_catch-4.new.found.items
-    (comes_between after end.walk.now.ways.now.threat c.args.kind c.args.from end.to c.requires.stands c.requires.comes)
+    steps_from (RepresentsClass end.walk.now.classes.now.family) end.walk.now.after.value c.args.kind c.args.from end.to c.args.found.now.items _ _ _ _ _
+    (comes_between end.walk.now.after.value end.walk.now.ways.now.threat c.args.kind c.args.from end.to c.requires.stands c.requires.comes)
     c.in_ok-gather_one.ensures c.in_ok-gather_catch.ensures c.in_ok-gather_catch-2.ensures c.in_ok-gather_catch-3.ensures last)
     c.gather_catch-4.ensures
 
 pub gather_one-requires-clause-can : goal.gather_one-requires-clause-can
 gather_one-requires-clause-can c =
-    let end = c.args.self.now in
-    comes_step end.walk.now.after.value end.walk.now.ways.now.threat c.args.kind c.args.from end.to c.requires.stands c.requires.comes (search rules)
+    comes_step c.args.self.now.walk.now.after.value c.args.self.now.walk.now.ways.now.threat c.args.kind c.args.from c.args.self.now.to
+    c.requires.stands c.requires.comes (search rules)
 
 -- the step without a catch may have been made
 free_step : (c : After-gather_one) → CanUndo c.args.self.now.walk.now.after.value (Unstep c.args.kind c.args.from c.args.self.now.to None)
 free_step c =
-    let walk = c.args.self.now.walk.now in
-    comes_step walk.after.value walk.ways.now.threat c.args.kind c.args.from c.args.self.now.to c.requires.stands c.requires.comes (search rules)
+    comes_step _ c.args.self.now.walk.now.ways.now.threat c.args.kind c.args.from c.args.self.now.to c.requires.stands c.requires.comes (search rules)
 
 pub gather_catch-requires-clause-step : goal.gather_catch-requires-clause-step
 gather_catch-requires-clause-step c = free_step (goal.at.gather_catch-requires-clause-step c).After-gather_one

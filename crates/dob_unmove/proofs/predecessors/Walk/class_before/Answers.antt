@@ -1,43 +1,39 @@
 -- The sets show the position before the move, which was open, where the piece that was caught may stand again.
-use Rattle.dob_unmove.proofs.Common.{◌∙◌, refl, sym, RepresentsClass, earlier}
+use Rattle.dob_unmove.proofs.Common.{◌∙◌, refl, sym, IsShown, RepresentsClass, earlier}
 use Rattle.dob_unmove.proofs.Gathering.{finds_from}
-use Rattle.dob_unmove.proofs.Kept.{barred, few_turned, legal_turned, squares_turned, shown_before}
-use Rattle.dob_unmove.proofs.Threats.{was_open}
+use Rattle.dob_unmove.proofs.Kept.{barred, few_turned, legal_turned, shown_before}
+use Rattle.dob_unmove.proofs.Threats.{was_open, turned_squares}
 use Rattle.dob_unmove.proofs.predecessors.Walk.class_before.Goals as goal
+use Rattle.dob_unmove.proofs.predecessors.Walk.class_before.Goals.{After-bits_before}
 
 pub bits_before-requires : goal.bits_before-requires
 bits_before-requires c =
+    let after = c.args.self.now.after.value in
+    let legal = legal_turned c.args.self.now.classes.now.family after c.requires.walk.of_set in
+    (after, c.requires.can, turned_squares after legal, few_turned after legal, c.requires.walk.ways_are.bits_are)
+
+-- what the sets show
+shown : (c : After-bits_before) → IsShown c.args.self.now.classes.now.family (earlier c.args.self.now.after.value c.args.undo) c.bits_before.result
+shown c =
     let walk = c.args.self.now in
-    let after = walk.after.value in
     let w = c.requires.walk in
-    let legal = legal_turned walk.classes.now.family after w.of_set in
-    (after, c.requires.can, squares_turned after legal, few_turned after legal, w.ways_are.bits_are)
+    shown_before walk.classes.now.family walk.after.value c.args.undo _ _ c.requires.can (sym c.may_give_back.ensures ∙ c.if-may_give_back.true)
+    w.of_set c.requires.home w.ways_are.bits_are c.bits_before.ensures
 
 pub class_if_shown-requires : goal.class_if_shown-requires
-class_if_shown-requires c =
-    let walk = c.args.self.now in
-    let after = walk.after.value in
-    let w = c.requires.walk in (
-      earlier after c.args.undo,
-      shown_before walk.classes.now.family after c.args.undo _ _ c.requires.can (sym c.may_give_back.ensures ∙ c.if-may_give_back.true)
-          w.of_set c.requires.home w.ways_are.bits_are c.bits_before.ensures,
-    )
+class_if_shown-requires c = (earlier c.args.self.now.after.value c.args.undo, shown (goal.at.class_if_shown-requires c).After-bits_before)
 
 pub returns-then-may_give_back : goal.returns-then-may_give_back
 returns-then-may_give_back c =
     let walk = c.args.self.now in
-    let after = walk.after.value in
-    let family = walk.classes.now.family in
     let w = c.requires.walk in
-    let before = earlier after c.args.undo in
-    let open_there =
-    was_open after walk.ways.now.threat (legal_turned family after w.of_set) w.ways_are.threat_is c.args.undo c.requires.can c.requires.calm in
-    finds_from (RepresentsClass family) before before c.class_if_shown.result refl open_there
-    (c.class_if_shown.ensures before (shown_before family after c.args.undo _ _ c.requires.can (sym c.may_give_back.ensures ∙ c.if-may_give_back.true)
-    w.of_set c.requires.home w.ways_are.bits_are c.bits_before.ensures))
+    let before = earlier walk.after.value c.args.undo in
+    let open_there = was_open walk.after.value walk.ways.now.threat (legal_turned walk.classes.now.family walk.after.value w.of_set)
+    w.ways_are.threat_is c.args.undo c.requires.can c.requires.calm in
+    finds_from (RepresentsClass walk.classes.now.family) before before c.class_if_shown.result refl open_there
+    (c.class_if_shown.ensures before (shown (goal.at.returns-then-may_give_back c).After-bits_before))
 
 pub returns-else-may_give_back : goal.returns-else-may_give_back
 returns-else-may_give_back c = λ w.
-    let walk = c.args.self.now in
-    barred walk.classes.now.family walk.after.value c.args.undo c.requires.can c.requires.walk.of_set
+    barred c.args.self.now.classes.now.family c.args.self.now.after.value c.args.undo c.requires.can c.requires.walk.of_set
     (sym c.may_give_back.ensures ∙ c.if-may_give_back.false) w.1.0.0.0

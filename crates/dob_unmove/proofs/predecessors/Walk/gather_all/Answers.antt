@@ -15,13 +15,7 @@ loop-left-init c = λ w.
     walk.ways.now.ends c.args.found.now.items w.ways_are.ends_are
 
 pub loop-left-smaller : goal.loop-left-smaller
-loop-left-smaller c =
-    let walk = c.args.self.now in
-    let after = walk.after.value in
-    let w = c.requires in
-    gathered_less (RepresentsClass walk.classes.now.family) after (may_have_ended after walk.ways.now.threat w.ways_are.stays) (undoes_at after)
-    c.loop-left.left c.lowest_square-to.result c.without_square-left.result _ _ (c.loop-left.invariant w)
-    (omega arith) c.lowest_square-to.ensures c.without_square-left.ensures
+loop-left-smaller c = gathered_less (c.loop-left.invariant c.requires) (omega arith) c.lowest_square-to.ensures c.without_square-left.ensures
 
 pub gather_all-requires : goal.gather_all-requires
 gather_all-requires c =
@@ -30,9 +24,7 @@ gather_all-requires c =
     let w = c.requires in
     let stays = w.ways_are.stays in
     let to = c.lowest_square-to.result in
-    let ends =
-    passes_lowest (RepresentsClass walk.classes.now.family) after (may_have_ended after walk.ways.now.threat stays) (undoes_at after)
-    c.loop-left.left to _ _ (c.loop-left.invariant w) (omega arith) c.lowest_square-to.ensures in
+    let ends = passes_lowest (c.loop-left.invariant w) (omega arith) c.lowest_square-to.ensures in
     record {
       walk = w;
       calm = calm_end after walk.ways.now.threat stays to ends;
@@ -42,20 +34,12 @@ gather_all-requires c =
 
 pub loop-left-preserved : goal.loop-left-preserved
 loop-left-preserved c = λ w.
-    let walk = c.args.self.now in
-    let after = walk.after.value in
-    gathered_next (RepresentsClass walk.classes.now.family) after (may_have_ended after walk.ways.now.threat w.ways_are.stays) (undoes_at after)
-    (ends_dead walk w) c.loop-left.left c.lowest_square-to.result c.without_square-left.result _ _ _ (c.loop-left.invariant w)
-    (omega arith) c.lowest_square-to.ensures c.without_square-left.ensures c.in_ok-gather_all.ensures
+    gathered_next (c.loop-left.invariant w) (ends_dead c.args.self.now w) (omega arith) c.lowest_square-to.ensures c.without_square-left.ensures
+    c.in_ok-gather_all.ensures
 
 pub returns : goal.returns
 unfolding undoes
-returns c =
-    let walk = c.args.self.now in
-    let after = walk.after.value in
-    let w = c.requires in
-    gathered_end (RepresentsClass walk.classes.now.family) after (may_have_ended after walk.ways.now.threat w.ways_are.stays) (undoes_at after)
-    (ends_dead walk w) c.loop-left.left _ _ (c.loop-left.invariant w) (omega arith)
+returns c = gathered_end (c.loop-left.invariant c.requires) (ends_dead c.args.self.now c.requires) (omega arith)
 
 pub lowest_square-to-requires-clause-within : goal.lowest_square-to-requires-clause-within
 lowest_square-to-requires-clause-within c = (c.loop-left.invariant c.requires).left_are.within
