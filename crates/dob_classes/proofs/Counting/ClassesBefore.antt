@@ -2,8 +2,8 @@
 use Rattle.dob_classes.proofs.Common.{◌%◌, ◌*◌, ◌+◌, ◌/◌, ◌<◌, ◌^◌, ◌∙◌, ◌≡◌, ◌≤◌, Bool, ap, arith, inl, inr, min, refl, sym, ℕ, min-eq_left, min-eq_right}
 use Rattle.dob_classes.proofs.Common.{min-le_left, min-le_right, cases_lt, mod-mul-add, Family, Setup, run_start_end, run_start_first, run_start_next}
 use Rattle.dob_classes.proofs.Common.{spot_there, marks_below-upto, sum_below_more, IsPositionOf, class_number, is_marked, marks_below, block_bases, block_of}
-use Rattle.dob_classes.proofs.Common.{block_size, product, rank_of_set, start_of, sum_below, RepresentativeOf, IsInRun, lion_pairs, local_of, run_kind, run_of}
-use Rattle.dob_classes.proofs.Common.{run_size, run_start, runs_in, First, Later, is_there, local_marks_in, local_marks, IsStretchIn}
+use Rattle.dob_classes.proofs.Common.{block_size, product, rank_of_set, start_of, sum_below, RepresentativeOf, IsInRun, lion_pairs, run_kind, run_of, run_start}
+use Rattle.dob_classes.proofs.Common.{runs_in, local_of, run_size, First, Later, is_there, local_marks_in, local_marks, IsStretchIn}
 use Rattle.dob_lists.proofs.Sums.{sum_same, sum_blocks, sum_alike}
 use Rattle.dob_rank.proofs.Arithmetic.MixedRadix.{digit_below}
 use Rattle.dob_rank.proofs.InRuns.RunSums.{lions_there}

@@ -1,6 +1,6 @@
 -- The classes of a block of a family as a sum over the runs of one hand.
 use Rattle.dob_classes.proofs.Common.{◌%◌, ◌+◌, ◌<◌, ◌∙◌, ◌≡◌, ◌≤◌, ap, arith, refl, suc, sym, zero, ℕ, Family, lions_run, marks_agree, run_start_first}
-use Rattle.dob_classes.proofs.Common.{is_marked, marks_below, block_bases, product, start_of, sum_below, lion_pairs, run_kind, run_size, run_start, runs_in}
+use Rattle.dob_classes.proofs.Common.{is_marked, marks_below, block_bases, product, start_of, sum_below, lion_pairs, run_kind, run_start, runs_in, run_size}
 use Rattle.dob_classes.proofs.Common.{RunKind, First, Later, Mixed, is_there, local_marks_in, run_size_in}
 use Rattle.dob_classes.proofs.MarksOfRuns.FamilyMarks.{first_marks, later_marks, classes_before_next, there_by_lions, alike_by_lions}
 use Rattle.dob_classes.proofs.Tables.RunTables.{same_upto}

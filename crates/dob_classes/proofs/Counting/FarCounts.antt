@@ -4,7 +4,7 @@ use Rattle.dob_classes.proofs.Common.{ℕ, add-mul, mul-le-mul, mul-le-mul_right
 use Rattle.dob_classes.proofs.Common.{Family, A, B, Setup, AreFewOnBoard-digits, marks_agree, marks_from, there, HasDigits-numbers, few_in_block, four_small}
 use Rattle.dob_classes.proofs.Common.{on_board-block, forms_small, IsPositionOf, family_of, is_present, marks_below, one_if, block_bases, block_of, choose}
 use Rattle.dob_classes.proofs.Common.{digits, digits_of, forms_number, free_squares, on_board, order, product, settle, sum_below, AreFewOnBoard, lion_pairs}
-use Rattle.dob_classes.proofs.Common.{local_of, run_of, run_size, run_start, runs_in, square_bases, are_allowed, forms_stand, may_have, Chicks, is_there}
+use Rattle.dob_classes.proofs.Common.{run_of, run_start, runs_in, square_bases, local_of, run_size, are_allowed, forms_stand, may_have, Chicks, is_there}
 use Rattle.dob_rank.specs.Weights.{local_in, weight, forms_on, lions_in, choice_weight, forms_before, allowed_number, others_squares, others_forms}
 use Rattle.dob_rank.proofs.InRuns.Lions.{lions_layers}
 use Rattle.dob_rank.proofs.ProfileB.LionBoards.{chicks_settled}

@@ -2,9 +2,9 @@
 use Rattle.dob_classes.proofs.Common.{if◌then◌else◌, ◌%◌, ◌&&◌, ◌+◌, ◌-◌, ◌/◌, ◌<◌, ◌==◌, ◌^◌, ◌∙◌, ◌∷◌, ◌≡◌, ◌≤◌, Bool, [], ap, arith, false, inl, inr, refl}
 use Rattle.dob_classes.proofs.Common.{slice_index, subst, suc, sym, true, zero, ℕ, cases_Bool, cases_lt, Family, Setup, lions_run, marks_agree, marks_from}
 use Rattle.dob_classes.proofs.Common.{run_start_next, run_size-small, spot_there, marked-first_of, place_found, marks_below-le, marks_below-upto}
-use Rattle.dob_classes.proofs.Common.{marks_below_more, marks_below_none, present, marked_place, IsPositionOf, is_marked, is_present, marks_below, one_if}
+use Rattle.dob_classes.proofs.Common.{marks_below_more, marks_below_none, present, marked_place, IsPositionOf, is_present, is_marked, marks_below, one_if}
 use Rattle.dob_classes.proofs.Common.{block_bases, block_of, choose, digits_of, empty_layers, enemy_squares, free_squares, order, product, settle, IsInRun}
-use Rattle.dob_classes.proofs.Common.{form_bases, lion_pairs, local_of, run_kind, run_of, run_size, run_start, runs_in, are_allowed, may_have, Chicks}
+use Rattle.dob_classes.proofs.Common.{form_bases, lion_pairs, run_kind, run_of, run_start, runs_in, local_of, run_size, are_allowed, may_have, Chicks}
 use Rattle.dob_classes.proofs.Common.{EnemyLion, OwnLion, First, Later, Mixed, IsInRunOf, IsNumbered, classes_before, is_there, local_marks_in, place_of_number}
 use Rattle.dob_classes.proofs.Common.{run_size_in, local_marks, IsStretchIn}
 use Rattle.dob_classes.proofs.OfFamilies.ClassNumbers.{marks_below-rises, marks_below-same}

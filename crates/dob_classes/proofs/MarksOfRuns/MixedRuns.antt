@@ -6,7 +6,7 @@ use Rattle.dob_classes.proofs.Common.{length-take, take-append-drop, div-add-mod
 use Rattle.dob_classes.proofs.Common.{PieceSet, Setup, local_digits, AreBases-by, few_in_block, HasDigits-digits, HasParts-from_position}
 use Rattle.dob_classes.proofs.Common.{IsPositionOfSet-mirrored, HasDigits-drop, HasDigits-length, HasBlock-setup_in, on_board-block, marked, HasBlock}
 use Rattle.dob_classes.proofs.Common.{HasDigits, bases_by, block_bases, digits_of, number_of, on_board, place_of, product, setup_in, IsPositionOfSet, IsInRun}
-use Rattle.dob_classes.proofs.Common.{lion_pairs, lions_of, local_bases, local_of, run_kind, run_of, run_size, run_start, Mixed, IsWidth, local_marks}
+use Rattle.dob_classes.proofs.Common.{lion_pairs, lions_of, local_bases, run_kind, run_of, run_start, local_of, run_size, Mixed, IsWidth, local_marks}
 use Rattle.dob_rank.proofs.Arithmetic.MixedRadix.{number_of-below, number_of-append, digits_of-number_of, product-append}
 use Rattle.dob_rank.proofs.InRuns.Lions.{image_lions, lions_of-below, mixed_lions}
 use Rattle.dob_rank.proofs.InRuns.RunPlaces.{local_size, local_size-block, local_of-below, place_of-run, run_of-lions, hand_of, on_board-mirrored, place-parts}

@@ -71,6 +71,12 @@ class_number-below family s p =
     (marks_below-rises (is_marked family) (rank_of_set family.set e.0) (size_of_set family.set) (marked family e.0 (e.1.position, e.1.stands.1))
     (rank_of_set-below family.set e.0 e.1.position.of_set))
 
+-- what is said of the class number of a position, by whatever it was found
+pub number_told : (family : Family) (s : Setup) (class : ℕ) → IsPositionOf family s → class ≡ class_number family s
+    → IsInClass family s class × (class < classes_of family)
+number_told family s class p is = subst (λ (n : ℕ). IsInClass family s n × (n < classes_of family)) (sym is)
+    (IsInClass-class_number family s p, class_number-below family s p)
+
 -- one number: one position, or a position and its mirror image
 pub class_once : (family : Family) (s t : Setup) → IsPositionOf family s → IsPositionOf family t → class_number family s ≡ class_number family t
     → (s ≡ t) ⊎ (s ≡ mirrored t)
@@ -119,6 +125,13 @@ at_class family s class p on is =
       before = subst (HasClass family s) is (HasClass-marked family s p);
       number_is = class_number-representative family s p first ∙ is;
     }
+
+pub first_told : (family : Family) (s : Setup) (class : ℕ) → IsPositionOf family s → is_marked family (rank_of_set family.set s) ≡ true
+    → marks_below (is_marked family) (rank_of_set family.set s) ≡ class
+    → (IsFirstOfTwo s × HasClass family s class) × (class ≡ class_number family s) × (class < classes_of family)
+first_told family s class p on is =
+    let at = at_class family s class p on is in
+    ((at.representative.1, at.before), sym at.number_is, (number_told family s class p (sym at.number_is)).1)
 
 -- a position without a mark is later than its mirror image
 pub later_unmarked : (family : Family) (s : Setup) → IsPositionOf family s → is_marked family (rank_of_set family.set s) ≡ false → ¬ IsFirstOfTwo s

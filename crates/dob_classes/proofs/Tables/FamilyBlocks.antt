@@ -1,11 +1,12 @@
 -- The blocks of a family: what a block of the list says of the family's positions and classes.
 use Rattle.dob_classes.proofs.Common.{◌%◌, ◌*◌, ◌++◌, ◌+◌, ◌-◌, ◌<◌, ◌^◌, ◌∙◌, ◌∷◌, ◌≡◌, ◌≤◌, List, [], ap, arith, inl, inr, length, refl, slice_index}
 use Rattle.dob_classes.proofs.Common.{slice_index_or, subst, sym, true, ℕ, cases_lt, get_or_append_left, get_or_push, length_push, Family, Profile, A, B, Setup}
-use Rattle.dob_classes.proofs.Common.{AreFewOnBoard-digits, marks_from, run_start_next, start_small, spot_there, marks_below-le, marks_below_none, represents}
-use Rattle.dob_classes.proofs.Common.{there, HasDigits-numbers, sum_below_more, local_in_bases, made_in_block, run_in_bases, IsPositionOf, classes_of}
-use Rattle.dob_classes.proofs.Common.{family_of, is_marked, is_present, marks_below, HasDigits, block_bases, block_of, block_size, digits_of, number_of}
-use Rattle.dob_classes.proofs.Common.{product, rank_of_set, size_of_set, start_of, AreFewOnBoard, lion_pairs, local_bases, local_of, run_bases, run_of}
-use Rattle.dob_classes.proofs.Common.{run_size, run_start, runs_in, IsInRunOf, IsNumbered, classes_before, is_there, local_marks_in, run_size_in, BlockClasses}
+use Rattle.dob_classes.proofs.Common.{AreFewOnBoard-digits, marks_from, run_start_next, start_small, spot_there, marks_below-le, marks_below_none}
+use Rattle.dob_classes.proofs.Common.{classes_of-below, HasClasses-classes_of, represents, there, HasDigits-numbers, sum_below_more, local_in_bases}
+use Rattle.dob_classes.proofs.Common.{made_in_block, run_in_bases, HasClasses, IsPositionOf, family_of, is_present, classes_of, is_marked, marks_below}
+use Rattle.dob_classes.proofs.Common.{HasDigits, block_bases, block_of, block_size, digits_of, number_of, product, rank_of_set, start_of, size_of_set}
+use Rattle.dob_classes.proofs.Common.{AreFewOnBoard, lion_pairs, local_bases, run_bases, run_of, run_start, runs_in, local_of, run_size, IsInRunOf, IsNumbered}
+use Rattle.dob_classes.proofs.Common.{classes_before, is_there, local_marks_in, run_size_in, BlockClasses}
 use Rattle.dob_classes.specs.BlockTables.{IsBlock, AreBlocks}
 use Rattle.dob_rank.specs.Places.{IsPresentAt, IsPlaceFor}
 use Rattle.dob_rank.specs.Weights.{forms_in, others_squares, others_forms}
@@ -219,6 +220,10 @@ pub classes_all : (family : Family) (number count : ℕ) → number ≡ product 
 unfolding classes_of size_of_set
 classes_all family number count is counted = counted ∙ ap (λ n. marks_below (is_marked family) (start_of family.set n)) is
 
+-- what is said of the number of classes, by whatever it was found
+pub count_told : (family : Family) (count : ℕ) → count ≡ classes_of family → HasClasses family count × (count < 2 ^ 31)
+count_told family count is = subst (λ (n : ℕ). HasClasses family n × (n < 2 ^ 31)) (sym is) (HasClasses-classes_of family, classes_of-below family)
+
 pub no_classes_yet : (family : Family) → 0 ≡ marks_below (is_marked family) (start_of family.set 0)
 no_classes_yet family = sym (marks_below_none (is_marked family))
 
@@ -247,36 +252,30 @@ pub record IsSpotOf (family : Family) (block : BlockClasses) (run local : ℕ) :
   pub run_below : run < product (run_bases family.set block.on_board)
   pub local_below : local < product (local_bases block.on_board)
 
-pub spot_in_block : (family : Family) (index run local : ℕ) (block : BlockClasses) → IsBlock family index block
-    → run < runs_in block.family.set block.number → local < run_size block.family.set block.number → IsSpotOf family block run local
-spot_in_block family index run local block is run_low local_low =
-    let within : block.number < product (block_bases family.set) = subst (λ (f : Family). block.number < product (block_bases f.set)) is.family_is block.within in
-    let numbers = subst (λ (f : Family). block.on_board ≡ digits_of (block_bases f.set) block.number) is.family_is block.numbers in
-    record {
-      on_board_has = HasDigits-numbers family.set block.number block.on_board within numbers;
-      run_below = run_in_bases family.set block.number run block.on_board numbers (subst (λ (f : Family). run < runs_in f.set block.number) is.family_is run_low);
-      local_below = local_in_bases family.set block.number local block.on_board numbers
-          (subst (λ (f : Family). local < run_size f.set block.number) is.family_is local_low);
-    }
+pub spot_in_block : (family : Family) (run local : ℕ) (block : BlockClasses) → block.family ≡ family → run < runs_in block.family.set block.number
+    → local < run_size block.family.set block.number → IsSpotOf family block run local
+spot_in_block family run local block is run_low local_low = subst (λ (f : Family). IsSpotOf f block run local) is (record {
+  on_board_has = HasDigits-numbers block.family.set block.number block.on_board block.within block.numbers;
+  run_below = run_in_bases block.family.set block.number run block.on_board block.numbers run_low;
+  local_below = local_in_bases block.family.set block.number local block.on_board block.numbers local_low;
+})
 
 -- at a marked spot stands the representative of its class
-pub at_spot_in : (family : Family) (index run local class : ℕ) (block : BlockClasses) (s : Setup) → IsBlock family index block
-    → run < runs_in block.family.set block.number → local < run_size block.family.set block.number
+pub at_spot_in : (family : Family) (run local class : ℕ) (block : BlockClasses) (s : Setup) → block.family ≡ family
     → is_marked block.family (run_start block.family.set block.number run + local) ≡ true
     → marks_below (is_marked block.family) (run_start block.family.set block.number run + local) ≡ class
     → HasBlock family.set (number_of (block_bases family.set) block.on_board) (run * product (local_bases block.on_board) + local) s
     → IsAtClass family s class
-at_spot_in family index run local class block s is run_low local_low on number made =
-    let within : block.number < product (block_bases family.set) = subst (λ (f : Family). block.number < product (block_bases f.set)) is.family_is block.within in
-    let numbers = subst (λ (f : Family). block.on_board ≡ digits_of (block_bases f.set) block.number) is.family_is block.numbers in
-    let made_there = made_in_block family.set block.number run local block.on_board s within numbers made in
-    let start = run_start-is family.set block.number run in
-    let whole : start_of family.set block.number + (run * run_size family.set block.number + local) ≡ run_start family.set block.number run + local
+at_spot_in family run local class block s is on number made =
+    let of = block.family in
+    let made_there = made_in_block of.set block.number run local block.on_board s block.within block.numbers
+    (subst (λ (f : Family). HasBlock f.set (number_of (block_bases f.set) block.on_board) (run * product (local_bases block.on_board) + local) s)
+    (sym is) made) in
+    let start = run_start-is of.set block.number run in
+    let whole : start_of of.set block.number + (run * run_size of.set block.number + local) ≡ run_start of.set block.number run + local
     = omega (arith, start) in
-    let rank : rank_of_set family.set s ≡ run_start family.set block.number run + local
-    = rank_of_set-block family.set block.number (run * run_size family.set block.number + local) s made_there ∙ whole in
-    let marked : is_marked family (rank_of_set family.set s) ≡ true
-    = ap (is_marked family) rank ∙ subst (λ (f : Family). is_marked f (run_start f.set block.number run + local) ≡ true) is.family_is on in
-    at_class family s class (represents family s made_there.position marked).0 marked
-    (ap (marks_below (is_marked family)) rank
-    ∙ subst (λ (f : Family). marks_below (is_marked f) (run_start f.set block.number run + local) ≡ class) is.family_is number)
+    let rank : rank_of_set of.set s ≡ run_start of.set block.number run + local
+    = rank_of_set-block of.set block.number (run * run_size of.set block.number + local) s made_there ∙ whole in
+    let marked : is_marked of (rank_of_set of.set s) ≡ true = ap (is_marked of) rank ∙ on in
+    subst (λ (f : Family). IsAtClass f s class) is
+    (at_class of s class (represents of s made_there.position marked).0 marked (ap (marks_below (is_marked of)) rank ∙ number))

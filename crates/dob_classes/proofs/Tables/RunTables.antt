@@ -2,7 +2,7 @@
 use Rattle.dob_classes.proofs.Common.{◌%◌, ◌*◌, ◌++◌, ◌+◌, ◌<◌, ◌^◌, ◌∙◌, ◌∷◌, ◌≡◌, ◌≤◌, Bool, List, [], ap, arith, false, inl, inr, length, refl}
 use Rattle.dob_classes.proofs.Common.{slice_index_or, subst, sym, true, ℕ, mul-le-mul_right, cases_lt, get_or_append_left, get_or_push, length-append}
 use Rattle.dob_classes.proofs.Common.{length_push, Family, start_small, marks_below-le, marks_below-upto, block_size-small, is_marked, marks_below, block_bases}
-use Rattle.dob_classes.proofs.Common.{block_size, digits_of, product, start_of, lion_pairs, run_bases, run_digits, run_kind, run_size, run_start, runs_in}
+use Rattle.dob_classes.proofs.Common.{block_size, digits_of, product, start_of, lion_pairs, run_bases, run_digits, run_kind, run_start, runs_in, run_size}
 use Rattle.dob_classes.proofs.Common.{RunKind, First, Later, Mixed, IsInRunOf, classes_before, local_marks_in, run_size_in, AreRuns, HasTable, IsRun}
 use Rattle.dob_classes.proofs.Common.{IsTableOfRuns, BlockClasses, Run, StretchTable}
 use Rattle.dob_rank.specs.declared.runs.RunDigits.{RunDigits}
@@ -260,43 +260,38 @@ pub record IsNumberLeft (family : Family) (block run number left : ℕ) : Type 0
   pub mark_is : local_marks_in family block run number ≡ true
   pub left_is : marks_below (local_marks_in family block run) number ≡ left
 
-pub first_left : (family : Family) (block run left : ℕ) → block < product (block_bases family.set) → run < runs_in family.set block
-    → run_kind (run % lion_pairs) ≡ First
+-- where its lions say it all are, since none would be left where they say later
+pub lions_left : (family : Family) (block run left : ℕ) → block < product (block_bases family.set) → run < runs_in family.set block
+    → (run_kind (run % lion_pairs) ≡ Mixed → ⊥)
     → marks_below (is_marked family) (run_start family.set block run) + left < marks_below (is_marked family) (run_start family.set block (run + 1))
     → IsNumberLeft family block run left left
-first_left family block run left within below kind fits =
-    let all = count_first family block run (run_size_in family block run) within below refl kind in
-    let low : left < run_size_in family block run = omega (arith, all, fits) in
-    record {
-      number_below = low;
-      mark_is = first_mark_in family block run left (record { block_below = within; run_below = below; number_below = low }) kind;
-      left_is = first_marks family block run left within below (omega (arith, low)) kind;
-    }
+lions_left family block run left within below apart fits = by_kind (run_kind (run % lion_pairs)) refl
+  where
+    by_kind : (kind : RunKind) → run_kind (run % lion_pairs) ≡ kind → IsNumberLeft family block run left left
+    by_kind First is =
+        let all = count_first family block run (run_size_in family block run) within below refl is in
+        let low : left < run_size_in family block run = omega (arith, all, fits) in
+        record {
+          number_below = low;
+          mark_is = first_mark_in family block run left (record { block_below = within; run_below = below; number_below = low }) is;
+          left_is = first_marks family block run left within below (omega (arith, low)) is;
+        }
+    by_kind Later is = absurd (let none = count_later family block run within below is in omega (arith, none, fits))
+    by_kind Mixed is = absurd (apart is)
 
--- none is left where the lions say later
-pub none_left : (family : Family) (block run left : ℕ) → block < product (block_bases family.set) → run < runs_in family.set block
-    → run_kind (run % lion_pairs) ≡ Later
-    → marks_below (is_marked family) (run_start family.set block run) + left < marks_below (is_marked family) (run_start family.set block (run + 1)) → ⊥
-none_left family block run left within below kind fits =
-    let all = count_later family block run within below kind in
-    omega (arith, all, fits)
-
-pub table_left : (family : Family) (block run left number : ℕ) (tables : List StretchTable) (table : StretchTable)
-    → block < product (block_bases family.set) → run < runs_in family.set block → HasTable family block run number tables
-    → run_kind (run % lion_pairs) ≡ Mixed → table ≡ slice_index_or tables number table
+pub table_left : (family : Family) (block run left : ℕ) (table : StretchTable) → block < product (block_bases family.set) → run < runs_in family.set block
+    → IsTableFor family block run table
     → marks_below (is_marked family) (run_start family.set block run) + left < marks_below (is_marked family) (run_start family.set block (run + 1))
     → left < table.count
-table_left family block run left number tables table within below has kind read fits =
-    let all = count_mixed family block run number tables table within below has kind read in
-    omega (arith, all, fits)
+table_left family block run left table within below by fits =
+    let all = classes_before_next family block run within below in
+    let count = by.count_is in
+    omega (arith, all, count, fits)
 
-pub mixed_left : (family : Family) (block run left number entry : ℕ) (tables : List StretchTable) (table : StretchTable)
-    → block < product (block_bases family.set) → run < runs_in family.set block → HasTable family block run entry tables
-    → run_kind (run % lion_pairs) ≡ Mixed → table ≡ slice_index_or tables entry table → number < run_size_in table.family table.block table.run
-    → local_marks_in table.family table.block table.run number ≡ true → marks_below (local_marks_in table.family table.block table.run) number ≡ left
-    → IsNumberLeft family block run number left
-mixed_left family block run left number entry tables table within below has kind read low on left_is =
-    let by = table_for family block run entry tables table within below has kind read in
+pub mixed_left : (family : Family) (block run left number : ℕ) (table : StretchTable) → IsTableFor family block run table
+    → number < run_size_in table.family table.block table.run → local_marks_in table.family table.block table.run number ≡ true
+    → marks_below (local_marks_in table.family table.block table.run) number ≡ left → IsNumberLeft family block run number left
+mixed_left family block run left number table by low on left_is =
     let inside : number < run_size_in family block run = subst (λ n. number < n) by.size_is low in
     record {
       number_below = inside;

@@ -1,5 +1,5 @@
 -- In profile A a position's number in its run is its place there.
-use Rattle.dob_classes.proofs.Common.{◌∙◌, ap, subst, sym, IsAllowed, Profile, family_of, marks_below, block_of, local_of, run_of, is_there}
+use Rattle.dob_classes.proofs.Common.{◌∙◌, ap, subst, sym, IsAllowed, Profile, family_of, marks_below, block_of, run_of, local_of, is_there}
 use Rattle.dob_classes.proofs.Counting.FarCounts.{all_there}
 use Rattle.dob_classes.proofs.spots.spot_in.Goals as goal
 

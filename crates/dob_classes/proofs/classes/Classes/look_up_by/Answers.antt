@@ -22,12 +22,7 @@ look_up-requires c =
     let spot = spot_in (goal.at.look_up-requires c).After-index in
     record { run = spot.run_below; local = spot.number_below }
 
-pub returns-clause-mark : goal.returns-clause-mark
-returns-clause-mark c =
-    let spot = spot_in (goal.at.returns-clause-mark c).After-index in
-    c.look_up.ensures.mark ∙ spot.mark_is
-
-pub returns-clause-before : goal.returns-clause-before
-returns-clause-before c =
-    let spot = spot_in (goal.at.returns-clause-before c).After-index in
-    c.look_up.ensures.before ∙ spot.before_is
+pub returns : goal.returns
+returns c =
+    let spot = spot_in (goal.at.returns c).After-index in
+    record { mark = c.look_up.ensures.mark ∙ spot.mark_is; before = c.look_up.ensures.before ∙ spot.before_is }
