@@ -1,7 +1,7 @@
 -- The classes of a block of a family as a sum over the runs of one hand.
 use Rattle.dob_classes.proofs.Common.{◌%◌, ◌+◌, ◌<◌, ◌∙◌, ◌≡◌, ◌≤◌, ap, arith, refl, suc, sym, zero, ℕ, Family, lions_run, marks_agree, run_start_first}
-use Rattle.dob_classes.proofs.Common.{is_marked, marks_below, block_bases, product, start_of, sum_below, lion_pairs, run_kind, run_start, runs_in, run_size}
-use Rattle.dob_classes.proofs.Common.{RunKind, First, Later, Mixed, is_there, local_marks_in, run_size_in}
+use Rattle.dob_classes.proofs.Common.{is_marked, marks_below, block_bases, product, sum_below, lion_pairs, run_kind, runs_in, run_size, RunKind, First, Later}
+use Rattle.dob_classes.proofs.Common.{Mixed, is_there, local_marks_in, run_size_in, classes_to_block, classes_to_run}
 use Rattle.dob_classes.proofs.MarksOfRuns.FamilyMarks.{first_marks, later_marks, classes_before_next, there_by_lions, alike_by_lions}
 use Rattle.dob_classes.proofs.Tables.RunTables.{same_upto}
 
@@ -53,14 +53,13 @@ marks_of_lions family block run within below = by_kind (run_kind (run % lion_pai
 -- ---- sums
 
 pub marks_of_runs : (family : Family) (block run : ℕ) → block < product (block_bases family.set) → run ≤ runs_in family.set block
-    → marks_below (is_marked family) (start_of family.set block) + sum_below (run_marks family block) run
-    ≡ marks_below (is_marked family) (run_start family.set block run)
+    → classes_to_block family block + sum_below (run_marks family block) run ≡ classes_to_run family block run
 marks_of_runs family block zero within upto =
     let none = ap (marks_below (is_marked family)) (run_start_first family.set block) in
     omega (arith, none)
 marks_of_runs family block (suc run) within upto =
     let rest = marks_of_runs family block run within (omega (arith, upto)) in
     let next = classes_before_next family block run within (omega (arith, upto)) in
-    let same : marks_below (is_marked family) (run_start family.set block (run + 1)) ≡ marks_below (is_marked family) (run_start family.set block (suc run)) =
-    ap (λ n. marks_below (is_marked family) (run_start family.set block n)) (let e : run + 1 ≡ suc run = omega arith in e) in
+    let same : classes_to_run family block (run + 1) ≡ classes_to_run family block (suc run) =
+    ap (λ n. classes_to_run family block n) (let e : run + 1 ≡ suc run = omega arith in e) in
     omega (arith, rest, next, same)

@@ -6,7 +6,7 @@ use Rattle.dob_classes.proofs.Common.{marks_below_more, marks_below_none, presen
 use Rattle.dob_classes.proofs.Common.{block_bases, block_of, choose, digits_of, empty_layers, enemy_squares, free_squares, order, product, settle, IsInRun}
 use Rattle.dob_classes.proofs.Common.{form_bases, lion_pairs, run_kind, run_of, run_start, runs_in, local_of, run_size, are_allowed, may_have, Chicks}
 use Rattle.dob_classes.proofs.Common.{EnemyLion, OwnLion, First, Later, Mixed, IsInRunOf, IsNumbered, classes_before, is_there, local_marks_in, place_of_number}
-use Rattle.dob_classes.proofs.Common.{run_size_in, local_marks, IsStretchIn}
+use Rattle.dob_classes.proofs.Common.{run_size_in, local_marks, IsStretchIn, classes_to_place, classes_to_run}
 use Rattle.dob_classes.proofs.OfFamilies.ClassNumbers.{marks_below-rises, marks_below-same}
 use Rattle.dob_rank.proofs.InRuns.RunPlaces.{in_set, marked_first, marked_later}
 use Rattle.dob_classes.proofs.MarksOfRuns.MixedRuns.{marks_by_lions}
@@ -84,18 +84,17 @@ marked_in_run family block run place at =
 -- so many representatives of the family stand before a place of the run
 pub classes_before_place : (family : Family) (block run place : ℕ) → block < product (block_bases family.set) → run < runs_in family.set block
     → place ≤ run_size family.set block
-    → marks_below (is_marked family) (run_start family.set block run + place)
-    ≡ classes_before family block run (marks_below (is_there family block run) place)
+    → classes_to_place family block run place ≡ classes_before family block run (marks_below (is_there family block run) place)
 classes_before_place family block run place within below upto =
     sym (marks_from (is_marked family) (run_start family.set block run) place)
-    ∙ ap (λ (n : ℕ). marks_below (is_marked family) (run_start family.set block run) + n)
+    ∙ ap (λ (n : ℕ). classes_to_run family block run + n)
     (marks_agree (λ k. is_marked family (run_start family.set block run + k)) (λ k. is_there family block run k && local_marks family.set block run k) place
     (λ k low. marked_in_run family block run k (record { block_below = within; run_below = below; local_below = omega (arith, low, upto) }))
     ∙ marks_of_some (is_there family block run) (local_marks family.set block run) (run_size family.set block) place upto)
 
 -- and before the next run
 pub classes_before_next : (family : Family) (block run : ℕ) → block < product (block_bases family.set) → run < runs_in family.set block
-    → classes_before family block run (run_size_in family block run) ≡ marks_below (is_marked family) (run_start family.set block (run + 1))
+    → classes_before family block run (run_size_in family block run) ≡ classes_to_run family block (run + 1)
 classes_before_next family block run within below =
     sym (classes_before_place family block run (run_size family.set block) within below (omega arith))
     ∙ ap (marks_below (is_marked family)) (sym (run_start_next family.set block run))
@@ -104,7 +103,7 @@ classes_before_next family block run within below =
 pub record IsMarkedBy (family : Family) (block run number place : ℕ) : Type 0 where
   pub number_below : number < run_size_in family block run
   pub mark_is : local_marks_in family block run number ≡ is_marked family (run_start family.set block run + place)
-  pub before_is : classes_before family block run number ≡ marks_below (is_marked family) (run_start family.set block run + place)
+  pub before_is : classes_before family block run number ≡ classes_to_place family block run place
 
 pub mark_of_number : (family : Family) (block run number place : ℕ) → IsNumbered family block run number place → IsMarkedBy family block run number place
 mark_of_number family block run number place at =

@@ -6,7 +6,8 @@ use Rattle.dob_classes.proofs.Common.{classes_of-below, HasClasses-classes_of, r
 use Rattle.dob_classes.proofs.Common.{made_in_block, run_in_bases, HasClasses, IsPositionOf, family_of, is_present, classes_of, is_marked, marks_below}
 use Rattle.dob_classes.proofs.Common.{HasDigits, block_bases, block_of, block_size, digits_of, number_of, product, rank_of_set, start_of, size_of_set}
 use Rattle.dob_classes.proofs.Common.{AreFewOnBoard, lion_pairs, local_bases, run_bases, run_of, run_start, runs_in, local_of, run_size, IsInRunOf, IsNumbered}
-use Rattle.dob_classes.proofs.Common.{classes_before, is_there, local_marks_in, run_size_in, BlockClasses}
+use Rattle.dob_classes.proofs.Common.{classes_before, is_there, local_marks_in, run_size_in, BlockClasses, classes_to_block, classes_to_place, classes_to_run}
+use Rattle.dob_classes.proofs.Common.{classes_to_setup}
 use Rattle.dob_classes.specs.BlockTables.{IsBlock, AreBlocks}
 use Rattle.dob_rank.specs.Places.{IsPresentAt, IsPlaceFor}
 use Rattle.dob_rank.specs.Weights.{forms_in, others_squares, others_forms}
@@ -78,28 +79,25 @@ place_of_far family block run number place ob at b ob_is found =
 
 -- ---- the representative of a class in its run
 
-pub left_in_run : (family : Family) (block run before class : ℕ) → before ≡ marks_below (is_marked family) (run_start family.set block run)
-    → marks_below (is_marked family) (run_start family.set block run) ≤ class
-    → class < marks_below (is_marked family) (run_start family.set block (run + 1))
-    → marks_below (is_marked family) (run_start family.set block run) + (class - before) < marks_below (is_marked family) (run_start family.set block (run + 1))
+pub left_in_run : (family : Family) (block run before class : ℕ) → before ≡ classes_to_run family block run → classes_to_run family block run ≤ class
+    → class < classes_to_run family block (run + 1) → classes_to_run family block run + (class - before) < classes_to_run family block (run + 1)
 left_in_run family block run before class is low high = omega (arith, is, low, high)
 
 pub record IsRepresentativeAt (family : Family) (block run local class : ℕ) : Type 0 where
   pub local_below : local < run_size family.set block
   pub mark_is : is_marked family (run_start family.set block run + local) ≡ true
-  pub class_is : marks_below (is_marked family) (run_start family.set block run + local) ≡ class
+  pub class_is : classes_to_place family block run local ≡ class
 
 pub representative_at : (family : Family) (block run number place before class : ℕ) → IsNumbered family block run number place
     → local_marks_in family block run number ≡ true → marks_below (local_marks_in family block run) number ≡ class - before
-    → before ≡ marks_below (is_marked family) (run_start family.set block run)
-    → marks_below (is_marked family) (run_start family.set block run) ≤ class → IsRepresentativeAt family block run place class
+    → before ≡ classes_to_run family block run → classes_to_run family block run ≤ class → IsRepresentativeAt family block run place class
 representative_at family block run number place before class at on left before_is low =
     let by = mark_of_number family block run number place at in
     let sum = by.before_is in
     record {
       local_below = at.in_run.local_below;
       mark_is = sym by.mark_is ∙ on;
-      class_is = sym sum ∙ whole (marks_below (is_marked family) (run_start family.set block run)) (marks_below (local_marks_in family block run) number) left before_is low;
+      class_is = sym sum ∙ whole (classes_to_run family block run) (marks_below (local_marks_in family block run) number) left before_is low;
     }
   where
     whole : (first marks : ℕ) → marks ≡ class - before → before ≡ first → first ≤ class → first + marks ≡ class
@@ -122,14 +120,14 @@ pub record IsSpotRead (family : Family) (s : Setup) (block : BlockClasses) (run 
   pub run_below : run < runs_in block.family.set block.number
   pub number_below : number < run_size_in block.family block.number run
   pub mark_is : local_marks_in block.family block.number run number ≡ is_marked family (rank_of_set family.set s)
-  pub before_is : classes_before block.family block.number run number ≡ marks_below (is_marked family) (rank_of_set family.set s)
+  pub before_is : classes_before block.family block.number run number ≡ classes_to_setup family s
 
 -- of numbers that are the position's own
 record IsSpotFor (family : Family) (s : Setup) (of : Family) (block run number : ℕ) : Type 0 where
   run_below : run < runs_in of.set block
   number_below : number < run_size_in of block run
   mark_is : local_marks_in of block run number ≡ is_marked family (rank_of_set family.set s)
-  before_is : classes_before of block run number ≡ marks_below (is_marked family) (rank_of_set family.set s)
+  before_is : classes_before of block run number ≡ classes_to_setup family s
 
 own_spot : (family : Family) (s : Setup) → IsPositionOf family s → IsSpotFor family s family (block_of family.set s) (run_of family.set s)
     (marks_below (is_there family (block_of family.set s) (run_of family.set s)) (local_of s))
@@ -165,14 +163,12 @@ spot_read family s blocks index run number block p is run_is number_is are below
 
 -- ---- how many classes stand before the blocks
 
-before_is : (family : Family) (index : ℕ) (block : BlockClasses) → IsBlock family index block
-    → block.before ≡ marks_below (is_marked family) (start_of family.set index)
+before_is : (family : Family) (index : ℕ) (block : BlockClasses) → IsBlock family index block → block.before ≡ classes_to_block family index
 before_is family index block is =
-    block.starts ∙ ap (λ (f : Family). marks_below (is_marked f) (start_of f.set block.number)) is.family_is
-    ∙ ap (λ n. marks_below (is_marked family) (start_of family.set n)) is.number_is
+    block.starts ∙ ap (λ (f : Family). classes_to_block f block.number) is.family_is
+    ∙ ap (λ n. classes_to_block family n) is.number_is
 
-after_is : (family : Family) (index : ℕ) (block : BlockClasses) → IsBlock family index block
-    → block.after ≡ marks_below (is_marked family) (start_of family.set (index + 1))
+after_is : (family : Family) (index : ℕ) (block : BlockClasses) → IsBlock family index block → block.after ≡ classes_to_block family (index + 1)
 after_is family index block is =
     block.ends ∙ ap (λ (f : Family). marks_below (is_marked f) (start_of f.set block.number + block_size f.set block.number)) is.family_is
     ∙ ap (λ n. marks_below (is_marked family) (start_of family.set n + block_size family.set n)) is.number_is
@@ -181,8 +177,8 @@ after_is family index block is =
 -- the block that stands at a number
 pub record HasClassesFrom (family : Family) (index : ℕ) (block : BlockClasses) : Type 0 where
   pub is : IsBlock family index block
-  pub before_is : block.before ≡ marks_below (is_marked family) (start_of family.set index)
-  pub after_is : block.after ≡ marks_below (is_marked family) (start_of family.set (index + 1))
+  pub before_is : block.before ≡ classes_to_block family index
+  pub after_is : block.after ≡ classes_to_block family (index + 1)
 
 pub classes_read : (family : Family) (blocks : List BlockClasses) (index : ℕ) (block : BlockClasses) → AreBlocks family blocks → index < length blocks
     → block ≡ slice_index_or blocks index block → HasClassesFrom family index block
@@ -215,31 +211,30 @@ AreBlocks-none family blocks none = λ k other below. absurd (none_below k (leng
 
 -- ---- the classes of all blocks
 
-pub classes_all : (family : Family) (number count : ℕ) → number ≡ product (block_bases family.set)
-    → count ≡ marks_below (is_marked family) (start_of family.set number) → count ≡ classes_of family
+pub classes_all : (family : Family) (number count : ℕ) → number ≡ product (block_bases family.set) → count ≡ classes_to_block family number
+    → count ≡ classes_of family
 unfolding classes_of size_of_set
-classes_all family number count is counted = counted ∙ ap (λ n. marks_below (is_marked family) (start_of family.set n)) is
+classes_all family number count is counted = counted ∙ ap (λ n. classes_to_block family n) is
 
 -- what is said of the number of classes, by whatever it was found
 pub count_told : (family : Family) (count : ℕ) → count ≡ classes_of family → HasClasses family count × (count < 2 ^ 31)
 count_told family count is = subst (λ (n : ℕ). HasClasses family n × (n < 2 ^ 31)) (sym is) (HasClasses-classes_of family, classes_of-below family)
 
-pub no_classes_yet : (family : Family) → 0 ≡ marks_below (is_marked family) (start_of family.set 0)
+pub no_classes_yet : (family : Family) → 0 ≡ classes_to_block family 0
 no_classes_yet family = sym (marks_below_none (is_marked family))
 
 pub class_in_blocks : (family : Family) (class number : ℕ) → class < classes_of family → number ≡ product (block_bases family.set)
-    → class < marks_below (is_marked family) (start_of family.set number)
+    → class < classes_to_block family number
 class_in_blocks family class number below is = subst (λ n. class < n) (sym (classes_all family number _ is refl)) below
 
-pub in_first : (family : Family) (class number : ℕ) → number ≤ 0 → class < marks_below (is_marked family) (start_of family.set number) → ⊥
+pub in_first : (family : Family) (class number : ℕ) → number ≤ 0 → class < classes_to_block family number → ⊥
 in_first family class number none below =
     let zero_is : number ≡ 0 = omega arith in
-    let none_before : marks_below (is_marked family) (start_of family.set number) ≡ 0 =
-    ap (λ n. marks_below (is_marked family) (start_of family.set n)) zero_is ∙ sym (no_classes_yet family) in
+    let none_before : classes_to_block family number ≡ 0 =
+    ap (λ n. classes_to_block family n) zero_is ∙ sym (no_classes_yet family) in
     omega (arith, below, none_before)
 
-pub classes_few : (family : Family) (block : ℕ) → block ≤ product (block_bases family.set)
-    → marks_below (is_marked family) (start_of family.set block) ≤ 27 * 2 ^ 36
+pub classes_few : (family : Family) (block : ℕ) → block ≤ product (block_bases family.set) → classes_to_block family block ≤ 27 * 2 ^ 36
 classes_few family block upto =
     let start = start_small family.set block upto in
     let marks = marks_below-le (is_marked family) (start_of family.set block) in
@@ -262,10 +257,8 @@ spot_in_block family run local block is run_low local_low = subst (λ (f : Famil
 
 -- at a marked spot stands the representative of its class
 pub at_spot_in : (family : Family) (run local class : ℕ) (block : BlockClasses) (s : Setup) → block.family ≡ family
-    → is_marked block.family (run_start block.family.set block.number run + local) ≡ true
-    → marks_below (is_marked block.family) (run_start block.family.set block.number run + local) ≡ class
-    → HasBlock family.set (number_of (block_bases family.set) block.on_board) (run * product (local_bases block.on_board) + local) s
-    → IsAtClass family s class
+    → is_marked block.family (run_start block.family.set block.number run + local) ≡ true → classes_to_place block.family block.number run local ≡ class
+    → HasBlock family.set (number_of (block_bases family.set) block.on_board) (run * product (local_bases block.on_board) + local) s → IsAtClass family s class
 at_spot_in family run local class block s is on number made =
     let of = block.family in
     let made_there = made_in_block of.set block.number run local block.on_board s block.within block.numbers

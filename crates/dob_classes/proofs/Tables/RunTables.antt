@@ -4,7 +4,7 @@ use Rattle.dob_classes.proofs.Common.{slice_index_or, subst, sym, true, ℕ, mul
 use Rattle.dob_classes.proofs.Common.{length_push, Family, start_small, marks_below-le, marks_below-upto, block_size-small, is_marked, marks_below, block_bases}
 use Rattle.dob_classes.proofs.Common.{block_size, digits_of, product, start_of, lion_pairs, run_bases, run_digits, run_kind, run_start, runs_in, run_size}
 use Rattle.dob_classes.proofs.Common.{RunKind, First, Later, Mixed, IsInRunOf, classes_before, local_marks_in, run_size_in, AreRuns, HasTable, IsRun}
-use Rattle.dob_classes.proofs.Common.{IsTableOfRuns, BlockClasses, Run, StretchTable}
+use Rattle.dob_classes.proofs.Common.{IsTableOfRuns, BlockClasses, Run, StretchTable, classes_to_run}
 use Rattle.dob_rank.specs.declared.runs.RunDigits.{RunDigits}
 use Rattle.dob_rank.proofs.InRuns.RunPlaces.{block_size-runs, run_start-is}
 use Rattle.dob_classes.proofs.MarksOfRuns.FamilyMarks.{first_mark_in, later_mark_in, first_marks, later_marks, classes_before_next, IsAlike, alike_by_lions}
@@ -15,18 +15,16 @@ pub same_upto : (n : ℕ) → n ≤ n
 same_upto n = omega arith
 
 pub count_first : (family : Family) (block run size : ℕ) → block < product (block_bases family.set) → run < runs_in family.set block
-    → size ≡ run_size_in family block run → run_kind (run % lion_pairs) ≡ First
-    → marks_below (is_marked family) (run_start family.set block run) + size ≡ marks_below (is_marked family) (run_start family.set block (run + 1))
+    → size ≡ run_size_in family block run → run_kind (run % lion_pairs) ≡ First → classes_to_run family block run + size ≡ classes_to_run family block (run + 1)
 count_first family block run size within below is kind =
-    ap (λ n. marks_below (is_marked family) (run_start family.set block run) + n)
+    ap (λ n. classes_to_run family block run + n)
     (is ∙ sym (first_marks family block run (run_size_in family block run) within below (same_upto (run_size_in family block run)) kind))
     ∙ classes_before_next family block run within below
 
 pub count_later : (family : Family) (block run : ℕ) → block < product (block_bases family.set) → run < runs_in family.set block
-    → run_kind (run % lion_pairs) ≡ Later
-    → marks_below (is_marked family) (run_start family.set block run) + 0 ≡ marks_below (is_marked family) (run_start family.set block (run + 1))
+    → run_kind (run % lion_pairs) ≡ Later → classes_to_run family block run + 0 ≡ classes_to_run family block (run + 1)
 count_later family block run within below kind =
-    ap (λ n. marks_below (is_marked family) (run_start family.set block run) + n)
+    ap (λ n. classes_to_run family block run + n)
     (sym (later_marks family block run (run_size_in family block run) within below (same_upto (run_size_in family block run)) kind))
     ∙ classes_before_next family block run within below
 
@@ -62,12 +60,11 @@ table_for family block run number tables table within below has kind read =
       before_is = marks;
     }
 
-pub count_mixed : (family : Family) (block run number : ℕ) (tables : List StretchTable) (table : StretchTable)
-    → block < product (block_bases family.set) → run < runs_in family.set block → HasTable family block run number tables
-    → run_kind (run % lion_pairs) ≡ Mixed → table ≡ slice_index_or tables number table
-    → marks_below (is_marked family) (run_start family.set block run) + table.count ≡ marks_below (is_marked family) (run_start family.set block (run + 1))
+pub count_mixed : (family : Family) (block run number : ℕ) (tables : List StretchTable) (table : StretchTable) → block < product (block_bases family.set)
+    → run < runs_in family.set block → HasTable family block run number tables → run_kind (run % lion_pairs) ≡ Mixed
+    → table ≡ slice_index_or tables number table → classes_to_run family block run + table.count ≡ classes_to_run family block (run + 1)
 count_mixed family block run number tables table within below has kind read =
-    ap (λ n. marks_below (is_marked family) (run_start family.set block run) + n) (table_for family block run number tables table within below has kind read).count_is
+    ap (λ n. classes_to_run family block run + n) (table_for family block run number tables table within below has kind read).count_is
     ∙ classes_before_next family block run within below
 
 -- ---- the tables of marks
@@ -124,10 +121,10 @@ abbrev pub make_run : ℕ → ℕ → RunKind → RunDigits → Run
 make_run before table kind digits = record { before = before; table = table; kind = kind; digits = digits }
 
 -- one more run
-pub AreRuns-push : (family : Family) (block run before table : ℕ) (kind : RunKind) (digits : RunDigits) (runs news : List Run) (tables : List StretchTable) →
-    AreRuns family block run runs tables → before ≡ marks_below (is_marked family) (run_start family.set block run) → kind ≡ run_kind (run % lion_pairs) →
-    run_digits digits ≡ digits_of (run_bases family.set (digits_of (block_bases family.set) block)) run →
-    HasTable family block run table tables → news ≡ runs ++ make_run before table kind digits ∷ [] → AreRuns family block (run + 1) news tables
+pub AreRuns-push : (family : Family) (block run before table : ℕ) (kind : RunKind) (digits : RunDigits) (runs news : List Run) (tables : List StretchTable)
+    → AreRuns family block run runs tables → before ≡ classes_to_run family block run → kind ≡ run_kind (run % lion_pairs)
+    → run_digits digits ≡ digits_of (run_bases family.set (digits_of (block_bases family.set) block)) run → HasTable family block run table tables
+    → news ≡ runs ++ make_run before table kind digits ∷ [] → AreRuns family block (run + 1) news tables
 AreRuns-push family block run before table kind digits runs news tables are before_is kind_is digits_are has news_are =
     subst (λ rs. AreRuns family block (run + 1) rs tables) (sym news_are) (record {
       long = length_push runs (make_run before table kind digits) ∙ ap (λ n. n + 1) are.long;
@@ -149,7 +146,7 @@ AreRuns-none family block runs tables none = record { long = ap length none; eac
 -- ---- bounds
 
 pub marks_small : (family : Family) (block run : ℕ) → block < product (block_bases family.set) → run ≤ runs_in family.set block
-    → marks_below (is_marked family) (run_start family.set block run) ≤ 2 ^ 42
+    → classes_to_run family block run ≤ 2 ^ 42
 marks_small family block run within upto =
     let marks = marks_below-le (is_marked family) (run_start family.set block run) in
     let start = run_start-is family.set block run in
@@ -157,7 +154,7 @@ marks_small family block run within upto =
     let whole = block_size-runs family.set block in
     let times : run * run_size family.set block ≤ runs_in family.set block * run_size family.set block = mul-le-mul_right (run_size family.set block) upto in
     let size = block_size-small family.set block within in
-    bounded (marks_below (is_marked family) (run_start family.set block run)) (run_start family.set block run) (start_of family.set block)
+    bounded (classes_to_run family block run) (run_start family.set block run) (start_of family.set block)
     (run * run_size family.set block) (runs_in family.set block * run_size family.set block) (block_size family.set block) marks start first times whole size
   where
     bounded : (marks at start run all block : ℕ) → marks ≤ at → at ≡ start + run → start ≤ 27 * 2 ^ 36 → run ≤ all → block ≡ all → block ≤ 2 ^ 36 →
@@ -200,12 +197,12 @@ pub record IsFoundIn (family : Family) (block run number : ℕ) (on : Bool) (bef
   pub before_is : before ≡ classes_before family block run number
   pub few : before ≤ 2 ^ 42
 
-found_by : (family : Family) (block run number marks before : ℕ) (on : Bool) → IsInRunOf family block run number
-    → before ≡ marks_below (is_marked family) (run_start family.set block run) → on ≡ local_marks_in family block run number
-    → marks ≡ marks_below (local_marks_in family block run) number → IsFoundIn family block run number on (before + marks)
+found_by : (family : Family) (block run number marks before : ℕ) (on : Bool) → IsInRunOf family block run number → before ≡ classes_to_run family block run
+    → on ≡ local_marks_in family block run number → marks ≡ marks_below (local_marks_in family block run) number
+    → IsFoundIn family block run number on (before + marks)
 found_by family block run number marks before on at before_is on_is marks_are =
     let whole : before + marks ≡ classes_before family block run number = ap (λ n. n + marks) before_is
-    ∙ ap (λ n. marks_below (is_marked family) (run_start family.set block run) + n) marks_are in
+    ∙ ap (λ n. classes_to_run family block run + n) marks_are in
     record { mark_is = on_is; before_is = whole; few = (let small = classes_before-small family block run number at in omega (arith, whole, small)) }
 
 pub first_found_in : (family : Family) (block run number : ℕ) (tables : List StretchTable) (entry : Run)
@@ -262,8 +259,7 @@ pub record IsNumberLeft (family : Family) (block run number left : ℕ) : Type 0
 
 -- where its lions say it all are, since none would be left where they say later
 pub lions_left : (family : Family) (block run left : ℕ) → block < product (block_bases family.set) → run < runs_in family.set block
-    → (run_kind (run % lion_pairs) ≡ Mixed → ⊥)
-    → marks_below (is_marked family) (run_start family.set block run) + left < marks_below (is_marked family) (run_start family.set block (run + 1))
+    → (run_kind (run % lion_pairs) ≡ Mixed → ⊥) → classes_to_run family block run + left < classes_to_run family block (run + 1)
     → IsNumberLeft family block run left left
 lions_left family block run left within below apart fits = by_kind (run_kind (run % lion_pairs)) refl
   where
@@ -280,9 +276,7 @@ lions_left family block run left within below apart fits = by_kind (run_kind (ru
     by_kind Mixed is = absurd (apart is)
 
 pub table_left : (family : Family) (block run left : ℕ) (table : StretchTable) → block < product (block_bases family.set) → run < runs_in family.set block
-    → IsTableFor family block run table
-    → marks_below (is_marked family) (run_start family.set block run) + left < marks_below (is_marked family) (run_start family.set block (run + 1))
-    → left < table.count
+    → IsTableFor family block run table → classes_to_run family block run + left < classes_to_run family block (run + 1) → left < table.count
 table_left family block run left table within below by fits =
     let all = classes_before_next family block run within below in
     let count = by.count_is in

@@ -1,6 +1,6 @@
 -- Each run of the first hand adds its own classes, and they are written behind it.
 use Rattle.dob_classes.proofs.Common.{◌+◌, ◌<◌, ◌∙◌, ◌≡◌, ◌≤◌, List, ap, arith, get_or, inl, inr, length, slice_set, sym, ℕ, cases_lt, get_or-set_other}
-use Rattle.dob_classes.proofs.Common.{get_or-set_same, length-set, is_marked, marks_below, start_of, run_start}
+use Rattle.dob_classes.proofs.Common.{get_or-set_same, length-set, classes_to_block, classes_to_run}
 use Rattle.dob_classes.proofs.Tables.RunTables.{marks_small}
 use Rattle.dob_classes.proofs.Counting.ClassesBefore.{none_before, all_lions, one_run_more}
 use Rattle.dob_classes.proofs.class_rows.class_row.Goals as goal
@@ -31,8 +31,8 @@ loop-run-init c = (
   none_before c.args.family c.args.block,
   λ e. get_or-set_other (slice_set c.args.row.now 100 c.args.before) 0 100 0 e (λ is. omega (arith, is))
       ∙ get_or-set_same c.args.row.now 100 c.args.before e (let room = c.requires.room in omega (arith, room)),
-  opened c.args.row.now (λ (k : ℕ). marks_below (is_marked c.args.family) (run_start c.args.family.set c.args.block k))
-      (marks_below (is_marked c.args.family) (start_of c.args.family.set c.args.block)) c.args.before c.requires.room (none_before c.args.family c.args.block),
+  opened c.args.row.now (λ (k : ℕ). classes_to_run c.args.family c.args.block k)
+      (classes_to_block c.args.family c.args.block) c.args.before c.requires.room (none_before c.args.family c.args.block),
 )
 
 pub classes_in_run-count-requires-clause-run : goal.classes_in_run-count-requires-clause-run
@@ -58,7 +58,7 @@ loop-run-preserved c =
       more,
       λ e. get_or-set_other c.loop-run.row (c.loop-run.run + 1) 100 (c.loop-run.count + c.classes_in_run-count.result) e
           (λ is. let low = c.loop-run-test.true in omega (arith, is, low)) ∙ c.loop-run.invariant.2 e,
-      written c.loop-run.row (λ (k : ℕ). marks_below (is_marked c.args.family) (run_start c.args.family.set c.args.block k))
-          (marks_below (is_marked c.args.family) (start_of c.args.family.set c.args.block)) c.loop-run.run (c.loop-run.count + c.classes_in_run-count.result)
+      written c.loop-run.row (λ (k : ℕ). classes_to_run c.args.family c.args.block k)
+          (classes_to_block c.args.family c.args.block) c.loop-run.run (c.loop-run.count + c.classes_in_run-count.result)
           c.loop-run.invariant.0 c.loop-run-test.true c.loop-run.invariant.3 more,
     )

@@ -1,6 +1,6 @@
 -- Each run's entry and its words go to the ends of the tables.
 use Rattle.dob_classes.proofs.Common.{◌+◌, ◌∙◌, ◌≡◌, ap, arith, subst, sym, vec_len, AreFewOnBoard-digits, run_start_end, run_start_first, HasDigits-numbers}
-use Rattle.dob_classes.proofs.Common.{run_in_bases, is_marked, marks_below, digits_of, run_bases, run_start, runs_in, AreRuns}
+use Rattle.dob_classes.proofs.Common.{run_in_bases, is_marked, marks_below, digits_of, run_bases, runs_in, AreRuns, classes_to_run}
 use Rattle.dob_classes.proofs.Tables.RunTables.{AreRuns-none, AreRuns-push, marks_small}
 use Rattle.dob_classes.proofs.Tables.IndexedRuns.{first_run}
 use Rattle.dob_classes.proofs.block_classes.BlockClasses.open.Goals as goal
@@ -71,7 +71,7 @@ invariant_of-result c =
       within = c.requires.within;
       starts = c.requires.before;
       ends = c.loop-run.invariant.count_is
-          ∙ ap (λ n. marks_below (is_marked c.args.family) (run_start c.args.family.set c.args.number n)) whole
+          ∙ ap (λ n. classes_to_run c.args.family c.args.number n) whole
           ∙ ap (marks_below (is_marked c.args.family)) (run_start_end c.args.family.set c.args.number);
       numbers = c.numbers_in-on_board.ensures;
       chosen = c.choices_in-choices.ensures;
