@@ -17,6 +17,7 @@ use Rattle.dob_rank.proofs.OfFamilies.FamilyRuns.{ob_of, run_present, lions_alik
 use Rattle.dob_classes.proofs.OfFamilies.FamilyNumbers.{IsAtClass, at_class}
 use Rattle.dob_classes.proofs.MarksOfRuns.FamilyMarks.{mark_of_number, number_of_position}
 use Rattle.dob_classes.proofs.Counting.FarCounts.{all_there, same_left}
+use Rattle.dob_classes.proofs.Tables.Pushed.{each_pushed}
 
 -- ---- the place of a number
 
@@ -105,29 +106,12 @@ representative_at family block run number place before class at on left before_i
 
 -- ---- the block of a position
 
-record IsBlockFor (family : Family) (s : Setup) (block : BlockClasses) : Type 0 where
-  family_is : block.family ≡ family
-  number_is : block.number ≡ block_of family.set s
-
-block_read : (family : Family) (s : Setup) (blocks : List BlockClasses) (index : ℕ) (block : BlockClasses) → index ≡ block_of family.set s
-    → AreBlocks family blocks → index < length blocks → block ≡ slice_index_or blocks index block → IsBlockFor family s block
-block_read family s blocks index block is are below read =
-    let there : IsBlock family index block = subst (IsBlock family index) (sym read) (are index block below) in
-    record { family_is = there.family_is; number_is = there.number_is ∙ is }
-
--- the position's run and number in that block
-pub record IsSpotRead (family : Family) (s : Setup) (block : BlockClasses) (run number : ℕ) : Type 0 where
-  pub run_below : run < runs_in block.family.set block.number
-  pub number_below : number < run_size_in block.family block.number run
-  pub mark_is : local_marks_in block.family block.number run number ≡ is_marked family (rank_of_set family.set s)
-  pub before_is : classes_before block.family block.number run number ≡ classes_to_setup family s
-
--- of numbers that are the position's own
-record IsSpotFor (family : Family) (s : Setup) (of : Family) (block run number : ℕ) : Type 0 where
-  run_below : run < runs_in of.set block
-  number_below : number < run_size_in of block run
-  mark_is : local_marks_in of block run number ≡ is_marked family (rank_of_set family.set s)
-  before_is : classes_before of block run number ≡ classes_to_setup family s
+-- a run and number of a family's block that are the position's own
+pub record IsSpotFor (family : Family) (s : Setup) (of : Family) (block run number : ℕ) : Type 0 where
+  pub run_below : run < runs_in of.set block
+  pub number_below : number < run_size_in of block run
+  pub mark_is : local_marks_in of block run number ≡ is_marked family (rank_of_set family.set s)
+  pub before_is : classes_before of block run number ≡ classes_to_setup family s
 
 own_spot : (family : Family) (s : Setup) → IsPositionOf family s → IsSpotFor family s family (block_of family.set s) (run_of family.set s)
     (marks_below (is_there family (block_of family.set s) (run_of family.set s)) (local_of s))
@@ -152,14 +136,14 @@ spot_of family s of block run number p of_is block_is run_is number_is =
     (subst (λ r. IsSpotFor family s family (block_of family.set s) r number) (sym run_is)
     (subst (IsSpotFor family s family (block_of family.set s) (run_of family.set s)) (sym number_is) (own_spot family s p))))
 
+-- and of the block that is read
 pub spot_read : (family : Family) (s : Setup) (blocks : List BlockClasses) (index run number : ℕ) (block : BlockClasses) → IsPositionOf family s
     → index ≡ block_of family.set s → run ≡ run_of family.set s
     → number ≡ marks_below (is_there family (block_of family.set s) (run_of family.set s)) (local_of s) → AreBlocks family blocks → index < length blocks
-    → block ≡ slice_index_or blocks index block → IsSpotRead family s block run number
+    → block ≡ slice_index_or blocks index block → IsSpotFor family s block.family block.number run number
 spot_read family s blocks index run number block p is run_is number_is are below read =
-    let of = block_read family s blocks index block is are below read in
-    let spot = spot_of family s block.family block.number run number p of.family_is of.number_is run_is number_is in
-    record { run_below = spot.run_below; number_below = spot.number_below; mark_is = spot.mark_is; before_is = spot.before_is }
+    let there : IsBlock family index block = subst (IsBlock family index) (sym read) (are index block below) in
+    spot_of family s block.family block.number run number p there.family_is (there.number_is ∙ is) run_is number_is
 
 -- ---- how many classes stand before the blocks
 
@@ -194,14 +178,10 @@ new_block family number block family_is number_is =
 -- one more block
 pub AreBlocks-push : (family : Family) (blocks news : List BlockClasses) (block : BlockClasses) (number : ℕ) → AreBlocks family blocks
     → length blocks ≡ number → IsBlock family number block → news ≡ blocks ++ block ∷ [] → AreBlocks family news
-AreBlocks-push family blocks news block number are long is grown = subst (AreBlocks family) (sym grown) (λ k other below. elim (cases_lt k number) [
-  | inl earlier ↦ subst (IsBlock family k) (sym (get_or_append_left blocks (block ∷ []) other k (omega arith))) (are k other (omega arith))
-  | inr later ↦
-      let more = length_push blocks block in
-      let same : k ≡ number = omega (arith, below, later, long, more) in
-      subst (λ n. IsBlock family n (slice_index_or (blocks ++ block ∷ []) n other)) (sym same)
-      (subst (IsBlock family number) (sym (get_or_push blocks block other number long)) is)
-])
+AreBlocks-push family blocks news block number are long is grown = λ k other below.
+    let longer : length news ≡ length blocks + 1 = ap length grown ∙ length_push blocks block in
+    each_pushed (IsBlock family) blocks news block (length blocks) refl are (subst (λ n. IsBlock family n block) (sym long) is) grown k other
+    (omega (arith, below, longer))
 
 pub AreBlocks-none : (family : Family) (blocks : List BlockClasses) → blocks ≡ [] → AreBlocks family blocks
 AreBlocks-none family blocks none = λ k other below. absurd (none_below k (length blocks) (ap length none) below)

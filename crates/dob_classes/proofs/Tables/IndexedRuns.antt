@@ -3,20 +3,15 @@ use Rattle.dob_classes.proofs.Common.{◌%◌, ◌*◌, ◌++◌, ◌+◌, ◌<�
 use Rattle.dob_classes.proofs.Common.{suc, sym, zero, ℕ, add-mul, cases_lt, get_or_append_left, get_or_push, length_push, one_shl, Family, run_start_end}
 use Rattle.dob_classes.proofs.Common.{is_marked, marks_below, runs_in, First, AreEntries, IsAtMost, AreRuns, BlockClasses, Run, StretchTable, classes_to_run}
 use Rattle.dob_classes.proofs.Tables.RunTables.{make_run}
+use Rattle.dob_classes.proofs.Tables.Pushed.{each_pushed}
 
 -- one entry more
 pub entries_more : (runs : List Run) (before step class run : ℕ) (entries news : List ℕ) → AreEntries runs before step entries → IsAtMost runs class run
     → class ≡ before + length entries * step → news ≡ entries ++ run ∷ [] → AreEntries runs before step news
-entries_more runs before step class run entries news are at class_is grown = subst (AreEntries runs before step) (sym grown) (λ k other below.
-    elim (cases_lt k (length entries)) [
-      | inl earlier ↦ subst (IsAtMost runs (before + k * step)) (sym (get_or_append_left entries (run ∷ []) other k earlier)) (are k other earlier)
-      | inr later ↦
-          let more = length_push entries run in
-          let same : k ≡ length entries = omega (arith, below, later, more) in
-          subst (λ n. IsAtMost runs (before + n * step) (slice_index_or (entries ++ run ∷ []) n other)) (sym same)
-          (subst (IsAtMost runs (before + length entries * step)) (sym (get_or_push entries run other (length entries) refl))
-          (subst (λ n. IsAtMost runs n run) class_is at))
-    ])
+entries_more runs before step class run entries news are at class_is grown = λ k other below.
+    let long : length news ≡ length entries + 1 = ap length grown ∙ length_push entries run in
+    each_pushed (λ (n entry : ℕ). IsAtMost runs (before + n * step) entry) entries news run (length entries) refl are
+    (subst (λ n. IsAtMost runs n run) class_is at) grown k other (omega (arith, below, long))
 
 -- and the class of the next one
 pub next_class : (before exponent class run : ℕ) (entries news : List ℕ) → exponent ≤ 32 → class ≡ before + length entries * 2 ^ exponent

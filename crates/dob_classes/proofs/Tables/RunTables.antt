@@ -8,6 +8,7 @@ use Rattle.dob_classes.proofs.Common.{IsTableOfRuns, BlockClasses, Run, StretchT
 use Rattle.dob_rank.specs.declared.runs.RunDigits.{RunDigits}
 use Rattle.dob_rank.proofs.InRuns.RunPlaces.{block_size-runs, run_start-is}
 use Rattle.dob_classes.proofs.MarksOfRuns.FamilyMarks.{first_mark_in, later_mark_in, first_marks, later_marks, classes_before_next, IsAlike, alike_by_lions}
+use Rattle.dob_classes.proofs.Tables.Pushed.{each_pushed}
 
 -- ---- how many marks a run has
 
@@ -125,20 +126,11 @@ pub AreRuns-push : (family : Family) (block run before table : ℕ) (kind : RunK
     → AreRuns family block run runs tables → before ≡ classes_to_run family block run → kind ≡ run_kind (run % lion_pairs)
     → run_digits digits ≡ digits_of (run_bases family.set (digits_of (block_bases family.set) block)) run → HasTable family block run table tables
     → news ≡ runs ++ make_run before table kind digits ∷ [] → AreRuns family block (run + 1) news tables
-AreRuns-push family block run before table kind digits runs news tables are before_is kind_is digits_are has news_are =
-    subst (λ rs. AreRuns family block (run + 1) rs tables) (sym news_are) (record {
-      long = length_push runs (make_run before table kind digits) ∙ ap (λ n. n + 1) are.long;
-      each = λ k other below. elim (cases_lt k run) [
-        | inl earlier ↦ subst (IsRun family block k tables)
-            (sym (get_or_append_left runs (make_run before table kind digits ∷ []) other k (let long = are.long in omega arith)))
-            (are.each k other earlier)
-        | inr later ↦
-            let same : k ≡ run = omega arith in
-            subst (λ n. IsRun family block n tables (slice_index_or (runs ++ make_run before table kind digits ∷ []) n other)) (sym same)
-            (subst (IsRun family block run tables) (sym (get_or_push runs (make_run before table kind digits) other run are.long))
-            (record { before_is = before_is; kind_is = kind_is; digits_are = digits_are; table_is = has }))
-      ];
-    })
+AreRuns-push family block run before table kind digits runs news tables are before_is kind_is digits_are has news_are = record {
+  long = ap length news_are ∙ length_push runs (make_run before table kind digits) ∙ ap (λ n. n + 1) are.long;
+  each = each_pushed (λ (k : ℕ) (entry : Run). IsRun family block k tables entry) runs news (make_run before table kind digits) run are.long are.each
+      (record { before_is = before_is; kind_is = kind_is; digits_are = digits_are; table_is = has }) news_are;
+}
 
 pub AreRuns-none : (family : Family) (block : ℕ) (runs : List Run) (tables : List StretchTable) → runs ≡ [] → AreRuns family block 0 runs tables
 AreRuns-none family block runs tables none = record { long = ap length none; each = λ run other below. absurd (omega arith) }

@@ -1,11 +1,11 @@
 -- The position's block knows its run and its number there.
 use Rattle.dob_classes.proofs.Common.{◌∙◌, arith, Setup, block_of-below, IsShown}
-use Rattle.dob_classes.proofs.Tables.FamilyBlocks.{IsSpotRead, spot_read}
+use Rattle.dob_classes.proofs.Tables.FamilyBlocks.{IsSpotFor, spot_read}
 use Rattle.dob_classes.proofs.classes.Classes.look_up_shown.Goals as goal
 use Rattle.dob_classes.proofs.classes.Classes.look_up_shown.Goals.{After-index}
 
 spot_in : (c : After-index) (setup : Setup) → IsShown c.args.self.now.family setup c.args.bits.now
-    → IsSpotRead c.args.self.now.family setup c.index.result.now c.spot_shown_in-block.result.1.run c.spot_shown_in-block.result.1.local
+    → IsSpotFor c.args.self.now.family setup c.index.result.now.family c.index.result.now.number c.spot_shown_in-block.result.1.run c.spot_shown_in-block.result.1.local
 spot_in c setup shown =
     let below = block_of-below c.args.self.now.family.set setup shown.position.of_set in
     let at = c.spot_shown_in-block.ensures in
