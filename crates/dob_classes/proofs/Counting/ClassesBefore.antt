@@ -146,35 +146,6 @@ later_before family block run place within below upto kind =
     sym (later_marks family block run (marks_below (is_there family block run) place) within below
     (marks_below-upto (is_there family block run) place (run_size family.set block) upto) kind)
 
--- the positions that a stretch adds, where it ends at a place at the latest
-pub record IsAdded (family : Family) (block run from place upto start next : ℕ) (on : Bool) : Type 0 where
-  pub some : from < upto
-  pub within : upto ≤ place
-  pub stretch : IsStretchIn family block run start next on
-
-pub added : (family : Family) (block run from end place upto start next : ℕ) (on : Bool) → block < product (block_bases family.set) → run < runs_in family.set block
-    → place ≤ run_size family.set block → from < place → from < end → upto ≡ min end place
-    → start ≡ marks_below (is_there family block run) from → next ≡ marks_below (is_there family block run) upto
-    → ((k : ℕ) → from ≤ k → k < end → local_marks family.set block run k ≡ on) → IsAdded family block run from place upto start next on
-added family block run from end place upto start next on within below whole low some is start_is next_is same = record {
-  some = some_more;
-  within = at_most;
-  stretch = stretch_in family block run from upto start next on within below (omega (arith, at_most, whole)) start_is next_is some_more
-      (λ k a b. same k a (omega (arith, b, no_further)));
-}
-  where
-    at_most : upto ≤ place
-    at_most = (let le = min-le_right end place in omega (arith, is, le))
-
-    no_further : upto ≤ end
-    no_further = (let le = min-le_left end place in omega (arith, is, le))
-
-    some_more : from < upto
-    some_more = elim (cases_lt end place) [
-      | inl lt ↦ (let same : min end place ≡ end = min-eq_left (let le : end ≤ place = omega arith in le) in omega (arith, is, same, some))
-      | inr ge ↦ (let same : min end place ≡ place = min-eq_right ge in omega (arith, is, same, low))
-    ]
-
 -- ---- a position's block, run and place
 
 pub record AreBefore (family : Family) (s : Setup) (runs places : ℕ) : Type 0 where

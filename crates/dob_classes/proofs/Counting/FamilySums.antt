@@ -2,7 +2,7 @@
 use Rattle.dob_classes.proofs.Common.{◌%◌, ◌+◌, ◌<◌, ◌∙◌, ◌≡◌, ◌≤◌, ap, arith, refl, suc, sym, zero, ℕ, Family, lions_run, marks_agree, run_start_first}
 use Rattle.dob_classes.proofs.Common.{is_marked, marks_below, block_bases, product, sum_below, lion_pairs, run_kind, runs_in, run_size, RunKind, First, Later}
 use Rattle.dob_classes.proofs.Common.{Mixed, is_there, local_marks_in, run_size_in, classes_to_block, classes_to_run}
-use Rattle.dob_classes.proofs.MarksOfRuns.FamilyMarks.{first_marks, later_marks, classes_before_next, there_by_lions, alike_by_lions}
+use Rattle.dob_classes.proofs.MarksOfRuns.FamilyMarks.{first_marks, later_marks, classes_before_next, lower_run, size_by_lions, alike_by_lions}
 use Rattle.dob_classes.proofs.Tables.RunTables.{same_upto}
 
 -- how many classes a run has
@@ -21,17 +21,6 @@ later_run family block run within below kind =
     sym (later_marks family block run (run_size_in family block run) within below (same_upto (run_size_in family block run)) kind)
 
 -- its lions alone say how many
-lower_run : (run runs : ℕ) → run < runs → run % lion_pairs < runs
-lower_run run runs below = (let less : run % lion_pairs ≤ run = omega arith in omega (arith, less, below))
-
-size_by_lions : (family : Family) (block run : ℕ) → block < product (block_bases family.set) → run < runs_in family.set block
-    → run_size_in family block (run % lion_pairs) ≡ run_size_in family block run
-size_by_lions family block run within below =
-    marks_agree (is_there family block (run % lion_pairs)) (is_there family block run) (run_size family.set block)
-    (λ k low. there_by_lions family block (run % lion_pairs) run k
-    (record { block_below = within; run_below = lower_run run (runs_in family.set block) below; local_below = low })
-    (record { block_below = within; run_below = below; local_below = low }) (lions_run run))
-
 pub marks_of_lions : (family : Family) (block run : ℕ) → block < product (block_bases family.set) → run < runs_in family.set block
     → run_marks family block (run % lion_pairs) ≡ run_marks family block run
 marks_of_lions family block run within below = by_kind (run_kind (run % lion_pairs)) refl
@@ -42,7 +31,7 @@ marks_of_lions family block run within below = by_kind (run_kind (run % lion_pai
     by_kind : (kind : RunKind) → run_kind (run % lion_pairs) ≡ kind → run_marks family block (run % lion_pairs) ≡ run_marks family block run
     by_kind First is =
         sym (first_run family block (run % lion_pairs) within lower (ap run_kind (lions_run run) ∙ is))
-        ∙ size_by_lions family block run within below ∙ first_run family block run within below is
+        ∙ size_by_lions family block run within below (run_size family.set block) (omega arith) ∙ first_run family block run within below is
     by_kind Later is =
         sym (later_run family block (run % lion_pairs) within lower (ap run_kind (lions_run run) ∙ is)) ∙ later_run family block run within below is
     by_kind Mixed is =
