@@ -1,14 +1,13 @@
 -- How many classes of a family stand before a run of a block and before a place of a run, as sums over the runs of one hand.
-use Rattle.dob_classes.proofs.Common.{◌%◌, ◌*◌, ◌+◌, ◌/◌, ◌<◌, ◌^◌, ◌∙◌, ◌≡◌, ◌≤◌, Bool, ap, arith, inl, inr, min, refl, sym, ℕ, min-eq_left, min-eq_right}
-use Rattle.dob_classes.proofs.Common.{min-le_left, min-le_right, cases_lt, mod-mul-add, Family, Setup, run_start_end, run_start_first, run_start_next}
-use Rattle.dob_classes.proofs.Common.{spot_there, marks_below-upto, sum_below_more, IsPositionOf, class_number, is_marked, marks_below, block_bases, block_of}
-use Rattle.dob_classes.proofs.Common.{block_size, product, rank_of_set, sum_below, RepresentativeOf, IsInRun, lion_pairs, run_kind, run_of, run_start, runs_in}
-use Rattle.dob_classes.proofs.Common.{local_of, run_size, First, Later, is_there, local_marks_in, local_marks, IsStretchIn, classes_to_block, classes_to_place}
-use Rattle.dob_classes.proofs.Common.{classes_to_run, classes_to_setup}
+use Rattle.dob_classes.proofs.Common.{◌%◌, ◌*◌, ◌+◌, ◌/◌, ◌<◌, ◌^◌, ◌∙◌, ◌≡◌, ◌≤◌, ap, arith, refl, sym, ℕ, mod-mul-add, Family, Setup, run_start_end}
+use Rattle.dob_classes.proofs.Common.{run_start_first, run_start_next, spot_there, marks_below-upto, sum_below_more, IsPositionOf, class_number, is_marked}
+use Rattle.dob_classes.proofs.Common.{marks_below, block_bases, block_of, block_size, product, rank_of_set, sum_below, RepresentativeOf, IsInRun, lion_pairs}
+use Rattle.dob_classes.proofs.Common.{run_kind, run_of, run_start, runs_in, local_of, run_size, First, Later, is_there, local_marks_in, classes_to_block}
+use Rattle.dob_classes.proofs.Common.{classes_to_place, classes_to_run, classes_to_setup}
 use Rattle.dob_lists.proofs.Sums.{sum_same, sum_blocks, sum_alike}
 use Rattle.dob_rank.proofs.Arithmetic.MixedRadix.{digit_below}
 use Rattle.dob_rank.proofs.InRuns.RunSums.{lions_there}
-use Rattle.dob_classes.proofs.MarksOfRuns.FamilyMarks.{stretch_in, first_marks, later_marks, classes_before_place}
+use Rattle.dob_classes.proofs.MarksOfRuns.FamilyMarks.{first_marks, later_marks, classes_before_place}
 use Rattle.dob_classes.proofs.Tables.RunTables.{marks_small}
 use Rattle.dob_classes.proofs.Counting.FamilySums.{run_marks, marks_of_lions, marks_of_runs}
 use Rattle.dob_classes.proofs.OfFamilies.FamilyNumbers.{earlier_in}

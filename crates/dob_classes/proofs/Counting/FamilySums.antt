@@ -1,7 +1,7 @@
 -- The classes of a block of a family as a sum over the runs of one hand.
-use Rattle.dob_classes.proofs.Common.{◌%◌, ◌+◌, ◌<◌, ◌∙◌, ◌≡◌, ◌≤◌, ap, arith, refl, suc, sym, zero, ℕ, Family, lions_run, marks_agree, run_start_first}
-use Rattle.dob_classes.proofs.Common.{is_marked, marks_below, block_bases, product, sum_below, lion_pairs, run_kind, runs_in, run_size, RunKind, First, Later}
-use Rattle.dob_classes.proofs.Common.{Mixed, is_there, local_marks_in, run_size_in, classes_to_block, classes_to_run}
+use Rattle.dob_classes.proofs.Common.{◌%◌, ◌+◌, ◌<◌, ◌∙◌, ◌≡◌, ◌≤◌, ap, arith, refl, suc, sym, zero, ℕ, Family, lions_run, run_start_first, is_marked}
+use Rattle.dob_classes.proofs.Common.{marks_below, block_bases, product, sum_below, lion_pairs, run_kind, runs_in, run_size, RunKind, First, Later, Mixed}
+use Rattle.dob_classes.proofs.Common.{local_marks_in, run_size_in, classes_to_block, classes_to_run}
 use Rattle.dob_classes.proofs.MarksOfRuns.FamilyMarks.{first_marks, later_marks, classes_before_next, lower_run, size_by_lions, alike_by_lions}
 use Rattle.dob_classes.proofs.Tables.RunTables.{same_upto}
 

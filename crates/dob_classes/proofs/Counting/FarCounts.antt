@@ -1,6 +1,6 @@
 -- How many positions of profile B a run has up to a place, and before a position: by its choice of the chicks' squares, the others' squares and forms.
-use Rattle.dob_classes.proofs.Common.{◌%◌, ◌*◌, ◌+◌, ◌-◌, ◌/◌, ◌<◌, ◌^◌, ◌∙◌, ◌≡◌, ◌≤◌, Bool, List, [], ap, arith, false, get_or, slice_index, subst, sym, true}
-use Rattle.dob_classes.proofs.Common.{ℕ, add-mul, mul-le-mul, mul-le-mul_right, mul-pos, mul_assoc, div-add-mod', div-mul-add, div_below, mod_below, PieceSet}
+use Rattle.dob_classes.proofs.Common.{◌%◌, ◌*◌, ◌+◌, ◌/◌, ◌<◌, ◌^◌, ◌∙◌, ◌≡◌, ◌≤◌, Bool, List, [], ap, arith, false, get_or, slice_index, subst, sym, true, ℕ}
+use Rattle.dob_classes.proofs.Common.{add-mul, mul-le-mul, mul-le-mul_right, mul-pos, mul_assoc, div-add-mod', div-mul-add, div_below, mod_below, PieceSet}
 use Rattle.dob_classes.proofs.Common.{Family, A, B, Setup, AreFewOnBoard-digits, marks_agree, marks_from, there, HasDigits-numbers, few_in_block, four_small}
 use Rattle.dob_classes.proofs.Common.{on_board-block, forms_small, IsPositionOf, family_of, is_present, marks_below, one_if, block_bases, block_of, choose}
 use Rattle.dob_classes.proofs.Common.{digits, digits_of, forms_number, free_squares, on_board, order, product, settle, sum_below, AreFewOnBoard, lion_pairs}

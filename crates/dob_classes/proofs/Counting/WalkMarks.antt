@@ -1,6 +1,6 @@
 -- What a step of a walk passes, and that a walk counts few.
-use Rattle.dob_classes.proofs.Common.{IsStretchIn, ◌<◌, ◌^◌, ◌∙◌, ◌≡◌, ◌≤◌, Bool, ap, arith, min, ℕ, run_size-small, marks_below-le, marks_below_none, marks_below, run_size}
-use Rattle.dob_classes.proofs.Common.{is_there, local_marks_in, local_marks, IsWalk, marks_before}
+use Rattle.dob_classes.proofs.Common.{◌<◌, ◌^◌, ◌∙◌, ◌≡◌, ◌≤◌, Bool, ap, arith, min, ℕ, run_size-small, marks_below-le, marks_below_none, marks_below, run_size}
+use Rattle.dob_classes.proofs.Common.{is_there, local_marks_in, local_marks, IsStretchIn, IsWalk, marks_before}
 use Rattle.dob_classes.specs.declared.class_walks.MixedRun.{MixedRun}
 use Rattle.dob_classes.specs.declared.class_walks.Walk.{Walk}
 use Rattle.dob_classes.proofs.MarksOfRuns.FamilyMarks.{stretch_in}

@@ -1,8 +1,7 @@
 -- Sets of squares of a setup: its layers as masks, and the form of a piece by the sets that have its square.
 use Rattle.dob_classes.proofs.Common.{◌*◌, ◌+◌, ◌-◌, ◌/◌, ◌<◌, ◌==◌, ◌^◌, ◌∙◌, ◌∷◌, ◌≡◌, List, None, [], ap, arith, bit_and, get_or, inl, inr, length, map}
 use Rattle.dob_classes.proofs.Common.{refl, slice_index_or, subst, suc, sym, zero, ℕ, cases_eq, eq-eqb, ne_eqb, bit_at-suc, bit_at, bit_if, AreSquares, Cell}
-use Rattle.dob_classes.proofs.Common.{at, Setup, count_other, count_same, count, layer, order, form, Chicks, Elephants, Empty, EnemyLion, Giraffes, OwnLion}
-use Rattle.dob_classes.proofs.Common.{AreBitboards, is_enemy, is_hen, is_of, Bitboards}
+use Rattle.dob_classes.proofs.Common.{at, Setup, count_other, count_same, count, layer, order, form, Chicks, AreBitboards, is_enemy, is_hen, is_of, Bitboards}
 use Rattle.dob_rank.specs.declared.layers.Layer.{Layer}
 use Rattle.dob_rank.specs.Masks.{layer_mask}
 use Rattle.dob_rank.proofs.Boards.EachCell.{of_cell}

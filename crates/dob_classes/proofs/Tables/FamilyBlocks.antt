@@ -1,13 +1,12 @@
 -- The blocks of a family: what a block of the list says of the family's positions and classes.
-use Rattle.dob_classes.proofs.Common.{◌%◌, ◌*◌, ◌++◌, ◌+◌, ◌-◌, ◌<◌, ◌^◌, ◌∙◌, ◌∷◌, ◌≡◌, ◌≤◌, List, [], ap, arith, inl, inr, length, refl, slice_index}
-use Rattle.dob_classes.proofs.Common.{slice_index_or, subst, sym, true, ℕ, cases_lt, get_or_append_left, get_or_push, length_push, Family, Profile, A, B, Setup}
-use Rattle.dob_classes.proofs.Common.{AreFewOnBoard-digits, marks_from, run_start_next, start_small, spot_there, marks_below-le, marks_below_none}
-use Rattle.dob_classes.proofs.Common.{classes_of-below, HasClasses-classes_of, represents, there, HasDigits-numbers, sum_below_more, local_in_bases}
-use Rattle.dob_classes.proofs.Common.{made_in_block, run_in_bases, HasClasses, IsPositionOf, family_of, is_present, classes_of, is_marked, marks_below}
-use Rattle.dob_classes.proofs.Common.{HasDigits, block_bases, block_of, block_size, digits_of, number_of, product, rank_of_set, start_of, size_of_set}
-use Rattle.dob_classes.proofs.Common.{AreFewOnBoard, lion_pairs, local_bases, run_bases, run_of, run_start, runs_in, local_of, run_size, IsInRunOf, IsNumbered}
-use Rattle.dob_classes.proofs.Common.{classes_before, is_there, local_marks_in, run_size_in, BlockClasses, classes_to_block, classes_to_place, classes_to_run}
-use Rattle.dob_classes.proofs.Common.{classes_to_setup}
+use Rattle.dob_classes.proofs.Common.{◌%◌, ◌*◌, ◌++◌, ◌+◌, ◌-◌, ◌<◌, ◌^◌, ◌∙◌, ◌∷◌, ◌≡◌, ◌≤◌, List, [], ap, arith, length, refl, slice_index, slice_index_or}
+use Rattle.dob_classes.proofs.Common.{subst, sym, true, ℕ, length_push, Family, Profile, A, B, Setup, AreFewOnBoard-digits, marks_from, run_start_next}
+use Rattle.dob_classes.proofs.Common.{start_small, spot_there, marks_below-le, marks_below_none, classes_of-below, HasClasses-classes_of, represents, there}
+use Rattle.dob_classes.proofs.Common.{HasDigits-numbers, sum_below_more, local_in_bases, made_in_block, run_in_bases, HasClasses, IsPositionOf, family_of}
+use Rattle.dob_classes.proofs.Common.{is_present, classes_of, is_marked, marks_below, HasDigits, block_bases, block_of, block_size, digits_of, number_of}
+use Rattle.dob_classes.proofs.Common.{product, rank_of_set, start_of, size_of_set, AreFewOnBoard, lion_pairs, local_bases, run_bases, run_of, run_start}
+use Rattle.dob_classes.proofs.Common.{runs_in, local_of, run_size, IsInRunOf, IsNumbered, classes_before, is_there, local_marks_in, run_size_in, BlockClasses}
+use Rattle.dob_classes.proofs.Common.{classes_to_block, classes_to_place, classes_to_run, classes_to_setup}
 use Rattle.dob_classes.specs.BlockTables.{IsBlock, AreBlocks}
 use Rattle.dob_rank.specs.Places.{IsPresentAt, IsPlaceFor}
 use Rattle.dob_rank.specs.Weights.{forms_in, others_squares, others_forms}

@@ -1,7 +1,7 @@
 -- The index of a block's runs as it grows, and the run of a class that it leads to.
 use Rattle.dob_classes.proofs.Common.{◌%◌, ◌*◌, ◌++◌, ◌+◌, ◌<◌, ◌^◌, ◌∙◌, ◌∷◌, ◌≡◌, ◌≤◌, List, [], ap, arith, inl, inr, length, refl, slice_index_or, subst}
-use Rattle.dob_classes.proofs.Common.{suc, sym, zero, ℕ, add-mul, cases_lt, get_or_append_left, get_or_push, length_push, one_shl, Family, run_start_end}
-use Rattle.dob_classes.proofs.Common.{is_marked, marks_below, runs_in, First, AreEntries, IsAtMost, AreRuns, BlockClasses, Run, StretchTable, classes_to_run}
+use Rattle.dob_classes.proofs.Common.{suc, sym, zero, ℕ, add-mul, cases_lt, length_push, one_shl, Family, run_start_end, is_marked, marks_below, runs_in, First}
+use Rattle.dob_classes.proofs.Common.{AreEntries, IsAtMost, AreRuns, BlockClasses, Run, StretchTable, classes_to_run}
 use Rattle.dob_classes.proofs.Tables.RunTables.{make_run}
 use Rattle.dob_classes.proofs.Tables.Pushed.{each_pushed}
 

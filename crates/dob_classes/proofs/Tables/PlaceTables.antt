@@ -1,8 +1,8 @@
 -- The table of a block's places as it grows, and as it is read at a spot.
-use Rattle.dob_classes.proofs.Common.{◌*◌, ◌++◌, ◌+◌, ◌-◌, ◌/◌, ◌<◌, ◌^◌, ◌∙◌, ◌∷◌, ◌≡◌, List, [], ap, arith, inl, inr, length, refl, slice_index}
-use Rattle.dob_classes.proofs.Common.{slice_index_or, subst, suc, sym, zero, ℕ, cases_lt, get_or_append_left, get_or_push, length_push, All, PieceSet}
-use Rattle.dob_classes.proofs.Common.{parts_are, choose-positive, choose-small, most_choices, product-at_most, HasDigits, bases_by, choose, digits_of}
-use Rattle.dob_classes.proofs.Common.{free_squares, product, AreSomePlaces, AreSquareChoices, AreFewOnBoard, form_bases, local_bases, run_bases, square_bases}
+use Rattle.dob_classes.proofs.Common.{◌*◌, ◌++◌, ◌+◌, ◌-◌, ◌/◌, ◌<◌, ◌^◌, ◌∙◌, ◌∷◌, ◌≡◌, List, [], ap, arith, length, refl, slice_index, slice_index_or, subst}
+use Rattle.dob_classes.proofs.Common.{suc, sym, zero, ℕ, length_push, All, PieceSet, parts_are, choose-positive, choose-small, most_choices, product-at_most}
+use Rattle.dob_classes.proofs.Common.{HasDigits, bases_by, choose, digits_of, free_squares, product, AreSomePlaces, AreSquareChoices, AreFewOnBoard, form_bases}
+use Rattle.dob_classes.proofs.Common.{local_bases, run_bases, square_bases}
 use Rattle.dob_rank.specs.declared.placing.Places.{Places}
 use Rattle.dob_rank.specs.Placing.{ArePlaces, HasPlaces, AreAllPlaces}
 use Rattle.dob_rank.proofs.Arithmetic.MixedRadix.{HasDigits-digits_of}

@@ -1,10 +1,10 @@
 -- The tables of runs of a family and of their marks, as they grow and as they are read.
-use Rattle.dob_classes.proofs.Common.{◌%◌, ◌*◌, ◌++◌, ◌+◌, ◌<◌, ◌^◌, ◌∙◌, ◌∷◌, ◌≡◌, ◌≤◌, Bool, List, [], ap, arith, false, inl, inr, length, refl}
-use Rattle.dob_classes.proofs.Common.{slice_index_or, subst, sym, true, ℕ, mul-le-mul_right, cases_lt, get_or_append_left, get_or_push, length-append}
-use Rattle.dob_classes.proofs.Common.{length_push, Family, start_small, marks_below-le, marks_below-upto, block_size-small, is_marked, marks_below, block_bases}
-use Rattle.dob_classes.proofs.Common.{block_size, digits_of, product, start_of, lion_pairs, run_bases, run_digits, run_kind, run_start, runs_in, run_size}
-use Rattle.dob_classes.proofs.Common.{RunKind, First, Later, Mixed, IsInRunOf, classes_before, local_marks_in, run_size_in, AreRuns, HasTable, IsRun}
-use Rattle.dob_classes.proofs.Common.{IsTableOfRuns, BlockClasses, Run, StretchTable, classes_to_run}
+use Rattle.dob_classes.proofs.Common.{◌%◌, ◌*◌, ◌++◌, ◌+◌, ◌<◌, ◌^◌, ◌∙◌, ◌∷◌, ◌≡◌, ◌≤◌, Bool, List, [], ap, arith, false, length, refl, slice_index_or, subst}
+use Rattle.dob_classes.proofs.Common.{sym, true, ℕ, mul-le-mul_right, get_or_append_left, get_or_push, length-append, length_push, Family, start_small}
+use Rattle.dob_classes.proofs.Common.{marks_below-le, marks_below-upto, block_size-small, is_marked, marks_below, block_bases, block_size, digits_of, product}
+use Rattle.dob_classes.proofs.Common.{start_of, lion_pairs, run_bases, run_digits, run_kind, run_start, runs_in, run_size, RunKind, First, Later, Mixed}
+use Rattle.dob_classes.proofs.Common.{IsInRunOf, classes_before, local_marks_in, run_size_in, AreRuns, HasTable, IsRun, IsTableOfRuns, BlockClasses, Run}
+use Rattle.dob_classes.proofs.Common.{StretchTable, classes_to_run}
 use Rattle.dob_rank.specs.declared.runs.RunDigits.{RunDigits}
 use Rattle.dob_rank.proofs.InRuns.RunPlaces.{block_size-runs, run_start-is}
 use Rattle.dob_classes.proofs.MarksOfRuns.FamilyMarks.{first_mark_in, later_mark_in, first_marks, later_marks, classes_before_next, IsAlike, alike_by_lions}

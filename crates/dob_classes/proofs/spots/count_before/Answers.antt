@@ -1,5 +1,5 @@
 -- In profile A each place is one of the family's, in profile B those up to the place before are counted.
-use Rattle.dob_classes.proofs.Common.{arith, ◌+◌, ◌-◌, ◌≡◌, ◌∙◌, ap, sym, ℕ, Profile, marks_below_none, family_of, marks_below, is_there}
+use Rattle.dob_classes.proofs.Common.{◌+◌, ◌-◌, ◌∙◌, ◌≡◌, ap, arith, sym, ℕ, Profile, marks_below_none, family_of, marks_below, is_there}
 use Rattle.dob_classes.proofs.Counting.FarCounts.{all_there}
 use Rattle.dob_classes.proofs.spots.count_before.Goals as goal
 

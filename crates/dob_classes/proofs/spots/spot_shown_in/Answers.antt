@@ -1,5 +1,6 @@
 -- The spot in the set's numbering says how many positions of the family stand before.
-use Rattle.dob_classes.proofs.Common.{◌∙◌, ap, arith, refl, ℕ, Family, Setup, spot_there, marks_below, block_of, run_of, IsShown, IsShownOfSet, is_there, Bitboards}
+use Rattle.dob_classes.proofs.Common.{◌∙◌, ap, arith, refl, ℕ, Family, Setup, spot_there, marks_below, block_of, run_of, IsShown, IsShownOfSet, is_there}
+use Rattle.dob_classes.proofs.Common.{Bitboards}
 use Rattle.dob_rank.proofs.InRuns.RunPlaces.{HasSpot}
 use Rattle.dob_classes.proofs.spots.spot_shown_in.Goals as goal
 
