@@ -27,7 +27,8 @@ returns-then-not-is_worse c = λ pair same.
     let turn = c.requires.turn in
     let better : ¬ IsWorse c.args.value c.value-turn_value.result = λ worse. true≢false (sym (c.is_worse.ensures.1 worse) ∙ c.if-not-is_worse.true) in
     no_better c.args.table.now c.args.class pair same turn.representative turn.represents c.class_of-turn_class.result
-    (in_it (goal.at.returns-then-not-is_worse c).After-class_of-turn_class) c.args.value c.value-turn_value.result c.requires.value c.value-turn_value.ensures better
+    (in_it (goal.at.returns-then-not-is_worse c).After-class_of-turn_class) c.args.value c.value-turn_value.result c.requires.value
+    c.value-turn_value.ensures better
 
 pub returns : goal.returns
 returns c =
@@ -36,7 +37,8 @@ returns c =
       refl,
       (
         turn.representative,
-        pair_found c.args.table.now turn.representative c.args.class c.class_of-turn_class.result c.args.value c.value-turn_value.result turn.represents turn.opens
-            (in_it (goal.at.returns c).After-class_of-turn_class) c.requires.value c.value-turn_value.ensures ordered (c.is_worse.ensures.0 c.if-not-is_worse.false),
+        pair_found c.args.table.now turn.representative c.args.class c.class_of-turn_class.result c.args.value c.value-turn_value.result
+            turn.represents turn.opens (in_it (goal.at.returns c).After-class_of-turn_class) c.requires.value c.value-turn_value.ensures ordered
+            (c.is_worse.ensures.0 c.if-not-is_worse.false),
       ),
     )
