@@ -8,8 +8,8 @@ use Rattle.dob_reach.proofs.Rounds.{begun, nearer_reached, one_distance, one_rou
 use Rattle.dob_reach.proofs.Stepping.{class_low}
 
 -- what is told of each level, with one level more
-pub told_more : (Told : ℕ → ℕ → Type 0) (old new : List ℕ) (count : ℕ) → new ≡ old ++ count ∷ [] → ((distance : ℕ) → distance < length old → Told distance (get_or old distance 0))
-    → Told (length old) count → (distance : ℕ) → distance < length new → Told distance (get_or new distance 0)
+pub told_more : (Told : ℕ → ℕ → Type 0) (old new : List ℕ) (count : ℕ) → new ≡ old ++ count ∷ []
+    → ((distance : ℕ) → distance < length old → Told distance (get_or old distance 0)) → Told (length old) count → (distance : ℕ) → distance < length new → Told distance (get_or new distance 0)
 told_more Told old new count is before last distance below =
     let long = ap length is ∙ length_push old count in
     subst (λ (xs : List ℕ). Told distance (get_or xs distance 0)) (sym is)
@@ -132,7 +132,8 @@ module _ (family : Family) (from : ℕ) where
         marks_are = marks_next;
         all = all_next;
         opens_are = opens_next;
-        levels_are = told_more (λ distance count. HasJust (At distance) count) reached.levels.items new.levels.items (length front) levels_are known.levels_are at_front;
+        levels_are = told_more (λ distance count. HasJust (At distance) count) reached.levels.items new.levels.items (length front) levels_are
+            known.levels_are at_front;
         each = told_more (λ distance count. 0 < count) reached.levels.items new.levels.items (length front) levels_are known.each some;
         first = λ none. absurd (omega (arith, none, longer));
         bits = (let long = met.keeps.long in omega (arith, known.bits, long));

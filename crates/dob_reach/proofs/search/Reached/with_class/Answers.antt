@@ -19,10 +19,8 @@ with_value-requires c =
 
 pub returns-then-has : goal.returns-then-has
 returns-then-has c =
-    let words = c.args.self.now.marks.words.items in
-    let values = c.args.table.now.values in
-    subst (AreCounted (MarkedBelow words values (c.args.class + 1)) values) (sym c.with_value.ensures)
-    (counted_more words values c.args.class c.args.counts c.value.result (c.has.ensures.0 c.if-has.true) c.value.ensures c.requires.counts)
+    subst (AreCounted (MarkedBelow c.args.self.now.marks.words.items c.args.table.now.values (c.args.class + 1)) _) (sym c.with_value.ensures)
+    (counted_more c.args.self.now.marks.words.items c.args.table.now.values c.args.class c.args.counts c.value.result (c.has.ensures.0 c.if-has.true) c.value.ensures c.requires.counts)
 
 pub returns-else-has : goal.returns-else-has
 returns-else-has c =
