@@ -3,7 +3,9 @@ use Rattle.dob_classes.proofs.Common.{◌%◌, ◌+◌, ◌<◌, ◌∙◌, ◌�
 use Rattle.dob_classes.proofs.Common.{marks_below, block_bases, product, sum_below, lion_pairs, run_kind, runs_in, run_size, RunKind, First, Later, Mixed}
 use Rattle.dob_classes.proofs.Common.{local_marks_in, run_size_in, classes_to_block, classes_to_run}
 use Rattle.dob_classes.proofs.MarksOfRuns.FamilyMarks.{first_marks, later_marks, classes_before_next, lower_run, size_by_lions, alike_by_lions}
-use Rattle.dob_classes.proofs.Tables.RunTables.{same_upto}
+
+pub same_upto : (n : ℕ) → n ≤ n
+same_upto n = omega arith
 
 -- how many classes a run has
 abbrev pub run_marks : Family → ℕ → ℕ → ℕ

@@ -195,14 +195,15 @@ module _ (family : Family) (block run : ℕ) (within : block < product (block_ba
       ∙ sym (marks_by_lions family.set block run (run % lion_pairs) (place_of_number family block run number) at
       (record { block_below = within; run_below = lower_run run (runs_in family.set block) below; local_below = at.local_below }) (sym (lions_run run)) kind)
 
-pub record IsAlike (family : Family) (block run : ℕ) : Type 0 where
-  pub size_is : run_size_in family block (run % lion_pairs) ≡ run_size_in family block run
-  pub mark_is : (number : ℕ) → number < run_size_in family block run → local_marks_in family block (run % lion_pairs) number ≡ local_marks_in family block run number
+-- a run whose positions of a family have the marks of this one's
+pub record IsAlike (family : Family) (block run : ℕ) (of : Family) (its other : ℕ) : Type 0 where
+  pub size_is : run_size_in of its other ≡ run_size_in family block run
+  pub mark_is : (number : ℕ) → number < run_size_in family block run → local_marks_in of its other number ≡ local_marks_in family block run number
   pub before_is : (number : ℕ) → number ≤ run_size_in family block run
-      → marks_below (local_marks_in family block (run % lion_pairs)) number ≡ marks_below (local_marks_in family block run) number
+      → marks_below (local_marks_in of its other) number ≡ marks_below (local_marks_in family block run) number
 
 pub alike_by_lions : (family : Family) (block run : ℕ) → block < product (block_bases family.set) → run < runs_in family.set block
-    → run_kind (run % lion_pairs) ≡ Mixed → IsAlike family block run
+    → run_kind (run % lion_pairs) ≡ Mixed → IsAlike family block run family block (run % lion_pairs)
 alike_by_lions family block run within below kind = record {
   size_is = size_by_lions family block run within below (run_size family.set block) (omega arith);
   mark_is = mark_alike family block run within below kind;

@@ -76,9 +76,7 @@ image_part set p q ob n two is same =
 pub record IsAtSpot (set : PieceSet) (block run local : ℕ) (s : Setup) : Type 0 where
   pub position : IsPositionOfSet set s
   pub on_board_is : on_board s ≡ digits_of (block_bases set) block
-  pub run_is : run_of set s ≡ run
   pub local_is : local_of s ≡ local
-  pub size_is : local_size s ≡ run_size set block
   pub lions_are : lions_of s ≡ run % lion_pairs
 
 pub at_spot : (set : PieceSet) (block run local : ℕ) (s : Setup) → local < run_size set block →
@@ -92,9 +90,7 @@ at_spot set block run local s below there =
     record {
       position = there.position;
       on_board_is = sym (on_board-block set s there.position) ∙ ap (digits_of (block_bases set)) there.block_is;
-      run_is = both.0;
       local_is = both.1;
-      size_is = size;
       lions_are = remainder (hand_of set s) (lions_of s) (run_of set s) run both.0 (run_of-lions set s) (lions_of-below set s there.position);
     }
   where

@@ -8,65 +8,44 @@ use Rattle.dob_classes.proofs.Common.{StretchTable, classes_to_run}
 use Rattle.dob_rank.specs.declared.runs.RunDigits.{RunDigits}
 use Rattle.dob_rank.proofs.InRuns.RunPlaces.{block_size-runs, run_start-is}
 use Rattle.dob_classes.proofs.MarksOfRuns.FamilyMarks.{first_mark_in, later_mark_in, first_marks, later_marks, classes_before_next, IsAlike, alike_by_lions}
+use Rattle.dob_classes.proofs.Counting.FamilySums.{run_marks, same_upto, first_run, later_run}
 use Rattle.dob_classes.proofs.Tables.Pushed.{each_pushed}
 
 -- ---- how many marks a run has
 
-pub same_upto : (n : ℕ) → n ≤ n
-same_upto n = omega arith
+run_counted : (family : Family) (block run marks : ℕ) → block < product (block_bases family.set) → run < runs_in family.set block
+    → marks ≡ run_marks family block run → classes_to_run family block run + marks ≡ classes_to_run family block (run + 1)
+run_counted family block run marks within below is =
+    ap (λ n. classes_to_run family block run + n) is ∙ classes_before_next family block run within below
 
 pub count_first : (family : Family) (block run size : ℕ) → block < product (block_bases family.set) → run < runs_in family.set block
     → size ≡ run_size_in family block run → run_kind (run % lion_pairs) ≡ First → classes_to_run family block run + size ≡ classes_to_run family block (run + 1)
-count_first family block run size within below is kind =
-    ap (λ n. classes_to_run family block run + n)
-    (is ∙ sym (first_marks family block run (run_size_in family block run) within below (same_upto (run_size_in family block run)) kind))
-    ∙ classes_before_next family block run within below
+count_first family block run size within below is kind = run_counted family block run size within below (is ∙ first_run family block run within below kind)
 
 pub count_later : (family : Family) (block run : ℕ) → block < product (block_bases family.set) → run < runs_in family.set block
     → run_kind (run % lion_pairs) ≡ Later → classes_to_run family block run + 0 ≡ classes_to_run family block (run + 1)
-count_later family block run within below kind =
-    ap (λ n. classes_to_run family block run + n)
-    (sym (later_marks family block run (run_size_in family block run) within below (same_upto (run_size_in family block run)) kind))
-    ∙ classes_before_next family block run within below
+count_later family block run within below kind = run_counted family block run 0 within below (later_run family block run within below kind)
 
--- what a table says of each run of its lions
-pub record IsTableFor (family : Family) (block run : ℕ) (table : StretchTable) : Type 0 where
-  pub size_is : run_size_in table.family table.block table.run ≡ run_size_in family block run
-  pub count_is : table.count ≡ marks_below (local_marks_in family block run) (run_size_in family block run)
-  pub mark_is : (number : ℕ) → number < run_size_in family block run
-      → local_marks_in table.family table.block table.run number ≡ local_marks_in family block run number
-  pub before_is : (number : ℕ) → number ≤ run_size_in family block run
-      → marks_below (local_marks_in table.family table.block table.run) number ≡ marks_below (local_marks_in family block run) number
+-- a table whose run is alike
+abbrev pub IsTableFor : Family → ℕ → ℕ → StretchTable → Type 0
+IsTableFor family block run table = IsAlike family block run table.family table.block table.run
 
 pub table_for : (family : Family) (block run number : ℕ) (tables : List StretchTable) (table : StretchTable) → block < product (block_bases family.set)
     → run < runs_in family.set block → HasTable family block run number tables → run_kind (run % lion_pairs) ≡ Mixed
     → table ≡ slice_index_or tables number table → IsTableFor family block run table
 table_for family block run number tables table within below has kind read =
     let is : IsTableOfRuns family block (run % lion_pairs) table = subst (IsTableOfRuns family block (run % lion_pairs)) (sym read) ((has kind).1 table) in
-    let alike : IsAlike family block run = alike_by_lions family block run within below kind in
-    let size : run_size_in table.family table.block table.run ≡ run_size_in family block run
-    = ap (λ f. run_size_in f table.block table.run) is.family_is ∙ ap (λ b. run_size_in family b table.run) is.block_is
-    ∙ ap (λ r. run_size_in family block r) is.run_is ∙ alike.size_is in
-    let marks : (n : ℕ) → n ≤ run_size_in family block run
-    → marks_below (local_marks_in table.family table.block table.run) n ≡ marks_below (local_marks_in family block run) n
-    = λ n upto. ap (λ f. marks_below (local_marks_in f table.block table.run) n) is.family_is
-    ∙ ap (λ b. marks_below (local_marks_in family b table.run) n) is.block_is ∙ ap (λ r. marks_below (local_marks_in family block r) n) is.run_is
-    ∙ alike.before_is n upto in
-    record {
-      size_is = size;
-      count_is = table.counted ∙ ap (marks_below (local_marks_in table.family table.block table.run)) size
-          ∙ marks (run_size_in family block run) (same_upto (run_size_in family block run));
-      mark_is = λ n low. ap (λ f. local_marks_in f table.block table.run n) is.family_is ∙ ap (λ b. local_marks_in family b table.run n) is.block_is
-          ∙ ap (λ r. local_marks_in family block r n) is.run_is ∙ alike.mark_is n low;
-      before_is = marks;
-    }
+    subst (λ (f : Family). IsAlike family block run f table.block table.run) (sym is.family_is)
+    (subst (λ (b : ℕ). IsAlike family block run family b table.run) (sym is.block_is)
+    (subst (IsAlike family block run family block) (sym is.run_is) (alike_by_lions family block run within below kind)))
 
-pub count_mixed : (family : Family) (block run number : ℕ) (tables : List StretchTable) (table : StretchTable) → block < product (block_bases family.set)
-    → run < runs_in family.set block → HasTable family block run number tables → run_kind (run % lion_pairs) ≡ Mixed
-    → table ≡ slice_index_or tables number table → classes_to_run family block run + table.count ≡ classes_to_run family block (run + 1)
-count_mixed family block run number tables table within below has kind read =
-    ap (λ n. classes_to_run family block run + n) (table_for family block run number tables table within below has kind read).count_is
-    ∙ classes_before_next family block run within below
+-- so it has as many marks as the run
+pub count_mixed : (family : Family) (block run : ℕ) (table : StretchTable) → block < product (block_bases family.set) → run < runs_in family.set block
+    → IsTableFor family block run table → classes_to_run family block run + table.count ≡ classes_to_run family block (run + 1)
+count_mixed family block run table within below by =
+    run_counted family block run table.count within below
+    (table.counted ∙ ap (marks_below (local_marks_in table.family table.block table.run)) by.size_is
+    ∙ by.before_is (run_size_in family block run) (same_upto (run_size_in family block run)))
 
 -- ---- the tables of marks
 
@@ -270,9 +249,8 @@ lions_left family block run left within below apart fits = by_kind (run_kind (ru
 pub table_left : (family : Family) (block run left : ℕ) (table : StretchTable) → block < product (block_bases family.set) → run < runs_in family.set block
     → IsTableFor family block run table → classes_to_run family block run + left < classes_to_run family block (run + 1) → left < table.count
 table_left family block run left table within below by fits =
-    let all = classes_before_next family block run within below in
-    let count = by.count_is in
-    omega (arith, all, count, fits)
+    let all = count_mixed family block run table within below by in
+    omega (arith, all, fits)
 
 pub mixed_left : (family : Family) (block run left number : ℕ) (table : StretchTable) → IsTableFor family block run table
     → number < run_size_in table.family table.block table.run → local_marks_in table.family table.block table.run number ≡ true

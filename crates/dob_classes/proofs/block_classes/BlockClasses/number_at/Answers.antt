@@ -31,11 +31,12 @@ table c =
 pub number_at-requires : goal.number_at-requires
 number_at-requires c =
     let block = c.args.self.now in
-    table_left block.family block.number c.args.run c.args.left _ block.within c.requires.run (table (goal.at.number_at-requires c).After-index) c.requires.left
+    table_left block.family block.number c.args.run c.args.left c.index.result.now block.within c.requires.run
+    (table (goal.at.number_at-requires c).After-index) c.requires.left
 
 pub returns-in-Mixed : goal.returns-in-Mixed
 returns-in-Mixed c =
     let block = c.args.self.now in
-    let found = mixed_left block.family block.number c.args.run c.args.left c.number_at.result _ (table (goal.at.returns-in-Mixed c).After-index)
-    c.number_at.ensures.number c.number_at.ensures.mark c.number_at.ensures.marks in
+    let found = mixed_left block.family block.number c.args.run c.args.left c.number_at.result c.index.result.now
+    (table (goal.at.returns-in-Mixed c).After-index) c.number_at.ensures.number c.number_at.ensures.mark c.number_at.ensures.marks in
     record { number = found.number_below; mark = found.mark_is; left = found.left_is }
