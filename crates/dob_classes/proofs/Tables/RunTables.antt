@@ -168,11 +168,11 @@ pub record IsFoundIn (family : Family) (block run number : ℕ) (on : Bool) (bef
   pub before_is : before ≡ classes_before family block run number
   pub few : before ≤ 2 ^ 42
 
-found_by : (family : Family) (block run number marks before : ℕ) (on : Bool) → IsInRunOf family block run number → before ≡ classes_to_run family block run
-    → on ≡ local_marks_in family block run number → marks ≡ marks_below (local_marks_in family block run) number
-    → IsFoundIn family block run number on (before + marks)
-found_by family block run number marks before on at before_is on_is marks_are =
-    let whole : before + marks ≡ classes_before family block run number = ap (λ n. n + marks) before_is
+found_by : (family : Family) (block run number marks before sum : ℕ) (on : Bool) → IsInRunOf family block run number → sum ≡ before + marks
+    → before ≡ classes_to_run family block run → on ≡ local_marks_in family block run number
+    → marks ≡ marks_below (local_marks_in family block run) number → IsFoundIn family block run number on sum
+found_by family block run number marks before sum on at sum_is before_is on_is marks_are =
+    let whole : sum ≡ classes_before family block run number = sum_is ∙ ap (λ n. n + marks) before_is
     ∙ ap (λ n. classes_to_run family block run + n) marks_are in
     record { mark_is = on_is; before_is = whole; few = (let small = classes_before-small family block run number at in omega (arith, whole, small)) }
 
@@ -181,7 +181,7 @@ pub first_found_in : (family : Family) (block run number : ℕ) (tables : List S
 first_found_in family block run number tables entry at kind =
     let in_run = at.in_run in
     let low = in_run.number_below in
-    found_by family block run number number entry.before true in_run at.entry_is.before_is (sym (first_mark_in family block run number in_run kind))
+    found_by family block run number number entry.before _ true in_run refl at.entry_is.before_is (sym (first_mark_in family block run number in_run kind))
     (sym (first_marks family block run number in_run.block_below in_run.run_below (omega (arith, low)) kind))
 
 pub later_found : (family : Family) (block run number : ℕ) (tables : List StretchTable) (entry : Run)
@@ -189,12 +189,9 @@ pub later_found : (family : Family) (block run number : ℕ) (tables : List Stre
 later_found family block run number tables entry at kind =
     let in_run = at.in_run in
     let low = in_run.number_below in
-    subst (IsFoundIn family block run number false) (none_more entry.before)
-    (found_by family block run number 0 entry.before false in_run at.entry_is.before_is (sym (later_mark_in family block run number in_run kind))
-    (sym (later_marks family block run number in_run.block_below in_run.run_below (omega (arith, low)) kind)))
-  where
-    none_more : (n : ℕ) → n + 0 ≡ n
-    none_more n = omega arith
+    let same : entry.before ≡ entry.before + 0 = omega arith in
+    found_by family block run number 0 entry.before entry.before false in_run same at.entry_is.before_is (sym (later_mark_in family block run number in_run kind))
+    (sym (later_marks family block run number in_run.block_below in_run.run_below (omega (arith, low)) kind))
 
 -- of a run whose table is read
 pub read_for : (family : Family) (block run number : ℕ) (tables : List StretchTable) (entry : Run) (table : StretchTable)
@@ -217,7 +214,7 @@ mixed_found family block run number tables entry table on marks at kind read on_
     let by = read_for family block run number tables entry table at kind read in
     let in_run = at.in_run in
     let low = in_run.number_below in
-    found_by family block run number marks entry.before on in_run at.entry_is.before_is (on_is ∙ by.mark_is number low)
+    found_by family block run number marks entry.before _ on in_run refl at.entry_is.before_is (on_is ∙ by.mark_is number low)
     (marks_are ∙ by.before_is number (omega (arith, low)))
 
 -- ---- the representative of a number

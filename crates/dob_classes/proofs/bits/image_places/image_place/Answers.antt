@@ -2,7 +2,6 @@
 use Rattle.dob_classes.proofs.Common.{◌*◌, ◌+◌, refl, subst, setup_of, mirrored, Hands, AreChoices-digits, HasDigits-numbers, HasDigits-spot}
 use Rattle.dob_classes.proofs.Common.{IsPositionOfSet-mirrored, local_in_bases, made_by, made_in_block, run_in_bases, HasBlock, HasDigits, bases_by, board_of}
 use Rattle.dob_classes.proofs.Common.{layers_by, numbers_by, setup_by, AreChoices, run_size, AreBitboards, IsShownOfSet}
-use Rattle.dob_classes.proofs.SquareSets.ImagePlaces.{square_choices}
 use Rattle.dob_classes.proofs.bits.image_places.image_place.Goals as goal
 use Rattle.dob_classes.proofs.bits.image_places.image_place.Goals.{After-digits_with-digits, After-mirrored_bits}
 
@@ -26,8 +25,14 @@ choices c = AreChoices-digits c.args.set c.args.shape.now.on_board c.digits_with
     (HasDigits-numbers c.args.set c.args.block _ c.requires.block c.requires.shape.on_board_is) (has_digits c)
 
 pub places_by-places-requires : goal.places_by-places-requires
-places_by-places-requires c = square_choices c.args.shape.now.on_board c.digits_with-digits.result
-    (choices (goal.at.places_by-places-requires c).After-digits_with-digits)
+places_by-places-requires c = (let are = choices (goal.at.places_by-places-requires c).After-digits_with-digits in record {
+  chicks = are.chicks;
+  elephants = are.elephants;
+  giraffes = are.giraffes;
+  chick_squares = are.chick_squares;
+  elephant_squares = are.elephant_squares;
+  giraffe_squares = are.giraffe_squares;
+})
 
 pub hands_of-hands-requires : goal.hands_of-hands-requires
 hands_of-hands-requires c = record {

@@ -19,13 +19,12 @@ loop-run-init c = record {
   count_is = c.requires.before ∙ ap (marks_below (is_marked c.args.family)) (sym (run_start_first c.args.family.set c.args.number));
 }
 
-pub run_digits_in-requires-clause-on_board : goal.run_digits_in-requires-clause-on_board
-run_digits_in-requires-clause-on_board c =
-    HasDigits-numbers c.args.family.set c.args.number _ c.requires.within c.numbers_in-on_board.ensures
-
-pub run_digits_in-requires-clause-run : goal.run_digits_in-requires-clause-run
-run_digits_in-requires-clause-run c =
-    run_in_bases c.args.family.set c.args.number c.loop-run.run _ c.numbers_in-on_board.ensures (omega (arith, c.count_runs-run-end.ensures.value, c.loop-run-test.true))
+pub run_digits_in-requires : goal.run_digits_in-requires
+run_digits_in-requires c = record {
+  on_board = HasDigits-numbers c.args.family.set c.args.number _ c.requires.within c.numbers_in-on_board.ensures;
+  run = run_in_bases c.args.family.set c.args.number c.loop-run.run _ c.numbers_in-on_board.ensures
+      (omega (arith, c.count_runs-run-end.ensures.value, c.loop-run-test.true));
+}
 
 pub count_marks-count-requires-clause-table : goal.count_marks-count-requires-clause-table
 count_marks-count-requires-clause-table c =
