@@ -192,16 +192,10 @@ outside block i k out low is = elim out [
   | inr behind ↦ omega (arith, behind, is, low)
 ]
 
-pub below_later : (i first at next : ℕ) → first ≤ at → (i < first) ⊎ (next ≤ i) → (i < at) ⊎ (next ≤ i)
-below_later i first at next further out = elim out [
-  | inl before ↦ inl (omega (arith, before, further))
-  | inr behind ↦ inr behind
-]
-
-pub from_earlier : (i first at next : ℕ) → at ≤ next → (i < first) ⊎ (next ≤ i) → (i < first) ⊎ (at ≤ i)
-from_earlier i first at next further out = elim out [
-  | inl before ↦ inl before
-  | inr behind ↦ inr (omega (arith, behind, further))
+pub both_sides : (i first at next : ℕ) → first ≤ at → at ≤ next → (i < first) ⊎ (next ≤ i) → ((i < at) ⊎ (next ≤ i)) × ((i < first) ⊎ (at ≤ i))
+both_sides i first at next further more out = elim out [
+  | inl before ↦ (inl (omega (arith, before, further)), inl before)
+  | inr behind ↦ (inr behind, inr (omega (arith, behind, more)))
 ]
 
 -- ---- the first three numbers

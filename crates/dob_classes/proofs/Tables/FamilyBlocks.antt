@@ -57,12 +57,9 @@ number_fits family block run number ob at b ob_is =
     (run_size_in-far family block run at.block_below at.run_below
     ∙ ap (λ (p : Profile). forms_in p (slice_index (ob_of family block) 0) run * (others_squares (ob_of family block) * others_forms (ob_of family block))) b
     ∙ ap (λ n. n * (others_squares (ob_of family block) * others_forms (ob_of family block)))
-    (lions_alike B (slice_index (ob_of family block) 0) run (run % lion_pairs) (again run))
+    (lions_alike B (slice_index (ob_of family block) 0) run (run % lion_pairs) (omega arith))
     ∙ ap (λ (xs : List ℕ). forms_in B (slice_index xs 0) (run % lion_pairs) * (others_squares xs * others_forms xs)) (sym ob_is))
     at.number_below
-  where
-    again : (run : ℕ) → run % lion_pairs ≡ run % lion_pairs % lion_pairs
-    again run = omega arith
 
 pub place_of_far : (family : Family) (block run number place : ℕ) (ob : List ℕ) → IsInRunOf family block run number → family.profile ≡ B
     → ob ≡ digits_of (block_bases family.set) block → IsPlaceFor ob (run % lion_pairs) number place → IsNumbered family block run number place
@@ -146,33 +143,26 @@ spot_read family s blocks index run number block p is run_is number_is are below
 
 -- ---- how many classes stand before the blocks
 
-before_is : (family : Family) (index : ℕ) (block : BlockClasses) → IsBlock family index block → block.before ≡ classes_to_block family index
-before_is family index block is =
-    block.starts ∙ ap (λ (f : Family). classes_to_block f block.number) is.family_is
-    ∙ ap (λ n. classes_to_block family n) is.number_is
-
-after_is : (family : Family) (index : ℕ) (block : BlockClasses) → IsBlock family index block → block.after ≡ classes_to_block family (index + 1)
-after_is family index block is =
-    block.ends ∙ ap (λ (f : Family). marks_below (is_marked f) (start_of f.set block.number + block_size f.set block.number)) is.family_is
-    ∙ ap (λ n. marks_below (is_marked family) (start_of family.set n + block_size family.set n)) is.number_is
-    ∙ ap (marks_below (is_marked family)) (sym (sum_below_more (block_size family.set) index))
-
 -- the block that stands at a number
 pub record HasClassesFrom (family : Family) (index : ℕ) (block : BlockClasses) : Type 0 where
   pub is : IsBlock family index block
   pub before_is : block.before ≡ classes_to_block family index
   pub after_is : block.after ≡ classes_to_block family (index + 1)
 
+from_block : (family : Family) (index : ℕ) (block : BlockClasses) → IsBlock family index block → HasClassesFrom family index block
+from_block family index block is = record {
+  is = is;
+  before_is = block.starts ∙ ap (λ (f : Family). classes_to_block f block.number) is.family_is ∙ ap (classes_to_block family) is.number_is;
+  after_is = block.ends ∙ ap (marks_below (is_marked block.family)) (sym (sum_below_more (block_size block.family.set) block.number))
+      ∙ ap (λ (f : Family). classes_to_block f (block.number + 1)) is.family_is ∙ ap (λ n. classes_to_block family (n + 1)) is.number_is;
+}
+
 pub classes_read : (family : Family) (blocks : List BlockClasses) (index : ℕ) (block : BlockClasses) → AreBlocks family blocks → index < length blocks
     → block ≡ slice_index_or blocks index block → HasClassesFrom family index block
-classes_read family blocks index block are below read =
-    let there : IsBlock family index block = subst (IsBlock family index) (sym read) (are index block below) in
-    record { is = there; before_is = before_is family index block there; after_is = after_is family index block there }
+classes_read family blocks index block are below read = from_block family index block (subst (IsBlock family index) (sym read) (are index block below))
 
 pub new_block : (family : Family) (number : ℕ) (block : BlockClasses) → block.family ≡ family → block.number ≡ number → HasClassesFrom family number block
-new_block family number block family_is number_is =
-    let is : IsBlock family number block = record { family_is = family_is; number_is = number_is } in
-    record { is = is; before_is = before_is family number block is; after_is = after_is family number block is }
+new_block family number block family_is number_is = from_block family number block (record { family_is = family_is; number_is = number_is })
 
 -- one more block
 pub AreBlocks-push : (family : Family) (blocks news : List BlockClasses) (block : BlockClasses) (number : ℕ) → AreBlocks family blocks
@@ -183,10 +173,7 @@ AreBlocks-push family blocks news block number are long is grown = λ k other be
     (omega (arith, below, longer))
 
 pub AreBlocks-none : (family : Family) (blocks : List BlockClasses) → blocks ≡ [] → AreBlocks family blocks
-AreBlocks-none family blocks none = λ k other below. absurd (none_below k (length blocks) (ap length none) below)
-  where
-    none_below : (k n : ℕ) → n ≡ 0 → k < n → ⊥
-    none_below k n e h = omega arith
+AreBlocks-none family blocks none = λ k other below. (let empty = ap length none in absurd (omega (arith, below, empty)))
 
 -- ---- the classes of all blocks
 
@@ -209,8 +196,7 @@ class_in_blocks family class number below is = subst (λ n. class < n) (sym (cla
 pub in_first : (family : Family) (class number : ℕ) → number ≤ 0 → class < classes_to_block family number → ⊥
 in_first family class number none below =
     let zero_is : number ≡ 0 = omega arith in
-    let none_before : classes_to_block family number ≡ 0 =
-    ap (λ n. classes_to_block family n) zero_is ∙ sym (no_classes_yet family) in
+    let none_before : classes_to_block family number ≡ 0 = ap (classes_to_block family) zero_is ∙ sym (no_classes_yet family) in
     omega (arith, below, none_before)
 
 pub classes_few : (family : Family) (block : ℕ) → block ≤ product (block_bases family.set) → classes_to_block family block ≤ 27 * 2 ^ 36

@@ -2,7 +2,7 @@
 use Rattle.dob_index.proofs.Common.{◌+◌, ◌∙◌, ◌≡◌, ◌≤◌, ap, arith, inl, length, refl, ℕ, length-set, block_bases, product, run_kind, run_size, all_lions}
 use Rattle.dob_index.proofs.Common.{none_before, one_run_more, classes_to_block, classes_to_run, marks_small, row_at, where_mixed}
 use Rattle.dob_index.proofs.Places.{run_more, run_fits, behind_rows, words_few}
-use Rattle.dob_index.proofs.Kept.{AreAllRuns, row_opened, one_run, runs_stay, all_runs, outside, below_later, from_earlier}
+use Rattle.dob_index.proofs.Kept.{AreAllRuns, row_opened, one_run, runs_stay, all_runs, outside, both_sides}
 use Rattle.dob_index.proofs.write.write_block.Goals as goal
 use Rattle.dob_index.proofs.write.write_block.Goals.{After-count_runs, After-write_run-count}
 
@@ -80,9 +80,9 @@ loop-lions-preserved c =
           ∙ c.loop-lions.invariant.before_is;
       runs = runs_stay family block lions at next c.loop-lions.words _ c.requires.block low behind (omega arith) step c.loop-lions.invariant.runs;
       others = λ i out side.
-          step.agrees i (outside block i (101 + lions) out (omega (arith, low))) (outside block i (lions + 1) out (omega (arith, low)))
-          (below_later i c.args.first at next first side)
-          ∙ c.loop-lions.invariant.others i out (from_earlier i c.args.first at next (omega arith) side);
+          (let sides = both_sides i c.args.first at next first (omega arith) side in
+          step.agrees i (outside block i (101 + lions) out (omega (arith, low))) (outside block i (lions + 1) out (omega (arith, low))) sides.0
+          ∙ c.loop-lions.invariant.others i out sides.1);
     }
 
 -- all runs of the block are written

@@ -4,13 +4,12 @@ use Rattle.rayon.specs.Numbers.{nat_range}
 use Rattle.rayon.proofs.ToStd.{nat_range-All}
 use Rattle.dob_pieces.proofs.Zips.{made_all}
 use Rattle.dob_pieces.specs.declared.memory.Memory.{Memory}
-use Rattle.dob_reach.proofs.Parting.{place_begins}
 use Rattle.dob_reach.proofs.parts.parts_between.Goals as goal
 
 pub collect-requires-clause-ready : goal.collect-requires-clause-ready
 collect-requires-clause-ready g c κs within =
     let inside = nat_range-All (λ place. IsPlace c.args.classes.now.family c.args.marks.now.words.items c.args.front.now place) c.args.first c.args.end
-    (λ place low high. record { members = c.requires.members; bits = c.requires.bits; begins = place_begins _ place (omega (arith, high, c.requires.within)) }) in
+    (λ place low high. record { members = c.requires.members; bits = c.requires.bits; begins = omega (arith, high, c.requires.within) }) in
     rw (c.map.ensures.base, c.map.ensures.f, c.into_par_iter.ensures.0, c.into_par_iter.ensures.1) (λ k d lt. (inside k d lt, λ given made. tt))
 
 pub returns : goal.returns

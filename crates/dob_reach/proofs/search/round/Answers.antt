@@ -1,6 +1,6 @@
 -- Some parts more each time, and then all of them.
-use Rattle.dob_reach.proofs.Common.{length, ◌≤◌, ◌++◌, ◌+◌, ◌-◌, ◌≡◌, List, ap, arith, subst, sym, ℕ, AllZip, range_with_len, AreExpanded, IsPartAt, opens_of, outcomes_of}
-use Rattle.dob_reach.proofs.Common.{parts_before, HaveBits, Part}
+use Rattle.dob_reach.proofs.Common.{◌++◌, ◌+◌, ◌-◌, ◌≡◌, ◌≤◌, List, ap, arith, length, subst, sym, ℕ, AllZip, range_with_len, AreExpanded, IsPartAt, opens_of}
+use Rattle.dob_reach.proofs.Common.{outcomes_of, parts_before, HaveBits, Part}
 use Rattle.dob_reach.proofs.Parting.{all_parts, opens_fit, parts_expanded, parts_have_bits, round_met}
 use Rattle.dob_reach.proofs.Stepping.{expanded_kept}
 use Rattle.dob_reach.proofs.search.round.Goals as goal
