@@ -78,3 +78,4 @@ pub use Rattle.dob_classes.specs.declared.bits.bitboards.Bitboards.{Bitboards}
 pub use Rattle.dob_classes.specs.declared.block_classes.BlockClasses.{BlockClasses}
 pub use Rattle.dob_classes.specs.declared.runs.Run.{Run}
 pub use Rattle.dob_classes.specs.declared.stretch_tables.StretchTable.{StretchTable}
+pub use Rattle.dob_classes.proofs.OfFamilies.ClassesTo.{classes_to_block, classes_to_place, classes_to_run, classes_to_setup}

@@ -6,4 +6,3 @@ pub mod BitPlaced  -- sets of squares with a piece more, seen from either side
 pub mod ImageMasks  -- masks of mirror images
 pub mod BitMasks  -- the masks of a setup by its sets of squares
 pub mod BitNumbers  -- the digits of a position that sets of squares show
-pub mod ImagePlaces  -- the places of mirror images by their sets

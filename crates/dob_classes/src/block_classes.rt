@@ -181,12 +181,12 @@ impl BlockClasses {
         ensures left { marks_below (local_marks_in self.now.family self.now.number run) result ≡ left }
     {
         match self.kind_of(run) {
-            RunKind::First => left,
             RunKind::Mixed => {
                 let entry = self.runs[run as usize];
                 self.mixed[entry.table].number_at(left)
             }
-            RunKind::Later => unreachable!("such a run has no representative"),
+            // Its lions say that each of its positions is one, since there is one.
+            _ => left,
         }
     }
 

@@ -128,7 +128,7 @@ impl Classes {
         ensures class { HasClass self.now.family result.setup class }
         ensures number { class_number self.now.family result.setup ≡ class }
     {
-        let block = &self.blocks[self.block_at(class)];
+        let block = self.block_of(class);
         position_by(
             self.family.set,
             &block.on_board,
@@ -147,7 +147,7 @@ impl Classes {
         ensures number { class_number self.now.family result.position.setup ≡ class }
         ensures bits { AreBitboards (seen_by side result.position.setup) result.bits }
     {
-        let block = &self.blocks[self.block_at(class)];
+        let block = self.block_of(class);
         let spot = block.spot_at(class);
         shown_by(
             self.family.set,
@@ -160,7 +160,18 @@ impl Classes {
         )
     }
 
-    // The block in which the representative of that class stands: the last one with no more classes before it.
+    // The block in which the representative of that class stands.
+    #[inline(always)]
+    fn block_of(&self, class: u64) -> &BlockClasses
+        requires { class < classes_of self.now.family }
+        ensures family { result.now.family ≡ self.now.family }
+        ensures low { result.now.before ≤ class }
+        ensures high { class < result.now.after }
+    {
+        &self.blocks[self.block_at(class)]
+    }
+
+    // Its number: the last one with no more classes before it.
     fn block_at(&self, class: u64) -> usize
         requires { class < classes_of self.now.family }
         ensures block { result < product (block_bases self.now.family.set) }

@@ -17,6 +17,7 @@ pub use Rattle.dob_rank.specs.declared.runs.RunKind.TheVariants.{First, Later, M
 pub use Rattle.dob_classes.proofs.Counting.ClassesBefore.{IsAt, all_lions, are_before, by_hands, class_of_earlier, in_run_before, none_before, one_block_more}
 pub use Rattle.dob_classes.proofs.Counting.ClassesBefore.{one_run_more, stands_at}
 pub use Rattle.dob_classes.proofs.Counting.WalkMarks.{walked_few}
+pub use Rattle.dob_classes.proofs.OfFamilies.ClassesTo.{classes_to_block, classes_to_place, classes_to_run}
 pub use Rattle.dob_classes.proofs.Tables.FamilyBlocks.{classes_all, classes_few, no_classes_yet}
 pub use Rattle.dob_classes.proofs.Tables.RunTables.{marks_small}
 pub use Rattle.dob_classes.specs.FamilyRuns.{is_there, local_marks_in}

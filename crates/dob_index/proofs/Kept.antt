@@ -1,15 +1,16 @@
 -- What is written stays where more is written behind it.
 use Rattle.dob_index.proofs.Common.{◌%◌, ◌*◌, ◌+◌, ◌/◌, ◌<◌, ◌^◌, ◌∙◌, ◌≡◌, ◌≢◌, ◌≤◌, ◌⊎◌, List, ap, arith, get_or, inl, inr, length, refl, slice_set, subst}
-use Rattle.dob_index.proofs.Common.{sym, ℕ, cases_lt, get_or-set_other, get_or-set_same, length-set, Family, runs_by_hand, is_marked, marks_below, block_bases}
-use Rattle.dob_index.proofs.Common.{product, start_of, lion_pairs, run_kind, run_start, runs_in, RunKind, Mixed, by_hands, none_before, one_block_more}
-use Rattle.dob_index.proofs.Common.{classes_few, AreEntriesFrom, IsKeptBlock, IsKeptRun, entries_in, entry_places, row_at, run_words, where_mixed}
+use Rattle.dob_index.proofs.Common.{sym, ℕ, cases_lt, get_or-set_other, get_or-set_same, length-set, Family, runs_by_hand, block_bases, product, lion_pairs}
+use Rattle.dob_index.proofs.Common.{run_kind, runs_in, RunKind, Mixed, by_hands, none_before, one_block_more, classes_to_block, classes_to_place}
+use Rattle.dob_index.proofs.Common.{classes_to_run, classes_few, AreEntriesFrom, IsKeptBlock, IsKeptRun, entries_in, entry_places, row_at, run_words}
+use Rattle.dob_index.proofs.Common.{where_mixed}
 
 -- the entries of a run stay
 pub entries_stay : (family : Family) (block lions at : ℕ) (old new : List ℕ)
     → ((i : ℕ) → at ≤ i → i < at + entries_in family.set block → get_or new i 0 ≡ get_or old i 0)
     → AreEntriesFrom family block lions at old → AreEntriesFrom family block lions at new
 entries_stay family block lions at old new same are = λ entry low.
-    ap (λ n. marks_below (is_marked family) (run_start family.set block lions) + n) (same (at + entry) (omega arith) (omega (arith, low)))
+    ap (λ n. classes_to_run family block lions + n) (same (at + entry) (omega arith) (omega (arith, low)))
     ∙ are entry low
 
 -- a run's numbers stay where those of its row and of its entries do
@@ -19,7 +20,7 @@ pub run_stays : (family : Family) (block lions upto more : ℕ) (old new : List 
     → ((i : ℕ) → row_at (product (block_bases family.set)) ≤ i → i < upto → get_or new i 0 ≡ get_or old i 0)
     → IsKeptRun family block lions upto old → IsKeptRun family block lions more new
 run_stays family block lions upto more old new further next first same is = record {
-  next = ap (λ n. marks_below (is_marked family) (start_of family.set block) + n) next ∙ is.next;
+  next = ap (λ n. classes_to_block family block + n) next ∙ is.next;
   entries = λ kind. subst (λ (at : ℕ). AreEntriesFrom family block lions at new) (sym first)
       (entries_stay family block lions (get_or old (row_at block + (101 + lions)) 0) old new
       (λ i from below. let low = is.behind kind in let high = is.within kind in same i (omega (arith, from, low)) (omega (arith, below, high)))
@@ -47,19 +48,16 @@ block_stays family block upto more old new further row same is = record {
 -- ---- one entry more of a run
 
 pub entry_written : (family : Family) (block lions at entry entries value : ℕ) (words : List ℕ) → at + entries ≤ length words → entry < entries
-    → ((k : ℕ) → k < entry → marks_below (is_marked family) (run_start family.set block lions) + get_or words (at + k) 0
-    ≡ marks_below (is_marked family) (run_start family.set block lions + k * entry_places))
-    → marks_below (is_marked family) (run_start family.set block lions) + value
-    ≡ marks_below (is_marked family) (run_start family.set block lions + entry * entry_places)
-    → (k : ℕ) → k < entry + 1 → marks_below (is_marked family) (run_start family.set block lions) + get_or (slice_set words (at + entry) value) (at + k) 0
-    ≡ marks_below (is_marked family) (run_start family.set block lions + k * entry_places)
+    → ((k : ℕ) → k < entry → classes_to_run family block lions + get_or words (at + k) 0 ≡ classes_to_place family block lions (k * entry_places))
+    → classes_to_run family block lions + value ≡ classes_to_place family block lions (entry * entry_places) → (k : ℕ) → k < entry + 1
+    → classes_to_run family block lions + get_or (slice_set words (at + entry) value) (at + k) 0 ≡ classes_to_place family block lions (k * entry_places)
 entry_written family block lions at entry entries value words room low are here k below = elim (cases_lt k entry) [
-  | inl lt ↦ ap (λ (n : ℕ). marks_below (is_marked family) (run_start family.set block lions) + n)
+  | inl lt ↦ ap (λ (n : ℕ). classes_to_run family block lions + n)
       (get_or-set_other words (at + entry) (at + k) value 0 (λ same. omega (arith, lt, same))) ∙ are k lt
   | inr ge ↦ let same : k ≡ entry = omega (arith, ge, below) in
-      ap (λ (n : ℕ). marks_below (is_marked family) (run_start family.set block lions) + n)
+      ap (λ (n : ℕ). classes_to_run family block lions + n)
       (ap (λ (j : ℕ). get_or (slice_set words (at + entry) value) (at + j) 0) same ∙ get_or-set_same words (at + entry) value 0 (omega (arith, room, low)))
-      ∙ here ∙ ap (λ (j : ℕ). marks_below (is_marked family) (run_start family.set block lions + j * entry_places)) (sym same)
+      ∙ here ∙ ap (λ (j : ℕ). classes_to_place family block lions (j * entry_places)) (sym same)
 ]
 
 pub others_stay : (words old : List ℕ) (at entry entries value : ℕ) → entry < entries
@@ -82,13 +80,12 @@ pub one_run : (family : Family) (block lions at next count row : ℕ) (words wri
     → row ≡ row_at block → row_at (product (block_bases family.set)) ≤ at → row_at (product (block_bases family.set)) ≤ length words
     → next ≡ at + run_words family.set block lions → length written ≡ length (slice_set words (row + 101 + lions) at)
     → ((i : ℕ) → (i < at) ⊎ (at + run_words family.set block lions ≤ i) → get_or written i 0 ≡ get_or (slice_set words (row + 101 + lions) at) i 0)
-    → (run_kind lions ≡ Mixed → AreEntriesFrom family block lions at written)
-    → marks_below (is_marked family) (start_of family.set block) + count ≡ marks_below (is_marked family) (run_start family.set block (lions + 1))
+    → (run_kind lions ≡ Mixed → AreEntriesFrom family block lions at written) → classes_to_block family block + count ≡ classes_to_run family block (lions + 1)
     → IsStep family block lions at next words (slice_set written (row + 1 + lions) count)
 one_run family block lions at next count row words written within low row_is behind room next_is long others entries count_is = record {
   agrees = agree;
   kept = record {
-    next = ap (λ (n : ℕ). marks_below (is_marked family) (start_of family.set block) + n)
+    next = ap (λ (n : ℕ). classes_to_block family block + n)
         (ap (λ (i : ℕ). get_or new i 0) (let e : row_at block + (lions + 1) ≡ row + 1 + lions = omega (arith, row_is) in e)
         ∙ get_or-set_same written (row + 1 + lions) count 0 (omega (arith, size, room, row_is, within, low))) ∙ count_is;
     entries = λ kind. subst (λ (n : ℕ). AreEntriesFrom family block lions n new) (sym first)
@@ -139,13 +136,12 @@ runs_stay family block lions at next old new within low behind further step runs
 -- ---- the end of a block
 
 pub record AreAllRuns (family : Family) (block before count runs : ℕ) : Type 0 where
-  pub sum_is : before + runs / lion_pairs * count ≡ marks_below (is_marked family) (start_of family.set (block + 1))
+  pub sum_is : before + runs / lion_pairs * count ≡ classes_to_block family (block + 1)
   pub few : before + runs / lion_pairs * count ≤ 2 ^ 43
 
 -- each hand has as many classes as the first
 pub all_runs : (family : Family) (block before count runs : ℕ) → block < product (block_bases family.set) → runs ≡ runs_in family.set block
-    → before ≡ marks_below (is_marked family) (start_of family.set block)
-    → marks_below (is_marked family) (start_of family.set block) + count ≡ marks_below (is_marked family) (run_start family.set block lion_pairs)
+    → before ≡ classes_to_block family block → classes_to_block family block + count ≡ classes_to_run family block lion_pairs
     → AreAllRuns family block before count runs
 all_runs family block before count runs within runs_are before_is count_is = record {
   sum_is = sum;
@@ -155,14 +151,13 @@ all_runs family block before count runs within runs_are before_is count_is = rec
     none : runs % lion_pairs ≡ 0
     none = (let hands = runs_by_hand family.set block in omega (arith, runs_are, hands))
 
-    part : marks_below (is_marked family) (start_of family.set block) + 0 ≡ marks_below (is_marked family) (run_start family.set block (runs % lion_pairs))
-    part = none_before family block ∙ ap (λ (r : ℕ). marks_below (is_marked family) (run_start family.set block r)) (sym none)
+    part : classes_to_block family block + 0 ≡ classes_to_run family block (runs % lion_pairs)
+    part = none_before family block ∙ ap (λ (r : ℕ). classes_to_run family block r) (sym none)
 
-    all : marks_below (is_marked family) (start_of family.set block) + (runs / lion_pairs * count + 0)
-        ≡ marks_below (is_marked family) (run_start family.set block runs)
+    all : classes_to_block family block + (runs / lion_pairs * count + 0) ≡ classes_to_run family block runs
     all = (by_hands family block runs (runs / lion_pairs) (runs % lion_pairs) count 0 within (omega (arith, runs_are)) refl refl count_is part).sum_is
 
-    sum : before + runs / lion_pairs * count ≡ marks_below (is_marked family) (start_of family.set (block + 1))
+    sum : before + runs / lion_pairs * count ≡ classes_to_block family (block + 1)
     sum = (let more = one_block_more family block runs before (runs / lion_pairs * count + 0) runs_are before_is all in omega (arith, more))
 
 -- ---- a block before its first run
@@ -197,16 +192,10 @@ outside block i k out low is = elim out [
   | inr behind ↦ omega (arith, behind, is, low)
 ]
 
-pub below_later : (i first at next : ℕ) → first ≤ at → (i < first) ⊎ (next ≤ i) → (i < at) ⊎ (next ≤ i)
-below_later i first at next further out = elim out [
-  | inl before ↦ inl (omega (arith, before, further))
-  | inr behind ↦ inr behind
-]
-
-pub from_earlier : (i first at next : ℕ) → at ≤ next → (i < first) ⊎ (next ≤ i) → (i < first) ⊎ (at ≤ i)
-from_earlier i first at next further out = elim out [
-  | inl before ↦ inl before
-  | inr behind ↦ inr (omega (arith, behind, further))
+pub both_sides : (i first at next : ℕ) → first ≤ at → at ≤ next → (i < first) ⊎ (next ≤ i) → ((i < at) ⊎ (next ≤ i)) × ((i < first) ⊎ (at ≤ i))
+both_sides i first at next further more out = elim out [
+  | inl before ↦ (inl (omega (arith, before, further)), inl before)
+  | inr behind ↦ (inr behind, inr (omega (arith, behind, more)))
 ]
 
 -- ---- the first three numbers

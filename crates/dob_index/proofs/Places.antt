@@ -1,6 +1,7 @@
 -- Where the numbers of an index stand: the entries of one run behind those of the run before, and all of them among so many numbers.
 use Rattle.dob_index.proofs.Common.{◌*◌, ◌+◌, ◌<◌, ◌^◌, ◌≡◌, ◌≤◌, ap, arith, inl, inr, suc, zero, ℕ, cases_lt, blocks_small, block_bases, product, sum_below}
 use Rattle.dob_index.proofs.Common.{lion_pairs, run_kind, RunKind, First, Later, Mixed, entries_at, entries_in, row_at, run_words, where_mixed, words_of}
+use Rattle.std.proofs.Math.Nat.{add-mul}
 use Rattle.dob_pieces.specs.declared.piece_set.PieceSet.{PieceSet}
 use Rattle.dob_lists.proofs.Sums.{sum_below-rises}
 use Rattle.dob_rank.proofs.Positions.Blocks.{sum_below_more}
@@ -43,24 +44,26 @@ run_within set block lions within upto =
     let blocks = sum_below-rises (block_words set) block (product (block_bases set)) within in
     omega (arith, runs, blocks)
 
+-- so a run's entries end among them
+pub run_fits : (set : PieceSet) (block lions at : ℕ) → block < product (block_bases set) → lions < lion_pairs → at ≡ entries_at set block lions
+    → at + run_words set block lions ≤ words_of set
+run_fits set block lions at within low is =
+    let more = run_more set block lions in
+    let upto = run_within set block (lions + 1) within (omega (arith, low)) in
+    omega (arith, is, more, upto)
+
 pub behind_rows : (set : PieceSet) (block lions : ℕ) → row_at (product (block_bases set)) ≤ entries_at set block lions
 behind_rows set block lions = omega arith
 
 -- ---- they are few
 
-sum_few : (f : ℕ → ℕ) (n : ℕ) → ((k : ℕ) → k < n → f k ≤ 2 ^ 29) → sum_below f n ≤ n * 2 ^ 29
-sum_few f zero few = omega arith
-sum_few f (suc n) few =
-    let rest = sum_few f n (λ k low. few k (omega (arith, low))) in
+sum_few : (f : ℕ → ℕ) (bound n : ℕ) → ((k : ℕ) → k < n → f k ≤ bound) → sum_below f n ≤ n * bound
+sum_few f bound zero few = omega arith
+sum_few f bound (suc n) few =
+    let rest = sum_few f bound n (λ k low. few k (omega (arith, low))) in
     let here = few n (omega arith) in
-    omega (arith, rest, here)
-
-sums_few : (f : ℕ → ℕ) (n : ℕ) → ((k : ℕ) → k < n → f k ≤ 2 ^ 36) → sum_below f n ≤ n * 2 ^ 36
-sums_few f zero few = omega arith
-sums_few f (suc n) few =
-    let rest = sums_few f n (λ k low. few k (omega (arith, low))) in
-    let here = few n (omega arith) in
-    omega (arith, rest, here)
+    let more : (n + 1) * bound ≡ n * bound + 1 * bound = add-mul n 1 bound in
+    omega (arith, rest, here, more)
 
 kind_few : (kind : RunKind) (entries : ℕ) → where_mixed kind entries ≤ entries
 kind_few Mixed entries = omega arith
@@ -75,12 +78,12 @@ run_few set block lions within =
 
 pub block_few : (set : PieceSet) (block lions : ℕ) → block < product (block_bases set) → lions ≤ lion_pairs → sum_below (run_words set block) lions ≤ 2 ^ 36
 block_few set block lions within upto =
-    let few = sum_few (run_words set block) lions (λ k low. run_few set block k within) in
+    let few = sum_few (run_words set block) (2 ^ 29) lions (λ k low. run_few set block k within) in
     omega (arith, few, upto)
 
 pub blocks_few : (set : PieceSet) (block : ℕ) → block ≤ product (block_bases set) → sum_below (block_words set) block ≤ 2 ^ 41
 blocks_few set block upto =
-    let few = sums_few (block_words set) block (λ k low. block_few set k lion_pairs (omega (arith, low, upto)) (omega arith)) in
+    let few = sum_few (block_words set) (2 ^ 36) block (λ k low. block_few set k lion_pairs (omega (arith, low, upto)) (omega arith)) in
     let small = blocks_small set in
     omega (arith, few, small, upto)
 

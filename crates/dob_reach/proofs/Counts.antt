@@ -16,32 +16,29 @@ pub apart_first : (first : ℕ) (rest : List ℕ) → ((number : ℕ) → Contai
 apart_first first rest others once =
     AllPairs-cons Apart first rest (λ k d lt. others (get_or rest k d) (k, lt, get_or_default rest k (get_or rest k d) d lt)) once
 
+pub behind_first : (x : ℕ) (xs : List ℕ) → AllPairs Apart (x ∷ xs) → (number : ℕ) → Contains xs number → ¬ (x ≡ number)
+behind_first x xs p number left same = pairs-head Apart x xs p left.0 number left.1 (same ∙ sym left.2)
+
+-- a list of one number has no other
+pub only_one : (x number : ℕ) → Contains (x ∷ []) number → x ≡ number
+only_one x number there = elim (cons_cases x [] number there) [ inl same ↦ same | inr more ↦ absurd (none_in_empty number more) ]
+
 -- two lists without repeats that have nothing in common
 pub apart_both : (xs ys : List ℕ) → AllPairs Apart xs → AllPairs Apart ys → ((number : ℕ) → Contains xs number → ¬ Contains ys number) → AllPairs Apart (xs ++ ys)
 apart_both [] ys p q across = q
 apart_both (x ∷ xs) ys p q across =
     apart_first x (xs ++ ys)
     (λ number there same. elim (Contains-append_cases xs ys number there) [
-      | inl left ↦ first_apart x xs p number left same
+      | inl left ↦ behind_first x xs p number left same
       | inr right ↦ across x (head_in x xs) (subst (Contains ys) (sym same) right)
     ])
     (apart_both xs ys (pairs-tail Apart x xs p) q (λ number left. across number (rest_in x number xs left)))
-  where
-    first_apart : (x : ℕ) (xs : List ℕ) → AllPairs Apart (x ∷ xs) → (number : ℕ) → Contains xs number → ¬ (x ≡ number)
-    first_apart x xs p number left same =
-        pairs-head Apart x xs p left.0 number left.1 (same ∙ sym left.2)
-
-pub behind_first : (x : ℕ) (xs : List ℕ) → AllPairs Apart (x ∷ xs) → (number : ℕ) → Contains xs number → ¬ (x ≡ number)
-behind_first x xs p number left same = pairs-head Apart x xs p left.0 number left.1 (same ∙ sym left.2)
 
 -- one more at the end
 pub apart_more : (xs : List ℕ) (x : ℕ) → AllPairs Apart xs → (¬ Contains xs x) → AllPairs Apart (xs ++ x ∷ [])
 apart_more xs x once absent =
     apart_both xs (x ∷ []) once (apart_first x [] (λ number there. absurd (none_in_empty number there)) (λ i j d lt within. absurd (omega (arith, within))))
-    (λ number left right. elim (cons_cases x [] number right) [
-      | inl same ↦ absent (subst (Contains xs) (sym same) left)
-      | inr no_more ↦ none_in_empty number no_more
-    ])
+    (λ number left right. absent (subst (Contains xs) (sym (only_one x number right)) left))
 
 -- ---- just so many
 
@@ -109,7 +106,7 @@ just_few P count bound low has =
 pub just_one : (number : ℕ) → HasJust (λ k. k ≡ number) 1
 just_one number = record {
   list = number ∷ [];
-  sound = λ k there. elim (cons_cases number [] k there) [ inl same ↦ sym same | inr more ↦ absurd (none_in_empty k more) ];
+  sound = λ k there. sym (only_one number k there);
   whole = λ k is. subst (Contains (number ∷ [])) (sym is) (head_in number []);
   once = apart_first number [] (λ k there. absurd (none_in_empty k there)) (λ i j d lt within. absurd (omega (arith, within)));
   counted = refl;

@@ -8,10 +8,6 @@ use Rattle.std.proofs.lemmas.List.Sums.{sum_by-cons}
 use Rattle.dob_reach.proofs.Counts.{among_few}
 use Rattle.dob_reach.proofs.Stepping.{class_low, expanded_both}
 
--- a part begins at or before the end
-pub place_begins : (front : List ℕ) (place : ℕ) → place < part_count front → place * 4096 ≤ length front
-place_begins front place below = omega (arith, below)
-
 -- a part is cut off by its length
 pub part_is : (front : List ℕ) (place count : ℕ) → count ≡ min 4096 (length front - place * 4096) → take count (drop (place * 4096) front) ≡ part_at front place
 part_is front place count is =

@@ -1,7 +1,7 @@
 -- What a round makes of what was marked, of any steps among numbers; and what is marked where nothing is left to go on from.
-use Rattle.dob_reach.proofs.Common.{◌+◌, ◌∷◌, ◌≡◌, ◌≤◌, Contains, List, [], arith, inl, inr, refl, subst, suc, sym, zero, ℕ, cases_lt, cons_cases, head_in}
-use Rattle.dob_reach.proofs.Common.{none_in_empty, stands_or, HasDistance, IsReached, Met, IsMarked, AreMet, IsMarkedWithin, IsNearer}
-use Rattle.dob_reach.proofs.Counts.{apart_first}
+use Rattle.dob_reach.proofs.Common.{◌+◌, ◌∷◌, ◌≡◌, ◌≤◌, Contains, List, [], arith, inl, inr, refl, subst, suc, sym, zero, ℕ, cases_lt, head_in, none_in_empty}
+use Rattle.dob_reach.proofs.Common.{stands_or, HasDistance, IsReached, Met, IsMarked, AreMet, IsMarkedWithin, IsNearer}
+use Rattle.dob_reach.proofs.Counts.{apart_first, only_one}
 
 -- a number has one distance
 pub one_distance : (Steps : ℕ → ℕ → Type 0) (from m n number : ℕ) → HasDistance Steps from m number → HasDistance Steps from n number → m ≡ n
@@ -20,10 +20,7 @@ module _ (Steps : ℕ → ℕ → Type 0) (from : ℕ) where
   begun words alone marked = record {
     sound = λ number is. (0, omega arith, subst (HasDistance Steps from 0) (sym (alone number is)) itself);
     whole = λ n number low met. subst (IsMarked words) (met_at_once n number low met) marked;
-    front_sound = λ number there. elim (cons_cases from [] number there) [
-      | inl same ↦ subst (HasDistance Steps from 0) same itself
-      | inr more ↦ absurd (none_in_empty number more)
-    ];
+    front_sound = λ number there. subst (HasDistance Steps from 0) (only_one from number there) itself;
     front_whole = λ number has. subst (Contains (from ∷ [])) has.0 (head_in from []);
     front_once = apart_first from [] (λ number there. absurd (none_in_empty number there)) (λ i j d lt within. absurd (omega (arith, within)));
     closed = λ number other is absent step. absurd (absent (subst (Contains (from ∷ [])) (sym (alone number is)) (head_in from [])));

@@ -7,6 +7,19 @@ use Rattle.dob_reach.proofs.Counts.{among_just, just_both, just_few, just_list, 
 use Rattle.dob_reach.proofs.Rounds.{begun, nearer_reached, one_distance, one_round, reached_marked, reached_nearer}
 use Rattle.dob_reach.proofs.Stepping.{class_low}
 
+-- what is told of each level, with one level more
+pub told_more : (Told : ℕ → ℕ → Type 0) (old new : List ℕ) (count : ℕ) → new ≡ old ++ count ∷ []
+    → ((distance : ℕ) → distance < length old → Told distance (get_or old distance 0)) → Told (length old) count → (distance : ℕ) → distance < length new → Told distance (get_or new distance 0)
+told_more Told old new count is before last distance below =
+    let long = ap length is ∙ length_push old count in
+    subst (λ (xs : List ℕ). Told distance (get_or xs distance 0)) (sym is)
+    (elim (cases_lt distance (length old)) [
+      | inl low ↦ subst (Told distance) (sym (get_or_append_left old (count ∷ []) 0 distance low)) (before distance low)
+      | inr high ↦
+          let same : length old ≡ distance = omega (arith, high, below, long) in
+          subst (λ k. Told k (get_or (old ++ count ∷ []) k 0)) same (subst (Told (length old)) (sym (get_or-append_seam old count [] 0)) last)
+    ])
+
 module _ (family : Family) (from : ℕ) where
   abbrev At : ℕ → ℕ → Type 0
   At = HasDistance (Leads family) from
@@ -112,28 +125,6 @@ module _ (family : Family) (from : ℕ) where
       opens_next = subst (λ n. HasJust (λ k. Near n k × IsOpen family k) new.opens) (sym longer)
           (subst (HasJust (λ k. Near (d + 1) k × IsOpen family k)) (sym opens_are) (open_both opens open_are))
 
-      level_before : (distance : ℕ) → distance < d → get_or new.levels.items distance 0 ≡ get_or reached.levels.items distance 0
-      level_before distance low = ap (λ xs. get_or xs distance 0) levels_are ∙ get_or_append_left reached.levels.items (length front ∷ []) 0 distance low
-
-      level_last : get_or new.levels.items d 0 ≡ length front
-      level_last = ap (λ xs. get_or xs d 0) levels_are ∙ get_or-append_seam reached.levels.items (length front) [] 0
-
-      levels_next : (distance : ℕ) → distance < length new.levels.items → HasJust (At distance) (get_or new.levels.items distance 0)
-      levels_next distance below = elim (cases_lt distance d) [
-        | inl low ↦ subst (HasJust (At distance)) (sym (level_before distance low)) (known.levels_are distance low)
-        | inr high ↦
-            let same : d ≡ distance = omega (arith, high, below, longer) in
-            subst (λ k. HasJust (At k) (get_or new.levels.items k 0)) same (subst (HasJust (At d)) (sym level_last) at_front)
-      ]
-
-      each_next : (distance : ℕ) → distance < length new.levels.items → 0 < get_or new.levels.items distance 0
-      each_next distance below = elim (cases_lt distance d) [
-        | inl low ↦ subst (λ k. 0 < k) (sym (level_before distance low)) (known.each distance low)
-        | inr high ↦
-            let same : d ≡ distance = omega (arith, high, below, longer) in
-            subst (λ k. 0 < get_or new.levels.items k 0) same (subst (λ k. 0 < k) (sym level_last) some)
-      ]
-
       pub searched_next : IsSearched family from new next
       searched_next = record {
         begins = known.begins;
@@ -141,8 +132,9 @@ module _ (family : Family) (from : ℕ) where
         marks_are = marks_next;
         all = all_next;
         opens_are = opens_next;
-        levels_are = levels_next;
-        each = each_next;
+        levels_are = told_more (λ distance count. HasJust (At distance) count) reached.levels.items new.levels.items (length front) levels_are
+            known.levels_are at_front;
+        each = told_more (λ distance count. 0 < count) reached.levels.items new.levels.items (length front) levels_are known.each some;
         first = λ none. absurd (omega (arith, none, longer));
         bits = (let long = met.keeps.long in omega (arith, known.bits, long));
       }
@@ -187,19 +179,6 @@ module _ (family : Family) (from : ℕ) where
       );
       bits = known.bits;
     }
-
--- what is told of each level, with one level more
-pub told_more : (Told : ℕ → ℕ → Type 0) (old new : List ℕ) (count : ℕ) → new ≡ old ++ count ∷ [] → ((distance : ℕ) → distance < length old → Told distance (get_or old distance 0))
-    → Told (length old) count → (distance : ℕ) → distance < length new → Told distance (get_or new distance 0)
-told_more Told old new count is before last distance below =
-    let long = ap length is ∙ length_push old count in
-    subst (λ (xs : List ℕ). Told distance (get_or xs distance 0)) (sym is)
-    (elim (cases_lt distance (length old)) [
-      | inl low ↦ subst (Told distance) (sym (get_or_append_left old (count ∷ []) 0 distance low)) (before distance low)
-      | inr high ↦
-          let same : length old ≡ distance = omega (arith, high, below, long) in
-          subst (λ k. Told k (get_or (old ++ count ∷ []) k 0)) same (subst (Told (length old)) (sym (get_or-append_seam old count [] 0)) last)
-    ])
 
 -- what is left to go on from, by the test of an empty list
 pub some_left : (count : ℕ) (is_empty : Bool) → is_empty ≡ (count == 0) → is_empty ≡ false → 0 < count

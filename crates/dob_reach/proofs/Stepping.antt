@@ -1,11 +1,11 @@
 -- What a class's moves lead to: a list that leaves out what is marked.
 use Rattle.dob_reach.proofs.Common.{◌++◌, ◌+◌, ◌<◌, ◌∷◌, ◌≡◌, ◌≤◌, Bool, Contains, List, [], arith, false, inl, inr, refl, subst, sym, true, ℕ}
-use Rattle.dob_reach.proofs.Common.{Contains-append_cases, Contains-append_left, Contains-append_right, cons_cases, head_in, none_in_empty, Family, Setup, Goes}
-use Rattle.dob_reach.proofs.Common.{HasStatus, Open, IsInClass, RepresentsClass, classes_of, IsInClass-class_number, class_number-below, Among, AreExpanded}
-use Rattle.dob_reach.proofs.Common.{IsExpanded, IsSifted, one_if, IsOpen, Leads, IsMarked, KeepsMarks}
+use Rattle.dob_reach.proofs.Common.{Contains-append_cases, Contains-append_left, Contains-append_right, head_in, none_in_empty, Family, Setup, Goes, HasStatus}
+use Rattle.dob_reach.proofs.Common.{Open, IsInClass, RepresentsClass, classes_of, IsInClass-class_number, class_number-below, Among, AreExpanded, IsExpanded}
+use Rattle.dob_reach.proofs.Common.{IsSifted, one_if, IsOpen, Leads, IsMarked, KeepsMarks}
 use Rattle.dob_classes.proofs.OfFamilies.FamilyRepresentatives.{one_class, one_representative}
 use Rattle.dob_value.specs.Graphs.{AreSuccessors}
-use Rattle.dob_reach.proofs.Counts.{among_both, among_none, among_one}
+use Rattle.dob_reach.proofs.Counts.{among_both, among_none, among_one, only_one}
 
 -- ---- classes
 
@@ -38,10 +38,7 @@ sifted_none words = record { sound = λ number there. there; whole = λ number t
 pub sifted_out : (words : List ℕ) (number : ℕ) → IsMarked words number → IsSifted words (number ∷ []) []
 sifted_out words number is = record {
   sound = λ other there. absurd (none_in_empty other there);
-  whole = λ other there. elim (cons_cases number [] other there) [
-    | inl same ↦ inr (subst (IsMarked words) same is)
-    | inr more ↦ absurd (none_in_empty other more)
-  ];
+  whole = λ other there. inr (subst (IsMarked words) (only_one number other there) is);
 }
 
 -- ---- one class
@@ -114,10 +111,7 @@ expanded_one : (family : Family) (words : List ℕ) (class : ℕ) (numbers : Lis
     → AreExpanded family words (class ∷ []) numbers (one_if is_open)
 expanded_one family words class numbers is_open is = record {
   sound = λ other there. (class, head_in class [], is.sound other there);
-  whole = λ other step. elim (cons_cases class [] step.0 step.1) [
-    | inl same ↦ is.whole other (subst (λ k. Leads family k other) (sym same) step.2)
-    | inr more ↦ absurd (none_in_empty step.0 more)
-  ];
+  whole = λ other step. is.whole other (subst (λ k. Leads family k other) (sym (only_one class step.0 step.1)) step.2);
   open_are = among_bool family class is_open is.opened is.closed;
 }
 

@@ -1,7 +1,8 @@
 -- The deepest pair, one pair more each time.
-use Rattle.dob_zugzwang.proofs.Common.{◌++◌, ◌∙◌, ◌∷◌, ◌≡◌, List, None, Option, Some, [], arith, false, inl, inr, refl, subst, sym, true, true≢false, IsDeeper}
+use Rattle.std.proofs.Common.{Contains}
+use Rattle.dob_zugzwang.proofs.Common.{◌++◌, ◌∙◌, ◌∷◌, ◌≡◌, List, None, Option, Some, [], arith, inl, inr, refl, subst, sym, true, true≢false, IsDeeper}
 use Rattle.dob_zugzwang.proofs.Common.{IsDeepest, is_lost_by_both, Zugzwang}
-use Rattle.std.proofs.lemmas.List.Elements.{Contains-append_left, Contains-push, Contains-push_cases}
+use Rattle.std.proofs.lemmas.List.Elements.{Contains-push, Contains-push_cases}
 
 -- no pair is deeper than itself
 pub not_itself : (pair : Zugzwang) → ¬ IsDeeper pair pair
@@ -23,20 +24,16 @@ pub none_yet : IsDeepest [] None
 none_yet pair there = absurd (omega (arith, there.1))
 
 module _ (done : List Zugzwang) (pair : Zugzwang) where
-  -- a pair that isn't lost by both changes nothing
-  pub passed : (best : Option Zugzwang) → is_lost_by_both pair ≡ false → IsDeepest done best → IsDeepest (done ++ pair ∷ []) best
-  passed None not_lost none = λ other there. elim (Contains-push_cases done pair other there) [
-    | inl earlier ↦ none other earlier
-    | inr same ↦ subst (λ (q : Zugzwang). is_lost_by_both q ≡ false) same not_lost
+  -- what holds of the pairs so far and of one more holds of all
+  each_more : (Holds : Zugzwang → Type 0) → ((other : Zugzwang) → Contains done other → Holds other) → Holds pair
+      → (other : Zugzwang) → Contains (done ++ pair ∷ []) other → Holds other
+  each_more Holds each last other there = elim (Contains-push_cases done pair other there) [
+    | inl earlier ↦ each other earlier
+    | inr same ↦ subst Holds same last
   ]
-  passed (Some best) not_lost is = (
-    Contains-append_left done (pair ∷ []) best is.0,
-    is.1,
-    λ other there lost. elim (Contains-push_cases done pair other there) [
-      | inl earlier ↦ is.2 other earlier lost
-      | inr same ↦ absurd (true≢false (sym lost ∙ subst (λ (q : Zugzwang). is_lost_by_both q ≡ false) same not_lost))
-    ],
-  )
+
+  abbrev NotDeeper : Zugzwang → Zugzwang → Type 0
+  NotDeeper best other = is_lost_by_both other ≡ true → ¬ IsDeeper other best
 
   -- the first one that is
   pub begun : (best : Option Zugzwang) → ((other : Zugzwang) → ¬ (best ≡ Some other)) → is_lost_by_both pair ≡ true → IsDeepest done best
@@ -45,10 +42,7 @@ module _ (done : List Zugzwang) (pair : Zugzwang) where
   begun None fresh is_lost none = (
     Contains-push done pair,
     is_lost,
-    λ other there lost. elim (Contains-push_cases done pair other there) [
-      | inl earlier ↦ absurd (true≢false (sym lost ∙ none other earlier))
-      | inr same ↦ subst (λ (q : Zugzwang). ¬ IsDeeper q pair) same (not_itself pair)
-    ],
+    each_more (NotDeeper pair) (λ other earlier lost. absurd (true≢false (sym lost ∙ none other earlier))) (λ lost. not_itself pair),
   )
 
   -- a deeper one takes the place of the best, and another one doesn't
@@ -56,18 +50,5 @@ module _ (done : List Zugzwang) (pair : Zugzwang) where
   replaced best is_lost deeper is = (
     Contains-push done pair,
     is_lost,
-    λ other there lost. elim (Contains-push_cases done pair other there) [
-      | inl earlier ↦ λ still. is.2 other earlier lost (deeper_still other pair best still deeper)
-      | inr same ↦ subst (λ (q : Zugzwang). ¬ IsDeeper q pair) same (not_itself pair)
-    ],
-  )
-
-  pub kept : (best : Zugzwang) → (¬ IsDeeper pair best) → IsDeepest done (Some best) → IsDeepest (done ++ pair ∷ []) (Some best)
-  kept best not_deeper is = (
-    Contains-append_left done (pair ∷ []) best is.0,
-    is.1,
-    λ other there lost. elim (Contains-push_cases done pair other there) [
-      | inl earlier ↦ is.2 other earlier lost
-      | inr same ↦ subst (λ (q : Zugzwang). ¬ IsDeeper q best) same not_deeper
-    ],
+    each_more (NotDeeper pair) (λ other earlier lost still. is.2 other earlier lost (deeper_still other pair best still deeper)) (λ lost. not_itself pair),
   )

@@ -1,5 +1,5 @@
 -- The laws.
-use Rattle.dob_zugzwang.proofs.Common.{arith, inl, inr, refl, subst, sym, cases_lt, turned-turned, IsLegal, turned, Profile, Setup, HasStatus, Open, IsInClass}
+use Rattle.dob_zugzwang.proofs.Common.{◌≡◌, arith, inl, inr, refl, subst, sym, cases_lt, turned-turned, turned, Profile, Setup, HasStatus, Open, IsInClass}
 use Rattle.dob_zugzwang.proofs.Common.{class_number, HasInTable, Value, EachIsListed, IsMutual, IsRightByValues, TurnedTwice, IsPair, IsZugzwang, Zugzwang}
 use Rattle.dob_classes.proofs.OfFamilies.FamilyNumbers.{IsInClass-class_number}
 use Rattle.dob_value.proofs.Depths.{at_most_one_value}
@@ -11,24 +11,21 @@ use Rattle.dob_zugzwang.proofs.Worth.{worse_exchanged}
 pub twice : TurnedTwice
 twice p legal = turned-turned p legal.squares
 
-exchanged : (profile : Profile) (Has : Setup → Value → Type 0) (p : Setup) (v w : Value) → IsLegal p → IsZugzwang profile Has p v w → IsZugzwang profile Has (turned p) w v
-exchanged profile Has p v w legal is = record {
-  opens = (is.opens.1, subst (λ (s : Setup). HasStatus profile s Open) (sym (twice p legal)) is.opens.0);
-  has = is.turn_has;
-  turn_has = subst (λ (s : Setup). Has s v) (sym (twice p legal)) is.has;
+-- a zugzwang is one from the other side, where each is the turn of the other
+exchanged : (profile : Profile) (Has : Setup → Value → Type 0) (p q : Setup) (v w : Value) → turned p ≡ q → turned q ≡ p → IsZugzwang profile Has p v w
+    → IsZugzwang profile Has q w v
+exchanged profile Has p q v w turn back is = record {
+  opens = (subst (λ (s : Setup). HasStatus profile s Open) turn is.opens.1, subst (λ (s : Setup). HasStatus profile s Open) (sym back) is.opens.0);
+  has = subst (λ (s : Setup). Has s w) turn is.turn_has;
+  turn_has = subst (λ (s : Setup). Has s v) (sym back) is.has;
   worse = worse_exchanged v w is.worse;
 }
 
-back : (profile : Profile) (Has : Setup → Value → Type 0) (p : Setup) (v w : Value) → IsLegal p → IsZugzwang profile Has (turned p) w v → IsZugzwang profile Has p v w
-back profile Has p v w legal is = record {
-  opens = (subst (λ (s : Setup). HasStatus profile s Open) (twice p legal) is.opens.1, is.opens.0);
-  has = subst (λ (s : Setup). Has s v) (twice p legal) is.turn_has;
-  turn_has = is.has;
-  worse = worse_exchanged w v is.worse;
-}
-
 pub mutual_turn : IsMutual
-mutual_turn profile p v w legal = (exchanged profile (HasValue profile) p v w legal, back profile (HasValue profile) p v w legal)
+mutual_turn profile p v w legal = (
+  exchanged profile (HasValue profile) p (turned p) v w refl (twice p legal),
+  exchanged profile (HasValue profile) (turned p) p w v (twice p legal) refl,
+)
 
 pub by_values : IsRightByValues
 by_values family values right p v w is = (
@@ -61,7 +58,7 @@ listed table pairs are p v w class z is =
           let found : IsPair table pair = (
             turned p,
             record {
-              zugzwang = exchanged family.profile (HasInTable family table.values) p v w position.of_set.legal z;
+              zugzwang = exchanged family.profile (HasInTable family table.values) p (turned p) v w refl (twice p position.of_set.legal) z;
               in_class = in_turn;
               turn_in_class = subst (λ (s : Setup). IsInClass family s class) (sym (twice p position.of_set.legal)) is;
               ordered = omega (arith, lower);

@@ -7,6 +7,7 @@ pub fn turns_are_positions()
 {}
 
 /// The turn of a position's turn is the position.
+#[tactic(auto, using(crate::proofs::Promised::twice))]
 pub fn turned_twice()
     ensures { TurnedTwice }
 {}

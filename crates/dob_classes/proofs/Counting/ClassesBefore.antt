@@ -1,13 +1,13 @@
 -- How many classes of a family stand before a run of a block and before a place of a run, as sums over the runs of one hand.
-use Rattle.dob_classes.proofs.Common.{◌%◌, ◌*◌, ◌+◌, ◌/◌, ◌<◌, ◌^◌, ◌∙◌, ◌≡◌, ◌≤◌, Bool, ap, arith, inl, inr, min, refl, sym, ℕ, min-eq_left, min-eq_right}
-use Rattle.dob_classes.proofs.Common.{min-le_left, min-le_right, cases_lt, mod-mul-add, Family, Setup, run_start_end, run_start_first, run_start_next}
-use Rattle.dob_classes.proofs.Common.{spot_there, marks_below-upto, sum_below_more, IsPositionOf, class_number, is_marked, marks_below, block_bases, block_of}
-use Rattle.dob_classes.proofs.Common.{block_size, product, rank_of_set, start_of, sum_below, RepresentativeOf, IsInRun, lion_pairs, local_of, run_kind, run_of}
-use Rattle.dob_classes.proofs.Common.{run_size, run_start, runs_in, First, Later, is_there, local_marks_in, local_marks, IsStretchIn}
+use Rattle.dob_classes.proofs.Common.{◌%◌, ◌*◌, ◌+◌, ◌/◌, ◌<◌, ◌^◌, ◌∙◌, ◌≡◌, ◌≤◌, ap, arith, refl, sym, ℕ, mod-mul-add, Family, Setup, run_start_end}
+use Rattle.dob_classes.proofs.Common.{run_start_first, run_start_next, spot_there, marks_below-upto, sum_below_more, IsPositionOf, class_number, is_marked}
+use Rattle.dob_classes.proofs.Common.{marks_below, block_bases, block_of, block_size, product, rank_of_set, sum_below, RepresentativeOf, IsInRun, lion_pairs}
+use Rattle.dob_classes.proofs.Common.{run_kind, run_of, run_start, runs_in, local_of, run_size, First, Later, is_there, local_marks_in, classes_to_block}
+use Rattle.dob_classes.proofs.Common.{classes_to_place, classes_to_run, classes_to_setup}
 use Rattle.dob_lists.proofs.Sums.{sum_same, sum_blocks, sum_alike}
 use Rattle.dob_rank.proofs.Arithmetic.MixedRadix.{digit_below}
 use Rattle.dob_rank.proofs.InRuns.RunSums.{lions_there}
-use Rattle.dob_classes.proofs.MarksOfRuns.FamilyMarks.{stretch_in, first_marks, later_marks, classes_before_place}
+use Rattle.dob_classes.proofs.MarksOfRuns.FamilyMarks.{first_marks, later_marks, classes_before_place}
 use Rattle.dob_classes.proofs.Tables.RunTables.{marks_small}
 use Rattle.dob_classes.proofs.Counting.FamilySums.{run_marks, marks_of_lions, marks_of_runs}
 use Rattle.dob_classes.proofs.OfFamilies.FamilyNumbers.{earlier_in}
@@ -28,10 +28,10 @@ stands_at family s block run local p block_is run_is local_is =
 
 -- the classes before the position's representative are before its class
 pub class_of_earlier : (family : Family) (s representative : Setup) → IsPositionOf family s → RepresentativeOf s representative
-    → marks_below (is_marked family) (rank_of_set family.set representative) ≡ class_number family s
+    → classes_to_setup family representative ≡ class_number family s
 class_of_earlier family s representative p represents =
     let e = earlier_in family s p in
-    ap (λ (t : Setup). marks_below (is_marked family) (rank_of_set family.set t)) (same_representative family s representative e.0 p represents e.1.stands)
+    ap (λ (t : Setup). classes_to_setup family t) (same_representative family s representative e.0 p represents e.1.stands)
     ∙ sym e.1.number_is
 
 -- ---- the runs before one
@@ -40,32 +40,28 @@ class_of_earlier family s representative p represents =
 pub all_lions : (family : Family) (block : ℕ) → block < product (block_bases family.set) → lion_pairs ≤ runs_in family.set block
 all_lions family block within = (let last = lions_there family.set block 98 within (omega arith) in omega (arith, last))
 
-pub none_before : (family : Family) (block : ℕ)
-    → marks_below (is_marked family) (start_of family.set block) + 0 ≡ marks_below (is_marked family) (run_start family.set block 0)
+pub none_before : (family : Family) (block : ℕ) → classes_to_block family block + 0 ≡ classes_to_run family block 0
 none_before family block =
     let first = ap (marks_below (is_marked family)) (run_start_first family.set block) in
     omega (arith, first)
 
 -- one run more
 pub one_run_more : (family : Family) (block run size count marks : ℕ) → size ≡ run_size family.set block
-    → marks_below (is_marked family) (start_of family.set block) + count ≡ marks_below (is_marked family) (run_start family.set block run)
-    → marks_below (is_marked family) (run_start family.set block run) + marks ≡ marks_below (is_marked family) (run_start family.set block run + size)
-    → marks_below (is_marked family) (start_of family.set block) + (count + marks) ≡ marks_below (is_marked family) (run_start family.set block (run + 1))
+    → classes_to_block family block + count ≡ classes_to_run family block run → classes_to_run family block run + marks ≡ classes_to_place family block run size
+    → classes_to_block family block + (count + marks) ≡ classes_to_run family block (run + 1)
 one_run_more family block run size count marks size_is counted more =
-    let end : marks_below (is_marked family) (run_start family.set block run + size) ≡ marks_below (is_marked family) (run_start family.set block (run + 1))
-    = ap (λ n. marks_below (is_marked family) (run_start family.set block run + n)) size_is ∙ ap (marks_below (is_marked family)) (sym (run_start_next family.set block run)) in
+    let end : classes_to_place family block run size ≡ classes_to_run family block (run + 1)
+    = ap (λ n. classes_to_place family block run n) size_is ∙ ap (marks_below (is_marked family)) (sym (run_start_next family.set block run)) in
     omega (arith, counted, more, end)
 
 -- each hand before has as many as the first, and the run's own hand those of the lions before
 pub record AreByHands (family : Family) (block run hands whole part : ℕ) : Type 0 where
-  pub sum_is : marks_below (is_marked family) (start_of family.set block) + (hands * whole + part) ≡ marks_below (is_marked family) (run_start family.set block run)
+  pub sum_is : classes_to_block family block + (hands * whole + part) ≡ classes_to_run family block run
   pub few : hands * whole + part ≤ 2 ^ 42
 
 pub by_hands : (family : Family) (block run hands lions whole part : ℕ) → block < product (block_bases family.set) → run ≤ runs_in family.set block
-    → hands ≡ run / lion_pairs → lions ≡ run % lion_pairs
-    → marks_below (is_marked family) (start_of family.set block) + whole ≡ marks_below (is_marked family) (run_start family.set block lion_pairs)
-    → marks_below (is_marked family) (start_of family.set block) + part ≡ marks_below (is_marked family) (run_start family.set block lions)
-    → AreByHands family block run hands whole part
+    → hands ≡ run / lion_pairs → lions ≡ run % lion_pairs → classes_to_block family block + whole ≡ classes_to_run family block lion_pairs
+    → classes_to_block family block + part ≡ classes_to_run family block lions → AreByHands family block run hands whole part
 by_hands family block run hands lions whole part within upto hands_are lions_are whole_is part_is = record {
   sum_is = sum;
   few = (let small = marks_small family block run within upto in omega (arith, sum, small));
@@ -110,21 +106,18 @@ by_hands family block run hands lions whole part within upto hands_are lions_are
         ∙ ap (λ n. sum_below (λ q. sum_below (λ r. run_marks family block (q * lion_pairs + r)) lion_pairs) hands + n) (sym of_lions)
         ∙ sym split
 
-    sum : marks_below (is_marked family) (start_of family.set block) + (hands * whole + part) ≡ marks_below (is_marked family) (run_start family.set block run)
-    sum = ap (λ n. marks_below (is_marked family) (start_of family.set block) + n) parts ∙ marks_of_runs family block run within upto
+    sum : classes_to_block family block + (hands * whole + part) ≡ classes_to_run family block run
+    sum = ap (λ n. classes_to_block family block + n) parts ∙ marks_of_runs family block run within upto
 
 -- all runs of a block
-pub block_end : (family : Family) (block runs : ℕ) → runs ≡ runs_in family.set block
-    → marks_below (is_marked family) (run_start family.set block runs) ≡ marks_below (is_marked family) (start_of family.set (block + 1))
+pub block_end : (family : Family) (block runs : ℕ) → runs ≡ runs_in family.set block → classes_to_run family block runs ≡ classes_to_block family (block + 1)
 block_end family block runs runs_are =
-    ap (λ n. marks_below (is_marked family) (run_start family.set block n)) runs_are
+    ap (λ n. classes_to_run family block n) runs_are
     ∙ ap (marks_below (is_marked family)) (run_start_end family.set block)
     ∙ ap (marks_below (is_marked family)) (sym (sum_below_more (block_size family.set) block))
 
-pub one_block_more : (family : Family) (block runs count marks : ℕ) → runs ≡ runs_in family.set block
-    → count ≡ marks_below (is_marked family) (start_of family.set block)
-    → marks_below (is_marked family) (start_of family.set block) + marks ≡ marks_below (is_marked family) (run_start family.set block runs)
-    → count + marks ≡ marks_below (is_marked family) (start_of family.set (block + 1))
+pub one_block_more : (family : Family) (block runs count marks : ℕ) → runs ≡ runs_in family.set block → count ≡ classes_to_block family block
+    → classes_to_block family block + marks ≡ classes_to_run family block runs → count + marks ≡ classes_to_block family (block + 1)
 one_block_more family block runs count marks runs_are counted more =
     ap (λ n. n + marks) counted ∙ more ∙ block_end family block runs runs_are
 
@@ -133,9 +126,9 @@ one_block_more family block runs count marks runs_are counted more =
 -- the representatives among the run's positions before a place
 pub in_run_before : (family : Family) (block run place marks : ℕ) → block < product (block_bases family.set) → run < runs_in family.set block
     → place ≤ run_size family.set block → marks ≡ marks_below (local_marks_in family block run) (marks_below (is_there family block run) place)
-    → marks_below (is_marked family) (run_start family.set block run) + marks ≡ marks_below (is_marked family) (run_start family.set block run + place)
+    → classes_to_run family block run + marks ≡ classes_to_place family block run place
 in_run_before family block run place marks within below upto is =
-    ap (λ n. marks_below (is_marked family) (run_start family.set block run) + n) is ∙ sym (classes_before_place family block run place within below upto)
+    ap (λ n. classes_to_run family block run + n) is ∙ sym (classes_before_place family block run place within below upto)
 
 -- where the lions show it
 pub first_before : (family : Family) (block run place : ℕ) → block < product (block_bases family.set) → run < runs_in family.set block
@@ -152,47 +145,16 @@ later_before family block run place within below upto kind =
     sym (later_marks family block run (marks_below (is_there family block run) place) within below
     (marks_below-upto (is_there family block run) place (run_size family.set block) upto) kind)
 
--- the positions that a stretch adds, where it ends at a place at the latest
-pub record IsAdded (family : Family) (block run from place upto start next : ℕ) (on : Bool) : Type 0 where
-  pub some : from < upto
-  pub within : upto ≤ place
-  pub stretch : IsStretchIn family block run start next on
-
-pub added : (family : Family) (block run from end place upto start next : ℕ) (on : Bool) → block < product (block_bases family.set) → run < runs_in family.set block
-    → place ≤ run_size family.set block → from < place → from < end → upto ≡ min end place
-    → start ≡ marks_below (is_there family block run) from → next ≡ marks_below (is_there family block run) upto
-    → ((k : ℕ) → from ≤ k → k < end → local_marks family.set block run k ≡ on) → IsAdded family block run from place upto start next on
-added family block run from end place upto start next on within below whole low some is start_is next_is same = record {
-  some = some_more;
-  within = at_most;
-  stretch = stretch_in family block run from upto start next on within below (omega (arith, at_most, whole)) start_is next_is some_more
-      (λ k a b. same k a (omega (arith, b, no_further)));
-}
-  where
-    at_most : upto ≤ place
-    at_most = (let le = min-le_right end place in omega (arith, is, le))
-
-    no_further : upto ≤ end
-    no_further = (let le = min-le_left end place in omega (arith, is, le))
-
-    some_more : from < upto
-    some_more = elim (cases_lt end place) [
-      | inl lt ↦ (let same : min end place ≡ end = min-eq_left (let le : end ≤ place = omega arith in le) in omega (arith, is, same, some))
-      | inr ge ↦ (let same : min end place ≡ place = min-eq_right ge in omega (arith, is, same, low))
-    ]
-
 -- ---- a position's block, run and place
 
 pub record AreBefore (family : Family) (s : Setup) (runs places : ℕ) : Type 0 where
-  pub sum_is : runs + places ≡ marks_below (is_marked family) (rank_of_set family.set s)
+  pub sum_is : runs + places ≡ classes_to_setup family s
   pub few : runs + places ≤ 2 ^ 42
 
-pub are_before : (family : Family) (s : Setup) (block run local runs places : ℕ) → IsAt family s block run local
-    → runs ≡ marks_below (is_marked family) (run_start family.set block run)
-    → marks_below (is_marked family) (run_start family.set block run) + places ≡ marks_below (is_marked family) (run_start family.set block run + local)
-    → AreBefore family s runs places
+pub are_before : (family : Family) (s : Setup) (block run local runs places : ℕ) → IsAt family s block run local → runs ≡ classes_to_run family block run
+    → classes_to_run family block run + places ≡ classes_to_place family block run local → AreBefore family s runs places
 are_before family s block run local runs places at runs_are places_are =
-    let sum : runs + places ≡ marks_below (is_marked family) (run_start family.set block run + local) = omega (arith, runs_are, places_are) in
+    let sum : runs + places ≡ classes_to_place family block run local = omega (arith, runs_are, places_are) in
     let next = run_start_next family.set block run in
     let low = at.in_run.local_below in
     let run_low = at.in_run.run_below in

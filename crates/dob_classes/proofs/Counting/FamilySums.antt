@@ -1,9 +1,11 @@
 -- The classes of a block of a family as a sum over the runs of one hand.
-use Rattle.dob_classes.proofs.Common.{◌%◌, ◌+◌, ◌<◌, ◌∙◌, ◌≡◌, ◌≤◌, ap, arith, refl, suc, sym, zero, ℕ, Family, lions_run, marks_agree, run_start_first}
-use Rattle.dob_classes.proofs.Common.{is_marked, marks_below, block_bases, product, start_of, sum_below, lion_pairs, run_kind, run_size, run_start, runs_in}
-use Rattle.dob_classes.proofs.Common.{RunKind, First, Later, Mixed, is_there, local_marks_in, run_size_in}
-use Rattle.dob_classes.proofs.MarksOfRuns.FamilyMarks.{first_marks, later_marks, classes_before_next, there_by_lions, alike_by_lions}
-use Rattle.dob_classes.proofs.Tables.RunTables.{same_upto}
+use Rattle.dob_classes.proofs.Common.{◌%◌, ◌+◌, ◌<◌, ◌∙◌, ◌≡◌, ◌≤◌, ap, arith, refl, suc, sym, zero, ℕ, Family, lions_run, run_start_first, is_marked}
+use Rattle.dob_classes.proofs.Common.{marks_below, block_bases, product, sum_below, lion_pairs, run_kind, runs_in, run_size, RunKind, First, Later, Mixed}
+use Rattle.dob_classes.proofs.Common.{local_marks_in, run_size_in, classes_to_block, classes_to_run}
+use Rattle.dob_classes.proofs.MarksOfRuns.FamilyMarks.{first_marks, later_marks, classes_before_next, lower_run, size_by_lions, alike_by_lions}
+
+pub same_upto : (n : ℕ) → n ≤ n
+same_upto n = omega arith
 
 -- how many classes a run has
 abbrev pub run_marks : Family → ℕ → ℕ → ℕ
@@ -21,17 +23,6 @@ later_run family block run within below kind =
     sym (later_marks family block run (run_size_in family block run) within below (same_upto (run_size_in family block run)) kind)
 
 -- its lions alone say how many
-lower_run : (run runs : ℕ) → run < runs → run % lion_pairs < runs
-lower_run run runs below = (let less : run % lion_pairs ≤ run = omega arith in omega (arith, less, below))
-
-size_by_lions : (family : Family) (block run : ℕ) → block < product (block_bases family.set) → run < runs_in family.set block
-    → run_size_in family block (run % lion_pairs) ≡ run_size_in family block run
-size_by_lions family block run within below =
-    marks_agree (is_there family block (run % lion_pairs)) (is_there family block run) (run_size family.set block)
-    (λ k low. there_by_lions family block (run % lion_pairs) run k
-    (record { block_below = within; run_below = lower_run run (runs_in family.set block) below; local_below = low })
-    (record { block_below = within; run_below = below; local_below = low }) (lions_run run))
-
 pub marks_of_lions : (family : Family) (block run : ℕ) → block < product (block_bases family.set) → run < runs_in family.set block
     → run_marks family block (run % lion_pairs) ≡ run_marks family block run
 marks_of_lions family block run within below = by_kind (run_kind (run % lion_pairs)) refl
@@ -42,7 +33,7 @@ marks_of_lions family block run within below = by_kind (run_kind (run % lion_pai
     by_kind : (kind : RunKind) → run_kind (run % lion_pairs) ≡ kind → run_marks family block (run % lion_pairs) ≡ run_marks family block run
     by_kind First is =
         sym (first_run family block (run % lion_pairs) within lower (ap run_kind (lions_run run) ∙ is))
-        ∙ size_by_lions family block run within below ∙ first_run family block run within below is
+        ∙ size_by_lions family block run within below (run_size family.set block) (omega arith) ∙ first_run family block run within below is
     by_kind Later is =
         sym (later_run family block (run % lion_pairs) within lower (ap run_kind (lions_run run) ∙ is)) ∙ later_run family block run within below is
     by_kind Mixed is =
@@ -53,14 +44,13 @@ marks_of_lions family block run within below = by_kind (run_kind (run % lion_pai
 -- ---- sums
 
 pub marks_of_runs : (family : Family) (block run : ℕ) → block < product (block_bases family.set) → run ≤ runs_in family.set block
-    → marks_below (is_marked family) (start_of family.set block) + sum_below (run_marks family block) run
-    ≡ marks_below (is_marked family) (run_start family.set block run)
+    → classes_to_block family block + sum_below (run_marks family block) run ≡ classes_to_run family block run
 marks_of_runs family block zero within upto =
     let none = ap (marks_below (is_marked family)) (run_start_first family.set block) in
     omega (arith, none)
 marks_of_runs family block (suc run) within upto =
     let rest = marks_of_runs family block run within (omega (arith, upto)) in
     let next = classes_before_next family block run within (omega (arith, upto)) in
-    let same : marks_below (is_marked family) (run_start family.set block (run + 1)) ≡ marks_below (is_marked family) (run_start family.set block (suc run)) =
-    ap (λ n. marks_below (is_marked family) (run_start family.set block n)) (let e : run + 1 ≡ suc run = omega arith in e) in
+    let same : classes_to_run family block (run + 1) ≡ classes_to_run family block (suc run) =
+    ap (λ n. classes_to_run family block n) (let e : run + 1 ≡ suc run = omega arith in e) in
     omega (arith, rest, next, same)

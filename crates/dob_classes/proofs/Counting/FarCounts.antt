@@ -1,10 +1,11 @@
 -- How many positions of profile B a run has up to a place, and before a position: by its choice of the chicks' squares, the others' squares and forms.
-use Rattle.dob_classes.proofs.Common.{◌%◌, ◌*◌, ◌+◌, ◌-◌, ◌/◌, ◌<◌, ◌^◌, ◌∙◌, ◌≡◌, ◌≤◌, Bool, List, [], ap, arith, false, get_or, slice_index, subst, sym, true}
-use Rattle.dob_classes.proofs.Common.{ℕ, add-mul, mul-le-mul, mul-le-mul_right, mul-pos, mul_assoc, div-add-mod', div-mul-add, div_below, mod_below, PieceSet}
+use Rattle.dob_classes.proofs.Common.{◌%◌, ◌*◌, ◌+◌, ◌/◌, ◌<◌, ◌^◌, ◌∙◌, ◌≡◌, ◌≤◌, Bool, List, [], ap, arith, false, get_or, slice_index, subst, sym, true, ℕ}
+use Rattle.dob_classes.proofs.Common.{add-mul, mul-le-mul, mul-le-mul_right, mul-pos, mul_assoc, div-add-mod', div-mul-add, div_below, mod_below, PieceSet}
 use Rattle.dob_classes.proofs.Common.{Family, A, B, Setup, AreFewOnBoard-digits, marks_agree, marks_from, there, HasDigits-numbers, few_in_block, four_small}
 use Rattle.dob_classes.proofs.Common.{on_board-block, forms_small, IsPositionOf, family_of, is_present, marks_below, one_if, block_bases, block_of, choose}
 use Rattle.dob_classes.proofs.Common.{digits, digits_of, forms_number, free_squares, on_board, order, product, settle, sum_below, AreFewOnBoard, lion_pairs}
-use Rattle.dob_classes.proofs.Common.{local_of, run_of, run_size, run_start, runs_in, square_bases, are_allowed, forms_stand, may_have, Chicks, is_there}
+use Rattle.dob_classes.proofs.Common.{run_of, run_start, runs_in, square_bases, local_of, run_size, are_allowed, forms_stand, may_have, Chicks, is_there}
+use Rattle.std.proofs.Math.Nat.{add_assoc}
 use Rattle.dob_rank.specs.Weights.{local_in, weight, forms_on, lions_in, choice_weight, forms_before, allowed_number, others_squares, others_forms}
 use Rattle.dob_rank.proofs.InRuns.Lions.{lions_layers}
 use Rattle.dob_rank.proofs.ProfileB.LionBoards.{chicks_settled}
@@ -148,9 +149,6 @@ upto_small n q r s w n_few low r_few s_few w_few =
 pub sums : (s n q w x y : ℕ) → s ≡ x → w ≡ y → s * n + q * w ≡ x * n + q * y
 sums s n q w x y e f = ap (λ (z : ℕ). z * n + q * w) e ∙ ap (λ (z : ℕ). x * n + q * z) f
 
-pub at_most : (a b : ℕ) → a < b → a ≤ b
-at_most a b h = omega (arith, h)
-
 -- ---- the count up to a place
 
 -- the run's lions alone say how many forms its choices have
@@ -176,12 +174,6 @@ lower d e m h k = omega (arith, h, k)
 pub same_left : (x y z : ℕ) → x + y ≡ x + z → y ≡ z
 same_left x y z e = omega (arith, e)
 
-regrouped : (x y z r o : ℕ) → (x + (y + z)) * r + o ≡ (x + y + z) * r + o
-regrouped x y z r o = ap (λ (w : ℕ). w * r + o) (assoc x y z)
-  where
-    assoc : (x y z : ℕ) → x + (y + z) ≡ x + y + z
-    assoc x y z = omega arith
-
 pub count_is : (set : PieceSet) (block run last n r a lions first second before upto : ℕ) (ob : List ℕ) → block < product (block_bases set)
     → run < runs_in set block → ob ≡ digits_of (block_bases set) block → n ≡ others_squares ob → r ≡ others_forms ob → a ≡ 4 ^ slice_index ob 0 * r
     → ArePartsOf ob last n a → lions ≡ run % lion_pairs
@@ -198,16 +190,18 @@ count_is set block run last n r a lions first second before upto ob within below
     ∙ ap (λ (x : ℕ). marks_below (is_present (family_of set B)) (run_start set block run + ((c * n + q) * x + (f + 1)))) whole_forms
     ∙ present_before (family_of set B) block run c q (f + 1) n r spot
     ∙ ap (λ (x : ℕ). marks_below (is_present (family_of set B)) (run_start set block run) + x)
-    (ap (λ (x : ℕ). x + q * (choice_weight B run i c * r) + marks_below (is_form B run i r c) (f + 1)) (factor_out (choice_weight B run i) n r c)
+    (ap (λ (xs : List ℕ). sum_below (λ d. n * (choice_weight B run (slice_index xs 0) d * r)) c + q * (choice_weight B run (slice_index xs 0) c * r)
+    + marks_below (is_form B run (slice_index xs 0) r c) (f + 1)) (sym ob_is)
+    ∙ ap (λ (x : ℕ). x + q * (choice_weight B run i c * r) + marks_below (is_form B run i r c) (f + 1)) (factor_out (choice_weight B run i) n r c)
     ∙ gathered (forms_before B run i c) n q (choice_weight B run i c) r (marks_below (is_form B run i r c) (f + 1))
     ∙ ap (λ (m : ℕ). (sum_below (weight_by i m) c * n + q * weight_by i m c) * r + marks_below (is_form B run i r c) (f + 1)) (sym again)
-    ∙ ap (λ (x : ℕ). x * r + marks_below (is_form B run i r c) (f + 1)) (sym before_here)
+    ∙ ap (λ (x : ℕ). x * r + marks_below (is_form B run i r c) (f + 1)) (sym before_is)
     ∙ ap (λ (x : ℕ). before * r + x) (marks_agree (is_form B run i r c) (λ (k : ℕ). forms_stand i first second (k / r)) (f + 1)
-    (λ k low. ap (λ (m : ℕ). are_allowed (may_have B) 4 (order Chicks) (k / r) 0 (settle (order Chicks) i c (lions_layers m))) (sym again) ∙ allowed_here (k / r))
-    ∙ sym upto_here))))
+    (λ k low. ap (λ (m : ℕ). are_allowed (may_have B) 4 (order Chicks) (k / r) 0 (settle (order Chicks) i c (lions_layers m))) (sym again) ∙ allowed (k / r))
+    ∙ sym upto_is))))
   where
     i : ℕ
-    i = slice_index (digits_of (block_bases set) block) 0
+    i = slice_index ob 0
 
     c : ℕ
     c = last / a / n
@@ -224,17 +218,7 @@ count_is set block run last n r a lions first second before upto ob within below
     whole_forms : a ≡ 4 ^ slice_index (digits_of (block_bases set) block) 0 * r
     whole_forms = subst (λ (xs : List ℕ). a ≡ 4 ^ slice_index xs 0 * r) ob_is a_is
 
-    before_here : before ≡ forms_before B lions i c * n + q * choice_weight B lions i c
-    before_here = subst (λ (xs : List ℕ). before ≡ forms_before B lions (slice_index xs 0) c * n + q * choice_weight B lions (slice_index xs 0) c) ob_is before_is
-
-    allowed_here : (k : ℕ) → are_allowed (may_have B) 4 (order Chicks) k 0 (settle (order Chicks) i c (lions_in lions)) ≡ forms_stand i first second k
-    allowed_here = subst (λ (xs : List ℕ). (k : ℕ) → are_allowed (may_have B) 4 (order Chicks) k 0 (settle (order Chicks) (slice_index xs 0) c (lions_in lions))
-        ≡ forms_stand (slice_index xs 0) first second k) ob_is allowed
-
-    upto_here : upto ≡ marks_below (λ (k : ℕ). forms_stand i first second (k / r)) (f + 1)
-    upto_here = subst (λ (xs : List ℕ). upto ≡ marks_below (λ (k : ℕ). forms_stand (slice_index xs 0) first second (k / r)) (f + 1)) ob_is upto_is
-
-    choice_here : c < choose free_squares i
+    choice_here : c < choose free_squares (slice_index (digits_of (block_bases set) block) 0)
     choice_here = subst (λ (xs : List ℕ). c < choose free_squares (slice_index xs 0)) ob_is p.choice_below
 
     spot : IsSpotIn (family_of set B) block run c q (f + 1) n r
@@ -247,11 +231,9 @@ count_is set block run last n r a lions first second before upto ob within below
       choice_below = choice_here;
       squares_below = p.squares_below;
       forms_below = subst (λ (x : ℕ). f + 1 ≤ x) whole_forms (one_more f a p.form_below);
-      settled = λ d ld. chicks_settled run i d (lower d c (choose free_squares i) ld choice_here);
+      settled = λ d upto. chicks_settled run (slice_index (digits_of (block_bases set) block) 0) d
+          (lower d c (choose free_squares (slice_index (digits_of (block_bases set) block) 0)) upto choice_here);
     }
-
-pub one_before : (n : ℕ) → (n ≡ 0 → ⊥) → n - 1 + 1 ≡ n
-one_before n some = omega (arith, some)
 
 -- ---- in profile A each place is one of the family's
 
@@ -272,8 +254,8 @@ number_by_digits set s ob ds run lions forms number p ob_is ds_is run_is lions_a
     ∙ ap (local_in B (on_board s) (digits s) lions) forms_are
     ∙ ap (λ (m : ℕ). (sum_below (weight_by i m) c * others_squares (on_board s)
     + (squares_number s * weight_by i m c + d)) * others_forms (on_board s) + others_number s) again
-    ∙ regrouped (forms_before B (run_of set s) i c * others_squares (on_board s)) (squares_number s * choice_weight B (run_of set s) i c) d (others_forms (on_board s))
-    (others_number s)
+    ∙ ap (λ (x : ℕ). x * others_forms (on_board s) + others_number s)
+    (sym (add_assoc (forms_before B (run_of set s) i c * others_squares (on_board s)) (squares_number s * choice_weight B (run_of set s) i c) d))
     ∙ same_left (marks_below (is_present (family_of set B)) (run_start set (block_of set s) (run_of set s)))
     (before_place B (run_of set s) (on_board s) c (squares_number s) d (others_number s))
     (marks_below (is_there (family_of set B) (block_of set s) (run_of set s)) (local_of s))

@@ -1,16 +1,18 @@
 -- What a step of a walk passes, and that a walk counts few.
 use Rattle.dob_classes.proofs.Common.{◌<◌, ◌^◌, ◌∙◌, ◌≡◌, ◌≤◌, Bool, ap, arith, min, ℕ, run_size-small, marks_below-le, marks_below_none, marks_below, run_size}
-use Rattle.dob_classes.proofs.Common.{is_there, local_marks_in, local_marks, IsWalk, marks_before}
+use Rattle.dob_classes.proofs.Common.{is_there, local_marks_in, local_marks, IsStretchIn, IsWalk, marks_before}
 use Rattle.dob_classes.specs.declared.class_walks.MixedRun.{MixedRun}
 use Rattle.dob_classes.specs.declared.class_walks.Walk.{Walk}
-use Rattle.dob_classes.proofs.Counting.ClassesBefore.{IsAdded, added}
+use Rattle.dob_classes.proofs.MarksOfRuns.FamilyMarks.{stretch_in}
 
+-- the positions up to where a stretch ends, or to a place before that
 pub passed : (run : MixedRun) (walk : Walk) (place end upto next : ℕ) (on : Bool) → IsWalk run walk → walk.place < place
     → place ≤ run_size run.family.set run.block → walk.place < end → upto ≡ min end place → next ≡ marks_below (is_there run.family run.block run.run) upto
     → ((k : ℕ) → walk.place ≤ k → k < end → local_marks run.family.set run.block run.run k ≡ on)
-    → IsAdded run.family run.block run.run walk.place place upto walk.number next on
+    → IsStretchIn run.family run.block run.run walk.number next on
 passed run walk place end upto next on is low within some upto_is next_is same =
-    added run.family run.block run.run walk.place end place upto walk.number next on run.within run.there within low some upto_is is.number_is next_is same
+    stretch_in run.family run.block run.run walk.place upto walk.number next on run.within run.there (omega (arith, upto_is, within)) is.number_is next_is
+    (omega (arith, upto_is, low, some)) (λ k a b. same k a (omega (arith, b, upto_is)))
 
 pub walked_few : (run : MixedRun) (walk : Walk) → IsWalk run walk → marks_before run walk.number ≤ 2 ^ 36
 walked_few run walk is =

@@ -2,12 +2,13 @@
 use Rattle.dob_classes.proofs.Common.{if◌then◌else◌, ◌%◌, ◌&&◌, ◌+◌, ◌-◌, ◌/◌, ◌<◌, ◌==◌, ◌^◌, ◌∙◌, ◌∷◌, ◌≡◌, ◌≤◌, Bool, [], ap, arith, false, inl, inr, refl}
 use Rattle.dob_classes.proofs.Common.{slice_index, subst, suc, sym, true, zero, ℕ, cases_Bool, cases_lt, Family, Setup, lions_run, marks_agree, marks_from}
 use Rattle.dob_classes.proofs.Common.{run_start_next, run_size-small, spot_there, marked-first_of, place_found, marks_below-le, marks_below-upto}
-use Rattle.dob_classes.proofs.Common.{marks_below_more, marks_below_none, present, marked_place, IsPositionOf, is_marked, is_present, marks_below, one_if}
+use Rattle.dob_classes.proofs.Common.{marks_below_more, marks_below_none, present, marked_place, IsPositionOf, is_present, is_marked, marks_below, one_if}
 use Rattle.dob_classes.proofs.Common.{block_bases, block_of, choose, digits_of, empty_layers, enemy_squares, free_squares, order, product, settle, IsInRun}
-use Rattle.dob_classes.proofs.Common.{form_bases, lion_pairs, local_of, run_kind, run_of, run_size, run_start, runs_in, are_allowed, may_have, Chicks}
+use Rattle.dob_classes.proofs.Common.{form_bases, lion_pairs, run_kind, run_of, run_start, runs_in, local_of, run_size, are_allowed, may_have, Chicks}
 use Rattle.dob_classes.proofs.Common.{EnemyLion, OwnLion, First, Later, Mixed, IsInRunOf, IsNumbered, classes_before, is_there, local_marks_in, place_of_number}
-use Rattle.dob_classes.proofs.Common.{run_size_in, local_marks, IsStretchIn}
+use Rattle.dob_classes.proofs.Common.{run_size_in, local_marks, IsStretchIn, classes_to_place, classes_to_run}
 use Rattle.dob_classes.proofs.OfFamilies.ClassNumbers.{marks_below-rises, marks_below-same}
+use Rattle.dob_rank.proofs.Marked.Words.{marks_below-all, marks_below-unmarked}
 use Rattle.dob_rank.proofs.InRuns.RunPlaces.{in_set, marked_first, marked_later}
 use Rattle.dob_classes.proofs.MarksOfRuns.MixedRuns.{marks_by_lions}
 use Rattle.dob_rank.proofs.OfFamilies.RunPresent.{allowed_in_run}
@@ -84,18 +85,17 @@ marked_in_run family block run place at =
 -- so many representatives of the family stand before a place of the run
 pub classes_before_place : (family : Family) (block run place : ℕ) → block < product (block_bases family.set) → run < runs_in family.set block
     → place ≤ run_size family.set block
-    → marks_below (is_marked family) (run_start family.set block run + place)
-    ≡ classes_before family block run (marks_below (is_there family block run) place)
+    → classes_to_place family block run place ≡ classes_before family block run (marks_below (is_there family block run) place)
 classes_before_place family block run place within below upto =
     sym (marks_from (is_marked family) (run_start family.set block run) place)
-    ∙ ap (λ (n : ℕ). marks_below (is_marked family) (run_start family.set block run) + n)
+    ∙ ap (λ (n : ℕ). classes_to_run family block run + n)
     (marks_agree (λ k. is_marked family (run_start family.set block run + k)) (λ k. is_there family block run k && local_marks family.set block run k) place
     (λ k low. marked_in_run family block run k (record { block_below = within; run_below = below; local_below = omega (arith, low, upto) }))
     ∙ marks_of_some (is_there family block run) (local_marks family.set block run) (run_size family.set block) place upto)
 
 -- and before the next run
 pub classes_before_next : (family : Family) (block run : ℕ) → block < product (block_bases family.set) → run < runs_in family.set block
-    → classes_before family block run (run_size_in family block run) ≡ marks_below (is_marked family) (run_start family.set block (run + 1))
+    → classes_before family block run (run_size_in family block run) ≡ classes_to_run family block (run + 1)
 classes_before_next family block run within below =
     sym (classes_before_place family block run (run_size family.set block) within below (omega arith))
     ∙ ap (marks_below (is_marked family)) (sym (run_start_next family.set block run))
@@ -104,7 +104,7 @@ classes_before_next family block run within below =
 pub record IsMarkedBy (family : Family) (block run number place : ℕ) : Type 0 where
   pub number_below : number < run_size_in family block run
   pub mark_is : local_marks_in family block run number ≡ is_marked family (run_start family.set block run + place)
-  pub before_is : classes_before family block run number ≡ marks_below (is_marked family) (run_start family.set block run + place)
+  pub before_is : classes_before family block run number ≡ classes_to_place family block run place
 
 pub mark_of_number : (family : Family) (block run number place : ℕ) → IsNumbered family block run number place → IsMarkedBy family block run number place
 mark_of_number family block run number place at =
@@ -121,20 +121,14 @@ mark_of_number family block run number place at =
 -- ---- what the lions say
 
 pub all_marked : (mark : ℕ → Bool) (n : ℕ) → ((k : ℕ) → k < n → mark k ≡ true) → marks_below mark n ≡ n
-all_marked mark zero all = marks_below_none mark
-all_marked mark (suc n) all =
-    let rest = all_marked mark n (λ k low. all k (omega (arith, low))) in
-    let more = marks_below_more mark n in
-    let one : one_if (mark n) ≡ 1 = ap one_if (all n (omega arith)) in
-    omega (arith, rest, more, one)
+all_marked mark n all =
+    let below = marks_below-all mark 0 n (λ k low. all (0 + k) (omega (arith, low))) in
+    let none = marks_below_none mark in
+    ap (marks_below mark) (let e : n ≡ 0 + n = omega arith in e) ∙ below ∙ (let e : marks_below mark 0 + n ≡ n = omega (arith, none) in e)
 
 none_marked : (mark : ℕ → Bool) (n : ℕ) → ((k : ℕ) → k < n → mark k ≡ false) → marks_below mark n ≡ 0
-none_marked mark zero all = marks_below_none mark
-none_marked mark (suc n) all =
-    let rest = none_marked mark n (λ k low. all k (omega (arith, low))) in
-    let more = marks_below_more mark n in
-    let none : one_if (mark n) ≡ 0 = ap one_if (all n (omega arith)) in
-    omega (arith, rest, more, none)
+none_marked mark n all =
+    ap (marks_below mark) (let e : n ≡ 0 + n = omega arith in e) ∙ marks_below-unmarked mark 0 n (λ k low. all (0 + k) (omega (arith, low))) ∙ marks_below_none mark
 
 pub first_mark_in : (family : Family) (block run number : ℕ) → IsInRunOf family block run number → run_kind (run % lion_pairs) ≡ First
     → local_marks_in family block run number ≡ true
@@ -177,35 +171,45 @@ there_by_lions family block run other place here there lions =
     ∙ sym (allowed_in_run family block other place (product (form_bases (digits_of (block_bases family.set) block))) there refl)
 
 -- the first run of those lions
-pub record IsAlike (family : Family) (block run : ℕ) : Type 0 where
-  pub size_is : run_size_in family block (run % lion_pairs) ≡ run_size_in family block run
-  pub mark_is : (number : ℕ) → number < run_size_in family block run → local_marks_in family block (run % lion_pairs) number ≡ local_marks_in family block run number
+pub lower_run : (run runs : ℕ) → run < runs → run % lion_pairs < runs
+lower_run run runs below = (let less : run % lion_pairs ≤ run = omega arith in omega (arith, less, below))
+
+module _ (family : Family) (block run : ℕ) (within : block < product (block_bases family.set)) (below : run < runs_in family.set block) where
+  there_alike : (k : ℕ) → k < run_size family.set block → is_there family block (run % lion_pairs) k ≡ is_there family block run k
+  there_alike k low = there_by_lions family block (run % lion_pairs) run k
+      (record { block_below = within; run_below = lower_run run (runs_in family.set block) below; local_below = low })
+      (record { block_below = within; run_below = below; local_below = low }) (lions_run run)
+
+  -- has as many positions before a place
+  pub size_by_lions : (place : ℕ) → place ≤ run_size family.set block
+      → marks_below (is_there family block (run % lion_pairs)) place ≡ marks_below (is_there family block run) place
+  size_by_lions place upto = marks_agree (is_there family block (run % lion_pairs)) (is_there family block run) place
+      (λ k low. there_alike k (omega (arith, low, upto)))
+
+  mark_alike : run_kind (run % lion_pairs) ≡ Mixed → (number : ℕ) → number < run_size_in family block run
+      → local_marks_in family block (run % lion_pairs) number ≡ local_marks_in family block run number
+  mark_alike kind number low =
+      let at = (numbered family block run number (record { block_below = within; run_below = below; number_below = low })).in_run in
+      ap (local_marks family.set block (run % lion_pairs))
+      (places_agree (is_there family block (run % lion_pairs)) (is_there family block run) number (run_size family.set block) there_alike)
+      ∙ sym (marks_by_lions family.set block run (run % lion_pairs) (place_of_number family block run number) at
+      (record { block_below = within; run_below = lower_run run (runs_in family.set block) below; local_below = at.local_below }) (sym (lions_run run)) kind)
+
+-- a run whose positions of a family have the marks of this one's
+pub record IsAlike (family : Family) (block run : ℕ) (of : Family) (its other : ℕ) : Type 0 where
+  pub size_is : run_size_in of its other ≡ run_size_in family block run
+  pub mark_is : (number : ℕ) → number < run_size_in family block run → local_marks_in of its other number ≡ local_marks_in family block run number
   pub before_is : (number : ℕ) → number ≤ run_size_in family block run
-      → marks_below (local_marks_in family block (run % lion_pairs)) number ≡ marks_below (local_marks_in family block run) number
+      → marks_below (local_marks_in of its other) number ≡ marks_below (local_marks_in family block run) number
 
 pub alike_by_lions : (family : Family) (block run : ℕ) → block < product (block_bases family.set) → run < runs_in family.set block
-    → run_kind (run % lion_pairs) ≡ Mixed → IsAlike family block run
+    → run_kind (run % lion_pairs) ≡ Mixed → IsAlike family block run family block (run % lion_pairs)
 alike_by_lions family block run within below kind = record {
-  size_is = marks_agree (is_there family block (run % lion_pairs)) (is_there family block run) (run_size family.set block) same;
-  mark_is = mark;
+  size_is = size_by_lions family block run within below (run_size family.set block) (omega arith);
+  mark_is = mark_alike family block run within below kind;
   before_is = λ number upto. marks_agree (local_marks_in family block (run % lion_pairs)) (local_marks_in family block run) number
-      (λ k low. mark k (omega (arith, low, upto)));
+      (λ k low. mark_alike family block run within below kind k (omega (arith, low, upto)));
 }
-  where
-    lower : run % lion_pairs < runs_in family.set block
-    lower = (let less : run % lion_pairs ≤ run = omega arith in omega (arith, less, below))
-
-    same : (k : ℕ) → k < run_size family.set block → is_there family block (run % lion_pairs) k ≡ is_there family block run k
-    same k low = there_by_lions family block (run % lion_pairs) run k (record { block_below = within; run_below = lower; local_below = low })
-        (record { block_below = within; run_below = below; local_below = low }) (lions_run run)
-
-    mark : (number : ℕ) → number < run_size_in family block run → local_marks_in family block (run % lion_pairs) number ≡ local_marks_in family block run number
-    mark number low =
-        let at = (numbered family block run number (record { block_below = within; run_below = below; number_below = low })).in_run in
-        ap (local_marks family.set block (run % lion_pairs))
-        (places_agree (is_there family block (run % lion_pairs)) (is_there family block run) number (run_size family.set block) same)
-        ∙ sym (marks_by_lions family.set block run (run % lion_pairs) (place_of_number family block run number) at
-        (record { block_below = within; run_below = lower; local_below = at.local_below }) (sym (lions_run run)) kind)
 
 -- ---- the place of a position
 

@@ -160,22 +160,19 @@ hide_chicks : (set : PieceSet) (p q : Setup) → ArePair set p q → chick_squar
     hide 3 (map layer p.board) ≡ hide 3 (map layer q.board)
 hide_chicks set p q two a =
     let on = two.on_board_is in
-    let number : count (order Chicks) (map layer p.board) ≡ count (order Chicks) (map layer q.board) = cc in
-    hide_more 2 p q (omega arith) (lions_hidden set p q two.first two.second two.lions_are) number a
+    hide_more 2 p q (omega arith) (lions_hidden set p q two.first two.second two.lions_are) (cc) a
 
 hide_elephants : (set : PieceSet) (p q : Setup) → ArePair set p q → chick_squares p ≡ chick_squares q → elephant_squares p ≡ elephant_squares q →
     hide 4 (map layer p.board) ≡ hide 4 (map layer q.board)
 hide_elephants set p q two a b =
     let on = two.on_board_is in
-    let number : count (order Elephants) (map layer p.board) ≡ count (order Elephants) (map layer q.board) = cc in
-    hide_more 3 p q (omega arith) (hide_chicks set p q two a) number b
+    hide_more 3 p q (omega arith) (hide_chicks set p q two a) (cc) b
 
 hide_giraffes : (set : PieceSet) (p q : Setup) → ArePair set p q → chick_squares p ≡ chick_squares q → elephant_squares p ≡ elephant_squares q →
     giraffe_squares p ≡ giraffe_squares q → hide 5 (map layer p.board) ≡ hide 5 (map layer q.board)
 hide_giraffes set p q two a b c =
     let on = two.on_board_is in
-    let number : count (order Giraffes) (map layer p.board) ≡ count (order Giraffes) (map layer q.board) = cc in
-    hide_more 4 p q (omega arith) (hide_elephants set p q two a b) number c
+    hide_more 4 p q (omega arith) (hide_elephants set p q two a b) (cc) c
 
 same_layers : (set : PieceSet) (p q : Setup) → ArePair set p q → chick_squares p ≡ chick_squares q → elephant_squares p ≡ elephant_squares q →
     giraffe_squares p ≡ giraffe_squares q → map layer p.board ≡ map layer q.board

@@ -6,7 +6,7 @@ use Rattle.dob_classes.proofs.Common.{length-take, take-append-drop, div-add-mod
 use Rattle.dob_classes.proofs.Common.{PieceSet, Setup, local_digits, AreBases-by, few_in_block, HasDigits-digits, HasParts-from_position}
 use Rattle.dob_classes.proofs.Common.{IsPositionOfSet-mirrored, HasDigits-drop, HasDigits-length, HasBlock-setup_in, on_board-block, marked, HasBlock}
 use Rattle.dob_classes.proofs.Common.{HasDigits, bases_by, block_bases, digits_of, number_of, on_board, place_of, product, setup_in, IsPositionOfSet, IsInRun}
-use Rattle.dob_classes.proofs.Common.{lion_pairs, lions_of, local_bases, local_of, run_kind, run_of, run_size, run_start, Mixed, IsWidth, local_marks}
+use Rattle.dob_classes.proofs.Common.{lion_pairs, lions_of, local_bases, run_kind, run_of, run_start, local_of, run_size, Mixed, IsWidth, local_marks}
 use Rattle.dob_rank.proofs.Arithmetic.MixedRadix.{number_of-below, number_of-append, digits_of-number_of, product-append}
 use Rattle.dob_rank.proofs.InRuns.Lions.{image_lions, lions_of-below, mixed_lions}
 use Rattle.dob_rank.proofs.InRuns.RunPlaces.{local_size, local_size-block, local_of-below, place_of-run, run_of-lions, hand_of, on_board-mirrored, place-parts}
@@ -76,9 +76,7 @@ image_part set p q ob n two is same =
 pub record IsAtSpot (set : PieceSet) (block run local : ℕ) (s : Setup) : Type 0 where
   pub position : IsPositionOfSet set s
   pub on_board_is : on_board s ≡ digits_of (block_bases set) block
-  pub run_is : run_of set s ≡ run
   pub local_is : local_of s ≡ local
-  pub size_is : local_size s ≡ run_size set block
   pub lions_are : lions_of s ≡ run % lion_pairs
 
 pub at_spot : (set : PieceSet) (block run local : ℕ) (s : Setup) → local < run_size set block →
@@ -92,9 +90,7 @@ at_spot set block run local s below there =
     record {
       position = there.position;
       on_board_is = sym (on_board-block set s there.position) ∙ ap (digits_of (block_bases set)) there.block_is;
-      run_is = both.0;
       local_is = both.1;
-      size_is = size;
       lions_are = remainder (hand_of set s) (lions_of s) (run_of set s) run both.0 (run_of-lions set s) (lions_of-below set s there.position);
     }
   where

@@ -17,7 +17,6 @@ pub record IsBetween (list : List Stretch) (low high place : ℕ) : Type 0 where
 
 -- what the entry found says of the place
 pub record IsRead (mark : ℕ → Bool) (place : ℕ) (entry : Stretch) : Type 0 where
-  pub upto : entry.start ≤ place
   pub mark_is : entry.is_marked ≡ mark place
   pub marked_before : entry.is_marked ≡ true → entry.before + (place - entry.start) ≡ marks_below mark place
   pub unmarked_before : entry.is_marked ≡ false → entry.before ≡ marks_below mark place
@@ -26,7 +25,6 @@ read_stretch : (mark : ℕ → Bool) (end place : ℕ) (entry : Stretch) → IsS
 read_stretch mark end place entry is from upto =
     let there : entry.start + (place - entry.start) ≡ place = omega (arith, from) in
     record {
-      upto = from;
       mark_is = sym (is.same place from upto);
       marked_before = λ on.
           (let all = marks_below-all mark entry.start (place - entry.start) (λ k below. is.same (entry.start + k) (omega arith) (omega (arith, below, from, upto)) ∙ on) in

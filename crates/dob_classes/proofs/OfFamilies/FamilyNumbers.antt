@@ -2,7 +2,7 @@
 use Rattle.dob_classes.proofs.Common.{◌<◌, ◌∙◌, ◌≡◌, ◌≤◌, ◌⊎◌, ap, arith, false, inl, inr, min, refl, subst, sym, true, ℕ, min-eq_left, min-eq_right, min_comm}
 use Rattle.dob_classes.proofs.Common.{both_ways, cases_lt, IsAllowed-mirrored, mirrored-mirrored, IsAllowed, mirrored, Family, Setup, HasClass-marked}
 use Rattle.dob_classes.proofs.Common.{represents, IsPositionOfSet-mirrored, rank_of_set-same, HasClass, IsInClass, IsPositionOf, IsRepresentative, class_number}
-use Rattle.dob_classes.proofs.Common.{classes_of, is_marked, marks_below, rank_of_set, size_of_set, IsEither, IsFirstOfTwo, RepresentativeOf}
+use Rattle.dob_classes.proofs.Common.{classes_of, is_marked, marks_below, rank_of_set, size_of_set, IsEither, IsFirstOfTwo, RepresentativeOf, classes_to_setup}
 use Rattle.dob_rank.proofs.Positions.Numbering.{rank_of_set-below}
 use Rattle.dob_rank.proofs.OfFamilies.Present.{marked}
 use Rattle.dob_classes.proofs.OfFamilies.ClassNumbers.{earlier, marks_below-rises, marks_below-same}
@@ -32,7 +32,7 @@ IsInClass-class_number family s p =
 pub record IsEarlierIn (family : Family) (s representative : Setup) : Type 0 where
   pub stands : RepresentativeOf s representative
   pub position : IsPositionOf family representative
-  pub number_is : class_number family s ≡ marks_below (is_marked family) (rank_of_set family.set representative)
+  pub number_is : class_number family s ≡ classes_to_setup family representative
 
 -- the position is the representative of the class of that number
 pub record IsAtClass (family : Family) (s : Setup) (class : ℕ) : Type 0 where
@@ -71,6 +71,12 @@ class_number-below family s p =
     (marks_below-rises (is_marked family) (rank_of_set family.set e.0) (size_of_set family.set) (marked family e.0 (e.1.position, e.1.stands.1))
     (rank_of_set-below family.set e.0 e.1.position.of_set))
 
+-- what is said of the class number of a position, by whatever it was found
+pub number_told : (family : Family) (s : Setup) (class : ℕ) → IsPositionOf family s → class ≡ class_number family s
+    → IsInClass family s class × (class < classes_of family)
+number_told family s class p is = subst (λ (n : ℕ). IsInClass family s n × (n < classes_of family)) (sym is)
+    (IsInClass-class_number family s p, class_number-below family s p)
+
 -- one number: one position, or a position and its mirror image
 pub class_once : (family : Family) (s t : Setup) → IsPositionOf family s → IsPositionOf family t → class_number family s ≡ class_number family t
     → (s ≡ t) ⊎ (s ≡ mirrored t)
@@ -104,14 +110,13 @@ class_number-mirrored family s p =
     ∙ sym (class_number-is family s)
 
 -- a representative's class number is the number of marks below its rank
-pub class_number-representative : (family : Family) (s : Setup) → IsPositionOf family s → IsFirstOfTwo s
-    → class_number family s ≡ marks_below (is_marked family) (rank_of_set family.set s)
+pub class_number-representative : (family : Family) (s : Setup) → IsPositionOf family s → IsFirstOfTwo s → class_number family s ≡ classes_to_setup family s
 class_number-representative family s p first =
     class_number-is family s ∙ ap (marks_below (is_marked family)) (min-eq_left (rank_of_first family.set s p.of_set first))
 
 -- the position of a marked rank is the representative of its class
 pub at_class : (family : Family) (s : Setup) (class : ℕ) → IsPositionOf family s → is_marked family (rank_of_set family.set s) ≡ true
-    → marks_below (is_marked family) (rank_of_set family.set s) ≡ class → IsAtClass family s class
+    → classes_to_setup family s ≡ class → IsAtClass family s class
 at_class family s class p on is =
     let first : IsFirstOfTwo s = (represents family s p.of_set on).1 in
     record {
@@ -119,6 +124,12 @@ at_class family s class p on is =
       before = subst (HasClass family s) is (HasClass-marked family s p);
       number_is = class_number-representative family s p first ∙ is;
     }
+
+pub first_told : (family : Family) (s : Setup) (class : ℕ) → IsPositionOf family s → is_marked family (rank_of_set family.set s) ≡ true
+    → classes_to_setup family s ≡ class → (IsFirstOfTwo s × HasClass family s class) × (class ≡ class_number family s) × (class < classes_of family)
+first_told family s class p on is =
+    let at = at_class family s class p on is in
+    ((at.representative.1, at.before), sym at.number_is, (number_told family s class p (sym at.number_is)).1)
 
 -- a position without a mark is later than its mirror image
 pub later_unmarked : (family : Family) (s : Setup) → IsPositionOf family s → is_marked family (rank_of_set family.set s) ≡ false → ¬ IsFirstOfTwo s
@@ -129,13 +140,13 @@ later_unmarked family s p off first =
 -- ---- the class of a position by the mark of its rank
 
 pub class_of_marked : (family : Family) (s : Setup) (class : ℕ) → IsPositionOf family s → is_marked family (rank_of_set family.set s) ≡ true
-    → class ≡ marks_below (is_marked family) (rank_of_set family.set s) → class ≡ class_number family s
+    → class ≡ classes_to_setup family s → class ≡ class_number family s
 class_of_marked family s class p on is = sym (at_class family s class p on (sym is)).number_is
 
 pub class_of_unmarked : (family : Family) (s t : Setup) (class : ℕ) → IsPositionOf family s → is_marked family (rank_of_set family.set s) ≡ false
-    → t ≡ mirrored s → class ≡ marks_below (is_marked family) (rank_of_set family.set t) → class ≡ class_number family s
+    → t ≡ mirrored s → class ≡ classes_to_setup family t → class ≡ class_number family s
 class_of_unmarked family s t class p off image is =
-    is ∙ ap (λ q. marks_below (is_marked family) (rank_of_set family.set q)) image
+    is ∙ ap (λ q. classes_to_setup family q) image
     ∙ ap (marks_below (is_marked family)) (sym (lower (rank_of_set family.set s) (rank_of_set family.set (mirrored s))
     (elim (cases_lt (rank_of_set family.set (mirrored s)) (rank_of_set family.set s)) [
       | inl lt ↦ lt

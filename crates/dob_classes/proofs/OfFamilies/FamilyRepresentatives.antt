@@ -4,7 +4,7 @@ use Rattle.dob_classes.proofs.Common.{◌<◌, ◌↔◌, ◌∙◌, ◌≡◌, 
 use Rattle.dob_classes.proofs.Common.{IsLegal, mirrored, PieceSet, Family, Profile, Setup, numbering, place_found, marks_below-upto, HasClass-marked}
 use Rattle.dob_classes.proofs.Common.{HasClasses-classes_of, HasRank-rank_of, present, represents, IsPositionOfSet-mirrored, Before-from_rank}
 use Rattle.dob_classes.proofs.Common.{rank_of_set-rises, rank_of_set-same, marked_place, HasClass, HasClasses, HasRank, IsInClass, IsPositionOf}
-use Rattle.dob_classes.proofs.Common.{IsRepresentative, RepresentsClass, class_number, class_setup, classes_of, family_of, is_marked, is_present, rank_of}
+use Rattle.dob_classes.proofs.Common.{IsRepresentative, RepresentsClass, family_of, is_present, class_number, class_setup, classes_of, is_marked, rank_of}
 use Rattle.dob_classes.proofs.Common.{marks_below, nth, rank_of_set, size_of_set, Before, IsEither, IsPositionOfSet, RepresentativeOf}
 use Rattle.dob_rank.proofs.OfFamilies.FamilyOrder.{rank_of-rises}
 use Rattle.dob_rank.proofs.Positions.Sets.{set_of, IsPositionOfSet-set_of}

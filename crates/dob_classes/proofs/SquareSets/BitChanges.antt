@@ -1,6 +1,6 @@
 -- Sets of squares when one square of the setup changes.
-use Rattle.dob_classes.proofs.Common.{◌%◌, ◌*◌, ◌<◌, ◌^◌, ◌∙◌, ◌≡◌, ◌≤◌, Bool, None, Some, ap, arith, bit_and, bit_or, false, inl, inr, length, refl, set}
-use Rattle.dob_classes.proofs.Common.{subst, sym, true, w16, ℕ, cases_eq, get_or-set_other, get_or-set_same, and_le_l, or_lt, bit_at_clear_other}
+use Rattle.dob_classes.proofs.Common.{◌%◌, ◌*◌, ◌<◌, ◌^◌, ◌∙◌, ◌≡◌, ◌≤◌, Bool, None, Some, ap, arith, bit_and, bit_or, cond, false, inl, inr, length, refl, set}
+use Rattle.dob_classes.proofs.Common.{subst, sym, true, w16, ℕ, cases_Bool, cases_eq, get_or-set_other, get_or-set_same, and_le_l, or_lt, bit_at_clear_other}
 use Rattle.dob_classes.proofs.Common.{bit_at_clear_same, bit_at_set_other, bit_at_set_same, bit_at, bit_not, IsMask-same, bit_if, AreSquares, Cell, at}
 use Rattle.dob_classes.proofs.Common.{piece_of, Hands, Kind, Chick, Elephant, Giraffe, Hen, Lion, Side, Enemy, Mover, Setup, AreBitboards, is_chick}
 use Rattle.dob_classes.proofs.Common.{is_elephant, is_enemy, is_enemy_lion, is_giraffe, is_hen, is_own_lion, IsWith, with_enemy, with_own, Bitboards}
@@ -59,6 +59,33 @@ abbrev pub with_piece : Side → Kind → ℕ → Bitboards → Bitboards
 with_piece Mover kind k b = with_own kind (bit k) b
 with_piece Enemy kind k b = with_enemy kind (bit k) b
 
+-- on an empty square each set gets the bit where the new cell passes its test
+module _ (before after : Setup) (square : ℕ) (cell : Cell) (lt : square < 12) (w : IsWith before after square cell) (empty : at before square ≡ None) where
+  abbrev grown : (Cell → Bool) → ℕ → ℕ
+  grown test mask = cond (test cell) (bit_or mask (bit square)) mask
+
+  test_grown : (test : Cell → Bool) (mask new : ℕ) → test None ≡ false → AreSquares before test mask → new ≡ grown test mask → AreSquares after test new
+  test_grown test mask new none are e = elim (cases_Bool (test cell)) [
+    | inl on ↦ subst (AreSquares after test) (sym (e ∙ ap (λ (is : Bool). cond is (bit_or mask (bit square)) mask) on))
+        (added before after square cell lt w test mask are on)
+    | inr off ↦ subst (AreSquares after test) (sym (e ∙ ap (λ (is : Bool). cond is (bit_or mask (bit square)) mask) off))
+        (kept before after square cell lt w test mask are (off ∙ sym (ap test empty ∙ none)))
+  ]
+
+  pub all_grown : (b new : Bitboards) → AreBitboards before b → new.own_lion ≡ grown is_own_lion b.own_lion → new.enemy_lion ≡ grown is_enemy_lion b.enemy_lion
+      → new.chicks ≡ grown is_chick b.chicks → new.elephants ≡ grown is_elephant b.elephants → new.giraffes ≡ grown is_giraffe b.giraffes
+      → new.hens ≡ grown is_hen b.hens → new.enemies ≡ grown is_enemy b.enemies → new.hands ≡ b.hands → AreBitboards after new
+  all_grown b new are o e c l g h x hands = record {
+    own_lion_is = test_grown is_own_lion b.own_lion new.own_lion refl are.own_lion_is o;
+    enemy_lion_is = test_grown is_enemy_lion b.enemy_lion new.enemy_lion refl are.enemy_lion_is e;
+    chicks_are = test_grown is_chick b.chicks new.chicks refl are.chicks_are c;
+    elephants_are = test_grown is_elephant b.elephants new.elephants refl are.elephants_are l;
+    giraffes_are = test_grown is_giraffe b.giraffes new.giraffes refl are.giraffes_are g;
+    hens_are = test_grown is_hen b.hens new.hens refl are.hens_are h;
+    enemies_are = test_grown is_enemy b.enemies new.enemies refl are.enemies_are x;
+    hands_are = hands ∙ are.hands_are ∙ sym w.hands_stay;
+  }
+
 module _ (before after : Setup) (square : ℕ) (lt : square < 12) (b : Bitboards) (are : AreBitboards before b) where
   pub without_piece : IsWith before after square None → (new : Bitboards)
       → new.own_lion ≡ bit_and b.own_lion (bit_not w16 (bit square))
@@ -81,128 +108,21 @@ module _ (before after : Setup) (square : ℕ) (lt : square < 12) (b : Bitboards
   }
 
   module _ (empty : at before square ≡ None) where
-    stays : (cell : Cell) (test : Cell → Bool) (mask : ℕ) → IsWith before after square cell → AreSquares before test mask → test cell ≡ test None
-        → AreSquares after test mask
-    stays cell test mask w is same = kept before after square cell lt w test mask is (same ∙ ap test (sym empty))
-
-    grows : (cell : Cell) (test : Cell → Bool) (mask : ℕ) → IsWith before after square cell → AreSquares before test mask → test cell ≡ true
-        → AreSquares after test (bit_or mask (bit square))
-    grows cell test mask w is passes = added before after square cell lt w test mask is passes
-
     pub piece_added : (side : Side) (kind : Kind) → IsWith before after square (Some (piece_of side kind)) → AreBitboards after (with_piece side kind square b)
-    piece_added Mover Lion w = record {
-      own_lion_is = grows _ is_own_lion b.own_lion w are.own_lion_is refl;
-      enemy_lion_is = stays _ is_enemy_lion b.enemy_lion w are.enemy_lion_is refl;
-      chicks_are = stays _ is_chick b.chicks w are.chicks_are refl;
-      elephants_are = stays _ is_elephant b.elephants w are.elephants_are refl;
-      giraffes_are = stays _ is_giraffe b.giraffes w are.giraffes_are refl;
-      hens_are = stays _ is_hen b.hens w are.hens_are refl;
-      enemies_are = stays _ is_enemy b.enemies w are.enemies_are refl;
-      hands_are = are.hands_are ∙ sym w.hands_stay;
-    }
-    piece_added Mover Giraffe w = record {
-      own_lion_is = stays _ is_own_lion b.own_lion w are.own_lion_is refl;
-      enemy_lion_is = stays _ is_enemy_lion b.enemy_lion w are.enemy_lion_is refl;
-      chicks_are = stays _ is_chick b.chicks w are.chicks_are refl;
-      elephants_are = stays _ is_elephant b.elephants w are.elephants_are refl;
-      giraffes_are = grows _ is_giraffe b.giraffes w are.giraffes_are refl;
-      hens_are = stays _ is_hen b.hens w are.hens_are refl;
-      enemies_are = stays _ is_enemy b.enemies w are.enemies_are refl;
-      hands_are = are.hands_are ∙ sym w.hands_stay;
-    }
-    piece_added Mover Elephant w = record {
-      own_lion_is = stays _ is_own_lion b.own_lion w are.own_lion_is refl;
-      enemy_lion_is = stays _ is_enemy_lion b.enemy_lion w are.enemy_lion_is refl;
-      chicks_are = stays _ is_chick b.chicks w are.chicks_are refl;
-      elephants_are = grows _ is_elephant b.elephants w are.elephants_are refl;
-      giraffes_are = stays _ is_giraffe b.giraffes w are.giraffes_are refl;
-      hens_are = stays _ is_hen b.hens w are.hens_are refl;
-      enemies_are = stays _ is_enemy b.enemies w are.enemies_are refl;
-      hands_are = are.hands_are ∙ sym w.hands_stay;
-    }
-    piece_added Mover Chick w = record {
-      own_lion_is = stays _ is_own_lion b.own_lion w are.own_lion_is refl;
-      enemy_lion_is = stays _ is_enemy_lion b.enemy_lion w are.enemy_lion_is refl;
-      chicks_are = grows _ is_chick b.chicks w are.chicks_are refl;
-      elephants_are = stays _ is_elephant b.elephants w are.elephants_are refl;
-      giraffes_are = stays _ is_giraffe b.giraffes w are.giraffes_are refl;
-      hens_are = stays _ is_hen b.hens w are.hens_are refl;
-      enemies_are = stays _ is_enemy b.enemies w are.enemies_are refl;
-      hands_are = are.hands_are ∙ sym w.hands_stay;
-    }
-    piece_added Mover Hen w = record {
-      own_lion_is = stays _ is_own_lion b.own_lion w are.own_lion_is refl;
-      enemy_lion_is = stays _ is_enemy_lion b.enemy_lion w are.enemy_lion_is refl;
-      chicks_are = grows _ is_chick b.chicks w are.chicks_are refl;
-      elephants_are = stays _ is_elephant b.elephants w are.elephants_are refl;
-      giraffes_are = stays _ is_giraffe b.giraffes w are.giraffes_are refl;
-      hens_are = grows _ is_hen b.hens w are.hens_are refl;
-      enemies_are = stays _ is_enemy b.enemies w are.enemies_are refl;
-      hands_are = are.hands_are ∙ sym w.hands_stay;
-    }
-    piece_added Enemy Lion w = record {
-      own_lion_is = stays _ is_own_lion b.own_lion w are.own_lion_is refl;
-      enemy_lion_is = grows _ is_enemy_lion b.enemy_lion w are.enemy_lion_is refl;
-      chicks_are = stays _ is_chick b.chicks w are.chicks_are refl;
-      elephants_are = stays _ is_elephant b.elephants w are.elephants_are refl;
-      giraffes_are = stays _ is_giraffe b.giraffes w are.giraffes_are refl;
-      hens_are = stays _ is_hen b.hens w are.hens_are refl;
-      enemies_are = stays _ is_enemy b.enemies w are.enemies_are refl;
-      hands_are = are.hands_are ∙ sym w.hands_stay;
-    }
-    piece_added Enemy Giraffe w = record {
-      own_lion_is = stays _ is_own_lion b.own_lion w are.own_lion_is refl;
-      enemy_lion_is = stays _ is_enemy_lion b.enemy_lion w are.enemy_lion_is refl;
-      chicks_are = stays _ is_chick b.chicks w are.chicks_are refl;
-      elephants_are = stays _ is_elephant b.elephants w are.elephants_are refl;
-      giraffes_are = grows _ is_giraffe b.giraffes w are.giraffes_are refl;
-      hens_are = stays _ is_hen b.hens w are.hens_are refl;
-      enemies_are = grows _ is_enemy b.enemies w are.enemies_are refl;
-      hands_are = are.hands_are ∙ sym w.hands_stay;
-    }
-    piece_added Enemy Elephant w = record {
-      own_lion_is = stays _ is_own_lion b.own_lion w are.own_lion_is refl;
-      enemy_lion_is = stays _ is_enemy_lion b.enemy_lion w are.enemy_lion_is refl;
-      chicks_are = stays _ is_chick b.chicks w are.chicks_are refl;
-      elephants_are = grows _ is_elephant b.elephants w are.elephants_are refl;
-      giraffes_are = stays _ is_giraffe b.giraffes w are.giraffes_are refl;
-      hens_are = stays _ is_hen b.hens w are.hens_are refl;
-      enemies_are = grows _ is_enemy b.enemies w are.enemies_are refl;
-      hands_are = are.hands_are ∙ sym w.hands_stay;
-    }
-    piece_added Enemy Chick w = record {
-      own_lion_is = stays _ is_own_lion b.own_lion w are.own_lion_is refl;
-      enemy_lion_is = stays _ is_enemy_lion b.enemy_lion w are.enemy_lion_is refl;
-      chicks_are = grows _ is_chick b.chicks w are.chicks_are refl;
-      elephants_are = stays _ is_elephant b.elephants w are.elephants_are refl;
-      giraffes_are = stays _ is_giraffe b.giraffes w are.giraffes_are refl;
-      hens_are = stays _ is_hen b.hens w are.hens_are refl;
-      enemies_are = grows _ is_enemy b.enemies w are.enemies_are refl;
-      hands_are = are.hands_are ∙ sym w.hands_stay;
-    }
-    piece_added Enemy Hen w = record {
-      own_lion_is = stays _ is_own_lion b.own_lion w are.own_lion_is refl;
-      enemy_lion_is = stays _ is_enemy_lion b.enemy_lion w are.enemy_lion_is refl;
-      chicks_are = grows _ is_chick b.chicks w are.chicks_are refl;
-      elephants_are = stays _ is_elephant b.elephants w are.elephants_are refl;
-      giraffes_are = stays _ is_giraffe b.giraffes w are.giraffes_are refl;
-      hens_are = grows _ is_hen b.hens w are.hens_are refl;
-      enemies_are = grows _ is_enemy b.enemies w are.enemies_are refl;
-      hands_are = are.hands_are ∙ sym w.hands_stay;
-    }
+    piece_added Mover Lion w = all_grown before after square _ lt w empty b _ are refl refl refl refl refl refl refl refl
+    piece_added Mover Giraffe w = all_grown before after square _ lt w empty b _ are refl refl refl refl refl refl refl refl
+    piece_added Mover Elephant w = all_grown before after square _ lt w empty b _ are refl refl refl refl refl refl refl refl
+    piece_added Mover Chick w = all_grown before after square _ lt w empty b _ are refl refl refl refl refl refl refl refl
+    piece_added Mover Hen w = all_grown before after square _ lt w empty b _ are refl refl refl refl refl refl refl refl
+    piece_added Enemy Lion w = all_grown before after square _ lt w empty b _ are refl refl refl refl refl refl refl refl
+    piece_added Enemy Giraffe w = all_grown before after square _ lt w empty b _ are refl refl refl refl refl refl refl refl
+    piece_added Enemy Elephant w = all_grown before after square _ lt w empty b _ are refl refl refl refl refl refl refl refl
+    piece_added Enemy Chick w = all_grown before after square _ lt w empty b _ are refl refl refl refl refl refl refl refl
+    piece_added Enemy Hen w = all_grown before after square _ lt w empty b _ are refl refl refl refl refl refl refl refl
 
     -- nothing comes on the empty square
     pub nothing_added : IsWith before after square None → AreBitboards after b
-    nothing_added w = record {
-      own_lion_is = stays None is_own_lion b.own_lion w are.own_lion_is refl;
-      enemy_lion_is = stays None is_enemy_lion b.enemy_lion w are.enemy_lion_is refl;
-      chicks_are = stays None is_chick b.chicks w are.chicks_are refl;
-      elephants_are = stays None is_elephant b.elephants w are.elephants_are refl;
-      giraffes_are = stays None is_giraffe b.giraffes w are.giraffes_are refl;
-      hens_are = stays None is_hen b.hens w are.hens_are refl;
-      enemies_are = stays None is_enemy b.enemies w are.enemies_are refl;
-      hands_are = are.hands_are ∙ sym w.hands_stay;
-    }
+    nothing_added w = all_grown before after square None lt w empty b b are refl refl refl refl refl refl refl refl
 
 -- ---- a setup with one square changed
 

@@ -1,6 +1,8 @@
 -- The numbers and digits of a position that sets of squares show.
-use Rattle.dob_classes.proofs.Common.{◌∷◌, ◌≡◌, List, [], ap, length, slice_index, sym, ℕ, Hands, PieceSet, Setup, digits, forms_number, on_board, order}
-use Rattle.dob_classes.proofs.Common.{Chicks, Elephants, Giraffes, AreBitboards, HasOfLayer, IsShownOfSet, Bitboards}
+use Rattle.dob_classes.proofs.Common.{◌∷◌, ◌≡◌, List, [], ap, length, map, slice_index, sym, ℕ, Hands, PieceSet, Setup, count, digits, forms_number, layer}
+use Rattle.dob_classes.proofs.Common.{on_board, order, Chicks, Elephants, Giraffes, AreBitboards, HasOfLayer, IsShownOfSet, Bitboards}
+use Rattle.dob_rank.specs.declared.layers.Layer.{Layer}
+use Rattle.dob_rank.specs.Masks.{layer_mask}
 use Rattle.dob_rank.specs.declared.masks.Masks.{Masks}
 use Rattle.dob_rank.specs.BoardDigits.{ArePartsOf, AreNumbersOf}
 use Rattle.dob_rank.specs.BoardMasks.{AreMasksOfBoard}
@@ -26,29 +28,19 @@ are_found set bits masks numbers setup shown layers counts =
     }
 
 module _ (set : PieceSet) (bits : Bitboards) (masks : Masks) (numbers : List ℕ) (setup : Setup) (found : AreFound set bits masks numbers setup) where
+  of_layer : (layer_is : Layer) (mask pieces : ℕ) → mask ≡ layer_mask (order layer_is) (map layer setup.board)
+      → pieces ≡ count (order layer_is) (map layer setup.board) → HasOfLayer layer_is mask pieces setup bits
+  of_layer layer_is mask pieces mask_is pieces_are =
+      record { long = found.shown.position.legal.squares; squares = found.shown.squares; mask_is = mask_is; pieces_are = pieces_are }
+
   pub chicks_found : HasOfLayer Chicks masks.chicks (slice_index numbers 0) setup bits
-  chicks_found = record {
-    long = found.shown.position.legal.squares;
-    squares = found.shown.squares;
-    mask_is = found.masks_are.chicks;
-    pieces_are = sym found.counted.chicks_are;
-  }
+  chicks_found = of_layer Chicks masks.chicks (slice_index numbers 0) found.masks_are.chicks (sym found.counted.chicks_are)
 
   pub elephants_found : HasOfLayer Elephants masks.elephants (slice_index numbers 1) setup bits
-  elephants_found = record {
-    long = found.shown.position.legal.squares;
-    squares = found.shown.squares;
-    mask_is = found.masks_are.elephants;
-    pieces_are = sym found.counted.elephants_are;
-  }
+  elephants_found = of_layer Elephants masks.elephants (slice_index numbers 1) found.masks_are.elephants (sym found.counted.elephants_are)
 
   pub giraffes_found : HasOfLayer Giraffes masks.giraffes (slice_index numbers 2) setup bits
-  giraffes_found = record {
-    long = found.shown.position.legal.squares;
-    squares = found.shown.squares;
-    mask_is = found.masks_are.giraffes;
-    pieces_are = sym found.counted.giraffes_are;
-  }
+  giraffes_found = of_layer Giraffes masks.giraffes (slice_index numbers 2) found.masks_are.giraffes (sym found.counted.giraffes_are)
 
   pub parts_found : (first second third : ℕ) → first ≡ forms_number (order Chicks) setup.board → second ≡ forms_number (order Elephants) setup.board
       → third ≡ forms_number (order Giraffes) setup.board → ArePartsOf bits.hands.mover masks numbers (first ∷ second ∷ third ∷ []) setup

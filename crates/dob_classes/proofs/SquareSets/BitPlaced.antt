@@ -1,13 +1,13 @@
 -- Sets of squares with a piece more, as either side sees them.
-use Rattle.dob_classes.proofs.Common.{◌%◌, ◌*◌, ◌-◌, ◌/◌, ◌<◌, ◌^◌, ◌∙◌, ◌≡◌, ◌≢◌, Bool, List, None, ap, arith, bit_or, false, length, refl, replicate, set}
-use Rattle.dob_classes.proofs.Common.{slice_index_or, subst, suc, sym, true, zero, ℕ, get_or-set_other, length-set, at-turned, bit_if, AreSquares, Cell, at}
-use Rattle.dob_classes.proofs.Common.{setup_of, turned, turned_cell, Hands, Side, Enemy, Mover, Setup, base_of, cell_of, enemy_squares, order, own_squares, put}
+use Rattle.dob_classes.proofs.Common.{◌%◌, ◌*◌, ◌-◌, ◌/◌, ◌<◌, ◌^◌, ◌∙◌, ◌∷◌, ◌≡◌, ◌≢◌, Bool, List, None, [], ap, arith, bit_or, cond, false, length, refl}
+use Rattle.dob_classes.proofs.Common.{replicate, set, slice_index_or, subst, suc, sym, true, zero, ℕ, get_or-set_other, length-set, at-turned, bit_if, Cell, at}
+use Rattle.dob_classes.proofs.Common.{setup_of, turned_cell, turned, Hands, Side, Enemy, Mover, Setup, base_of, cell_of, enemy_squares, order, own_squares, put}
 use Rattle.dob_classes.proofs.Common.{Chicks, Elephants, Empty, Giraffes, AreBitboards, is_chick, is_elephant, is_enemy, is_enemy_lion, is_giraffe, is_hen}
 use Rattle.dob_classes.proofs.Common.{is_own_lion, IsWith, seen_by, seen_hands, seen_owner, seen_square, Bitboards}
 use Rattle.std.specs.Int.Bits.{or_zero_r}
 use Rattle.dob_rank.specs.Placing.{past, AreFree}
 use Rattle.dob_rank.proofs.Boards.EmptySquares.{past-upto}
-use Rattle.dob_classes.proofs.SquareSets.BitChanges.{kept, added, with_one}
+use Rattle.dob_classes.proofs.SquareSets.BitChanges.{all_grown, bit, nothing_added, with_one}
 
 -- ---- what a side sees of a change
 
@@ -43,151 +43,92 @@ seen_empty Enemy before square lt e =
 
 -- ---- one more piece, by a flag for each set
 
-pub record HasFlags (cell : Cell) (own_lion enemy_lion chick elephant giraffe hen enemy : ℕ) : Type 0 where
-  pub own_lion_is : own_lion ≡ bit_if (is_own_lion cell)
-  pub enemy_lion_is : enemy_lion ≡ bit_if (is_enemy_lion cell)
-  pub chick_is : chick ≡ bit_if (is_chick cell)
-  pub elephant_is : elephant ≡ bit_if (is_elephant cell)
-  pub giraffe_is : giraffe ≡ bit_if (is_giraffe cell)
-  pub hen_is : hen ≡ bit_if (is_hen cell)
-  pub enemy_is : enemy ≡ bit_if (is_enemy cell)
+abbrev flags_of : Cell → List ℕ
+flags_of cell =
+    bit_if (is_own_lion cell) ∷ bit_if (is_enemy_lion cell) ∷ bit_if (is_chick cell) ∷ bit_if (is_elephant cell) ∷ bit_if (is_giraffe cell)
+    ∷ bit_if (is_hen cell) ∷ bit_if (is_enemy cell) ∷ []
 
-no_bits : (p : ℕ) → 0 * 2 ^ p % 2 ^ 16 ≡ 0
-no_bits p = omega arith
+abbrev pub HasFlags : Cell → ℕ → ℕ → ℕ → ℕ → ℕ → ℕ → ℕ → Type 0
+HasFlags cell own_lion enemy_lion chick elephant giraffe hen enemy =
+    (own_lion ∷ enemy_lion ∷ chick ∷ elephant ∷ giraffe ∷ hen ∷ enemy ∷ []) ≡ flags_of cell
 
--- a set to which nothing comes
-pub unmarked : (mask p : ℕ) → mask ≡ bit_or mask (0 * 2 ^ p % 2 ^ 16)
-unmarked mask p = sym (ap (bit_or mask) (no_bits p) ∙ or_zero_r mask)
+-- a set to which the bit comes, or nothing
+abbrev pub marked : ℕ → ℕ → ℕ → ℕ
+marked zero p mask = mask
+marked (suc n) p mask = bit_or mask (suc n * 2 ^ p % 2 ^ 16)
 
-module _ (before after : Setup) (p : ℕ) (cell : Cell) (lt : p < 12) (w : IsWith before after p cell) (empty : at before p ≡ None) where
-  marked : (test : Cell → Bool) (mask flag new : ℕ) → test None ≡ false → AreSquares before test mask → flag ≡ bit_if (test cell)
-      → new ≡ bit_or mask (flag * 2 ^ p % 2 ^ 16) → AreSquares after test new
-  marked test mask flag new none are e n = by_flag (test cell) refl
-    where
-      by_flag : (b : Bool) → test cell ≡ b → AreSquares after test new
-      by_flag true is = subst (AreSquares after test) (sym (n ∙ ap (λ (f : ℕ). bit_or mask (f * 2 ^ p % 2 ^ 16)) (e ∙ ap bit_if is)))
-          (added before after p cell lt w test mask are is)
-      by_flag false is = subst (AreSquares after test)
-          (sym (n ∙ ap (λ (f : ℕ). bit_or mask (f * 2 ^ p % 2 ^ 16)) (e ∙ ap bit_if is) ∙ sym (unmarked mask p)))
-          (kept before after p cell lt w test mask are (is ∙ sym (ap test empty ∙ none)))
+pub mark_is : (mask mark given flag p : ℕ) → mark ≡ given * 2 ^ p % 2 ^ 16 → given ≡ flag → bit_or mask mark ≡ marked flag p mask
+mark_is mask mark given zero p e f = (let none : mark ≡ 0 = e ∙ ap (λ (n : ℕ). n * 2 ^ p % 2 ^ 16) f ∙ no_bits p in ap (bit_or mask) none ∙ or_zero_r mask)
+  where
+    no_bits : (p : ℕ) → 0 * 2 ^ p % 2 ^ 16 ≡ 0
+    no_bits p = omega arith
+mark_is mask mark given (suc n) p e f = ap (bit_or mask) (e ∙ ap (λ (n : ℕ). n * 2 ^ p % 2 ^ 16) f)
 
-  all_marked : (b new : Bitboards) (o e c l g h x : ℕ) → AreBitboards before b → HasFlags cell o e c l g h x
-      → new.own_lion ≡ bit_or b.own_lion (o * 2 ^ p % 2 ^ 16)
-      → new.enemy_lion ≡ bit_or b.enemy_lion (e * 2 ^ p % 2 ^ 16)
-      → new.chicks ≡ bit_or b.chicks (c * 2 ^ p % 2 ^ 16)
-      → new.elephants ≡ bit_or b.elephants (l * 2 ^ p % 2 ^ 16)
-      → new.giraffes ≡ bit_or b.giraffes (g * 2 ^ p % 2 ^ 16)
-      → new.hens ≡ bit_or b.hens (h * 2 ^ p % 2 ^ 16)
-      → new.enemies ≡ bit_or b.enemies (x * 2 ^ p % 2 ^ 16)
-      → new.hands ≡ b.hands → AreBitboards after new
-  all_marked b new o e c l g h x are f is_o is_e is_c is_l is_g is_h is_x is_hands = record {
-    own_lion_is = marked is_own_lion b.own_lion o new.own_lion refl are.own_lion_is f.own_lion_is is_o;
-    enemy_lion_is = marked is_enemy_lion b.enemy_lion e new.enemy_lion refl are.enemy_lion_is f.enemy_lion_is is_e;
-    chicks_are = marked is_chick b.chicks c new.chicks refl are.chicks_are f.chick_is is_c;
-    elephants_are = marked is_elephant b.elephants l new.elephants refl are.elephants_are f.elephant_is is_l;
-    giraffes_are = marked is_giraffe b.giraffes g new.giraffes refl are.giraffes_are f.giraffe_is is_g;
-    hens_are = marked is_hen b.hens h new.hens refl are.hens_are f.hen_is is_h;
-    enemies_are = marked is_enemy b.enemies x new.enemies refl are.enemies_are f.enemy_is is_x;
-    hands_are = is_hands ∙ are.hands_are ∙ sym w.hands_stay;
-  }
+by_flag : (mask flag new p : ℕ) (is : Bool) → flag ≡ bit_if is → new ≡ marked flag p mask → new ≡ cond is (bit_or mask (bit p)) mask
+by_flag mask flag new p true f e = e ∙ ap (λ (n : ℕ). marked n p mask) f
+by_flag mask flag new p false f e = e ∙ ap (λ (n : ℕ). marked n p mask) f
 
 pub piece_marked : (side : Side) (before after : Setup) (square : ℕ) (cell : Cell) → square < 12 → IsWith before after square cell
     → at before square ≡ None → (b new : Bitboards) (o e c l g h x : ℕ) → AreBitboards (seen_by side before) b → HasFlags (seen_cell side cell) o e c l g h x
     → let p = seen_square side square in
-    new.own_lion ≡ bit_or b.own_lion (o * 2 ^ p % 2 ^ 16)
-    → new.enemy_lion ≡ bit_or b.enemy_lion (e * 2 ^ p % 2 ^ 16)
-    → new.chicks ≡ bit_or b.chicks (c * 2 ^ p % 2 ^ 16)
-    → new.elephants ≡ bit_or b.elephants (l * 2 ^ p % 2 ^ 16)
-    → new.giraffes ≡ bit_or b.giraffes (g * 2 ^ p % 2 ^ 16)
-    → new.hens ≡ bit_or b.hens (h * 2 ^ p % 2 ^ 16)
-    → new.enemies ≡ bit_or b.enemies (x * 2 ^ p % 2 ^ 16)
+    new.own_lion ≡ marked o p b.own_lion → new.enemy_lion ≡ marked e p b.enemy_lion → new.chicks ≡ marked c p b.chicks
+    → new.elephants ≡ marked l p b.elephants → new.giraffes ≡ marked g p b.giraffes → new.hens ≡ marked h p b.hens → new.enemies ≡ marked x p b.enemies
     → new.hands ≡ b.hands → AreBitboards (seen_by side after) new
-piece_marked side before after square cell lt w empty b new o e c l g h x are f is_o is_e is_c is_l is_g is_h is_x is_hands =
-    all_marked (seen_by side before) (seen_by side after) (seen_square side square) (seen_cell side cell) (seen_below side square lt)
-    (seen_with side before after square cell lt w) (seen_empty side before square lt empty) b new o e c l g h x are f is_o is_e is_c is_l is_g is_h is_x is_hands
+piece_marked side before after square cell lt w empty b new o e c l g h x are flags is_o is_e is_c is_l is_g is_h is_x is_hands =
+    all_grown (seen_by side before) (seen_by side after) (seen_square side square) (seen_cell side cell) (seen_below side square lt)
+    (seen_with side before after square cell lt w) (seen_empty side before square lt empty) b new are
+    (by_flag b.own_lion o new.own_lion _ _ (flag 0) is_o) (by_flag b.enemy_lion e new.enemy_lion _ _ (flag 1) is_e)
+    (by_flag b.chicks c new.chicks _ _ (flag 2) is_c) (by_flag b.elephants l new.elephants _ _ (flag 3) is_l)
+    (by_flag b.giraffes g new.giraffes _ _ (flag 4) is_g) (by_flag b.hens h new.hens _ _ (flag 5) is_h)
+    (by_flag b.enemies x new.enemies _ _ (flag 6) is_x) is_hands
+  where
+    flag : (k : ℕ) → slice_index_or (o ∷ e ∷ c ∷ l ∷ g ∷ h ∷ x ∷ []) k 0 ≡ slice_index_or (flags_of (seen_cell side cell)) k 0
+    flag k = ap (λ (xs : List ℕ). slice_index_or xs k 0) flags
 
 -- ---- the flags of each layer's pieces
 
 pub lion_flags : (side : Side) (owner : ℕ) → owner < 2
     → HasFlags (seen_cell side (cell_of owner 0)) (1 - seen_owner side owner) (seen_owner side owner) 0 0 0 0 0
-lion_flags Mover zero lt =
-    record { own_lion_is = refl; enemy_lion_is = refl; chick_is = refl; elephant_is = refl; giraffe_is = refl; hen_is = refl; enemy_is = refl }
-lion_flags Mover (suc zero) lt =
-    record { own_lion_is = refl; enemy_lion_is = refl; chick_is = refl; elephant_is = refl; giraffe_is = refl; hen_is = refl; enemy_is = refl }
+lion_flags Mover zero lt = refl
+lion_flags Mover (suc zero) lt = refl
 lion_flags Mover (suc (suc n)) lt = absurd (omega arith)
-lion_flags Enemy zero lt =
-    record { own_lion_is = refl; enemy_lion_is = refl; chick_is = refl; elephant_is = refl; giraffe_is = refl; hen_is = refl; enemy_is = refl }
-lion_flags Enemy (suc zero) lt =
-    record { own_lion_is = refl; enemy_lion_is = refl; chick_is = refl; elephant_is = refl; giraffe_is = refl; hen_is = refl; enemy_is = refl }
+lion_flags Enemy zero lt = refl
+lion_flags Enemy (suc zero) lt = refl
 lion_flags Enemy (suc (suc n)) lt = absurd (omega arith)
 
 pub chick_flags : (side : Side) (form : ℕ) → form < 4
     → HasFlags (seen_cell side (cell_of (order Chicks) form)) 0 0 1 0 0 (form % 2) (seen_owner side (form / 2))
-chick_flags Mover zero lt =
-    record { own_lion_is = refl; enemy_lion_is = refl; chick_is = refl; elephant_is = refl; giraffe_is = refl; hen_is = refl; enemy_is = refl }
-chick_flags Mover (suc zero) lt =
-    record { own_lion_is = refl; enemy_lion_is = refl; chick_is = refl; elephant_is = refl; giraffe_is = refl; hen_is = refl; enemy_is = refl }
-chick_flags Mover (suc (suc zero)) lt =
-    record { own_lion_is = refl; enemy_lion_is = refl; chick_is = refl; elephant_is = refl; giraffe_is = refl; hen_is = refl; enemy_is = refl }
-chick_flags Mover (suc (suc (suc zero))) lt =
-    record { own_lion_is = refl; enemy_lion_is = refl; chick_is = refl; elephant_is = refl; giraffe_is = refl; hen_is = refl; enemy_is = refl }
+chick_flags Mover zero lt = refl
+chick_flags Mover (suc zero) lt = refl
+chick_flags Mover (suc (suc zero)) lt = refl
+chick_flags Mover (suc (suc (suc zero))) lt = refl
 chick_flags Mover (suc (suc (suc (suc n)))) lt = absurd (omega arith)
-chick_flags Enemy zero lt =
-    record { own_lion_is = refl; enemy_lion_is = refl; chick_is = refl; elephant_is = refl; giraffe_is = refl; hen_is = refl; enemy_is = refl }
-chick_flags Enemy (suc zero) lt =
-    record { own_lion_is = refl; enemy_lion_is = refl; chick_is = refl; elephant_is = refl; giraffe_is = refl; hen_is = refl; enemy_is = refl }
-chick_flags Enemy (suc (suc zero)) lt =
-    record { own_lion_is = refl; enemy_lion_is = refl; chick_is = refl; elephant_is = refl; giraffe_is = refl; hen_is = refl; enemy_is = refl }
-chick_flags Enemy (suc (suc (suc zero))) lt =
-    record { own_lion_is = refl; enemy_lion_is = refl; chick_is = refl; elephant_is = refl; giraffe_is = refl; hen_is = refl; enemy_is = refl }
+chick_flags Enemy zero lt = refl
+chick_flags Enemy (suc zero) lt = refl
+chick_flags Enemy (suc (suc zero)) lt = refl
+chick_flags Enemy (suc (suc (suc zero))) lt = refl
 chick_flags Enemy (suc (suc (suc (suc n)))) lt = absurd (omega arith)
 
-pub elephant_flags : (side : Side) (form : ℕ) → form < 2
+-- an elephant, and a giraffe
+pub other_flags : (side : Side) (form : ℕ) → form < 2
     → HasFlags (seen_cell side (cell_of (order Elephants) form)) 0 0 0 1 0 0 (seen_owner side form)
-elephant_flags Mover zero lt =
-    record { own_lion_is = refl; enemy_lion_is = refl; chick_is = refl; elephant_is = refl; giraffe_is = refl; hen_is = refl; enemy_is = refl }
-elephant_flags Mover (suc zero) lt =
-    record { own_lion_is = refl; enemy_lion_is = refl; chick_is = refl; elephant_is = refl; giraffe_is = refl; hen_is = refl; enemy_is = refl }
-elephant_flags Mover (suc (suc n)) lt = absurd (omega arith)
-elephant_flags Enemy zero lt =
-    record { own_lion_is = refl; enemy_lion_is = refl; chick_is = refl; elephant_is = refl; giraffe_is = refl; hen_is = refl; enemy_is = refl }
-elephant_flags Enemy (suc zero) lt =
-    record { own_lion_is = refl; enemy_lion_is = refl; chick_is = refl; elephant_is = refl; giraffe_is = refl; hen_is = refl; enemy_is = refl }
-elephant_flags Enemy (suc (suc n)) lt = absurd (omega arith)
-
-pub giraffe_flags : (side : Side) (form : ℕ) → form < 2
-    → HasFlags (seen_cell side (cell_of (order Giraffes) form)) 0 0 0 0 1 0 (seen_owner side form)
-giraffe_flags Mover zero lt =
-    record { own_lion_is = refl; enemy_lion_is = refl; chick_is = refl; elephant_is = refl; giraffe_is = refl; hen_is = refl; enemy_is = refl }
-giraffe_flags Mover (suc zero) lt =
-    record { own_lion_is = refl; enemy_lion_is = refl; chick_is = refl; elephant_is = refl; giraffe_is = refl; hen_is = refl; enemy_is = refl }
-giraffe_flags Mover (suc (suc n)) lt = absurd (omega arith)
-giraffe_flags Enemy zero lt =
-    record { own_lion_is = refl; enemy_lion_is = refl; chick_is = refl; elephant_is = refl; giraffe_is = refl; hen_is = refl; enemy_is = refl }
-giraffe_flags Enemy (suc zero) lt =
-    record { own_lion_is = refl; enemy_lion_is = refl; chick_is = refl; elephant_is = refl; giraffe_is = refl; hen_is = refl; enemy_is = refl }
-giraffe_flags Enemy (suc (suc n)) lt = absurd (omega arith)
+    × HasFlags (seen_cell side (cell_of (order Giraffes) form)) 0 0 0 0 1 0 (seen_owner side form)
+other_flags Mover zero lt = (refl, refl)
+other_flags Mover (suc zero) lt = (refl, refl)
+other_flags Mover (suc (suc n)) lt = absurd (omega arith)
+other_flags Enemy zero lt = (refl, refl)
+other_flags Enemy (suc zero) lt = (refl, refl)
+other_flags Enemy (suc (suc n)) lt = absurd (omega arith)
 
 -- nothing comes on an empty square
 pub nothing_came : (side : Side) (before after : Setup) (square form : ℕ) → square < 12 → at before square ≡ None
     → IsWith before after square (cell_of (order Empty) form) → (b : Bitboards) → AreBitboards (seen_by side before) b → AreBitboards (seen_by side after) b
-nothing_came side before after square form lt empty w b are =
-    piece_marked side before after square None lt w empty b b 0 0 0 0 0 0 0 are (none side)
-    (unmarked b.own_lion p) (unmarked b.enemy_lion p) (unmarked b.chicks p) (unmarked b.elephants p) (unmarked b.giraffes p) (unmarked b.hens p)
-    (unmarked b.enemies p) refl
-  where
-    p : ℕ
-    p = seen_square side square
-
-    none : (side : Side) → HasFlags (seen_cell side None) 0 0 0 0 0 0 0
-    none Mover = record { own_lion_is = refl; enemy_lion_is = refl; chick_is = refl; elephant_is = refl; giraffe_is = refl; hen_is = refl; enemy_is = refl }
-    none Enemy = record { own_lion_is = refl; enemy_lion_is = refl; chick_is = refl; elephant_is = refl; giraffe_is = refl; hen_is = refl; enemy_is = refl }
+nothing_came Mover before after square form lt empty w b are = nothing_added before after square lt b are empty w
+nothing_came Enemy before after square form lt empty w b are =
+    nothing_added (turned before) (turned after) (11 - square) (seen_below Enemy square lt) b are (seen_empty Enemy before square lt empty)
+    (seen_with Enemy before after square None lt w)
 
 -- ---- pieces of a layer, one after the other
-
-on_board_with : (setup : Setup) (square : ℕ) (cell : Cell) → length setup.board ≡ 12 → square < 12
-    → IsWith setup (setup_of (set setup.board square cell) setup.hands) square cell
-on_board_with setup square cell twelve lt = with_one setup square cell twelve lt
 
 -- one piece
 pub one_put : (setup : Setup) (first : ℕ) (cell : Cell) (A B : Setup → Type 0) → length setup.board ≡ 12 → first < 12
@@ -195,7 +136,7 @@ pub one_put : (setup : Setup) (first : ℕ) (cell : Cell) (A B : Setup → Type 
     → ((before after : Setup) → at before first ≡ None → IsWith before after first cell → A before → B after)
     → A setup → B (setup_of (set setup.board first cell) setup.hands)
 one_put setup first cell A B twelve lt empty step are = step setup (setup_of (set setup.board first cell) setup.hands) empty
-    (on_board_with setup first cell twelve lt) are
+    (with_one setup first cell twelve lt) are
 
 -- two pieces, the second one first
 pub two_put : (setup : Setup) (first second : ℕ) (cell other : Cell) (A B C : Setup → Type 0) → length setup.board ≡ 12 → first < 12 → second < 12
@@ -205,25 +146,27 @@ pub two_put : (setup : Setup) (first second : ℕ) (cell other : Cell) (A B C : 
     → A setup → C (setup_of (set (set setup.board second other) first cell) setup.hands)
 two_put setup first second cell other A B C twelve lt low empty free apart one two are =
     let next = setup_of (set setup.board second other) setup.hands in
-    let at_second = one setup next free (on_board_with setup second other twelve low) are in
+    let at_second = one setup next free (with_one setup second other twelve low) are in
     two next (setup_of (set (set setup.board second other) first cell) setup.hands)
     (get_or-set_other setup.board second first other None apart ∙ empty)
-    (on_board_with next first cell (length-set setup.board second other ∙ twelve) lt) at_second
+    (with_one next first cell (length-set setup.board second other ∙ twelve) lt) at_second
 
--- what pieces on two squares leave, by other words for the squares
-pub put_moved : (P Q : Setup → Type 0) (t p a b n a' b' : ℕ) → a ≡ a' → b ≡ b'
-    → ((setup : Setup) → length setup.board ≡ 12 → AreFree p a b setup.board → P setup → Q (setup_of (put t p a b n setup.board) setup.hands))
-    → (setup : Setup) → length setup.board ≡ 12 → AreFree p a' b' setup.board → P setup → Q (setup_of (put t p a' b' n setup.board) setup.hands)
-put_moved P Q t p a b n a' b' e f step =
-    subst (λ (y : ℕ). (setup : Setup) → length setup.board ≡ 12 → AreFree p a' y setup.board → P setup → Q (setup_of (put t p a' y n setup.board) setup.hands)) f
-    (subst (λ (x : ℕ). (setup : Setup) → length setup.board ≡ 12 → AreFree p x b setup.board → P setup → Q (setup_of (put t p x b n setup.board) setup.hands)) e
-    step)
-
-pub length-put : (t p a b n : ℕ) (cells : List Cell) → length (put t p a b n cells) ≡ length cells
+length-put : (t p a b n : ℕ) (cells : List Cell) → length (put t p a b n cells) ≡ length cells
 length-put t zero a b n cells = refl
 length-put t (suc zero) a b n cells = length-set cells a (cell_of t (n % base_of t))
 length-put t (suc (suc p)) a b n cells =
     length-set (set cells b (cell_of t (n % base_of t))) a (cell_of t (n / base_of t % base_of t)) ∙ length-set cells b (cell_of t (n % base_of t))
+
+-- what pieces on two squares leave, by other words for the squares
+pub put_moved : (P Q : Setup → Type 0) (t p a b n a' b' : ℕ) → a ≡ a' → b ≡ b'
+    → ((setup : Setup) → length setup.board ≡ 12 → AreFree p a b setup.board → P setup → Q (setup_of (put t p a b n setup.board) setup.hands))
+    → (setup : Setup) → length setup.board ≡ 12 → AreFree p a' b' setup.board → P setup
+    → (length (put t p a' b' n setup.board) ≡ 12) × Q (setup_of (put t p a' b' n setup.board) setup.hands)
+put_moved P Q t p a b n a' b' e f step setup twelve free are = (
+  length-put t p a' b' n setup.board ∙ twelve,
+  subst (λ (y : ℕ). AreFree p a' y setup.board → Q (setup_of (put t p a' y n setup.board) setup.hands)) f
+      (subst (λ (x : ℕ). AreFree p x b setup.board → Q (setup_of (put t p x b n setup.board) setup.hands)) e (λ there. step setup twelve there are)) free,
+)
 
 pub at_least_two : (p : ℕ) → 1 < p → (Holds : ℕ → Type 0) → ((n : ℕ) → Holds (suc (suc n))) → Holds p
 at_least_two zero h Holds each = absurd (omega arith)

@@ -1,6 +1,6 @@
 -- Sets of squares found in one pass over the board: five in one word, twelve bits each, which no sum carries over.
 use Rattle.dob_classes.proofs.Common.{◌*◌, ◌+◌, ◌-◌, ◌<◌, ◌^◌, ◌||◌, ◌∙◌, ◌∷◌, ◌≡◌, ◌≤◌, Bool, List, None, Some, [], ap, arith, drop, false, length, refl}
-use Rattle.dob_classes.proofs.Common.{slice_index_or, suc, sym, ℕ, at-turned, length-turned, entry_of, Cell, at, piece_of, turned, turned_cell, Kind, Chick}
+use Rattle.dob_classes.proofs.Common.{slice_index_or, suc, sym, ℕ, at-turned, length-turned, entry_of, Cell, at, piece_of, turned_cell, turned, Kind, Chick}
 use Rattle.dob_classes.proofs.Common.{Elephant, Giraffe, Hen, Lion, Side, Enemy, Mover, Setup, Chicks, Elephants, Giraffes, is_hen, is_of}
 use Rattle.std.proofs.Math.Seq.{drop-cons}
 use Rattle.dob_pieces.specs.Pieces.{is_side, other_side}

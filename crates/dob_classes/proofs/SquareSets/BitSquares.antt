@@ -1,8 +1,7 @@
 -- Sets of squares of a setup: its layers as masks, and the form of a piece by the sets that have its square.
 use Rattle.dob_classes.proofs.Common.{◌*◌, ◌+◌, ◌-◌, ◌/◌, ◌<◌, ◌==◌, ◌^◌, ◌∙◌, ◌∷◌, ◌≡◌, List, None, [], ap, arith, bit_and, get_or, inl, inr, length, map}
 use Rattle.dob_classes.proofs.Common.{refl, slice_index_or, subst, suc, sym, zero, ℕ, cases_eq, eq-eqb, ne_eqb, bit_at-suc, bit_at, bit_if, AreSquares, Cell}
-use Rattle.dob_classes.proofs.Common.{at, Setup, count_other, count_same, count, layer, order, form, Chicks, Elephants, Empty, EnemyLion, Giraffes, OwnLion}
-use Rattle.dob_classes.proofs.Common.{AreBitboards, is_enemy, is_hen, is_of, Bitboards}
+use Rattle.dob_classes.proofs.Common.{at, Setup, count_other, count_same, count, layer, order, form, Chicks, AreBitboards, is_enemy, is_hen, is_of, Bitboards}
 use Rattle.dob_rank.specs.declared.layers.Layer.{Layer}
 use Rattle.dob_rank.specs.Masks.{layer_mask}
 use Rattle.dob_rank.proofs.Boards.EachCell.{of_cell}
@@ -70,25 +69,10 @@ second_of_layer t cells mask less long is less_is two =
 
 -- ---- the form of a cell of a known layer
 
-no_lion : order OwnLion ≡ order Chicks → ⊥
-no_lion e = omega (arith, e)
-
-no_enemy_lion : order EnemyLion ≡ order Chicks → ⊥
-no_enemy_lion e = omega (arith, e)
-
-no_elephant : order Elephants ≡ order Chicks → ⊥
-no_elephant e = omega (arith, e)
-
-no_giraffe : order Giraffes ≡ order Chicks → ⊥
-no_giraffe e = omega (arith, e)
-
-nothing : order Empty ≡ order Chicks → ⊥
-nothing e = omega (arith, e)
-
 chick_form : (cell : Cell) → layer cell ≡ order Chicks → 2 * bit_if (is_enemy cell) + bit_if (is_hen cell) ≡ form cell
 chick_form = of_cell (λ cell. layer cell ≡ order Chicks → 2 * bit_if (is_enemy cell) + bit_if (is_hen cell) ≡ form cell)
-    (λ e. absurd (nothing e)) (λ e. absurd (no_lion e), λ e. absurd (no_giraffe e), λ e. absurd (no_elephant e), λ e. refl, λ e. refl)
-    (λ e. absurd (no_enemy_lion e), λ e. absurd (no_giraffe e), λ e. absurd (no_elephant e), λ e. refl, λ e. refl)
+    (λ e. absurd (omega (arith, e))) (λ e. absurd (omega (arith, e)), λ e. absurd (omega (arith, e)), λ e. absurd (omega (arith, e)), λ e. refl, λ e. refl)
+    (λ e. absurd (omega (arith, e)), λ e. absurd (omega (arith, e)), λ e. absurd (omega (arith, e)), λ e. refl, λ e. refl)
 
 pub chick_found : (setup : Setup) (bits : Bitboards) (square enemy hen : ℕ) → square < 12 → AreBitboards setup bits → layer (at setup square) ≡ order Chicks
     → enemy ≡ bit_at bits.enemies square → hen ≡ bit_at bits.hens square → 2 * enemy + hen ≡ form (at setup square)

@@ -1,11 +1,12 @@
 -- The blocks of a family: what a block of the list says of the family's positions and classes.
-use Rattle.dob_classes.proofs.Common.{◌%◌, ◌*◌, ◌++◌, ◌+◌, ◌-◌, ◌<◌, ◌^◌, ◌∙◌, ◌∷◌, ◌≡◌, ◌≤◌, List, [], ap, arith, inl, inr, length, refl, slice_index}
-use Rattle.dob_classes.proofs.Common.{slice_index_or, subst, sym, true, ℕ, cases_lt, get_or_append_left, get_or_push, length_push, Family, Profile, A, B, Setup}
-use Rattle.dob_classes.proofs.Common.{AreFewOnBoard-digits, marks_from, run_start_next, start_small, spot_there, marks_below-le, marks_below_none, represents}
-use Rattle.dob_classes.proofs.Common.{there, HasDigits-numbers, sum_below_more, local_in_bases, made_in_block, run_in_bases, IsPositionOf, classes_of}
-use Rattle.dob_classes.proofs.Common.{family_of, is_marked, is_present, marks_below, HasDigits, block_bases, block_of, block_size, digits_of, number_of}
-use Rattle.dob_classes.proofs.Common.{product, rank_of_set, size_of_set, start_of, AreFewOnBoard, lion_pairs, local_bases, local_of, run_bases, run_of}
-use Rattle.dob_classes.proofs.Common.{run_size, run_start, runs_in, IsInRunOf, IsNumbered, classes_before, is_there, local_marks_in, run_size_in, BlockClasses}
+use Rattle.dob_classes.proofs.Common.{◌%◌, ◌*◌, ◌++◌, ◌+◌, ◌-◌, ◌<◌, ◌^◌, ◌∙◌, ◌∷◌, ◌≡◌, ◌≤◌, List, [], ap, arith, length, refl, slice_index, slice_index_or}
+use Rattle.dob_classes.proofs.Common.{subst, sym, true, ℕ, length_push, Family, Profile, A, B, Setup, AreFewOnBoard-digits, marks_from, run_start_next}
+use Rattle.dob_classes.proofs.Common.{start_small, spot_there, marks_below-le, marks_below_none, classes_of-below, HasClasses-classes_of, represents, there}
+use Rattle.dob_classes.proofs.Common.{HasDigits-numbers, sum_below_more, local_in_bases, made_in_block, run_in_bases, HasClasses, IsPositionOf, family_of}
+use Rattle.dob_classes.proofs.Common.{is_present, classes_of, is_marked, marks_below, HasDigits, block_bases, block_of, block_size, digits_of, number_of}
+use Rattle.dob_classes.proofs.Common.{product, rank_of_set, start_of, size_of_set, AreFewOnBoard, lion_pairs, local_bases, run_bases, run_of, run_start}
+use Rattle.dob_classes.proofs.Common.{runs_in, local_of, run_size, IsInRunOf, IsNumbered, classes_before, is_there, local_marks_in, run_size_in, BlockClasses}
+use Rattle.dob_classes.proofs.Common.{classes_to_block, classes_to_place, classes_to_run, classes_to_setup}
 use Rattle.dob_classes.specs.BlockTables.{IsBlock, AreBlocks}
 use Rattle.dob_rank.specs.Places.{IsPresentAt, IsPlaceFor}
 use Rattle.dob_rank.specs.Weights.{forms_in, others_squares, others_forms}
@@ -15,6 +16,7 @@ use Rattle.dob_rank.proofs.OfFamilies.FamilyRuns.{ob_of, run_present, lions_alik
 use Rattle.dob_classes.proofs.OfFamilies.FamilyNumbers.{IsAtClass, at_class}
 use Rattle.dob_classes.proofs.MarksOfRuns.FamilyMarks.{mark_of_number, number_of_position}
 use Rattle.dob_classes.proofs.Counting.FarCounts.{all_there, same_left}
+use Rattle.dob_classes.proofs.Tables.Pushed.{each_pushed}
 
 -- ---- the place of a number
 
@@ -55,12 +57,9 @@ number_fits family block run number ob at b ob_is =
     (run_size_in-far family block run at.block_below at.run_below
     ∙ ap (λ (p : Profile). forms_in p (slice_index (ob_of family block) 0) run * (others_squares (ob_of family block) * others_forms (ob_of family block))) b
     ∙ ap (λ n. n * (others_squares (ob_of family block) * others_forms (ob_of family block)))
-    (lions_alike B (slice_index (ob_of family block) 0) run (run % lion_pairs) (again run))
+    (lions_alike B (slice_index (ob_of family block) 0) run (run % lion_pairs) (omega arith))
     ∙ ap (λ (xs : List ℕ). forms_in B (slice_index xs 0) (run % lion_pairs) * (others_squares xs * others_forms xs)) (sym ob_is))
     at.number_below
-  where
-    again : (run : ℕ) → run % lion_pairs ≡ run % lion_pairs % lion_pairs
-    again run = omega arith
 
 pub place_of_far : (family : Family) (block run number place : ℕ) (ob : List ℕ) → IsInRunOf family block run number → family.profile ≡ B
     → ob ≡ digits_of (block_bases family.set) block → IsPlaceFor ob (run % lion_pairs) number place → IsNumbered family block run number place
@@ -77,28 +76,25 @@ place_of_far family block run number place ob at b ob_is found =
 
 -- ---- the representative of a class in its run
 
-pub left_in_run : (family : Family) (block run before class : ℕ) → before ≡ marks_below (is_marked family) (run_start family.set block run)
-    → marks_below (is_marked family) (run_start family.set block run) ≤ class
-    → class < marks_below (is_marked family) (run_start family.set block (run + 1))
-    → marks_below (is_marked family) (run_start family.set block run) + (class - before) < marks_below (is_marked family) (run_start family.set block (run + 1))
+pub left_in_run : (family : Family) (block run before class : ℕ) → before ≡ classes_to_run family block run → classes_to_run family block run ≤ class
+    → class < classes_to_run family block (run + 1) → classes_to_run family block run + (class - before) < classes_to_run family block (run + 1)
 left_in_run family block run before class is low high = omega (arith, is, low, high)
 
 pub record IsRepresentativeAt (family : Family) (block run local class : ℕ) : Type 0 where
   pub local_below : local < run_size family.set block
   pub mark_is : is_marked family (run_start family.set block run + local) ≡ true
-  pub class_is : marks_below (is_marked family) (run_start family.set block run + local) ≡ class
+  pub class_is : classes_to_place family block run local ≡ class
 
 pub representative_at : (family : Family) (block run number place before class : ℕ) → IsNumbered family block run number place
     → local_marks_in family block run number ≡ true → marks_below (local_marks_in family block run) number ≡ class - before
-    → before ≡ marks_below (is_marked family) (run_start family.set block run)
-    → marks_below (is_marked family) (run_start family.set block run) ≤ class → IsRepresentativeAt family block run place class
+    → before ≡ classes_to_run family block run → classes_to_run family block run ≤ class → IsRepresentativeAt family block run place class
 representative_at family block run number place before class at on left before_is low =
     let by = mark_of_number family block run number place at in
     let sum = by.before_is in
     record {
       local_below = at.in_run.local_below;
       mark_is = sym by.mark_is ∙ on;
-      class_is = sym sum ∙ whole (marks_below (is_marked family) (run_start family.set block run)) (marks_below (local_marks_in family block run) number) left before_is low;
+      class_is = sym sum ∙ whole (classes_to_run family block run) (marks_below (local_marks_in family block run) number) left before_is low;
     }
   where
     whole : (first marks : ℕ) → marks ≡ class - before → before ≡ first → first ≤ class → first + marks ≡ class
@@ -106,29 +102,12 @@ representative_at family block run number place before class at on left before_i
 
 -- ---- the block of a position
 
-record IsBlockFor (family : Family) (s : Setup) (block : BlockClasses) : Type 0 where
-  family_is : block.family ≡ family
-  number_is : block.number ≡ block_of family.set s
-
-block_read : (family : Family) (s : Setup) (blocks : List BlockClasses) (index : ℕ) (block : BlockClasses) → index ≡ block_of family.set s
-    → AreBlocks family blocks → index < length blocks → block ≡ slice_index_or blocks index block → IsBlockFor family s block
-block_read family s blocks index block is are below read =
-    let there : IsBlock family index block = subst (IsBlock family index) (sym read) (are index block below) in
-    record { family_is = there.family_is; number_is = there.number_is ∙ is }
-
--- the position's run and number in that block
-pub record IsSpotRead (family : Family) (s : Setup) (block : BlockClasses) (run number : ℕ) : Type 0 where
-  pub run_below : run < runs_in block.family.set block.number
-  pub number_below : number < run_size_in block.family block.number run
-  pub mark_is : local_marks_in block.family block.number run number ≡ is_marked family (rank_of_set family.set s)
-  pub before_is : classes_before block.family block.number run number ≡ marks_below (is_marked family) (rank_of_set family.set s)
-
--- of numbers that are the position's own
-record IsSpotFor (family : Family) (s : Setup) (of : Family) (block run number : ℕ) : Type 0 where
-  run_below : run < runs_in of.set block
-  number_below : number < run_size_in of block run
-  mark_is : local_marks_in of block run number ≡ is_marked family (rank_of_set family.set s)
-  before_is : classes_before of block run number ≡ marks_below (is_marked family) (rank_of_set family.set s)
+-- a run and number of a family's block that are the position's own
+pub record IsSpotFor (family : Family) (s : Setup) (of : Family) (block run number : ℕ) : Type 0 where
+  pub run_below : run < runs_in of.set block
+  pub number_below : number < run_size_in of block run
+  pub mark_is : local_marks_in of block run number ≡ is_marked family (rank_of_set family.set s)
+  pub before_is : classes_before of block run number ≡ classes_to_setup family s
 
 own_spot : (family : Family) (s : Setup) → IsPositionOf family s → IsSpotFor family s family (block_of family.set s) (run_of family.set s)
     (marks_below (is_there family (block_of family.set s) (run_of family.set s)) (local_of s))
@@ -153,88 +132,74 @@ spot_of family s of block run number p of_is block_is run_is number_is =
     (subst (λ r. IsSpotFor family s family (block_of family.set s) r number) (sym run_is)
     (subst (IsSpotFor family s family (block_of family.set s) (run_of family.set s)) (sym number_is) (own_spot family s p))))
 
+-- and of the block that is read
 pub spot_read : (family : Family) (s : Setup) (blocks : List BlockClasses) (index run number : ℕ) (block : BlockClasses) → IsPositionOf family s
     → index ≡ block_of family.set s → run ≡ run_of family.set s
     → number ≡ marks_below (is_there family (block_of family.set s) (run_of family.set s)) (local_of s) → AreBlocks family blocks → index < length blocks
-    → block ≡ slice_index_or blocks index block → IsSpotRead family s block run number
+    → block ≡ slice_index_or blocks index block → IsSpotFor family s block.family block.number run number
 spot_read family s blocks index run number block p is run_is number_is are below read =
-    let of = block_read family s blocks index block is are below read in
-    let spot = spot_of family s block.family block.number run number p of.family_is of.number_is run_is number_is in
-    record { run_below = spot.run_below; number_below = spot.number_below; mark_is = spot.mark_is; before_is = spot.before_is }
+    let there : IsBlock family index block = subst (IsBlock family index) (sym read) (are index block below) in
+    spot_of family s block.family block.number run number p there.family_is (there.number_is ∙ is) run_is number_is
 
 -- ---- how many classes stand before the blocks
-
-before_is : (family : Family) (index : ℕ) (block : BlockClasses) → IsBlock family index block
-    → block.before ≡ marks_below (is_marked family) (start_of family.set index)
-before_is family index block is =
-    block.starts ∙ ap (λ (f : Family). marks_below (is_marked f) (start_of f.set block.number)) is.family_is
-    ∙ ap (λ n. marks_below (is_marked family) (start_of family.set n)) is.number_is
-
-after_is : (family : Family) (index : ℕ) (block : BlockClasses) → IsBlock family index block
-    → block.after ≡ marks_below (is_marked family) (start_of family.set (index + 1))
-after_is family index block is =
-    block.ends ∙ ap (λ (f : Family). marks_below (is_marked f) (start_of f.set block.number + block_size f.set block.number)) is.family_is
-    ∙ ap (λ n. marks_below (is_marked family) (start_of family.set n + block_size family.set n)) is.number_is
-    ∙ ap (marks_below (is_marked family)) (sym (sum_below_more (block_size family.set) index))
 
 -- the block that stands at a number
 pub record HasClassesFrom (family : Family) (index : ℕ) (block : BlockClasses) : Type 0 where
   pub is : IsBlock family index block
-  pub before_is : block.before ≡ marks_below (is_marked family) (start_of family.set index)
-  pub after_is : block.after ≡ marks_below (is_marked family) (start_of family.set (index + 1))
+  pub before_is : block.before ≡ classes_to_block family index
+  pub after_is : block.after ≡ classes_to_block family (index + 1)
+
+from_block : (family : Family) (index : ℕ) (block : BlockClasses) → IsBlock family index block → HasClassesFrom family index block
+from_block family index block is = record {
+  is = is;
+  before_is = block.starts ∙ ap (λ (f : Family). classes_to_block f block.number) is.family_is ∙ ap (classes_to_block family) is.number_is;
+  after_is = block.ends ∙ ap (marks_below (is_marked block.family)) (sym (sum_below_more (block_size block.family.set) block.number))
+      ∙ ap (λ (f : Family). classes_to_block f (block.number + 1)) is.family_is ∙ ap (λ n. classes_to_block family (n + 1)) is.number_is;
+}
 
 pub classes_read : (family : Family) (blocks : List BlockClasses) (index : ℕ) (block : BlockClasses) → AreBlocks family blocks → index < length blocks
     → block ≡ slice_index_or blocks index block → HasClassesFrom family index block
-classes_read family blocks index block are below read =
-    let there : IsBlock family index block = subst (IsBlock family index) (sym read) (are index block below) in
-    record { is = there; before_is = before_is family index block there; after_is = after_is family index block there }
+classes_read family blocks index block are below read = from_block family index block (subst (IsBlock family index) (sym read) (are index block below))
 
 pub new_block : (family : Family) (number : ℕ) (block : BlockClasses) → block.family ≡ family → block.number ≡ number → HasClassesFrom family number block
-new_block family number block family_is number_is =
-    let is : IsBlock family number block = record { family_is = family_is; number_is = number_is } in
-    record { is = is; before_is = before_is family number block is; after_is = after_is family number block is }
+new_block family number block family_is number_is = from_block family number block (record { family_is = family_is; number_is = number_is })
 
 -- one more block
 pub AreBlocks-push : (family : Family) (blocks news : List BlockClasses) (block : BlockClasses) (number : ℕ) → AreBlocks family blocks
     → length blocks ≡ number → IsBlock family number block → news ≡ blocks ++ block ∷ [] → AreBlocks family news
-AreBlocks-push family blocks news block number are long is grown = subst (AreBlocks family) (sym grown) (λ k other below. elim (cases_lt k number) [
-  | inl earlier ↦ subst (IsBlock family k) (sym (get_or_append_left blocks (block ∷ []) other k (omega arith))) (are k other (omega arith))
-  | inr later ↦
-      let more = length_push blocks block in
-      let same : k ≡ number = omega (arith, below, later, long, more) in
-      subst (λ n. IsBlock family n (slice_index_or (blocks ++ block ∷ []) n other)) (sym same)
-      (subst (IsBlock family number) (sym (get_or_push blocks block other number long)) is)
-])
+AreBlocks-push family blocks news block number are long is grown = λ k other below.
+    let longer : length news ≡ length blocks + 1 = ap length grown ∙ length_push blocks block in
+    each_pushed (IsBlock family) blocks news block (length blocks) refl are (subst (λ n. IsBlock family n block) (sym long) is) grown k other
+    (omega (arith, below, longer))
 
 pub AreBlocks-none : (family : Family) (blocks : List BlockClasses) → blocks ≡ [] → AreBlocks family blocks
-AreBlocks-none family blocks none = λ k other below. absurd (none_below k (length blocks) (ap length none) below)
-  where
-    none_below : (k n : ℕ) → n ≡ 0 → k < n → ⊥
-    none_below k n e h = omega arith
+AreBlocks-none family blocks none = λ k other below. (let empty = ap length none in absurd (omega (arith, below, empty)))
 
 -- ---- the classes of all blocks
 
-pub classes_all : (family : Family) (number count : ℕ) → number ≡ product (block_bases family.set)
-    → count ≡ marks_below (is_marked family) (start_of family.set number) → count ≡ classes_of family
+pub classes_all : (family : Family) (number count : ℕ) → number ≡ product (block_bases family.set) → count ≡ classes_to_block family number
+    → count ≡ classes_of family
 unfolding classes_of size_of_set
-classes_all family number count is counted = counted ∙ ap (λ n. marks_below (is_marked family) (start_of family.set n)) is
+classes_all family number count is counted = counted ∙ ap (λ n. classes_to_block family n) is
 
-pub no_classes_yet : (family : Family) → 0 ≡ marks_below (is_marked family) (start_of family.set 0)
+-- what is said of the number of classes, by whatever it was found
+pub count_told : (family : Family) (count : ℕ) → count ≡ classes_of family → HasClasses family count × (count < 2 ^ 31)
+count_told family count is = subst (λ (n : ℕ). HasClasses family n × (n < 2 ^ 31)) (sym is) (HasClasses-classes_of family, classes_of-below family)
+
+pub no_classes_yet : (family : Family) → 0 ≡ classes_to_block family 0
 no_classes_yet family = sym (marks_below_none (is_marked family))
 
 pub class_in_blocks : (family : Family) (class number : ℕ) → class < classes_of family → number ≡ product (block_bases family.set)
-    → class < marks_below (is_marked family) (start_of family.set number)
+    → class < classes_to_block family number
 class_in_blocks family class number below is = subst (λ n. class < n) (sym (classes_all family number _ is refl)) below
 
-pub in_first : (family : Family) (class number : ℕ) → number ≤ 0 → class < marks_below (is_marked family) (start_of family.set number) → ⊥
+pub in_first : (family : Family) (class number : ℕ) → number ≤ 0 → class < classes_to_block family number → ⊥
 in_first family class number none below =
     let zero_is : number ≡ 0 = omega arith in
-    let none_before : marks_below (is_marked family) (start_of family.set number) ≡ 0 =
-    ap (λ n. marks_below (is_marked family) (start_of family.set n)) zero_is ∙ sym (no_classes_yet family) in
+    let none_before : classes_to_block family number ≡ 0 = ap (classes_to_block family) zero_is ∙ sym (no_classes_yet family) in
     omega (arith, below, none_before)
 
-pub classes_few : (family : Family) (block : ℕ) → block ≤ product (block_bases family.set)
-    → marks_below (is_marked family) (start_of family.set block) ≤ 27 * 2 ^ 36
+pub classes_few : (family : Family) (block : ℕ) → block ≤ product (block_bases family.set) → classes_to_block family block ≤ 27 * 2 ^ 36
 classes_few family block upto =
     let start = start_small family.set block upto in
     let marks = marks_below-le (is_marked family) (start_of family.set block) in
@@ -247,36 +212,28 @@ pub record IsSpotOf (family : Family) (block : BlockClasses) (run local : ℕ) :
   pub run_below : run < product (run_bases family.set block.on_board)
   pub local_below : local < product (local_bases block.on_board)
 
-pub spot_in_block : (family : Family) (index run local : ℕ) (block : BlockClasses) → IsBlock family index block
-    → run < runs_in block.family.set block.number → local < run_size block.family.set block.number → IsSpotOf family block run local
-spot_in_block family index run local block is run_low local_low =
-    let within : block.number < product (block_bases family.set) = subst (λ (f : Family). block.number < product (block_bases f.set)) is.family_is block.within in
-    let numbers = subst (λ (f : Family). block.on_board ≡ digits_of (block_bases f.set) block.number) is.family_is block.numbers in
-    record {
-      on_board_has = HasDigits-numbers family.set block.number block.on_board within numbers;
-      run_below = run_in_bases family.set block.number run block.on_board numbers (subst (λ (f : Family). run < runs_in f.set block.number) is.family_is run_low);
-      local_below = local_in_bases family.set block.number local block.on_board numbers
-          (subst (λ (f : Family). local < run_size f.set block.number) is.family_is local_low);
-    }
+pub spot_in_block : (family : Family) (run local : ℕ) (block : BlockClasses) → block.family ≡ family → run < runs_in block.family.set block.number
+    → local < run_size block.family.set block.number → IsSpotOf family block run local
+spot_in_block family run local block is run_low local_low = subst (λ (f : Family). IsSpotOf f block run local) is (record {
+  on_board_has = HasDigits-numbers block.family.set block.number block.on_board block.within block.numbers;
+  run_below = run_in_bases block.family.set block.number run block.on_board block.numbers run_low;
+  local_below = local_in_bases block.family.set block.number local block.on_board block.numbers local_low;
+})
 
 -- at a marked spot stands the representative of its class
-pub at_spot_in : (family : Family) (index run local class : ℕ) (block : BlockClasses) (s : Setup) → IsBlock family index block
-    → run < runs_in block.family.set block.number → local < run_size block.family.set block.number
-    → is_marked block.family (run_start block.family.set block.number run + local) ≡ true
-    → marks_below (is_marked block.family) (run_start block.family.set block.number run + local) ≡ class
-    → HasBlock family.set (number_of (block_bases family.set) block.on_board) (run * product (local_bases block.on_board) + local) s
-    → IsAtClass family s class
-at_spot_in family index run local class block s is run_low local_low on number made =
-    let within : block.number < product (block_bases family.set) = subst (λ (f : Family). block.number < product (block_bases f.set)) is.family_is block.within in
-    let numbers = subst (λ (f : Family). block.on_board ≡ digits_of (block_bases f.set) block.number) is.family_is block.numbers in
-    let made_there = made_in_block family.set block.number run local block.on_board s within numbers made in
-    let start = run_start-is family.set block.number run in
-    let whole : start_of family.set block.number + (run * run_size family.set block.number + local) ≡ run_start family.set block.number run + local
+pub at_spot_in : (family : Family) (run local class : ℕ) (block : BlockClasses) (s : Setup) → block.family ≡ family
+    → is_marked block.family (run_start block.family.set block.number run + local) ≡ true → classes_to_place block.family block.number run local ≡ class
+    → HasBlock family.set (number_of (block_bases family.set) block.on_board) (run * product (local_bases block.on_board) + local) s → IsAtClass family s class
+at_spot_in family run local class block s is on number made =
+    let of = block.family in
+    let made_there = made_in_block of.set block.number run local block.on_board s block.within block.numbers
+    (subst (λ (f : Family). HasBlock f.set (number_of (block_bases f.set) block.on_board) (run * product (local_bases block.on_board) + local) s)
+    (sym is) made) in
+    let start = run_start-is of.set block.number run in
+    let whole : start_of of.set block.number + (run * run_size of.set block.number + local) ≡ run_start of.set block.number run + local
     = omega (arith, start) in
-    let rank : rank_of_set family.set s ≡ run_start family.set block.number run + local
-    = rank_of_set-block family.set block.number (run * run_size family.set block.number + local) s made_there ∙ whole in
-    let marked : is_marked family (rank_of_set family.set s) ≡ true
-    = ap (is_marked family) rank ∙ subst (λ (f : Family). is_marked f (run_start f.set block.number run + local) ≡ true) is.family_is on in
-    at_class family s class (represents family s made_there.position marked).0 marked
-    (ap (marks_below (is_marked family)) rank
-    ∙ subst (λ (f : Family). marks_below (is_marked f) (run_start f.set block.number run + local) ≡ class) is.family_is number)
+    let rank : rank_of_set of.set s ≡ run_start of.set block.number run + local
+    = rank_of_set-block of.set block.number (run * run_size of.set block.number + local) s made_there ∙ whole in
+    let marked : is_marked of (rank_of_set of.set s) ≡ true = ap (is_marked of) rank ∙ on in
+    subst (λ (f : Family). IsAtClass f s class) is
+    (at_class of s class (represents of s made_there.position marked).0 marked (ap (marks_below (is_marked of)) rank ∙ number))

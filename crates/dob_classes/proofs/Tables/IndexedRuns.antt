@@ -1,22 +1,17 @@
 -- The index of a block's runs as it grows, and the run of a class that it leads to.
 use Rattle.dob_classes.proofs.Common.{◌%◌, ◌*◌, ◌++◌, ◌+◌, ◌<◌, ◌^◌, ◌∙◌, ◌∷◌, ◌≡◌, ◌≤◌, List, [], ap, arith, inl, inr, length, refl, slice_index_or, subst}
-use Rattle.dob_classes.proofs.Common.{suc, sym, zero, ℕ, add-mul, cases_lt, get_or_append_left, get_or_push, length_push, one_shl, Family, run_start_end}
-use Rattle.dob_classes.proofs.Common.{is_marked, marks_below, run_start, runs_in, First, AreEntries, IsAtMost, AreRuns, BlockClasses, Run, StretchTable}
+use Rattle.dob_classes.proofs.Common.{suc, sym, zero, ℕ, add-mul, cases_lt, length_push, one_shl, Family, run_start_end, is_marked, marks_below, runs_in, First}
+use Rattle.dob_classes.proofs.Common.{AreEntries, IsAtMost, AreRuns, BlockClasses, Run, StretchTable, classes_to_run}
 use Rattle.dob_classes.proofs.Tables.RunTables.{make_run}
+use Rattle.dob_classes.proofs.Tables.Pushed.{each_pushed}
 
 -- one entry more
 pub entries_more : (runs : List Run) (before step class run : ℕ) (entries news : List ℕ) → AreEntries runs before step entries → IsAtMost runs class run
     → class ≡ before + length entries * step → news ≡ entries ++ run ∷ [] → AreEntries runs before step news
-entries_more runs before step class run entries news are at class_is grown = subst (AreEntries runs before step) (sym grown) (λ k other below.
-    elim (cases_lt k (length entries)) [
-      | inl earlier ↦ subst (IsAtMost runs (before + k * step)) (sym (get_or_append_left entries (run ∷ []) other k earlier)) (are k other earlier)
-      | inr later ↦
-          let more = length_push entries run in
-          let same : k ≡ length entries = omega (arith, below, later, more) in
-          subst (λ n. IsAtMost runs (before + n * step) (slice_index_or (entries ++ run ∷ []) n other)) (sym same)
-          (subst (IsAtMost runs (before + length entries * step)) (sym (get_or_push entries run other (length entries) refl))
-          (subst (λ n. IsAtMost runs n run) class_is at))
-    ])
+entries_more runs before step class run entries news are at class_is grown = λ k other below.
+    let long : length news ≡ length entries + 1 = ap length grown ∙ length_push entries run in
+    each_pushed (λ (n entry : ℕ). IsAtMost runs (before + n * step) entry) entries news run (length entries) refl are
+    (subst (λ n. IsAtMost runs n run) class_is at) grown k other (omega (arith, below, long))
 
 -- and the class of the next one
 pub next_class : (before exponent class run : ℕ) (entries news : List ℕ) → exponent ≤ 32 → class ≡ before + length entries * 2 ^ exponent
@@ -33,8 +28,7 @@ next_class before exponent class run entries news few class_is grown =
 
 -- no class of the block stands before its first run
 pub first_run : (family : Family) (block count before after : ℕ) (runs : List Run) (tables : List StretchTable) → AreRuns family block count runs tables
-    → before ≡ marks_below (is_marked family) (run_start family.set block 0) → after ≡ marks_below (is_marked family) (run_start family.set block count)
-    → before < after → IsAtMost runs before 0
+    → before ≡ classes_to_run family block 0 → after ≡ classes_to_run family block count → before < after → IsAtMost runs before 0
 first_run family block zero before after runs tables are first last some = absurd (omega (arith, first, last, some))
 first_run family block (suc count) before after runs tables are first last some = (
   (let long = are.long in omega arith),
@@ -44,8 +38,8 @@ first_run family block (suc count) before after runs tables are first last some 
 -- the last run with no more than so many classes before it has the next one
 pub record IsRunOf (block : BlockClasses) (run class : ℕ) : Type 0 where
   pub run_below : run < runs_in block.family.set block.number
-  pub low_is : marks_below (is_marked block.family) (run_start block.family.set block.number run) ≤ class
-  pub high_is : class < marks_below (is_marked block.family) (run_start block.family.set block.number (run + 1))
+  pub low_is : classes_to_run block.family block.number run ≤ class
+  pub high_is : class < classes_to_run block.family block.number (run + 1)
 
 pub run_found : (block : BlockClasses) (run class : ℕ) → class < block.after → IsAtMost block.runs.items class run
     → ((other : Run) → run + 1 < length block.runs.items → class < (slice_index_or block.runs.items (run + 1) other).before) → IsRunOf block run class
@@ -66,9 +60,9 @@ run_found block run class high at next =
             omega (arith, there, upto)
         | inr last ↦
             let same : runs_in block.family.set block.number ≡ run + 1 = omega (arith, long, inside, last) in
-            let end : block.after ≡ marks_below (is_marked block.family) (run_start block.family.set block.number (run + 1))
+            let end : block.after ≡ classes_to_run block.family block.number (run + 1)
             = block.ends ∙ ap (marks_below (is_marked block.family)) (sym (run_start_end block.family.set block.number))
-            ∙ ap (λ n. marks_below (is_marked block.family) (run_start block.family.set block.number n)) same in
+            ∙ ap (λ n. classes_to_run block.family block.number n) same in
             omega (arith, end, high)
       ];
     }

@@ -1,11 +1,12 @@
 -- The table of a block's places as it grows, and as it is read at a spot.
-use Rattle.dob_classes.proofs.Common.{◌*◌, ◌++◌, ◌+◌, ◌-◌, ◌/◌, ◌<◌, ◌^◌, ◌∙◌, ◌∷◌, ◌≡◌, List, [], ap, arith, inl, inr, length, refl, slice_index}
-use Rattle.dob_classes.proofs.Common.{slice_index_or, subst, suc, sym, zero, ℕ, cases_lt, get_or_append_left, get_or_push, length_push, All, PieceSet}
-use Rattle.dob_classes.proofs.Common.{parts_are, choose-positive, choose-small, most_choices, product-at_most, HasDigits, bases_by, choose, digits_of}
-use Rattle.dob_classes.proofs.Common.{free_squares, product, AreSomePlaces, AreSquareChoices, AreFewOnBoard, form_bases, local_bases, run_bases, square_bases}
+use Rattle.dob_classes.proofs.Common.{◌*◌, ◌++◌, ◌+◌, ◌-◌, ◌/◌, ◌<◌, ◌^◌, ◌∙◌, ◌∷◌, ◌≡◌, List, [], ap, arith, length, refl, slice_index, slice_index_or, subst}
+use Rattle.dob_classes.proofs.Common.{suc, sym, zero, ℕ, length_push, All, PieceSet, parts_are, choose-positive, choose-small, most_choices, product-at_most}
+use Rattle.dob_classes.proofs.Common.{HasDigits, bases_by, choose, digits_of, free_squares, product, AreSomePlaces, AreSquareChoices, AreFewOnBoard, form_bases}
+use Rattle.dob_classes.proofs.Common.{local_bases, run_bases, square_bases}
 use Rattle.dob_rank.specs.declared.placing.Places.{Places}
 use Rattle.dob_rank.specs.Placing.{ArePlaces, HasPlaces, AreAllPlaces}
 use Rattle.dob_rank.proofs.Arithmetic.MixedRadix.{HasDigits-digits_of}
+use Rattle.dob_classes.proofs.Tables.Pushed.{each_pushed}
 
 -- the digits of a number of a choice of all squares are choices
 pub are_choices : (ob ds : List ℕ) (number : ℕ) → AreFewOnBoard ob → number < product (square_bases ob) → ds ≡ digits_of (square_bases ob) number
@@ -54,19 +55,11 @@ choices-fit ob bases few are =
 pub places_more : (ob ds : List ℕ) (number : ℕ) (places : Places) (table news : List Places) → AreSomePlaces ob number table
     → ds ≡ digits_of (square_bases ob) number → ArePlaces ob (slice_index ds 0) (slice_index ds 1) (slice_index ds 2) places
     → news ≡ table ++ places ∷ [] → AreSomePlaces ob (number + 1) news
-places_more ob ds number places table news are digits_are has grown = subst (AreSomePlaces ob (number + 1)) (sym grown) (record {
-  long = length_push table places ∙ ap (λ n. n + 1) are.long;
-  each = λ k other below. elim (cases_lt k number) [
-    | inl earlier ↦
-        subst (HasPlaces ob k)
-        (sym (get_or_append_left table (places ∷ []) other k (let long = are.long in omega (arith, earlier, long)))) (are.each k other earlier)
-    | inr later ↦
-        let same : k ≡ number = omega (arith, below, later) in
-        subst (λ n. HasPlaces ob n (slice_index_or (table ++ places ∷ []) n other)) (sym same)
-        (subst (HasPlaces ob number) (sym (get_or_push table places other number are.long))
-        (subst (λ xs. ArePlaces ob (slice_index xs 0) (slice_index xs 1) (slice_index xs 2) places) digits_are has))
-  ];
-})
+places_more ob ds number places table news are digits_are has grown = record {
+  long = ap length grown ∙ length_push table places ∙ ap (λ n. n + 1) are.long;
+  each = each_pushed (HasPlaces ob) table news places number are.long are.each
+      (subst (λ xs. ArePlaces ob (slice_index xs 0) (slice_index xs 1) (slice_index xs 2) places) digits_are has) grown;
+}
 
 -- the number at a spot is one of the table, and the places there are those of the spot's digits
 pub squares_below : (set : PieceSet) (ob : List ℕ) (run local squares : ℕ) (table : List Places) → run < product (run_bases set ob)

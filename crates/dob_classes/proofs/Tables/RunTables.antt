@@ -1,74 +1,51 @@
 -- The tables of runs of a family and of their marks, as they grow and as they are read.
-use Rattle.dob_classes.proofs.Common.{◌%◌, ◌*◌, ◌++◌, ◌+◌, ◌<◌, ◌^◌, ◌∙◌, ◌∷◌, ◌≡◌, ◌≤◌, Bool, List, [], ap, arith, false, inl, inr, length, refl}
-use Rattle.dob_classes.proofs.Common.{slice_index_or, subst, sym, true, ℕ, mul-le-mul_right, cases_lt, get_or_append_left, get_or_push, length-append}
-use Rattle.dob_classes.proofs.Common.{length_push, Family, start_small, marks_below-le, marks_below-upto, block_size-small, is_marked, marks_below, block_bases}
-use Rattle.dob_classes.proofs.Common.{block_size, digits_of, product, start_of, lion_pairs, run_bases, run_digits, run_kind, run_size, run_start, runs_in}
-use Rattle.dob_classes.proofs.Common.{RunKind, First, Later, Mixed, IsInRunOf, classes_before, local_marks_in, run_size_in, AreRuns, HasTable, IsRun}
-use Rattle.dob_classes.proofs.Common.{IsTableOfRuns, BlockClasses, Run, StretchTable}
+use Rattle.dob_classes.proofs.Common.{◌%◌, ◌*◌, ◌++◌, ◌+◌, ◌<◌, ◌^◌, ◌∙◌, ◌∷◌, ◌≡◌, ◌≤◌, Bool, List, [], ap, arith, false, length, refl, slice_index_or, subst}
+use Rattle.dob_classes.proofs.Common.{sym, true, ℕ, mul-le-mul_right, get_or_append_left, get_or_push, length-append, length_push, Family, start_small}
+use Rattle.dob_classes.proofs.Common.{marks_below-le, marks_below-upto, block_size-small, is_marked, marks_below, block_bases, block_size, digits_of, product}
+use Rattle.dob_classes.proofs.Common.{start_of, lion_pairs, run_bases, run_digits, run_kind, run_start, runs_in, run_size, RunKind, First, Later, Mixed}
+use Rattle.dob_classes.proofs.Common.{IsInRunOf, classes_before, local_marks_in, run_size_in, AreRuns, HasTable, IsRun, IsTableOfRuns, BlockClasses, Run}
+use Rattle.dob_classes.proofs.Common.{StretchTable, classes_to_run}
 use Rattle.dob_rank.specs.declared.runs.RunDigits.{RunDigits}
 use Rattle.dob_rank.proofs.InRuns.RunPlaces.{block_size-runs, run_start-is}
 use Rattle.dob_classes.proofs.MarksOfRuns.FamilyMarks.{first_mark_in, later_mark_in, first_marks, later_marks, classes_before_next, IsAlike, alike_by_lions}
+use Rattle.dob_classes.proofs.Counting.FamilySums.{run_marks, same_upto, first_run, later_run}
+use Rattle.dob_classes.proofs.Tables.Pushed.{each_pushed}
 
 -- ---- how many marks a run has
 
-pub same_upto : (n : ℕ) → n ≤ n
-same_upto n = omega arith
+run_counted : (family : Family) (block run marks : ℕ) → block < product (block_bases family.set) → run < runs_in family.set block
+    → marks ≡ run_marks family block run → classes_to_run family block run + marks ≡ classes_to_run family block (run + 1)
+run_counted family block run marks within below is =
+    ap (λ n. classes_to_run family block run + n) is ∙ classes_before_next family block run within below
 
 pub count_first : (family : Family) (block run size : ℕ) → block < product (block_bases family.set) → run < runs_in family.set block
-    → size ≡ run_size_in family block run → run_kind (run % lion_pairs) ≡ First
-    → marks_below (is_marked family) (run_start family.set block run) + size ≡ marks_below (is_marked family) (run_start family.set block (run + 1))
-count_first family block run size within below is kind =
-    ap (λ n. marks_below (is_marked family) (run_start family.set block run) + n)
-    (is ∙ sym (first_marks family block run (run_size_in family block run) within below (same_upto (run_size_in family block run)) kind))
-    ∙ classes_before_next family block run within below
+    → size ≡ run_size_in family block run → run_kind (run % lion_pairs) ≡ First → classes_to_run family block run + size ≡ classes_to_run family block (run + 1)
+count_first family block run size within below is kind = run_counted family block run size within below (is ∙ first_run family block run within below kind)
 
 pub count_later : (family : Family) (block run : ℕ) → block < product (block_bases family.set) → run < runs_in family.set block
-    → run_kind (run % lion_pairs) ≡ Later
-    → marks_below (is_marked family) (run_start family.set block run) + 0 ≡ marks_below (is_marked family) (run_start family.set block (run + 1))
-count_later family block run within below kind =
-    ap (λ n. marks_below (is_marked family) (run_start family.set block run) + n)
-    (sym (later_marks family block run (run_size_in family block run) within below (same_upto (run_size_in family block run)) kind))
-    ∙ classes_before_next family block run within below
+    → run_kind (run % lion_pairs) ≡ Later → classes_to_run family block run + 0 ≡ classes_to_run family block (run + 1)
+count_later family block run within below kind = run_counted family block run 0 within below (later_run family block run within below kind)
 
--- what a table says of each run of its lions
-pub record IsTableFor (family : Family) (block run : ℕ) (table : StretchTable) : Type 0 where
-  pub size_is : run_size_in table.family table.block table.run ≡ run_size_in family block run
-  pub count_is : table.count ≡ marks_below (local_marks_in family block run) (run_size_in family block run)
-  pub mark_is : (number : ℕ) → number < run_size_in family block run
-      → local_marks_in table.family table.block table.run number ≡ local_marks_in family block run number
-  pub before_is : (number : ℕ) → number ≤ run_size_in family block run
-      → marks_below (local_marks_in table.family table.block table.run) number ≡ marks_below (local_marks_in family block run) number
+-- a table whose run is alike
+abbrev pub IsTableFor : Family → ℕ → ℕ → StretchTable → Type 0
+IsTableFor family block run table = IsAlike family block run table.family table.block table.run
 
 pub table_for : (family : Family) (block run number : ℕ) (tables : List StretchTable) (table : StretchTable) → block < product (block_bases family.set)
     → run < runs_in family.set block → HasTable family block run number tables → run_kind (run % lion_pairs) ≡ Mixed
     → table ≡ slice_index_or tables number table → IsTableFor family block run table
 table_for family block run number tables table within below has kind read =
     let is : IsTableOfRuns family block (run % lion_pairs) table = subst (IsTableOfRuns family block (run % lion_pairs)) (sym read) ((has kind).1 table) in
-    let alike : IsAlike family block run = alike_by_lions family block run within below kind in
-    let size : run_size_in table.family table.block table.run ≡ run_size_in family block run
-    = ap (λ f. run_size_in f table.block table.run) is.family_is ∙ ap (λ b. run_size_in family b table.run) is.block_is
-    ∙ ap (λ r. run_size_in family block r) is.run_is ∙ alike.size_is in
-    let marks : (n : ℕ) → n ≤ run_size_in family block run
-    → marks_below (local_marks_in table.family table.block table.run) n ≡ marks_below (local_marks_in family block run) n
-    = λ n upto. ap (λ f. marks_below (local_marks_in f table.block table.run) n) is.family_is
-    ∙ ap (λ b. marks_below (local_marks_in family b table.run) n) is.block_is ∙ ap (λ r. marks_below (local_marks_in family block r) n) is.run_is
-    ∙ alike.before_is n upto in
-    record {
-      size_is = size;
-      count_is = table.counted ∙ ap (marks_below (local_marks_in table.family table.block table.run)) size
-          ∙ marks (run_size_in family block run) (same_upto (run_size_in family block run));
-      mark_is = λ n low. ap (λ f. local_marks_in f table.block table.run n) is.family_is ∙ ap (λ b. local_marks_in family b table.run n) is.block_is
-          ∙ ap (λ r. local_marks_in family block r n) is.run_is ∙ alike.mark_is n low;
-      before_is = marks;
-    }
+    subst (λ (f : Family). IsAlike family block run f table.block table.run) (sym is.family_is)
+    (subst (λ (b : ℕ). IsAlike family block run family b table.run) (sym is.block_is)
+    (subst (IsAlike family block run family block) (sym is.run_is) (alike_by_lions family block run within below kind)))
 
-pub count_mixed : (family : Family) (block run number : ℕ) (tables : List StretchTable) (table : StretchTable)
-    → block < product (block_bases family.set) → run < runs_in family.set block → HasTable family block run number tables
-    → run_kind (run % lion_pairs) ≡ Mixed → table ≡ slice_index_or tables number table
-    → marks_below (is_marked family) (run_start family.set block run) + table.count ≡ marks_below (is_marked family) (run_start family.set block (run + 1))
-count_mixed family block run number tables table within below has kind read =
-    ap (λ n. marks_below (is_marked family) (run_start family.set block run) + n) (table_for family block run number tables table within below has kind read).count_is
-    ∙ classes_before_next family block run within below
+-- so it has as many marks as the run
+pub count_mixed : (family : Family) (block run : ℕ) (table : StretchTable) → block < product (block_bases family.set) → run < runs_in family.set block
+    → IsTableFor family block run table → classes_to_run family block run + table.count ≡ classes_to_run family block (run + 1)
+count_mixed family block run table within below by =
+    run_counted family block run table.count within below
+    (table.counted ∙ ap (marks_below (local_marks_in table.family table.block table.run)) by.size_is
+    ∙ by.before_is (run_size_in family block run) (same_upto (run_size_in family block run)))
 
 -- ---- the tables of marks
 
@@ -124,24 +101,15 @@ abbrev pub make_run : ℕ → ℕ → RunKind → RunDigits → Run
 make_run before table kind digits = record { before = before; table = table; kind = kind; digits = digits }
 
 -- one more run
-pub AreRuns-push : (family : Family) (block run before table : ℕ) (kind : RunKind) (digits : RunDigits) (runs news : List Run) (tables : List StretchTable) →
-    AreRuns family block run runs tables → before ≡ marks_below (is_marked family) (run_start family.set block run) → kind ≡ run_kind (run % lion_pairs) →
-    run_digits digits ≡ digits_of (run_bases family.set (digits_of (block_bases family.set) block)) run →
-    HasTable family block run table tables → news ≡ runs ++ make_run before table kind digits ∷ [] → AreRuns family block (run + 1) news tables
-AreRuns-push family block run before table kind digits runs news tables are before_is kind_is digits_are has news_are =
-    subst (λ rs. AreRuns family block (run + 1) rs tables) (sym news_are) (record {
-      long = length_push runs (make_run before table kind digits) ∙ ap (λ n. n + 1) are.long;
-      each = λ k other below. elim (cases_lt k run) [
-        | inl earlier ↦ subst (IsRun family block k tables)
-            (sym (get_or_append_left runs (make_run before table kind digits ∷ []) other k (let long = are.long in omega arith)))
-            (are.each k other earlier)
-        | inr later ↦
-            let same : k ≡ run = omega arith in
-            subst (λ n. IsRun family block n tables (slice_index_or (runs ++ make_run before table kind digits ∷ []) n other)) (sym same)
-            (subst (IsRun family block run tables) (sym (get_or_push runs (make_run before table kind digits) other run are.long))
-            (record { before_is = before_is; kind_is = kind_is; digits_are = digits_are; table_is = has }))
-      ];
-    })
+pub AreRuns-push : (family : Family) (block run before table : ℕ) (kind : RunKind) (digits : RunDigits) (runs news : List Run) (tables : List StretchTable)
+    → AreRuns family block run runs tables → before ≡ classes_to_run family block run → kind ≡ run_kind (run % lion_pairs)
+    → run_digits digits ≡ digits_of (run_bases family.set (digits_of (block_bases family.set) block)) run → HasTable family block run table tables
+    → news ≡ runs ++ make_run before table kind digits ∷ [] → AreRuns family block (run + 1) news tables
+AreRuns-push family block run before table kind digits runs news tables are before_is kind_is digits_are has news_are = record {
+  long = ap length news_are ∙ length_push runs (make_run before table kind digits) ∙ ap (λ n. n + 1) are.long;
+  each = each_pushed (λ (k : ℕ) (entry : Run). IsRun family block k tables entry) runs news (make_run before table kind digits) run are.long are.each
+      (record { before_is = before_is; kind_is = kind_is; digits_are = digits_are; table_is = has }) news_are;
+}
 
 pub AreRuns-none : (family : Family) (block : ℕ) (runs : List Run) (tables : List StretchTable) → runs ≡ [] → AreRuns family block 0 runs tables
 AreRuns-none family block runs tables none = record { long = ap length none; each = λ run other below. absurd (omega arith) }
@@ -149,7 +117,7 @@ AreRuns-none family block runs tables none = record { long = ap length none; eac
 -- ---- bounds
 
 pub marks_small : (family : Family) (block run : ℕ) → block < product (block_bases family.set) → run ≤ runs_in family.set block
-    → marks_below (is_marked family) (run_start family.set block run) ≤ 2 ^ 42
+    → classes_to_run family block run ≤ 2 ^ 42
 marks_small family block run within upto =
     let marks = marks_below-le (is_marked family) (run_start family.set block run) in
     let start = run_start-is family.set block run in
@@ -157,7 +125,7 @@ marks_small family block run within upto =
     let whole = block_size-runs family.set block in
     let times : run * run_size family.set block ≤ runs_in family.set block * run_size family.set block = mul-le-mul_right (run_size family.set block) upto in
     let size = block_size-small family.set block within in
-    bounded (marks_below (is_marked family) (run_start family.set block run)) (run_start family.set block run) (start_of family.set block)
+    bounded (classes_to_run family block run) (run_start family.set block run) (start_of family.set block)
     (run * run_size family.set block) (runs_in family.set block * run_size family.set block) (block_size family.set block) marks start first times whole size
   where
     bounded : (marks at start run all block : ℕ) → marks ≤ at → at ≡ start + run → start ≤ 27 * 2 ^ 36 → run ≤ all → block ≡ all → block ≤ 2 ^ 36 →
@@ -200,12 +168,12 @@ pub record IsFoundIn (family : Family) (block run number : ℕ) (on : Bool) (bef
   pub before_is : before ≡ classes_before family block run number
   pub few : before ≤ 2 ^ 42
 
-found_by : (family : Family) (block run number marks before : ℕ) (on : Bool) → IsInRunOf family block run number
-    → before ≡ marks_below (is_marked family) (run_start family.set block run) → on ≡ local_marks_in family block run number
-    → marks ≡ marks_below (local_marks_in family block run) number → IsFoundIn family block run number on (before + marks)
-found_by family block run number marks before on at before_is on_is marks_are =
-    let whole : before + marks ≡ classes_before family block run number = ap (λ n. n + marks) before_is
-    ∙ ap (λ n. marks_below (is_marked family) (run_start family.set block run) + n) marks_are in
+found_by : (family : Family) (block run number marks before sum : ℕ) (on : Bool) → IsInRunOf family block run number → sum ≡ before + marks
+    → before ≡ classes_to_run family block run → on ≡ local_marks_in family block run number
+    → marks ≡ marks_below (local_marks_in family block run) number → IsFoundIn family block run number on sum
+found_by family block run number marks before sum on at sum_is before_is on_is marks_are =
+    let whole : sum ≡ classes_before family block run number = sum_is ∙ ap (λ n. n + marks) before_is
+    ∙ ap (λ n. classes_to_run family block run + n) marks_are in
     record { mark_is = on_is; before_is = whole; few = (let small = classes_before-small family block run number at in omega (arith, whole, small)) }
 
 pub first_found_in : (family : Family) (block run number : ℕ) (tables : List StretchTable) (entry : Run)
@@ -213,7 +181,7 @@ pub first_found_in : (family : Family) (block run number : ℕ) (tables : List S
 first_found_in family block run number tables entry at kind =
     let in_run = at.in_run in
     let low = in_run.number_below in
-    found_by family block run number number entry.before true in_run at.entry_is.before_is (sym (first_mark_in family block run number in_run kind))
+    found_by family block run number number entry.before _ true in_run refl at.entry_is.before_is (sym (first_mark_in family block run number in_run kind))
     (sym (first_marks family block run number in_run.block_below in_run.run_below (omega (arith, low)) kind))
 
 pub later_found : (family : Family) (block run number : ℕ) (tables : List StretchTable) (entry : Run)
@@ -221,12 +189,9 @@ pub later_found : (family : Family) (block run number : ℕ) (tables : List Stre
 later_found family block run number tables entry at kind =
     let in_run = at.in_run in
     let low = in_run.number_below in
-    subst (IsFoundIn family block run number false) (none_more entry.before)
-    (found_by family block run number 0 entry.before false in_run at.entry_is.before_is (sym (later_mark_in family block run number in_run kind))
-    (sym (later_marks family block run number in_run.block_below in_run.run_below (omega (arith, low)) kind)))
-  where
-    none_more : (n : ℕ) → n + 0 ≡ n
-    none_more n = omega arith
+    let same : entry.before ≡ entry.before + 0 = omega arith in
+    found_by family block run number 0 entry.before entry.before false in_run same at.entry_is.before_is (sym (later_mark_in family block run number in_run kind))
+    (sym (later_marks family block run number in_run.block_below in_run.run_below (omega (arith, low)) kind))
 
 -- of a run whose table is read
 pub read_for : (family : Family) (block run number : ℕ) (tables : List StretchTable) (entry : Run) (table : StretchTable)
@@ -249,7 +214,7 @@ mixed_found family block run number tables entry table on marks at kind read on_
     let by = read_for family block run number tables entry table at kind read in
     let in_run = at.in_run in
     let low = in_run.number_below in
-    found_by family block run number marks entry.before on in_run at.entry_is.before_is (on_is ∙ by.mark_is number low)
+    found_by family block run number marks entry.before _ on in_run refl at.entry_is.before_is (on_is ∙ by.mark_is number low)
     (marks_are ∙ by.before_is number (omega (arith, low)))
 
 -- ---- the representative of a number
@@ -260,43 +225,34 @@ pub record IsNumberLeft (family : Family) (block run number left : ℕ) : Type 0
   pub mark_is : local_marks_in family block run number ≡ true
   pub left_is : marks_below (local_marks_in family block run) number ≡ left
 
-pub first_left : (family : Family) (block run left : ℕ) → block < product (block_bases family.set) → run < runs_in family.set block
-    → run_kind (run % lion_pairs) ≡ First
-    → marks_below (is_marked family) (run_start family.set block run) + left < marks_below (is_marked family) (run_start family.set block (run + 1))
+-- where its lions say it all are, since none would be left where they say later
+pub lions_left : (family : Family) (block run left : ℕ) → block < product (block_bases family.set) → run < runs_in family.set block
+    → (run_kind (run % lion_pairs) ≡ Mixed → ⊥) → classes_to_run family block run + left < classes_to_run family block (run + 1)
     → IsNumberLeft family block run left left
-first_left family block run left within below kind fits =
-    let all = count_first family block run (run_size_in family block run) within below refl kind in
-    let low : left < run_size_in family block run = omega (arith, all, fits) in
-    record {
-      number_below = low;
-      mark_is = first_mark_in family block run left (record { block_below = within; run_below = below; number_below = low }) kind;
-      left_is = first_marks family block run left within below (omega (arith, low)) kind;
-    }
+lions_left family block run left within below apart fits = by_kind (run_kind (run % lion_pairs)) refl
+  where
+    by_kind : (kind : RunKind) → run_kind (run % lion_pairs) ≡ kind → IsNumberLeft family block run left left
+    by_kind First is =
+        let all = count_first family block run (run_size_in family block run) within below refl is in
+        let low : left < run_size_in family block run = omega (arith, all, fits) in
+        record {
+          number_below = low;
+          mark_is = first_mark_in family block run left (record { block_below = within; run_below = below; number_below = low }) is;
+          left_is = first_marks family block run left within below (omega (arith, low)) is;
+        }
+    by_kind Later is = absurd (let none = count_later family block run within below is in omega (arith, none, fits))
+    by_kind Mixed is = absurd (apart is)
 
--- none is left where the lions say later
-pub none_left : (family : Family) (block run left : ℕ) → block < product (block_bases family.set) → run < runs_in family.set block
-    → run_kind (run % lion_pairs) ≡ Later
-    → marks_below (is_marked family) (run_start family.set block run) + left < marks_below (is_marked family) (run_start family.set block (run + 1)) → ⊥
-none_left family block run left within below kind fits =
-    let all = count_later family block run within below kind in
+pub table_left : (family : Family) (block run left : ℕ) (table : StretchTable) → block < product (block_bases family.set) → run < runs_in family.set block
+    → IsTableFor family block run table → classes_to_run family block run + left < classes_to_run family block (run + 1) → left < table.count
+table_left family block run left table within below by fits =
+    let all = count_mixed family block run table within below by in
     omega (arith, all, fits)
 
-pub table_left : (family : Family) (block run left number : ℕ) (tables : List StretchTable) (table : StretchTable)
-    → block < product (block_bases family.set) → run < runs_in family.set block → HasTable family block run number tables
-    → run_kind (run % lion_pairs) ≡ Mixed → table ≡ slice_index_or tables number table
-    → marks_below (is_marked family) (run_start family.set block run) + left < marks_below (is_marked family) (run_start family.set block (run + 1))
-    → left < table.count
-table_left family block run left number tables table within below has kind read fits =
-    let all = count_mixed family block run number tables table within below has kind read in
-    omega (arith, all, fits)
-
-pub mixed_left : (family : Family) (block run left number entry : ℕ) (tables : List StretchTable) (table : StretchTable)
-    → block < product (block_bases family.set) → run < runs_in family.set block → HasTable family block run entry tables
-    → run_kind (run % lion_pairs) ≡ Mixed → table ≡ slice_index_or tables entry table → number < run_size_in table.family table.block table.run
-    → local_marks_in table.family table.block table.run number ≡ true → marks_below (local_marks_in table.family table.block table.run) number ≡ left
-    → IsNumberLeft family block run number left
-mixed_left family block run left number entry tables table within below has kind read low on left_is =
-    let by = table_for family block run entry tables table within below has kind read in
+pub mixed_left : (family : Family) (block run left number : ℕ) (table : StretchTable) → IsTableFor family block run table
+    → number < run_size_in table.family table.block table.run → local_marks_in table.family table.block table.run number ≡ true
+    → marks_below (local_marks_in table.family table.block table.run) number ≡ left → IsNumberLeft family block run number left
+mixed_left family block run left number table by low on left_is =
     let inside : number < run_size_in family block run = subst (λ n. number < n) by.size_is low in
     record {
       number_below = inside;

@@ -9,15 +9,10 @@ stands c =
     stands_at c.args.family c.args.position.now.setup c.spot_of-block.result.0 c.spot_of-block.result.1.run c.spot_of-block.result.1.local c.requires.member
     c.spot_of-block.ensures.block c.spot_of-block.ensures.run c.spot_of-block.ensures.local
 
-pub classes_in_run-places-requires-clause-block : goal.classes_in_run-places-requires-clause-block
-classes_in_run-places-requires-clause-block c = (stands (goal.at.classes_in_run-places-requires-clause-block c).After-spot_of-block).in_run.block_below
-
-pub classes_in_run-places-requires-clause-run : goal.classes_in_run-places-requires-clause-run
-classes_in_run-places-requires-clause-run c = (stands (goal.at.classes_in_run-places-requires-clause-run c).After-spot_of-block).in_run.run_below
-
-pub classes_in_run-places-requires-clause-place : goal.classes_in_run-places-requires-clause-place
-classes_in_run-places-requires-clause-place c =
-    let below = (stands (goal.at.classes_in_run-places-requires-clause-place c).After-spot_of-block).in_run.local_below in omega (arith, below)
+pub classes_in_run-places-requires : goal.classes_in_run-places-requires
+classes_in_run-places-requires c =
+    let at = (stands (goal.at.classes_in_run-places-requires c).After-spot_of-block).in_run in
+    record { block = at.block_below; run = at.run_below; place = (let below = at.local_below in omega (arith, below)) }
 
 pub returns : goal.returns
 returns c = λ row.

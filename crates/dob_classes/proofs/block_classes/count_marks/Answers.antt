@@ -1,6 +1,6 @@
 -- The kind of a run says how many marks it has, or its table does.
 use Rattle.dob_classes.proofs.Common.{◌∙◌, ap, arith, sym, marks_below, is_there}
-use Rattle.dob_classes.proofs.Tables.RunTables.{count_first, count_later, count_mixed}
+use Rattle.dob_classes.proofs.Tables.RunTables.{count_first, count_later, count_mixed, table_for}
 use Rattle.dob_classes.proofs.block_classes.count_marks.Goals as goal
 
 pub index-requires : goal.index-requires
@@ -18,5 +18,6 @@ returns-in-Later c = count_later c.args.family c.args.block c.args.run c.require
 
 pub returns-in-Mixed : goal.returns-in-Mixed
 returns-in-Mixed c =
-    count_mixed c.args.family c.args.block c.args.run c.args.table c.args.mixed.now.items c.index.result.now c.requires.block c.requires.run c.requires.table
-    (sym c.kind_of.ensures ∙ c.in-Mixed.is) c.index.ensures
+    count_mixed c.args.family c.args.block c.args.run c.index.result.now c.requires.block c.requires.run
+    (table_for c.args.family c.args.block c.args.run c.args.table c.args.mixed.now.items _ c.requires.block c.requires.run c.requires.table
+    (sym c.kind_of.ensures ∙ c.in-Mixed.is) c.index.ensures)

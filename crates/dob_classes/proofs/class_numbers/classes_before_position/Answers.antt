@@ -13,21 +13,15 @@ pub classes_before_block-blocks-requires : goal.classes_before_block-blocks-requ
 classes_before_block-blocks-requires c =
     let below = (stands (goal.at.classes_before_block-blocks-requires c).After-spot_of-block).in_run.block_below in omega (arith, below)
 
-pub row_of-requires-clause-block : goal.row_of-requires-clause-block
-row_of-requires-clause-block c = (stands (goal.at.row_of-requires-clause-block c).After-spot_of-block).in_run.block_below
+pub row_of-requires : goal.row_of-requires
+row_of-requires c =
+    let at = (stands (goal.at.row_of-requires c).After-spot_of-block).in_run in
+    record { block = at.block_below; before = c.classes_before_block-blocks.ensures; run = (let below = at.run_below in omega (arith, below)) }
 
-pub row_of-requires-clause-run : goal.row_of-requires-clause-run
-row_of-requires-clause-run c = let below = (stands (goal.at.row_of-requires-clause-run c).After-spot_of-block).in_run.run_below in omega (arith, below)
-
-pub classes_in_run-places-requires-clause-block : goal.classes_in_run-places-requires-clause-block
-classes_in_run-places-requires-clause-block c = (stands (goal.at.classes_in_run-places-requires-clause-block c).After-spot_of-block).in_run.block_below
-
-pub classes_in_run-places-requires-clause-run : goal.classes_in_run-places-requires-clause-run
-classes_in_run-places-requires-clause-run c = (stands (goal.at.classes_in_run-places-requires-clause-run c).After-spot_of-block).in_run.run_below
-
-pub classes_in_run-places-requires-clause-place : goal.classes_in_run-places-requires-clause-place
-classes_in_run-places-requires-clause-place c =
-    let below = (stands (goal.at.classes_in_run-places-requires-clause-place c).After-spot_of-block).in_run.local_below in omega (arith, below)
+pub classes_in_run-places-requires : goal.classes_in_run-places-requires
+classes_in_run-places-requires c =
+    let at = (stands (goal.at.classes_in_run-places-requires c).After-spot_of-block).in_run in
+    record { block = at.block_below; run = at.run_below; place = (let below = at.local_below in omega (arith, below)) }
 
 whole : (c : goal.After-classes_in_run-places)
     → AreBefore c.args.family c.args.position.now.setup c.before_run-runs.result c.classes_in_run-places.result

@@ -1,9 +1,10 @@
 -- Each run of the first hand adds its own classes, and they are written behind it.
 use Rattle.dob_classes.proofs.Common.{◌+◌, ◌<◌, ◌∙◌, ◌≡◌, ◌≤◌, List, ap, arith, get_or, inl, inr, length, slice_set, sym, ℕ, cases_lt, get_or-set_other}
-use Rattle.dob_classes.proofs.Common.{get_or-set_same, length-set, is_marked, marks_below, start_of, run_start}
+use Rattle.dob_classes.proofs.Common.{get_or-set_same, length-set, classes_to_block, classes_to_run}
 use Rattle.dob_classes.proofs.Tables.RunTables.{marks_small}
 use Rattle.dob_classes.proofs.Counting.ClassesBefore.{none_before, all_lions, one_run_more}
 use Rattle.dob_classes.proofs.class_rows.class_row.Goals as goal
+use Rattle.dob_classes.proofs.class_rows.class_row.Goals.{After-classes_in_run-count}
 
 -- one number more of the row
 written : (row : List ℕ) (f : ℕ → ℕ) (s n value : ℕ) → length row ≡ 101 → n < 99 → ((k e : ℕ) → k ≤ n → s + get_or row k e ≡ f k) → s + value ≡ f (n + 1)
@@ -31,8 +32,8 @@ loop-run-init c = (
   none_before c.args.family c.args.block,
   λ e. get_or-set_other (slice_set c.args.row.now 100 c.args.before) 0 100 0 e (λ is. omega (arith, is))
       ∙ get_or-set_same c.args.row.now 100 c.args.before e (let room = c.requires.room in omega (arith, room)),
-  opened c.args.row.now (λ (k : ℕ). marks_below (is_marked c.args.family) (run_start c.args.family.set c.args.block k))
-      (marks_below (is_marked c.args.family) (start_of c.args.family.set c.args.block)) c.args.before c.requires.room (none_before c.args.family c.args.block),
+  opened c.args.row.now (λ (k : ℕ). classes_to_run c.args.family c.args.block k)
+      (classes_to_block c.args.family c.args.block) c.args.before c.requires.room (none_before c.args.family c.args.block),
 )
 
 pub classes_in_run-count-requires-clause-run : goal.classes_in_run-count-requires-clause-run
@@ -41,24 +42,27 @@ classes_in_run-count-requires-clause-run c =
     let low = c.loop-run-test.true in
     omega (arith, all, low)
 
+more : (c : After-classes_in_run-count) → classes_to_block c.args.family c.args.block + (c.loop-run.count + c.classes_in_run-count.result)
+    ≡ classes_to_run c.args.family c.args.block (c.loop-run.run + 1)
+more c = one_run_more c.args.family c.args.block c.loop-run.run c.run_size_in-size.result c.loop-run.count c.classes_in_run-count.result
+    c.run_size_in-size.ensures.value c.loop-run.invariant.1 c.classes_in_run-count.ensures
+
 pub overflow_add-count : goal.overflow_add-count
 overflow_add-count c =
-    let more = one_run_more c.args.family c.args.block c.loop-run.run c.run_size_in-size.result c.loop-run.count c.classes_in_run-count.result
-    c.run_size_in-size.ensures.value c.loop-run.invariant.1 c.classes_in_run-count.ensures in
+    let sum = more (goal.at.overflow_add-count c).After-classes_in_run-count in
     let all = all_lions c.args.family c.args.block c.requires.block in
     let low = c.loop-run-test.true in
     let small = marks_small c.args.family c.args.block (c.loop-run.run + 1) c.requires.block (omega (arith, all, low)) in
-    omega (arith, more, small)
+    omega (arith, sum, small)
 
 pub loop-run-preserved : goal.loop-run-preserved
 loop-run-preserved c =
-    let more = one_run_more c.args.family c.args.block c.loop-run.run c.run_size_in-size.result c.loop-run.count c.classes_in_run-count.result
-    c.run_size_in-size.ensures.value c.loop-run.invariant.1 c.classes_in_run-count.ensures in (
+    let sum = more (goal.at.loop-run-preserved c).After-classes_in_run-count in (
       length-set c.loop-run.row (c.loop-run.run + 1) (c.loop-run.count + c.classes_in_run-count.result) ∙ c.loop-run.invariant.0,
-      more,
+      sum,
       λ e. get_or-set_other c.loop-run.row (c.loop-run.run + 1) 100 (c.loop-run.count + c.classes_in_run-count.result) e
           (λ is. let low = c.loop-run-test.true in omega (arith, is, low)) ∙ c.loop-run.invariant.2 e,
-      written c.loop-run.row (λ (k : ℕ). marks_below (is_marked c.args.family) (run_start c.args.family.set c.args.block k))
-          (marks_below (is_marked c.args.family) (start_of c.args.family.set c.args.block)) c.loop-run.run (c.loop-run.count + c.classes_in_run-count.result)
-          c.loop-run.invariant.0 c.loop-run-test.true c.loop-run.invariant.3 more,
+      written c.loop-run.row (λ (k : ℕ). classes_to_run c.args.family c.args.block k)
+          (classes_to_block c.args.family c.args.block) c.loop-run.run (c.loop-run.count + c.classes_in_run-count.result)
+          c.loop-run.invariant.0 c.loop-run-test.true c.loop-run.invariant.3 sum,
     )

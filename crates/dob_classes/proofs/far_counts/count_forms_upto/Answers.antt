@@ -9,36 +9,22 @@ counted c = form_count (forms_stand c.args.chicks c.args.squares.0 c.args.square
     c.count_forms.ensures.value c.count_forms.ensures.bound
 
 pub overflow_mul-before : goal.overflow_mul-before
-overflow_mul-before c =
-    let few = (counted (goal.at.overflow_mul-before c).After-count_forms).few in
-    omega (arith, few, c.requires.last)
+overflow_mul-before c = (let few = (counted (goal.at.overflow_mul-before c).After-count_forms).few in omega (arith, few, c.requires.last))
 
 pub overflow_add-result : goal.overflow_add-result
-overflow_add-result c =
-    let few = (counted (goal.at.overflow_add-result c).After-count_forms).upto in
-    omega (arith, few, c.requires.last)
+overflow_add-result c = (let few = (counted (goal.at.overflow_add-result c).After-count_forms).upto in omega (arith, few, c.requires.last))
 
 pub overflow_add-result-then-may_have_forms : goal.overflow_add-result-then-may_have_forms
 overflow_add-result-then-may_have_forms c =
     let few = (counted (goal.at.overflow_add-result-then-may_have_forms c).After-count_forms).upto in
     omega (arith, few, c.requires.last)
 
-pub returns-then-may_have_forms-clause-value : goal.returns-then-may_have_forms-clause-value
-returns-then-may_have_forms-clause-value c =
-    let at = counted (goal.at.returns-then-may_have_forms-clause-value c).After-count_forms in
-    at.on (sym c.may_have_forms.ensures ∙ c.if-may_have_forms.true)
+pub returns-then-may_have_forms : goal.returns-then-may_have_forms
+returns-then-may_have_forms c =
+    let at = counted (goal.at.returns-then-may_have_forms c).After-count_forms in
+    record { value = at.on (sym c.may_have_forms.ensures ∙ c.if-may_have_forms.true); bound = (let few = at.upto in omega (arith, few, c.requires.last)) }
 
-pub returns-then-may_have_forms-clause-bound : goal.returns-then-may_have_forms-clause-bound
-returns-then-may_have_forms-clause-bound c =
-    let few = (counted (goal.at.returns-then-may_have_forms-clause-bound c).After-count_forms).upto in
-    omega (arith, few, c.requires.last)
-
-pub returns-else-may_have_forms-clause-value : goal.returns-else-may_have_forms-clause-value
-returns-else-may_have_forms-clause-value c =
-    let at = counted (goal.at.returns-else-may_have_forms-clause-value c).After-count_forms in
-    at.off (sym c.may_have_forms.ensures ∙ c.if-may_have_forms.false)
-
-pub returns-else-may_have_forms-clause-bound : goal.returns-else-may_have_forms-clause-bound
-returns-else-may_have_forms-clause-bound c =
-    let few = (counted (goal.at.returns-else-may_have_forms-clause-bound c).After-count_forms).few in
-    omega (arith, few, c.requires.last)
+pub returns-else-may_have_forms : goal.returns-else-may_have_forms
+returns-else-may_have_forms c =
+    let at = counted (goal.at.returns-else-may_have_forms c).After-count_forms in
+    record { value = at.off (sym c.may_have_forms.ensures ∙ c.if-may_have_forms.false); bound = (let few = at.few in omega (arith, few, c.requires.last)) }

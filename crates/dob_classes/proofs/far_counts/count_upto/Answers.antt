@@ -1,7 +1,7 @@
 -- The parts of the place are small, and what they count is what the run has up to there.
 use Rattle.dob_classes.proofs.Common.{◌%◌, ◌*◌, ◌/◌, ◌≤◌, [], arith, get_or, refl, mul-le-mul, AreFewOnBoard-digits, HasDigits-numbers}
 use Rattle.dob_rank.proofs.ProfileB.PlaceParts.{others_squares_are, others_forms_are}
-use Rattle.dob_classes.proofs.Counting.FarCounts.{AreUptoParts, AreUptoSmall, upto_parts, upto_small, at_most, sums, count_is}
+use Rattle.dob_classes.proofs.Counting.FarCounts.{AreUptoParts, AreUptoSmall, upto_parts, upto_small, sums, count_is}
 use Rattle.dob_classes.proofs.far_counts.count_upto.Goals as goal
 use Rattle.dob_classes.proofs.far_counts.count_upto.Goals.{After-power-3, After-weight_of}
 
@@ -37,8 +37,7 @@ overflow_mul-forms c =
 
 pub overflow_mul-all_forms : goal.overflow_mul-all_forms
 overflow_mul-all_forms c =
-    let at = parts (goal.at.overflow_mul-all_forms c).After-power-3 in
-    (let low = at.parts.few_forms in omega (arith, low))
+    let low = (parts (goal.at.overflow_mul-all_forms c).After-power-3).parts.few_forms in omega (arith, low)
 
 pub nonzero_div-choice : goal.nonzero_div-choice
 nonzero_div-choice c = (parts (goal.at.nonzero_div-choice c).After-power-3).parts.some_forms
@@ -52,10 +51,11 @@ nonzero_div-squares c = (parts (goal.at.nonzero_div-squares c).After-power-3).pa
 pub nonzero_rem-squares : goal.nonzero_rem-squares
 nonzero_rem-squares c = (parts (goal.at.nonzero_rem-squares c).After-power-3).parts.some_squares
 
-pub before_choice-requires-clause-choice : goal.before_choice-requires-clause-choice
-before_choice-requires-clause-choice c =
-    let at = parts (goal.at.before_choice-requires-clause-choice c).After-power-3 in
-    at_most _ _ at.parts.choice_below
+pub before_choice-requires : goal.before_choice-requires
+before_choice-requires c =
+    let at = parts (goal.at.before_choice-requires c).After-power-3 in
+    let below = at.parts.choice_below in
+    record { chicks = at.few.chicks; lions = omega arith; choice = omega (arith, below) }
 
 pub overflow_mul-before : goal.overflow_mul-before
 overflow_mul-before c =
@@ -63,54 +63,44 @@ overflow_mul-before c =
     let few : c.before_choice.result * _ ≤ 582 * 2025 = mul-le-mul c.before_choice.ensures.bound at.few_squares in
     omega (arith, few)
 
-pub weight_of-requires-clause-chicks : goal.weight_of-requires-clause-chicks
-weight_of-requires-clause-chicks c = (parts (goal.at.weight_of-requires-clause-chicks c).After-power-3).few.chicks
-
-pub weight_of-requires-clause-choice : goal.weight_of-requires-clause-choice
-weight_of-requires-clause-choice c = (parts (goal.at.weight_of-requires-clause-choice c).After-power-3).parts.choice_below
+pub weight_of-requires : goal.weight_of-requires
+weight_of-requires c =
+    let at = parts (goal.at.weight_of-requires c).After-power-3 in
+    record { chicks = at.few.chicks; lions = omega arith; choice = at.parts.choice_below }
 
 pub overflow_mul-before-2 : goal.overflow_mul-before-2
 overflow_mul-before-2 c =
-    let few = small (goal.at.overflow_mul-before-2 c).After-weight_of in
-    (let low = few.own in omega (arith, low))
+    let low = (small (goal.at.overflow_mul-before-2 c).After-weight_of).own in omega (arith, low)
 
 pub overflow_add-before : goal.overflow_add-before
 overflow_add-before c =
     let few = small (goal.at.overflow_add-before c).After-weight_of in
-    (let low = few.own in let first = few.before in omega (arith, low, first))
+    let low = few.own in
+    let first = few.before in
+    omega (arith, low, first)
 
-pub chick_squares-chosen-requires-clause-chicks : goal.chick_squares-chosen-requires-clause-chicks
-chick_squares-chosen-requires-clause-chicks c = (parts (goal.at.chick_squares-chosen-requires-clause-chicks c).After-power-3).few.chicks
-
-pub chick_squares-chosen-requires-clause-choice : goal.chick_squares-chosen-requires-clause-choice
-chick_squares-chosen-requires-clause-choice c = (parts (goal.at.chick_squares-chosen-requires-clause-choice c).After-power-3).parts.choice_below
+pub chick_squares-chosen-requires : goal.chick_squares-chosen-requires
+chick_squares-chosen-requires c =
+    let at = parts (goal.at.chick_squares-chosen-requires c).After-power-3 in
+    record { chicks = at.few.chicks; lions = omega arith; choice = at.parts.choice_below }
 
 pub overflow_mul-result : goal.overflow_mul-result
 overflow_mul-result c =
-    let few = small (goal.at.overflow_mul-result c).After-weight_of in
-    (let low = few.all in omega (arith, low))
+    let low = (small (goal.at.overflow_mul-result c).After-weight_of).all in omega (arith, low)
 
 pub nonzero_rem-last : goal.nonzero_rem-last
 nonzero_rem-last c = (parts (goal.at.nonzero_rem-last c).After-power-3).parts.some_forms
 
-pub count_forms_upto-requires-clause-chicks : goal.count_forms_upto-requires-clause-chicks
-count_forms_upto-requires-clause-chicks c = (parts (goal.at.count_forms_upto-requires-clause-chicks c).After-power-3).few.chicks
-
-pub count_forms_upto-requires-clause-others : goal.count_forms_upto-requires-clause-others
-count_forms_upto-requires-clause-others c = (parts (goal.at.count_forms_upto-requires-clause-others c).After-power-3).some_others
-
-pub count_forms_upto-requires-clause-few : goal.count_forms_upto-requires-clause-few
-count_forms_upto-requires-clause-few c = (parts (goal.at.count_forms_upto-requires-clause-few c).After-power-3).few_others
-
-pub count_forms_upto-requires-clause-last : goal.count_forms_upto-requires-clause-last
-count_forms_upto-requires-clause-last c =
-    let at = parts (goal.at.count_forms_upto-requires-clause-last c).After-power-3 in
-    (let low = at.parts.form_below in let most = at.parts.few_forms in omega (arith, low, most))
+pub count_forms_upto-requires : goal.count_forms_upto-requires
+count_forms_upto-requires c =
+    let at = parts (goal.at.count_forms_upto-requires c).After-power-3 in
+    let low = at.parts.form_below in
+    let most = at.parts.few_forms in
+    record { chicks = at.few.chicks; others = at.some_others; few = at.few_others; last = omega (arith, low, most) }
 
 pub overflow_add-result : goal.overflow_add-result
 overflow_add-result c =
-    let few = small (goal.at.overflow_add-result c).After-weight_of in
-    (let low = few.all in omega (arith, low, c.count_forms_upto.ensures.bound))
+    let low = (small (goal.at.overflow_add-result c).After-weight_of).all in omega (arith, low, c.count_forms_upto.ensures.bound)
 
 pub returns : goal.returns
 returns c =

@@ -3,11 +3,11 @@ use Rattle.dob_classes.proofs.Common.{◌<◌, ◌∙◌, ◌≡◌, List, ap, a
 use Rattle.dob_classes.proofs.Tables.PlaceTables.{are_choices, choices-positive, choices-fit, places_more}
 use Rattle.dob_classes.proofs.place_tables.all_places.Goals as goal
 
-pub product-number-end-requires-clause-positive : goal.product-number-end-requires-clause-positive
-product-number-end-requires-clause-positive c = choices-positive c.args.on_board.now c.args.choices.now c.requires.few c.requires.choices
-
-pub product-number-end-requires-clause-fits : goal.product-number-end-requires-clause-fits
-product-number-end-requires-clause-fits c = choices-fit c.args.on_board.now c.args.choices.now c.requires.few c.requires.choices
+pub product-number-end-requires : goal.product-number-end-requires
+product-number-end-requires c = record {
+  positive = choices-positive c.args.on_board.now c.args.choices.now c.requires.few c.requires.choices;
+  fits = choices-fit c.args.on_board.now c.args.choices.now c.requires.few c.requires.choices;
+}
 
 pub places_by-places-requires : goal.places_by-places-requires
 places_by-places-requires c =

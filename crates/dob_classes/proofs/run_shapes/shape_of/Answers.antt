@@ -5,8 +5,8 @@ use Rattle.dob_classes.proofs.run_shapes.shape_of.Goals as goal
 pub choices_in-choices-requires : goal.choices_in-choices-requires
 choices_in-choices-requires c = AreFewOnBoard-digits c.args.set _ (HasDigits-numbers c.args.set c.args.block _ c.requires.block c.numbers_in-on_board.ensures)
 
-pub run_digits_in-digits-requires-clause-on_board : goal.run_digits_in-digits-requires-clause-on_board
-run_digits_in-digits-requires-clause-on_board c = HasDigits-numbers c.args.set c.args.block _ c.requires.block c.numbers_in-on_board.ensures
-
-pub run_digits_in-digits-requires-clause-run : goal.run_digits_in-digits-requires-clause-run
-run_digits_in-digits-requires-clause-run c = run_in_bases c.args.set c.args.block c.args.run _ c.numbers_in-on_board.ensures c.requires.run
+pub run_digits_in-digits-requires : goal.run_digits_in-digits-requires
+run_digits_in-digits-requires c = record {
+  on_board = HasDigits-numbers c.args.set c.args.block _ c.requires.block c.numbers_in-on_board.ensures;
+  run = run_in_bases c.args.set c.args.block c.args.run _ c.numbers_in-on_board.ensures c.requires.run;
+}

@@ -1,5 +1,5 @@
 -- In profile A a position's number in its run is its place there.
-use Rattle.dob_classes.proofs.Common.{◌∙◌, ap, subst, sym, IsAllowed, Profile, family_of, marks_below, block_of, local_of, run_of, is_there}
+use Rattle.dob_classes.proofs.Common.{◌∙◌, ap, subst, sym, IsAllowed, Profile, family_of, marks_below, block_of, run_of, local_of, is_there}
 use Rattle.dob_classes.proofs.Counting.FarCounts.{all_there}
 use Rattle.dob_classes.proofs.spots.spot_in.Goals as goal
 
@@ -12,11 +12,12 @@ returns-in-A-clause-local c =
     c.spot_by.ensures.local
     ∙ sym (all_there c.args.family (block_of c.args.family.set s) (run_of c.args.family.set s) (local_of s) c.in-A.is)
 
-pub far_spot-requires-clause-position : goal.far_spot-requires-clause-position
-far_spot-requires-clause-position c = c.requires.position.of_set
-
-pub far_spot-requires-clause-allowed : goal.far_spot-requires-clause-allowed
-far_spot-requires-clause-allowed c = subst (λ (p : Profile). IsAllowed p c.args.position.now.setup) c.in-B.is c.requires.position.allowed
+pub far_spot-requires : goal.far_spot-requires
+far_spot-requires c = record {
+  position = c.requires.position.of_set;
+  allowed = subst (λ (p : Profile). IsAllowed p c.args.position.now.setup) c.in-B.is c.requires.position.allowed;
+  masks = c.requires.masks;
+}
 
 pub returns-in-B-clause-local : goal.returns-in-B-clause-local
 returns-in-B-clause-local c =

@@ -4,16 +4,15 @@ use Rattle.dob_classes.proofs.MarksOfRuns.MixedRuns.{IsStretchFrom, stretch_told
 use Rattle.dob_classes.proofs.stretches.stretch_from.Goals as goal
 use Rattle.dob_classes.proofs.stretches.stretch_from.Goals.{After-width_of-width}
 
-pub width_of-width-requires-clause-positive : goal.width_of-width-requires-clause-positive
-width_of-width-requires-clause-positive c =
-    subst (All (λ (b : ℕ). 0 < b)) (sym c.requires.shape.bases_are) (local_bases-positive c.args.set c.args.block c.requires.block)
-
-pub width_of-width-requires-clause-fits : goal.width_of-width-requires-clause-fits
-width_of-width-requires-clause-fits c =
+pub width_of-width-requires : goal.width_of-width-requires
+width_of-width-requires c =
     let small = run_size-small c.args.set c.args.block c.requires.block in
     let size = run_size-bases c.args.set c.args.block in
     let same = ap product c.requires.shape.bases_are in
-    omega (arith, small, size, same)
+    record {
+      positive = subst (All (λ (b : ℕ). 0 < b)) (sym c.requires.shape.bases_are) (local_bases-positive c.args.set c.args.block c.requires.block);
+      fits = omega (arith, small, size, same);
+    }
 
 told : (c : After-width_of-width) → IsStretchFrom c.args.set c.args.block c.args.run c.args.local
     ((c.args.local / c.width_of-width.result + 1) * c.width_of-width.result) (leb c.args.local c.image_place-other.result)
@@ -35,8 +34,5 @@ overflow_mul-result c =
     let small = run_size-small c.args.set c.args.block c.requires.block in
     omega (arith, within, small)
 
-pub returns-clause-within : goal.returns-clause-within
-returns-clause-within c = (told (goal.at.returns-clause-within c).After-width_of-width).within
-
-pub returns-clause-marks : goal.returns-clause-marks
-returns-clause-marks c = (told (goal.at.returns-clause-marks c).After-width_of-width).marks
+pub returns : goal.returns
+returns c = (let at = told (goal.at.returns c).After-width_of-width in record { some = at.some; within = at.within; marks = at.marks })

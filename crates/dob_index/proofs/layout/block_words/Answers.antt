@@ -6,12 +6,10 @@ use Rattle.dob_index.proofs.layout.block_words.Goals as goal
 pub returns : goal.returns
 returns c =
     let nine = nine_mixed c.args.set c.args.block in
-    let each = c.entries_in.ensures in
-    omega (arith, nine, each)
+    omega (arith, nine, c.entries_in.ensures)
 
 pub overflow_mul-result : goal.overflow_mul-result
 overflow_mul-result c =
     let nine = nine_mixed c.args.set c.args.block in
-    let each = c.entries_in.ensures in
     let few = block_few c.args.set c.args.block lion_pairs c.requires (omega arith) in
-    omega (arith, nine, each, few)
+    omega (arith, nine, c.entries_in.ensures, few)

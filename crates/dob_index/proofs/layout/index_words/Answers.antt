@@ -9,28 +9,19 @@ overflow_add-count c =
     let blocks = c.count_blocks-blocks.ensures in
     let upto = run_within c.args.set c.loop-block.block 99 (omega (arith, low, blocks)) (omega arith) in
     let few = words_few c.args.set in
-    let count = c.loop-block.invariant in
-    let more = c.block_words-count.ensures in
-    omega (arith, upto, few, count, more)
+    omega (arith, upto, few, c.loop-block.invariant, c.block_words-count.ensures)
 
 pub loop-block-preserved : goal.loop-block-preserved
 loop-block-preserved c =
     let next = block_more c.args.set c.loop-block.block in
-    let count = c.loop-block.invariant in
-    let more = c.block_words-count.ensures in
-    omega (arith, next, count, more)
+    omega (arith, next, c.loop-block.invariant, c.block_words-count.ensures)
 
 pub row_at-count-requires : goal.row_at-count-requires
 row_at-count-requires c = (let few = blocks_small c.args.set in let is = c.count_blocks-blocks.ensures in omega (arith, few, is))
 
-pub returns-clause-value : goal.returns-clause-value
-returns-clause-value c =
-    let same : c.loop-block.block ≡ product (block_bases c.args.set) = omega (arith, c.count_blocks-blocks.ensures, c.loop-block.auto.block-end, c.loop-block-test.false) in
-    c.loop-block.invariant ∙ ap (λ (n : ℕ). entries_at c.args.set n 0) same
-
-pub returns-clause-bound : goal.returns-clause-bound
-returns-clause-bound c =
+pub returns : goal.returns
+returns c =
     let same : c.loop-block.block ≡ product (block_bases c.args.set) = omega (arith, c.count_blocks-blocks.ensures, c.loop-block.auto.block-end, c.loop-block-test.false) in
     let whole = c.loop-block.invariant ∙ ap (λ (n : ℕ). entries_at c.args.set n 0) same in
     let few = words_few c.args.set in
-    omega (arith, whole, few)
+    record { value = whole; bound = omega (arith, whole, few) }

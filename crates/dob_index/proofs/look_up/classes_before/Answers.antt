@@ -15,14 +15,10 @@ row_of-requires c =
     let few = blocks_small c.args.family.set in
     omega (arith, below, few)
 
-pub before_place-places-requires-clause-block : goal.before_place-places-requires-clause-block
-before_place-places-requires-clause-block c = (at (goal.at.before_place-places-requires-clause-block c).After-spot_of-block).in_run.block_below
-
-pub before_place-places-requires-clause-run : goal.before_place-places-requires-clause-run
-before_place-places-requires-clause-run c = (at (goal.at.before_place-places-requires-clause-run c).After-spot_of-block).in_run.run_below
-
-pub before_place-places-requires-clause-place : goal.before_place-places-requires-clause-place
-before_place-places-requires-clause-place c = (at (goal.at.before_place-places-requires-clause-place c).After-spot_of-block).in_run.local_below
+pub before_place-places-requires : goal.before_place-places-requires
+before_place-places-requires c =
+    let there = (at (goal.at.before_place-places-requires c).After-spot_of-block).in_run in
+    record { block = there.block_below; run = there.run_below; place = there.local_below }
 
 pub returns : goal.returns
 returns c = λ is.

@@ -1,5 +1,5 @@
 -- The row's own numbers, which are small.
-use Rattle.dob_index.proofs.Common.{◌%◌, ◌+◌, ◌∙◌, ap, arith, get_or, ℕ, is_marked, marks_below, start_of, classes_few}
+use Rattle.dob_index.proofs.Common.{◌%◌, ◌+◌, ◌∙◌, ap, arith, get_or, ℕ, classes_to_block, classes_few}
 use Rattle.dob_index.proofs.Read.{row_read, row_small}
 use Rattle.dob_index.proofs.look_up.row_of.Goals as goal
 
@@ -18,8 +18,8 @@ returns c = λ family within is.
     let run = in_row lions in
     record {
       before_is = c.word.ensures.value (omega (arith, before, few)) ∙ before;
-      hand_is = ap (λ (n : ℕ). marks_below (is_marked family) (start_of family.set block) + n) (c.word-2.ensures.value (omega (arith, hand_small, hand)) ∙ hand)
+      hand_is = ap (λ (n : ℕ). classes_to_block family block + n) (c.word-2.ensures.value (omega (arith, hand_small, hand)) ∙ hand)
           ∙ row_read family block 99 words is within (omega arith);
-      run_is = ap (λ (n : ℕ). marks_below (is_marked family) (start_of family.set block) + n) (c.word-3.ensures.value (omega (arith, run_small, run)) ∙ run)
+      run_is = ap (λ (n : ℕ). classes_to_block family block + n) (c.word-3.ensures.value (omega (arith, run_small, run)) ∙ run)
           ∙ row_read family block lions words is within (omega arith);
     }

@@ -1,10 +1,10 @@
 -- Each run is written behind those before it.
-use Rattle.dob_index.proofs.Common.{◌+◌, ◌∙◌, ◌≡◌, ◌≤◌, ap, arith, inl, length, refl, ℕ, length-set, is_marked, marks_below, block_bases, product, run_kind}
-use Rattle.dob_index.proofs.Common.{run_size, run_start, all_lions, none_before, one_run_more, marks_small, row_at, where_mixed}
-use Rattle.dob_index.proofs.Places.{run_more, run_within, behind_rows, words_few}
-use Rattle.dob_index.proofs.Kept.{AreAllRuns, row_opened, one_run, runs_stay, all_runs, outside, below_later, from_earlier}
+use Rattle.dob_index.proofs.Common.{◌+◌, ◌∙◌, ◌≡◌, ◌≤◌, ap, arith, inl, length, refl, ℕ, length-set, block_bases, product, run_kind, run_size, all_lions}
+use Rattle.dob_index.proofs.Common.{none_before, one_run_more, classes_to_block, classes_to_run, marks_small, row_at, where_mixed}
+use Rattle.dob_index.proofs.Places.{run_more, run_fits, behind_rows, words_few}
+use Rattle.dob_index.proofs.Kept.{AreAllRuns, row_opened, one_run, runs_stay, all_runs, outside, both_sides}
 use Rattle.dob_index.proofs.write.write_block.Goals as goal
-use Rattle.dob_index.proofs.write.write_block.Goals.{After-count_runs}
+use Rattle.dob_index.proofs.write.write_block.Goals.{After-count_runs, After-write_run-count}
 
 pub loop-lions-init : goal.loop-lions-init
 loop-lions-init c =
@@ -24,31 +24,30 @@ loop-lions-init c =
 
 pub write_run-count-requires-clause-room : goal.write_run-count-requires-clause-room
 write_run-count-requires-clause-room c =
-    let set = c.args.family.set in
     let long = length-set c.loop-lions.words (c.row_at-row.result + 101 + c.loop-lions.lions) c.loop-lions.at in
-    let size = c.loop-lions.invariant.size in
-    let at = c.loop-lions.invariant.at in
-    let more = run_more set c.args.block c.loop-lions.lions in
-    let upto = run_within set c.args.block (c.loop-lions.lions + 1) c.requires.block (omega (arith, c.loop-lions-test.true)) in
-    omega (arith, long, size, at, more, upto, c.requires.room)
+    let fits = run_fits c.args.family.set c.args.block c.loop-lions.lions c.loop-lions.at c.requires.block c.loop-lions-test.true c.loop-lions.invariant.at in
+    omega (arith, long, c.loop-lions.invariant.size, fits, c.requires.room)
+
+-- the classes up to the next run
+counted : (c : After-write_run-count) → classes_to_block c.args.family c.args.block + (c.loop-lions.count + c.write_run-count.result)
+    ≡ classes_to_run c.args.family c.args.block (c.loop-lions.lions + 1)
+counted c =
+    one_run_more c.args.family c.args.block c.loop-lions.lions (run_size c.args.family.set c.args.block) c.loop-lions.count c.write_run-count.result refl
+    c.loop-lions.invariant.count c.write_run-count.ensures.count
 
 pub overflow_add-count : goal.overflow_add-count
 overflow_add-count c =
-    let sum = one_run_more c.args.family c.args.block c.loop-lions.lions (run_size c.args.family.set c.args.block) c.loop-lions.count c.write_run-count.result refl
-    c.loop-lions.invariant.count c.write_run-count.ensures.count in
+    let sum = counted (goal.at.overflow_add-count c).After-write_run-count in
     let all = all_lions c.args.family c.args.block c.requires.block in
     let few = marks_small c.args.family c.args.block (c.loop-lions.lions + 1) c.requires.block (omega (arith, all, c.loop-lions-test.true)) in
     omega (arith, sum, few)
 
 pub overflow_add-at : goal.overflow_add-at
 overflow_add-at c =
-    let set = c.args.family.set in
     let words = c.run_words-at.ensures ∙ ap (where_mixed (run_kind c.loop-lions.lions)) c.entries_in-entries.ensures in
-    let at = c.loop-lions.invariant.at in
-    let more = run_more set c.args.block c.loop-lions.lions in
-    let upto = run_within set c.args.block (c.loop-lions.lions + 1) c.requires.block (omega (arith, c.loop-lions-test.true)) in
-    let few = words_few set in
-    omega (arith, words, at, more, upto, few)
+    let fits = run_fits c.args.family.set c.args.block c.loop-lions.lions c.loop-lions.at c.requires.block c.loop-lions-test.true c.loop-lions.invariant.at in
+    let few = words_few c.args.family.set in
+    omega (arith, words, fits, few)
 
 pub loop-lions-preserved : goal.loop-lions-preserved
 loop-lions-preserved c =
@@ -67,8 +66,7 @@ loop-lions-preserved c =
     let behind : row_at (product (block_bases set)) ≤ at = omega (arith, rows, at_is) in
     let room : row_at (product (block_bases set)) ≤ length c.loop-lions.words = omega (arith, all_rows, size, c.requires.room) in
     let first : c.args.first ≤ at = omega (arith, at_is, c.requires.first) in
-    let count = one_run_more family block lions (run_size set block) c.loop-lions.count c.write_run-count.result refl
-    c.loop-lions.invariant.count c.write_run-count.ensures.count in
+    let count = counted (goal.at.loop-lions-preserved c).After-write_run-count in
     let step = one_run family block lions at next (c.loop-lions.count + c.write_run-count.result) c.row_at-row.result c.loop-lions.words c.write_run-count.new.words
     c.requires.block low c.row_at-row.ensures behind room (ap (λ (n : ℕ). at + n) words) c.write_run-count.ensures.size c.write_run-count.ensures.others
     c.write_run-count.ensures.entries count in
@@ -82,9 +80,9 @@ loop-lions-preserved c =
           ∙ c.loop-lions.invariant.before_is;
       runs = runs_stay family block lions at next c.loop-lions.words _ c.requires.block low behind (omega arith) step c.loop-lions.invariant.runs;
       others = λ i out side.
-          step.agrees i (outside block i (101 + lions) out (omega (arith, low))) (outside block i (lions + 1) out (omega (arith, low)))
-          (below_later i c.args.first at next first side)
-          ∙ c.loop-lions.invariant.others i out (from_earlier i c.args.first at next (omega arith) side);
+          (let sides = both_sides i c.args.first at next first (omega arith) side in
+          step.agrees i (outside block i (101 + lions) out (omega (arith, low))) (outside block i (lions + 1) out (omega (arith, low))) sides.0
+          ∙ c.loop-lions.invariant.others i out sides.1);
     }
 
 -- all runs of the block are written
@@ -92,7 +90,7 @@ all : (c : After-count_runs) → AreAllRuns c.args.family c.args.block c.args.be
 all c =
     let same : c.loop-lions.lions ≡ 99 = omega (arith, c.loop-lions.auto.lions-end, c.loop-lions-test.false) in
     all_runs c.args.family c.args.block c.args.before c.loop-lions.count c.count_runs.result c.requires.block c.count_runs.ensures.value c.requires.before
-    (c.loop-lions.invariant.count ∙ ap (λ (n : ℕ). marks_below (is_marked c.args.family) (run_start c.args.family.set c.args.block n)) same)
+    (c.loop-lions.invariant.count ∙ ap (λ (n : ℕ). classes_to_run c.args.family c.args.block n) same)
 
 pub overflow_mul-result : goal.overflow_mul-result
 overflow_mul-result c = let few = (all (goal.at.overflow_mul-result c).After-count_runs).few in omega (arith, few)

@@ -1,12 +1,11 @@
 -- The runs so far are written, and the count is of their classes.
-use Rattle.dob_index.proofs.Common.{◌+◌, ◌<◌, ◌≡◌, ◌≤◌, ◌⊎◌, get_or, length, ℕ, is_marked, marks_below, start_of, run_start, IsKeptRun, entries_at, row_at}
+use Rattle.dob_index.proofs.Common.{◌+◌, ◌<◌, ◌≡◌, ◌≤◌, ◌⊎◌, get_or, length, ℕ, classes_to_block, classes_to_run, IsKeptRun, entries_at, row_at}
 use Rattle.dob_index.proofs.write.write_block.Given as goal
 
 abbrev pub invariant-loop-lions : goal.invariant-loop-lions
 invariant-loop-lions l = record {
   size : length l.words ≡ length l.fn.words;
-  count : marks_below (is_marked l.fn.family) (start_of l.fn.family.set l.fn.block) + l.count
-      ≡ marks_below (is_marked l.fn.family) (run_start l.fn.family.set l.fn.block l.lions);
+  count : classes_to_block l.fn.family l.fn.block + l.count ≡ classes_to_run l.fn.family l.fn.block l.lions;
   at : l.at ≡ entries_at l.fn.family.set l.fn.block l.lions;
   first_is : get_or l.words (row_at l.fn.block) 0 ≡ 0;
   before_is : get_or l.words (row_at l.fn.block + 100) 0 ≡ l.fn.before;

@@ -45,16 +45,8 @@ loop-block-preserved c =
           ∙ c.loop-block.invariant.others i after;
     }
 
-pub returns-clause-others : goal.returns-clause-others
-returns-clause-others c =
-    let rows = behind_rows c.args.family.set (product (block_bases c.args.family.set)) 0 in
-    let size = c.loop-block.invariant.size in
-    λ i behind.
-    (headed c.loop-block.words c.mark_of.result c.loop-block.before c.loop-block.at (omega (arith, rows, size))).others i (omega (arith, rows, behind))
-    ∙ c.loop-block.invariant.others i behind
-
-pub returns-clause-index : goal.returns-clause-index
-returns-clause-index c =
+pub returns : goal.returns
+returns c =
     let family = c.args.family in
     let set = family.set in
     let words = c.loop-block.words in
@@ -69,14 +61,17 @@ returns-clause-index c =
     block_stays family b c.loop-block.at c.loop-block.at words _ (omega arith) (λ i from upto. head.others i (omega (arith, from)))
     (λ i from upto. head.others i (omega (arith, from))) (c.loop-block.invariant.blocks_are b (omega (arith, low, all))) in
     record {
-      marked = record {
-        mark_is = head.first_is ∙ c.mark_of.ensures;
-        length_is = head.third_is ∙ end;
-        whole = (let long = head.size in omega (arith, long, size));
+      index = record {
+        marked = record {
+          mark_is = head.first_is ∙ c.mark_of.ensures;
+          length_is = head.third_is ∙ end;
+          whole = (let long = head.size in omega (arith, long, size));
+        };
+        count_is = head.second_is ∙ classes_all family c.loop-block.block c.loop-block.before all c.loop-block.invariant.before;
+        rows = λ block low. (kept block low).row;
+        runs = λ block lions low below. ((kept block low).runs lions below).next;
+        entries = λ block lions low below kind. ((kept block low).runs lions below).entries kind;
+        small = λ block lions low below kind. (let upto = ((kept block low).runs lions below).within kind in omega (arith, upto, end, few));
       };
-      count_is = head.second_is ∙ classes_all family c.loop-block.block c.loop-block.before all c.loop-block.invariant.before;
-      rows = λ block low. (kept block low).row;
-      runs = λ block lions low below. ((kept block low).runs lions below).next;
-      entries = λ block lions low below kind. ((kept block low).runs lions below).entries kind;
-      small = λ block lions low below kind. (let upto = ((kept block low).runs lions below).within kind in omega (arith, upto, end, few));
+      others = λ i behind. head.others i (omega (arith, rows, behind)) ∙ c.loop-block.invariant.others i behind;
     }

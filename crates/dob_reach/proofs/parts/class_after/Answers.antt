@@ -13,10 +13,8 @@ apply-requires-clause-can_go c = can_go c.args.classes.now.family.profile c.args
 
 pub class_of-requires : goal.class_of-requires
 class_of-requires c =
-    let profile = c.args.classes.now.family.profile in
-    let setup = c.args.position.now.setup in
-    moves_keep_the_family c.args.classes.now.family setup c.args.played c.apply.result.setup c.requires.member c.requires.is_open
-    (goes_there profile setup c.args.played c.apply.result.setup c.requires.can_go c.apply.ensures)
+    moves_keep_the_family c.args.classes.now.family c.args.position.now.setup c.args.played c.apply.result.setup c.requires.member c.requires.is_open
+    (goes_there c.args.classes.now.family.profile c.args.position.now.setup c.args.played c.apply.result.setup c.requires.can_go c.apply.ensures)
 
 pub returns-clause-class : goal.returns-clause-class
 returns-clause-class c = λ q by.

@@ -4,16 +4,13 @@ use Rattle.rayon.specs.Numbers.{nat_range}
 use Rattle.rayon.proofs.ToStd.{nat_range-All}
 use Rattle.dob_pieces.proofs.Zips.{made_all}
 use Rattle.dob_pieces.specs.declared.memory.Memory.{Memory}
-use Rattle.dob_reach.proofs.Parting.{place_begins}
 use Rattle.dob_reach.proofs.parts.parts_between.Goals as goal
 
 pub collect-requires-clause-ready : goal.collect-requires-clause-ready
 collect-requires-clause-ready g c κs within =
-    let ends = c.into_par_iter.ensures in
-    let front = c.args.front.now in
-    let inside = nat_range-All (λ place. IsPlace c.args.classes.now.family c.args.marks.now.words.items front place) c.args.first c.args.end
-    (λ place low high. record { members = c.requires.members; bits = c.requires.bits; begins = place_begins front place (omega (arith, high, c.requires.within)) }) in
-    rw (c.map.ensures.base, c.map.ensures.f, ends.0, ends.1) (λ k d lt. (inside k d lt, λ given made. tt))
+    let inside = nat_range-All (λ place. IsPlace c.args.classes.now.family c.args.marks.now.words.items c.args.front.now place) c.args.first c.args.end
+    (λ place low high. record { members = c.requires.members; bits = c.requires.bits; begins = omega (arith, high, c.requires.within) }) in
+    rw (c.map.ensures.base, c.map.ensures.f, c.into_par_iter.ensures.0, c.into_par_iter.ensures.1) (λ k d lt. (inside k d lt, λ given made. tt))
 
 pub returns : goal.returns
 returns g c =

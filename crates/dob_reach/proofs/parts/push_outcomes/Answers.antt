@@ -19,15 +19,11 @@ loop-played-init c = (
   sifted_none c.args.marks.now.words.items,
 )
 
-pub class_after-outcome-requires-clause-is_open : goal.class_after-outcome-requires-clause-is_open
-class_after-outcome-requires-clause-is_open c =
-    (move_goes c.args.classes.now.family.profile c.class_at-position.result.setup c.deref-played-items.result.now c.loop-played.played-index c.played-item.result
-    (legal_are (goal.at.class_after-outcome-requires-clause-is_open c).After-deref-played-items) c.loop-played-test.true c.played-item.is).0
-
-pub class_after-outcome-requires-clause-can_go : goal.class_after-outcome-requires-clause-can_go
-class_after-outcome-requires-clause-can_go c =
-    (move_goes c.args.classes.now.family.profile c.class_at-position.result.setup c.deref-played-items.result.now c.loop-played.played-index c.played-item.result
-    (legal_are (goal.at.class_after-outcome-requires-clause-can_go c).After-deref-played-items) c.loop-played-test.true c.played-item.is).1
+pub class_after-outcome-requires : goal.class_after-outcome-requires
+class_after-outcome-requires c =
+    let goes = move_goes c.args.classes.now.family.profile c.class_at-position.result.setup c.deref-played-items.result.now c.loop-played.played-index
+    c.played-item.result (legal_are (goal.at.class_after-outcome-requires c).After-deref-played-items) c.loop-played-test.true c.played-item.is in
+    record { member = c.class_at-position.ensures.representative.0; is_open = goes.0; can_go = goes.1 }
 
 pub push_unmarked-requires : goal.push_unmarked-requires
 push_unmarked-requires c = let low = c.class_after-outcome.ensures.within in omega (arith, low, c.requires.bits)

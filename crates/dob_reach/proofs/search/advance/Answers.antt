@@ -5,20 +5,17 @@ use Rattle.dob_reach.proofs.search.advance.Goals as goal
 
 pub round-requires-clause-members : goal.round-requires-clause-members
 round-requires-clause-members g c = λ κs lives.
-    let known = c.requires.searched in
-    front_low c.args.classes.now.family known.0 c.args.reached.now c.args.front.now known.1
+    front_low c.args.classes.now.family c.requires.searched.0 c.args.reached.now c.args.front.now c.requires.searched.1
 
 pub overflow_add-reached : goal.overflow_add-reached
 overflow_add-reached g c =
-    let known = c.requires.searched in
-    let few = counted_few c.args.classes.now.family known.0 c.args.reached.now c.args.front.now known.1 in
-    omega (arith, few, known.1.few)
+    let few = counted_few c.args.classes.now.family c.requires.searched.0 c.args.reached.now c.args.front.now c.requires.searched.1 in
+    omega (arith, few, c.requires.searched.1.few)
 
 pub overflow_add-reached-2 : goal.overflow_add-reached-2
 overflow_add-reached-2 g c =
-    let known = c.requires.searched in
-    let few = opens_few c.args.classes.now.family known.0 c.args.reached.now c.args.front.now known.1 c.in_ok-next.opens c.in_ok-next.ensures.opens in
-    omega (arith, few, known.1.few)
+    let few = opens_few c.args.classes.now.family c.requires.searched.0 c.args.reached.now c.args.front.now c.requires.searched.1 c.in_ok-next.opens c.in_ok-next.ensures.opens in
+    omega (arith, few, c.requires.searched.1.few)
 
 pub returns-clause-searched : goal.returns-clause-searched
 returns-clause-searched g c = λ from known.

@@ -1,6 +1,6 @@
 -- Some parts more each time, and then all of them.
-use Rattle.dob_reach.proofs.Common.{◌++◌, ◌+◌, ◌-◌, ◌≡◌, List, ap, arith, subst, sym, ℕ, AllZip, range_with_len, AreExpanded, IsPartAt, opens_of, outcomes_of}
-use Rattle.dob_reach.proofs.Common.{parts_before, HaveBits, Part}
+use Rattle.dob_reach.proofs.Common.{◌++◌, ◌+◌, ◌-◌, ◌≡◌, ◌≤◌, List, ap, arith, length, subst, sym, ℕ, AllZip, range_with_len, AreExpanded, IsPartAt, opens_of}
+use Rattle.dob_reach.proofs.Common.{outcomes_of, parts_before, HaveBits, Part}
 use Rattle.dob_reach.proofs.Parting.{all_parts, opens_fit, parts_expanded, parts_have_bits, round_met}
 use Rattle.dob_reach.proofs.Stepping.{expanded_kept}
 use Rattle.dob_reach.proofs.search.round.Goals as goal
@@ -19,17 +19,16 @@ found_are g c =
     (subst (λ (n : ℕ). AllZip (IsPartAt c.args.classes.now.family c.windows.marks.words.items c.args.front.now) (range_with_len first n) c.in_ok-found.found.items) size
     c.in_ok-found.ensures)
 
+opens_are : (g : _) (c : After-deref g) → c.windows.opens + opens_of c.deref.result.now ≤ length c.args.front.now
+opens_are g c =
+    let fit = opens_fit c.args.classes.now.family c.windows.marks.words.items c.args.front.now _ _ _ (found_are g c) in
+    omega (arith, fit, ap opens_of c.deref.ensures.value)
+
 pub opens_of-opens-requires : goal.opens_of-opens-requires
-opens_of-opens-requires g c =
-    let fit = opens_fit c.args.classes.now.family c.windows.marks.words.items c.args.front.now _ _ _ (found_are g (goal.at.opens_of-opens-requires g c).After-deref) in
-    let same = ap opens_of c.deref.ensures.value in
-    omega (arith, fit, same)
+opens_of-opens-requires g c = (let fit = opens_are g (goal.at.opens_of-opens-requires g c).After-deref in omega (arith, fit))
 
 pub overflow_add-opens : goal.overflow_add-opens
-overflow_add-opens g c =
-    let fit = opens_fit c.args.classes.now.family c.windows.marks.words.items c.args.front.now _ _ _ (found_are g (goal.at.overflow_add-opens g c).After-deref) in
-    let same = ap opens_of c.deref.ensures.value in
-    omega (arith, fit, same, c.opens_of-opens.ensures)
+overflow_add-opens g c = (let fit = opens_are g (goal.at.overflow_add-opens g c).After-deref in omega (arith, fit, c.opens_of-opens.ensures))
 
 pub mark_parts-requires : goal.mark_parts-requires
 mark_parts-requires g c =

@@ -2,8 +2,8 @@
 use Rattle.dob_classes.proofs.Common.{◌-◌, ◌<◌, ◌∙◌, ◌≡◌, List, None, ap, arith, length, refl, replicate, set, slice_index, slice_index_or, subst, sym, ℕ}
 use Rattle.dob_classes.proofs.Common.{length-set, Cell, setup_of, cell_of, empty_layers, enemy_squares, free_squares, numbers_by, order, settle, Chicks}
 use Rattle.dob_classes.proofs.Common.{Elephants, EnemyLion, Giraffes, OwnLion, AreBitboards, seen_by}
-use Rattle.dob_rank.specs.Placing.{past, first_place, second_place}
-use Rattle.dob_classes.proofs.SquareSets.BitPlaced.{empty_seen, hands_seen, length-put, put_moved, one_put, past_lt}
+use Rattle.dob_rank.specs.Placing.{past}
+use Rattle.dob_classes.proofs.SquareSets.BitPlaced.{empty_seen, hands_seen, put_moved, one_put, past_lt}
 use Rattle.dob_rank.proofs.Boards.Placed.{after_lions, after_chicks, after_elephants, with_lions, with_chicks, with_elephants, lions_by, chicks_by}
 use Rattle.dob_rank.proofs.Boards.Placed.{elephants_by, start, own_lion_stands, lions_stand, chicks_stand, elephants_stand, whole_board, AreChosen}
 use Rattle.dob_rank.proofs.Boards.Placed.{chicks_below, elephants_below, giraffes_below, free_at, are_free}
@@ -31,23 +31,20 @@ giraffes c = (
   c.among-3.ensures.second ∙ ap (after_lions c.args.digits.now) (c.wide-3.ensures.second ∙ c.requires.places.second_giraffe),
 )
 
-pub put-with_chicks-requires-clause-first : goal.put-with_chicks-requires-clause-first
-put-with_chicks-requires-clause-first c = (chicks_below c.args.on_board.now c.args.digits.now _ _ c.requires.choices (chicks (goal.at.put-with_chicks-requires-clause-first c).After-among)).0
+pub put-with_chicks-requires : goal.put-with_chicks-requires
+put-with_chicks-requires c =
+    let low = chicks_below c.args.on_board.now c.args.digits.now _ _ c.requires.choices (chicks (goal.at.put-with_chicks-requires c).After-among) in
+    record { few = c.requires.choices.chicks; first = low.0; second = low.1 }
 
-pub put-with_chicks-requires-clause-second : goal.put-with_chicks-requires-clause-second
-put-with_chicks-requires-clause-second c = (chicks_below c.args.on_board.now c.args.digits.now _ _ c.requires.choices (chicks (goal.at.put-with_chicks-requires-clause-second c).After-among)).1
+pub put-with_elephants-requires : goal.put-with_elephants-requires
+put-with_elephants-requires c =
+    let low = elephants_below c.args.on_board.now c.args.digits.now _ _ c.requires.choices (elephants (goal.at.put-with_elephants-requires c).After-among-2) in
+    record { few = c.requires.choices.elephants; first = low.0; second = low.1 }
 
-pub put-with_elephants-requires-clause-first : goal.put-with_elephants-requires-clause-first
-put-with_elephants-requires-clause-first c = (elephants_below c.args.on_board.now c.args.digits.now _ _ c.requires.choices (elephants (goal.at.put-with_elephants-requires-clause-first c).After-among-2)).0
-
-pub put-with_elephants-requires-clause-second : goal.put-with_elephants-requires-clause-second
-put-with_elephants-requires-clause-second c = (elephants_below c.args.on_board.now c.args.digits.now _ _ c.requires.choices (elephants (goal.at.put-with_elephants-requires-clause-second c).After-among-2)).1
-
-pub put-requires-clause-first : goal.put-requires-clause-first
-put-requires-clause-first c = (giraffes_below c.args.on_board.now c.args.digits.now _ _ c.requires.choices (giraffes (goal.at.put-requires-clause-first c).After-among-3)).0
-
-pub put-requires-clause-second : goal.put-requires-clause-second
-put-requires-clause-second c = (giraffes_below c.args.on_board.now c.args.digits.now _ _ c.requires.choices (giraffes (goal.at.put-requires-clause-second c).After-among-3)).1
+pub put-requires : goal.put-requires
+put-requires c =
+    let low = giraffes_below c.args.on_board.now c.args.digits.now _ _ c.requires.choices (giraffes (goal.at.put-requires c).After-among-3) in
+    record { few = c.requires.choices.giraffes; first = low.0; second = low.1 }
 
 pub returns : goal.returns
 returns c =
@@ -63,18 +60,13 @@ returns c =
     let nothing = c.no_pieces-nothing.ensures (seen_by c.args.side (setup_of (replicate 12 None) hands)) (empty_seen c.args.side hands)
     (hands_seen c.args.side (replicate 12 None) hands ∙ sym c.seen_hands.ensures) in
     let low = choices.own_lion in
-    let zero_low : order OwnLion < 5 = omega arith in
-    let one_low : order EnemyLion < 5 = omega arith in
-    let two_low : order Chicks < 5 = omega arith in
-    let three_low : order Elephants < 5 = omega arith in
-    let four_low : order Giraffes < 5 = omega arith in
     let first = one_put (setup_of (replicate 12 None) hands) own lion
     (λ s. AreBitboards (seen_by c.args.side s) c.no_pieces-nothing.result) (λ s. AreBitboards (seen_by c.args.side s) c.with_piece-own_lion.result)
-    refl (omega (arith, low)) (free_at numbers (order OwnLion) 12 empty_layers (replicate 12 None) (λ n. n) zero_low (start numbers) own (omega (arith, low)))
+    refl (omega (arith, low))
+    (free_at numbers (order OwnLion) 12 empty_layers (replicate 12 None) (λ n. n) (omega arith) (start numbers) own (omega (arith, low)))
     c.with_piece-own_lion.ensures nothing in
     let board = set (replicate 12 None) own lion in
     let long : length (set (replicate 12 None) own lion) ≡ 12 = length-set (replicate 12 None) own lion in
-    let below = c.past.ensures.value in
     let both = (subst (λ (square : ℕ). square < 12 → slice_index_or (set (replicate 12 None) own lion) square None ≡ None
     → AreBitboards (seen_by c.args.side (setup_of (set (set (replicate 12 None) own lion) square (cell_of (order EnemyLion) 0)) hands))
     c.with_piece-both_lions.result) c.past.ensures.value
@@ -82,37 +74,25 @@ returns c =
     (λ s. AreBitboards (seen_by c.args.side s) c.with_piece-own_lion.result) (λ s. AreBitboards (seen_by c.args.side s) c.with_piece-both_lions.result)
     long lt empty c.with_piece-both_lions.ensures first))
     (past_lt own enemy low choices.other_lion)
-    (free_at numbers (order EnemyLion) enemy_squares (settle (order OwnLion) 1 own empty_layers) (set (replicate 12 None) own lion) (past own) one_low
+    (free_at numbers (order EnemyLion) enemy_squares (settle (order OwnLion) 1 own empty_layers) (set (replicate 12 None) own lion) (past own) (omega arith)
     (own_lion_stands on_board digits choices) enemy choices.other_lion) in
     let lions_long = length-set (set (replicate 12 None) own lion) (past own enemy) (cell_of (order EnemyLion) 0) ∙ long in
     let chicks_there = put_moved (λ s. AreBitboards (seen_by c.args.side s) c.with_piece-both_lions.result) (λ s. AreBitboards (seen_by c.args.side s) c.put-with_chicks.result)
     (order Chicks) (slice_index on_board 0) c.among.result.0 c.among.result.1 (slice_index digits 8)
-    ((after_lions digits) (first_place free_squares (slice_index on_board 0) (slice_index digits 5)))
-    ((after_lions digits) (second_place free_squares (slice_index on_board 0) (slice_index digits 5)))
-    (chicks at.After-among).0 (chicks at.After-among).1
+    _ _ (chicks at.After-among).0 (chicks at.After-among).1
     c.put-with_chicks.ensures (setup_of (with_lions digits) hands) lions_long
     (are_free numbers (order Chicks) (slice_index on_board 0) (slice_index digits 5) free_squares (lions_by digits) (with_lions digits) (after_lions digits)
-    two_low choices.chicks choices.chick_squares (lions_stand on_board digits choices)) both in
-    let chicks_long = length-put (order Chicks) (slice_index on_board 0)
-    ((after_lions digits) (first_place free_squares (slice_index on_board 0) (slice_index digits 5)))
-    ((after_lions digits) (second_place free_squares (slice_index on_board 0) (slice_index digits 5))) (slice_index digits 8) (with_lions digits) ∙ lions_long in
+    (omega arith) choices.chicks choices.chick_squares (lions_stand on_board digits choices)) both in
     let elephants_there = put_moved (λ s. AreBitboards (seen_by c.args.side s) c.put-with_chicks.result) (λ s. AreBitboards (seen_by c.args.side s) c.put-with_elephants.result)
     (order Elephants) (slice_index on_board 1) c.among-2.result.0 c.among-2.result.1 (slice_index digits 9)
-    ((after_chicks on_board digits) (first_place (free_squares - slice_index on_board 0) (slice_index on_board 1) (slice_index digits 6)))
-    ((after_chicks on_board digits) (second_place (free_squares - slice_index on_board 0) (slice_index on_board 1) (slice_index digits 6)))
-    (elephants at.After-among-2).0 (elephants at.After-among-2).1
-    c.put-with_elephants.ensures (setup_of (with_chicks on_board digits) hands) chicks_long
+    _ _ (elephants at.After-among-2).0 (elephants at.After-among-2).1
+    c.put-with_elephants.ensures (setup_of (with_chicks on_board digits) hands) chicks_there.0
     (are_free numbers (order Elephants) (slice_index on_board 1) (slice_index digits 6) (free_squares - slice_index on_board 0) (chicks_by on_board digits) (with_chicks on_board digits) (after_chicks on_board digits)
-    three_low choices.elephants choices.elephant_squares (chicks_stand on_board digits choices)) chicks_there in
-    let elephants_long = length-put (order Elephants) (slice_index on_board 1)
-    ((after_chicks on_board digits) (first_place (free_squares - slice_index on_board 0) (slice_index on_board 1) (slice_index digits 6)))
-    ((after_chicks on_board digits) (second_place (free_squares - slice_index on_board 0) (slice_index on_board 1) (slice_index digits 6))) (slice_index digits 9) (with_chicks on_board digits) ∙ chicks_long in
+    (omega arith) choices.elephants choices.elephant_squares (chicks_stand on_board digits choices)) chicks_there.1 in
     let giraffes_there = put_moved (λ s. AreBitboards (seen_by c.args.side s) c.put-with_elephants.result) (λ s. AreBitboards (seen_by c.args.side s) c.put.result)
     (order Giraffes) (slice_index on_board 2) c.among-3.result.0 c.among-3.result.1 (slice_index digits 10)
-    ((after_elephants on_board digits) (first_place (free_squares - slice_index on_board 0 - slice_index on_board 1) (slice_index on_board 2) (slice_index digits 7)))
-    ((after_elephants on_board digits) (second_place (free_squares - slice_index on_board 0 - slice_index on_board 1) (slice_index on_board 2) (slice_index digits 7)))
-    (giraffes at.After-among-3).0 (giraffes at.After-among-3).1
-    c.put.ensures (setup_of (with_elephants on_board digits) hands) elephants_long
+    _ _ (giraffes at.After-among-3).0 (giraffes at.After-among-3).1
+    c.put.ensures (setup_of (with_elephants on_board digits) hands) elephants_there.0
     (are_free numbers (order Giraffes) (slice_index on_board 2) (slice_index digits 7) (free_squares - slice_index on_board 0 - slice_index on_board 1) (elephants_by on_board digits) (with_elephants on_board digits) (after_elephants on_board digits)
-    four_low choices.giraffes choices.giraffe_squares (elephants_stand on_board digits choices)) elephants_there in
-    subst (λ (cells : List Cell). AreBitboards (seen_by c.args.side (setup_of cells hands)) c.put.result) (whole_board on_board digits choices) giraffes_there
+    (omega arith) choices.giraffes choices.giraffe_squares (elephants_stand on_board digits choices)) elephants_there.1 in
+    subst (λ (cells : List Cell). AreBitboards (seen_by c.args.side (setup_of cells hands)) c.put.result) (whole_board on_board digits choices) giraffes_there.1

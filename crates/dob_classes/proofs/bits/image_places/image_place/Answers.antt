@@ -1,43 +1,47 @@
 -- The digits of the spot make the position's sets, and those of its mirror image have the place.
-use Rattle.dob_classes.proofs.Common.{◌*◌, ◌+◌, refl, subst, mirrored, setup_of, Hands, AreChoices-digits, HasDigits-numbers, HasDigits-spot}
+use Rattle.dob_classes.proofs.Common.{◌*◌, ◌+◌, refl, subst, setup_of, mirrored, Hands, AreChoices-digits, HasDigits-numbers, HasDigits-spot}
 use Rattle.dob_classes.proofs.Common.{IsPositionOfSet-mirrored, local_in_bases, made_by, made_in_block, run_in_bases, HasBlock, HasDigits, bases_by, board_of}
-use Rattle.dob_classes.proofs.Common.{layers_by, numbers_by, setup_by, run_size, AreBitboards, IsShownOfSet}
-use Rattle.dob_classes.proofs.SquareSets.ImagePlaces.{square_choices}
+use Rattle.dob_classes.proofs.Common.{layers_by, numbers_by, setup_by, AreChoices, run_size, AreBitboards, IsShownOfSet}
 use Rattle.dob_classes.proofs.bits.image_places.image_place.Goals as goal
 use Rattle.dob_classes.proofs.bits.image_places.image_place.Goals.{After-digits_with-digits, After-mirrored_bits}
 
-pub digits_with-digits-requires-clause-on_board : goal.digits_with-digits-requires-clause-on_board
-digits_with-digits-requires-clause-on_board c = HasDigits-numbers c.args.set c.args.block _ c.requires.block c.requires.shape.on_board_is
+pub digits_with-digits-requires : goal.digits_with-digits-requires
+digits_with-digits-requires c = record {
+  on_board = HasDigits-numbers c.args.set c.args.block _ c.requires.block c.requires.shape.on_board_is;
+  choices = c.requires.shape.choices_are;
+  digits = c.requires.shape.digits_are;
+  run = run_in_bases c.args.set c.args.block c.args.spot.run _ c.requires.shape.on_board_is c.requires.run;
+  local = local_in_bases c.args.set c.args.block c.args.spot.local _ c.requires.shape.on_board_is c.requires.local;
+}
 
-pub digits_with-digits-requires-clause-run : goal.digits_with-digits-requires-clause-run
-digits_with-digits-requires-clause-run c = run_in_bases c.args.set c.args.block c.args.spot.run _ c.requires.shape.on_board_is c.requires.run
-
-pub digits_with-digits-requires-clause-local : goal.digits_with-digits-requires-clause-local
-digits_with-digits-requires-clause-local c = local_in_bases c.args.set c.args.block c.args.spot.local _ c.requires.shape.on_board_is c.requires.local
-
--- the spot has the digits
+-- the spot has the digits, which are choices
 has_digits : (c : After-digits_with-digits) → HasDigits (bases_by c.args.set c.args.shape.now.on_board) c.digits_with-digits.result
 has_digits c = HasDigits-spot c.args.set c.args.shape.now.on_board c.args.spot.run c.args.spot.local _
     (run_in_bases c.args.set c.args.block c.args.spot.run _ c.requires.shape.on_board_is c.requires.run)
     (local_in_bases c.args.set c.args.block c.args.spot.local _ c.requires.shape.on_board_is c.requires.local) c.digits_with-digits.ensures
 
+choices : (c : After-digits_with-digits) → AreChoices c.args.shape.now.on_board c.digits_with-digits.result
+choices c = AreChoices-digits c.args.set c.args.shape.now.on_board c.digits_with-digits.result
+    (HasDigits-numbers c.args.set c.args.block _ c.requires.block c.requires.shape.on_board_is) (has_digits c)
+
 pub places_by-places-requires : goal.places_by-places-requires
-places_by-places-requires c =
-    square_choices c.args.shape.now.on_board c.digits_with-digits.result
-    (AreChoices-digits c.args.set c.args.shape.now.on_board c.digits_with-digits.result
-    (HasDigits-numbers c.args.set c.args.block _ c.requires.block c.requires.shape.on_board_is) (has_digits (goal.at.places_by-places-requires c).After-digits_with-digits))
+places_by-places-requires c = (let are = choices (goal.at.places_by-places-requires c).After-digits_with-digits in record {
+  chicks = are.chicks;
+  elephants = are.elephants;
+  giraffes = are.giraffes;
+  chick_squares = are.chick_squares;
+  elephant_squares = are.elephant_squares;
+  giraffe_squares = are.giraffe_squares;
+})
 
-pub hands_of-hands-requires-clause-on_board : goal.hands_of-hands-requires-clause-on_board
-hands_of-hands-requires-clause-on_board c = HasDigits-numbers c.args.set c.args.block _ c.requires.block c.requires.shape.on_board_is
-
-pub hands_of-hands-requires-clause-digits : goal.hands_of-hands-requires-clause-digits
-hands_of-hands-requires-clause-digits c = has_digits (goal.at.hands_of-hands-requires-clause-digits c).After-digits_with-digits
+pub hands_of-hands-requires : goal.hands_of-hands-requires
+hands_of-hands-requires c = record {
+  on_board = HasDigits-numbers c.args.set c.args.block _ c.requires.block c.requires.shape.on_board_is;
+  digits = has_digits (goal.at.hands_of-hands-requires c).After-digits_with-digits;
+}
 
 pub bits_by-bits-requires-clause-choices : goal.bits_by-bits-requires-clause-choices
-bits_by-bits-requires-clause-choices c =
-    AreChoices-digits c.args.set c.args.shape.now.on_board c.digits_with-digits.result
-    (HasDigits-numbers c.args.set c.args.block _ c.requires.block c.requires.shape.on_board_is)
-    (has_digits (goal.at.bits_by-bits-requires-clause-choices c).After-digits_with-digits)
+bits_by-bits-requires-clause-choices c = choices (goal.at.bits_by-bits-requires-clause-choices c).After-digits_with-digits
 
 -- the setup of the digits stands at the spot
 setup_there : (c : After-digits_with-digits) → HasBlock c.args.set c.args.block (c.args.spot.run * run_size c.args.set c.args.block + c.args.spot.local)

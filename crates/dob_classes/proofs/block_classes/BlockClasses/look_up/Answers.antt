@@ -34,34 +34,18 @@ overflow_add-result-in-Mixed c =
     c.index.ensures c.look_up-is_marked.ensures.mark c.look_up-is_marked.ensures.before).few in
     omega (arith, few)
 
-pub returns-in-First-clause-mark : goal.returns-in-First-clause-mark
-returns-in-First-clause-mark c =
-    let at = there (goal.at.returns-in-First-clause-mark c).After-index-run in
-    (first_found_in _ _ _ _ _ _ at (sym c.kind_of.ensures ∙ c.in-First.is)).mark_is
+pub returns-in-First : goal.returns-in-First
+returns-in-First c =
+    let at = first_found_in _ _ _ _ _ _ (there (goal.at.returns-in-First c).After-index-run) (sym c.kind_of.ensures ∙ c.in-First.is) in
+    record { mark = at.mark_is; before = at.before_is }
 
-pub returns-in-First-clause-before : goal.returns-in-First-clause-before
-returns-in-First-clause-before c =
-    let at = there (goal.at.returns-in-First-clause-before c).After-index-run in
-    (first_found_in _ _ _ _ _ _ at (sym c.kind_of.ensures ∙ c.in-First.is)).before_is
+pub returns-in-Later : goal.returns-in-Later
+returns-in-Later c =
+    let at = later_found _ _ _ _ _ _ (there (goal.at.returns-in-Later c).After-index-run) (sym c.kind_of.ensures ∙ c.in-Later.is) in
+    record { mark = at.mark_is; before = at.before_is }
 
-pub returns-in-Later-clause-mark : goal.returns-in-Later-clause-mark
-returns-in-Later-clause-mark c =
-    let at = there (goal.at.returns-in-Later-clause-mark c).After-index-run in
-    (later_found _ _ _ _ _ _ at (sym c.kind_of.ensures ∙ c.in-Later.is)).mark_is
-
-pub returns-in-Later-clause-before : goal.returns-in-Later-clause-before
-returns-in-Later-clause-before c =
-    let at = there (goal.at.returns-in-Later-clause-before c).After-index-run in
-    (later_found _ _ _ _ _ _ at (sym c.kind_of.ensures ∙ c.in-Later.is)).before_is
-
-pub returns-in-Mixed-clause-mark : goal.returns-in-Mixed-clause-mark
-returns-in-Mixed-clause-mark c =
-    let at = there (goal.at.returns-in-Mixed-clause-mark c).After-index-run in
-    (mixed_found _ _ _ _ _ _ c.index.result.now _ _ at (sym c.kind_of.ensures ∙ c.in-Mixed.is)
-    c.index.ensures c.look_up-is_marked.ensures.mark c.look_up-is_marked.ensures.before).mark_is
-
-pub returns-in-Mixed-clause-before : goal.returns-in-Mixed-clause-before
-returns-in-Mixed-clause-before c =
-    let at = there (goal.at.returns-in-Mixed-clause-before c).After-index-run in
-    (mixed_found _ _ _ _ _ _ c.index.result.now _ _ at (sym c.kind_of.ensures ∙ c.in-Mixed.is)
-    c.index.ensures c.look_up-is_marked.ensures.mark c.look_up-is_marked.ensures.before).before_is
+pub returns-in-Mixed : goal.returns-in-Mixed
+returns-in-Mixed c =
+    let at = mixed_found _ _ _ _ _ _ c.index.result.now _ _ (there (goal.at.returns-in-Mixed c).After-index-run) (sym c.kind_of.ensures ∙ c.in-Mixed.is)
+    c.index.ensures c.look_up-is_marked.ensures.mark c.look_up-is_marked.ensures.before in
+    record { mark = at.mark_is; before = at.before_is }

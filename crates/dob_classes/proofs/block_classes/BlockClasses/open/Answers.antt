@@ -1,6 +1,6 @@
 -- Each run's entry and its words go to the ends of the tables.
 use Rattle.dob_classes.proofs.Common.{◌+◌, ◌∙◌, ◌≡◌, ap, arith, subst, sym, vec_len, AreFewOnBoard-digits, run_start_end, run_start_first, HasDigits-numbers}
-use Rattle.dob_classes.proofs.Common.{run_in_bases, is_marked, marks_below, digits_of, run_bases, run_start, runs_in, AreRuns}
+use Rattle.dob_classes.proofs.Common.{run_in_bases, is_marked, marks_below, digits_of, run_bases, runs_in, AreRuns, classes_to_run}
 use Rattle.dob_classes.proofs.Tables.RunTables.{AreRuns-none, AreRuns-push, marks_small}
 use Rattle.dob_classes.proofs.Tables.IndexedRuns.{first_run}
 use Rattle.dob_classes.proofs.block_classes.BlockClasses.open.Goals as goal
@@ -19,13 +19,12 @@ loop-run-init c = record {
   count_is = c.requires.before ∙ ap (marks_below (is_marked c.args.family)) (sym (run_start_first c.args.family.set c.args.number));
 }
 
-pub run_digits_in-requires-clause-on_board : goal.run_digits_in-requires-clause-on_board
-run_digits_in-requires-clause-on_board c =
-    HasDigits-numbers c.args.family.set c.args.number _ c.requires.within c.numbers_in-on_board.ensures
-
-pub run_digits_in-requires-clause-run : goal.run_digits_in-requires-clause-run
-run_digits_in-requires-clause-run c =
-    run_in_bases c.args.family.set c.args.number c.loop-run.run _ c.numbers_in-on_board.ensures (omega (arith, c.count_runs-run-end.ensures.value, c.loop-run-test.true))
+pub run_digits_in-requires : goal.run_digits_in-requires
+run_digits_in-requires c = record {
+  on_board = HasDigits-numbers c.args.family.set c.args.number _ c.requires.within c.numbers_in-on_board.ensures;
+  run = run_in_bases c.args.family.set c.args.number c.loop-run.run _ c.numbers_in-on_board.ensures
+      (omega (arith, c.count_runs-run-end.ensures.value, c.loop-run-test.true));
+}
 
 pub count_marks-count-requires-clause-table : goal.count_marks-count-requires-clause-table
 count_marks-count-requires-clause-table c =
@@ -71,7 +70,7 @@ invariant_of-result c =
       within = c.requires.within;
       starts = c.requires.before;
       ends = c.loop-run.invariant.count_is
-          ∙ ap (λ n. marks_below (is_marked c.args.family) (run_start c.args.family.set c.args.number n)) whole
+          ∙ ap (λ n. classes_to_run c.args.family c.args.number n) whole
           ∙ ap (marks_below (is_marked c.args.family)) (run_start_end c.args.family.set c.args.number);
       numbers = c.numbers_in-on_board.ensures;
       chosen = c.choices_in-choices.ensures;

@@ -7,17 +7,13 @@ returns-in-A c =
     let block = c.args.self.now in
     place_of_own block.family block.number c.args.run c.args.number (record { block_below = block.within; run_below = c.requires.run; number_below = c.requires.number }) c.in-A.is
 
-pub local_at-requires-clause-few : goal.local_at-requires-clause-few
-local_at-requires-clause-few c = few_on_board c.args.self.now
-
-pub local_at-requires-clause-lions : goal.local_at-requires-clause-lions
-local_at-requires-clause-lions c = lions_below c.args.run
-
-pub local_at-requires-clause-number : goal.local_at-requires-clause-number
-local_at-requires-clause-number c =
-    let block = c.args.self.now in
-    number_fits block.family block.number c.args.run c.args.number block.on_board
-    (record { block_below = block.within; run_below = c.requires.run; number_below = c.requires.number }) c.in-B.is block.numbers
+pub local_at-requires : goal.local_at-requires
+local_at-requires c = (let block = c.args.self.now in record {
+  few = few_on_board block;
+  lions = lions_below c.args.run;
+  number = number_fits block.family block.number c.args.run c.args.number block.on_board
+      (record { block_below = block.within; run_below = c.requires.run; number_below = c.requires.number }) c.in-B.is block.numbers;
+})
 
 pub returns-in-B : goal.returns-in-B
 returns-in-B c =

@@ -7,11 +7,5 @@ pub loop-block-init : goal.loop-block-init
 loop-block-init c =
     class_in_blocks c.args.self.now.family c.args.class c.len-block.result c.requires (c.len-block.ensures ∙ c.args.self.now.whole)
 
-pub returns-clause-block : goal.returns-clause-block
-returns-clause-block c = absurd (in_first c.args.self.now.family c.args.class c.loop-block.block c.loop-block-test.false c.loop-block.invariant)
-
-pub returns-clause-low : goal.returns-clause-low
-returns-clause-low c = absurd (in_first c.args.self.now.family c.args.class c.loop-block.block c.loop-block-test.false c.loop-block.invariant)
-
-pub returns-clause-high : goal.returns-clause-high
-returns-clause-high c = absurd (in_first c.args.self.now.family c.args.class c.loop-block.block c.loop-block-test.false c.loop-block.invariant)
+pub returns : goal.returns
+returns c = absurd (in_first c.args.self.now.family c.args.class c.loop-block.block c.loop-block-test.false c.loop-block.invariant)

@@ -1,12 +1,8 @@
 -- The marks of all ranks are as many as the classes.
-use Rattle.dob_classes.proofs.Common.{◌<◌, ◌^◌, subst, sym, ℕ, classes_of-below, HasClasses-classes_of, HasClasses}
+use Rattle.dob_classes.proofs.Tables.FamilyBlocks.{count_told}
 use Rattle.dob_classes.proofs.classes.Classes.class_count.Goals as goal
 
-pub returns-clause-count : goal.returns-clause-count
-returns-clause-count c = subst (HasClasses c.args.self.now.family) (sym c.args.self.now.counted) (HasClasses-classes_of c.args.self.now.family)
-
-pub returns-clause-number : goal.returns-clause-number
-returns-clause-number c = c.args.self.now.counted
-
-pub returns-clause-bound : goal.returns-clause-bound
-returns-clause-bound c = subst (λ (n : ℕ). n < 2 ^ 31) (sym c.args.self.now.counted) (classes_of-below c.args.self.now.family)
+pub returns : goal.returns
+returns c =
+    let told = count_told c.args.self.now.family _ c.args.self.now.counted in
+    record { count = told.0; number = c.args.self.now.counted; bound = told.1 }

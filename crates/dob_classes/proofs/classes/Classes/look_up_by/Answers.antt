@@ -1,11 +1,11 @@
 -- The position's block knows its run and its number there.
 use Rattle.dob_classes.proofs.Common.{◌∙◌, arith, block_of-below}
-use Rattle.dob_classes.proofs.Tables.FamilyBlocks.{IsSpotRead, spot_read}
+use Rattle.dob_classes.proofs.Tables.FamilyBlocks.{IsSpotFor, spot_read}
 use Rattle.dob_classes.proofs.classes.Classes.look_up_by.Goals as goal
 use Rattle.dob_classes.proofs.classes.Classes.look_up_by.Goals.{After-index}
 
-spot_in : (c : After-index) → IsSpotRead c.args.self.now.family c.args.position.now.setup c.index.result.now c.spot_in-block.result.1.run
-    c.spot_in-block.result.1.local
+spot_in : (c : After-index) → IsSpotFor c.args.self.now.family c.args.position.now.setup c.index.result.now.family c.index.result.now.number
+    c.spot_in-block.result.1.run c.spot_in-block.result.1.local
 spot_in c =
     let below = block_of-below c.args.self.now.family.set c.args.position.now.setup c.requires.position.of_set in
     spot_read c.args.self.now.family c.args.position.now.setup c.args.self.now.blocks.items _ _ _ c.index.result.now c.requires.position
@@ -22,12 +22,7 @@ look_up-requires c =
     let spot = spot_in (goal.at.look_up-requires c).After-index in
     record { run = spot.run_below; local = spot.number_below }
 
-pub returns-clause-mark : goal.returns-clause-mark
-returns-clause-mark c =
-    let spot = spot_in (goal.at.returns-clause-mark c).After-index in
-    c.look_up.ensures.mark ∙ spot.mark_is
-
-pub returns-clause-before : goal.returns-clause-before
-returns-clause-before c =
-    let spot = spot_in (goal.at.returns-clause-before c).After-index in
-    c.look_up.ensures.before ∙ spot.before_is
+pub returns : goal.returns
+returns c =
+    let spot = spot_in (goal.at.returns c).After-index in
+    record { mark = c.look_up.ensures.mark ∙ spot.mark_is; before = c.look_up.ensures.before ∙ spot.before_is }

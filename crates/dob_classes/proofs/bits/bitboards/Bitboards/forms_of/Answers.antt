@@ -10,8 +10,7 @@ returns-then-pieces-eq0 c = λ setup has. sym (no_form (order c.args.of_layer) s
 pub form_at-first-requires : goal.form_at-first-requires
 form_at-first-requires c =
     let has = c.requires.layer.1 in
-    let some = has.pieces_are in
-    first_on_board (order c.args.of_layer) c.requires.layer.0.board c.args.mask has.long has.mask_is (omega (arith, some))
+    first_on_board (order c.args.of_layer) c.requires.layer.0.board c.args.mask has.long has.mask_is (omega (arith, has.pieces_are))
 
 pub returns-then-pieces-eq1 : goal.returns-then-pieces-eq1
 returns-then-pieces-eq1 c = λ setup has.
@@ -22,17 +21,13 @@ returns-then-pieces-eq1 c = λ setup has.
 pub form_at-second-requires : goal.form_at-second-requires
 form_at-second-requires c =
     let has = c.requires.layer.1 in
-    let few = c.requires.few in
-    let some = has.pieces_are in
-    second_on_board (order c.args.of_layer) c.requires.layer.0.board c.args.mask _ has.long has.mask_is c.saturating_sub.ensures (omega (arith, some, few))
+    second_on_board (order c.args.of_layer) c.requires.layer.0.board c.args.mask _ has.long has.mask_is c.saturating_sub.ensures (omega (arith, has.pieces_are, c.requires.few))
 
 pub returns : goal.returns
 returns c = λ setup has.
-    let few = c.requires.few in
-    let some = has.pieces_are in
-    forms_found (order c.args.of_layer) setup.board c.args.mask _ _ _ _ has.long has.mask_is c.saturating_sub.ensures (omega (arith, some, few))
+    forms_found (order c.args.of_layer) setup.board c.args.mask _ _ _ _ has.long has.mask_is c.saturating_sub.ensures (omega (arith, has.pieces_are, c.requires.few))
     (c.form_at-first.ensures.value setup has.squares
-    (first_of_layer (order c.args.of_layer) setup.board c.args.mask has.long has.mask_is (omega (arith, some, few))))
+    (first_of_layer (order c.args.of_layer) setup.board c.args.mask has.long has.mask_is (omega (arith, has.pieces_are, c.requires.few))))
     (c.form_at-second.ensures.value setup has.squares
-    (second_of_layer (order c.args.of_layer) setup.board c.args.mask _ has.long has.mask_is c.saturating_sub.ensures (omega (arith, some, few))))
+    (second_of_layer (order c.args.of_layer) setup.board c.args.mask _ has.long has.mask_is c.saturating_sub.ensures (omega (arith, has.pieces_are, c.requires.few))))
     c.base_of.ensures.value
