@@ -5,17 +5,8 @@ use Rattle.dob_probe.proofs.Common.{Setup, class_setup, ClassTable, AreAlike, Ar
 use Rattle.dob_pieces.proofs.Lists.{cons_cases}
 use Rattle.dob_probe.specs.declared.outlines.Outline.{Outline}
 
-abbrev outline_with : ℕ → ℕ → ℕ → ℕ → ℕ → Outline
-outline_with chicks elephants giraffes lion enemy_lion =
-    record { chicks = chicks; elephants = elephants; giraffes = giraffes; lion = lion; enemy_lion = enemy_lion }
-
 same_fields : (a b : Outline) → a.chicks ≡ b.chicks → a.elephants ≡ b.elephants → a.giraffes ≡ b.giraffes → a.lion ≡ b.lion → a.enemy_lion ≡ b.enemy_lion → a ≡ b
-same_fields a b c e g l n =
-    ap (λ (k : ℕ). outline_with k a.elephants a.giraffes a.lion a.enemy_lion) c
-    ∙ (ap (λ (k : ℕ). outline_with b.chicks k a.giraffes a.lion a.enemy_lion) e
-    ∙ (ap (λ (k : ℕ). outline_with b.chicks b.elephants k a.lion a.enemy_lion) g
-    ∙ (ap (λ (k : ℕ). outline_with b.chicks b.elephants b.giraffes k a.enemy_lion) l
-    ∙ ap (λ (k : ℕ). outline_with b.chicks b.elephants b.giraffes b.lion k) n)))
+same_fields a b c e g l n = λ i. record { chicks = c i; elephants = e i; giraffes = g i; lion = l i; enemy_lion = n i }
 
 -- a position has one outline
 one_outline : (p : Setup) (a b : Outline) → HasLions p → IsOutline p a → IsOutline p b → a ≡ b

@@ -16,8 +16,7 @@ pub returns-clause-outlines : goal.returns-clause-outlines
 returns-clause-outlines c =
     let more = outlines_more c.args.table.now c.args.list.now.items c.args.outlines.now.items (puzzle_of c.args.class c.args.played) c.outline_at-outline.result
     (c.outline_at-outline.ensures c.args.played) c.requires.outlines in
-    subst (λ (l : List Puzzle). AreOutlines c.args.table.now l c.push-2.new.self.items) (sym c.in_ok-push.ensures.items)
-    (subst (λ (l : List Outline). AreOutlines c.args.table.now (c.args.list.now.items ++ puzzle_of c.args.class c.args.played ∷ []) l) (sym c.in_ok-push-2.ensures.items) more)
+    rw (c.in_ok-push.ensures.items, c.in_ok-push-2.ensures.items) more
 
 pub returns-clause-listed : goal.returns-clause-listed
 returns-clause-listed c =
