@@ -1,7 +1,7 @@
 -- The first fault among the verdicts of all classes, or of all entries, as a search over them finds it.
-use Rattle.dob_check.proofs.Common.{◌+◌, ◌<◌, ◌∙◌, ◌∷◌, ◌≡◌, ◌≤◌, Bool, Err, List, None, Ok, Option, Result, Some, [], ap, arith, false, inl, inr, length, subst}
-use Rattle.dob_check.proofs.Common.{suc, sym, true, zero, ℕ, Bor, cases_lt, AllZip, range_with_len, unwrap_or, IfErr, IfOk, is_err, slice_get, filter_by_mask, Verdict}
-use Rattle.dob_check.proofs.Common.{fault_holds}
+use Rattle.dob_check.proofs.Common.{◌+◌, ◌<◌, ◌∙◌, ◌∷◌, ◌≡◌, ◌≤◌, Bool, Err, List, None, Ok, Option, Result, Some, [], ap, arith, false, inl, inr, length}
+use Rattle.dob_check.proofs.Common.{subst, suc, sym, true, zero, ℕ, Bor, cases_lt, AllZip, range_with_len, unwrap_or, IfErr, IfOk, is_err, slice_get}
+use Rattle.dob_check.proofs.Common.{filter_by_mask, Verdict, fault_holds}
 use Rattle.dob_value.specs.Follows.{ClassTable, IsTable, IsConsistent, IsValueTable}
 use Rattle.dob_value.proofs.Consistency.{consistent_is_right}
 use Rattle.dob_probe.specs.Checks.{ClassFollows}

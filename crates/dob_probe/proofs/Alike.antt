@@ -1,5 +1,5 @@
 -- Outlines of positions, and puzzles that are alike.
-use Rattle.dob_probe.proofs.Common.{◌&&◌, ◌++◌, ◌==◌, ◌∙◌, ◌∷◌, ◌≡◌, Bool, Contains, List, [], ap, arith, false, inl, inr, refl, subst, sym, true, true≢false}
+use Rattle.dob_probe.proofs.Common.{◌&&◌, ◌++◌, ◌==◌, ◌∙◌, ◌∷◌, ◌≡◌, Bool, Contains, List, [], arith, false, inl, inr, refl, subst, sym, true, true≢false}
 use Rattle.dob_probe.proofs.Common.{ℕ, and_from, and_parts, cases_Bool, eq-eqb, eqb-true, Contains-append_right, list_any, one_lion, HasLions, Enemy, Mover}
 use Rattle.dob_probe.proofs.Common.{Setup, class_setup, ClassTable, AreAlike, AreLike, AreOutlines, IsOutline, IsOutlineOf, same_outline, Puzzle}
 use Rattle.dob_pieces.proofs.Lists.{cons_cases}

@@ -1,8 +1,8 @@
 -- By the value table lines are the best lines, and none breaks off.
 use Rattle.dob_probe.proofs.Common.{◌-◌, ◌∙◌, ◌∷◌, ◌≡◌, ◌≤◌, Err, IfErr, IfOk, List, MatchResult, None, Ok, Result, Some, [], ap, arith, inl, inr, refl, subst}
 use Rattle.dob_probe.proofs.Common.{suc, sym, zero, ℕ, cases_lt, Setup, Goes, CanCatch, HasStatus, Move, Open, IsPositionOf, consistent_is_right}
-use Rattle.dob_probe.proofs.Common.{moves_keep_the_family, ClassTable, IsConsistent, IsValueTable, Value, Draw, Loss, Win, IsFaultOfLine, Begins, Continues}
-use Rattle.dob_probe.proofs.Common.{ValuedMove, GivenBy, GoesOnTo, IsLine, LacksMove, LeadsTo, value_wanted, Fault, FarChick, Inconsistent, Memory, OtherSet}
+use Rattle.dob_probe.proofs.Common.{moves_keep_the_family, ClassTable, IsConsistent, IsValueTable, Value, Draw, Loss, Win, IsFaultOfLine, Begins}
+use Rattle.dob_probe.proofs.Common.{ValuedMove, GivenBy, IsLine, LacksMove, LeadsTo, value_wanted, Fault, FarChick, Inconsistent, Memory, OtherSet}
 use Rattle.dob_value.specs.Values.{Won, Lost, HasValue}
 use Rattle.dob_value.proofs.Depths.{won_stays, won_not_lost, at_most_one_value}
 use Rattle.dob_probe.specs.Laws.{LinesAreBest, NoneBreaks}

@@ -3,7 +3,7 @@ use Rattle.dob_probe.proofs.Common.{◌++◌, ◌+◌, ◌-◌, ◌<◌, ◌∙�
 use Rattle.dob_probe.proofs.Common.{get_or, inl, inr, length, slice_get, subst, sym, true, true≢false, ℕ, cases_lt, Contains-append_left, Contains-get_or}
 use Rattle.dob_probe.proofs.Common.{Contains-push, Contains-push_cases, all_pairs_push, same_Some, slice_get_within, before_or_here, standing, Profile, Setup}
 use Rattle.dob_probe.proofs.Common.{place, AreMoves, Move, ClassTable, IsEntry, IsTable, MAX_DISTANCE, Value, Loss, Win, HasEntry, GivenBy, LeadsTo, AreLike}
-use Rattle.dob_probe.proofs.Common.{ArePuzzles, IsListedNext, IsOnlyTo, IsPassed, IsPuzzle, IsSpread, IsWalked, walk_place, IsPuzzleOf, IsSingleMove, begin_at}
+use Rattle.dob_probe.proofs.Common.{ArePuzzles, IsListedNext, IsOnlyTo, IsPassed, IsPuzzle, IsSpread, walk_place, IsPuzzleOf, IsSingleMove, begin_at}
 use Rattle.dob_probe.proofs.Common.{class_on, first_class, Puzzle}
 use Rattle.std.proofs.Common.{length-append, is_some}
 use Rattle.dob_classes.proofs.OfFamilies.FamilyRepresentatives.{one_of_class}

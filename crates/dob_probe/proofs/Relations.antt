@@ -1,5 +1,5 @@
 -- Where positions have the same values by two relations, lines and valued moves by the one are lines and valued moves by the other.
-use Rattle.dob_probe.proofs.Common.{◌∷◌, ◌≡◌, List, [], inl, inr, Profile, Setup, Goes, HasStatus, Move, Open, Value, Continues, IsLine, LeadsTo, ValuedMove}
+use Rattle.dob_probe.proofs.Common.{◌∷◌, List, [], inl, inr, Profile, Setup, Goes, HasStatus, Move, Open, Value, Continues, IsLine, LeadsTo, ValuedMove}
 use Rattle.dob_probe.specs.ValuedMoves.{AreValuedMoves, HasMoveValue}
 
 -- the values that positions of a kind have by the one relation they have by the other
@@ -7,7 +7,8 @@ abbrev pub Gives : (Setup → Type 0) → (Setup → Value → Type 0) → (Setu
 Gives Is By Other = (p : Setup) (v : Value) → Is p → By p v → Other p v
 
 -- moves lead from positions of that kind to such positions
-module _ (profile : Profile) (Is : Setup → Type 0) (keeps : (p : Setup) (m : Move) (q : Setup) → Is p → HasStatus profile p Open → Goes profile p m q → Is q) where
+module _ (profile : Profile) (Is : Setup → Type 0)
+    (keeps : (p : Setup) (m : Move) (q : Setup) → Is p → HasStatus profile p Open → Goes profile p m q → Is q) where
   pub leads_by : (By Other : Setup → Value → Type 0) → Gives Is By Other → (p : Setup) (wanted : Value) (m : Move) (q : Setup) → Is p
       → LeadsTo profile By p wanted m q → LeadsTo profile Other p wanted m q
   leads_by By Other there p wanted m q is leads = record {

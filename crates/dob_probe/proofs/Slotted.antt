@@ -3,7 +3,7 @@ use Rattle.dob_probe.proofs.Common.{◌%◌, ◌++◌, ◌+◌, ◌-◌, ◌<◌
 use Rattle.dob_probe.proofs.Common.{append-nil, ap₂, arith, cond, count_by, drop, false, get_or, inl, inr, length, option_to_list, refl, rules, set, slice_get}
 use Rattle.dob_probe.proofs.Common.{subst, suc, sym, take, true, zero, ℕ, cases_eq, cases_lt, get_or-set_other, get_or-set_same, get_or_default}
 use Rattle.dob_probe.proofs.Common.{Contains-append_left, Contains-get_or, Contains-push, Contains-push_cases, all_pairs_push, get_or_from_slice_get, same_Some}
-use Rattle.dob_probe.proofs.Common.{slice_get-get_or, slice_get_within, at_end, get_front, middle, IsEntry, Value, Draw, Loss, Win, AreSlots, part_of}
+use Rattle.dob_probe.proofs.Common.{slice_get-get_or, slice_get_within, get_front, IsEntry, Value, Draw, Loss, Win, AreSlots, part_of}
 use Rattle.std.proofs.lemmas.List.{drop-take, get_or-drop, get_or_past, length-append, length-drop, length-take, take-append-drop, take-take, take_more}
 use Rattle.std.proofs.lemmas.List.Sums.{sum_by-append, sum_by-cons, count_by-le-length}
 use Rattle.dob_value.specs.Codes.{code_of_value}
@@ -190,7 +190,8 @@ alone_other v code apart =
     omega (arith, count_one (has_code code) v, no)
 
 -- a class more is the value alone, joined
-joined_one : (slot : Option Group) (v : Value) (class : ℕ) → HasRoom slot → class < 2 ^ 64 → both_slots slot (Some (single v)) class ≡ Some (with_class slot v class)
+joined_one : (slot : Option Group) (v : Value) (class : ℕ) → HasRoom slot → class < 2 ^ 64
+    → both_slots slot (Some (single v)) class ≡ Some (with_class slot v class)
 joined_one None v class room small =
     let place : (class + 0) % 2 ^ 64 ≡ class = omega (arith, small) in
     ap (λ (n : ℕ). let group : Group = record { value = v; classes = 1; first = n } in Some group) place
@@ -232,7 +233,8 @@ module _ (xs : List Value) (v : Value) (room : length xs + 1 < 2 ^ 64) where
 
 -- the same of numbers and a group that were read and made
 pub slots_counted : (xs : List Value) (v : Value) (slots wide : List (Option Group)) (code class : ℕ) (slot : Option Group) (group : Group) →
-    code ≡ code_of_value v → slot ≡ get_or wide code slot → group ≡ with_class slot v class → length xs ≡ class → class + 1 < 2 ^ 64 → IsEntry v → code < length wide →
+    code ≡ code_of_value v → slot ≡ get_or wide code slot → group ≡ with_class slot v class → length xs ≡ class → class + 1 < 2 ^ 64 → IsEntry v →
+    code < length wide →
     ((k : ℕ) → get_or wide k None ≡ get_or slots k None) → AreSlots xs slots → AreSlots (xs ++ v ∷ []) (set wide code (Some group))
 slots_counted xs v slots wide code class slot group is_code read made counted room entry within same are =
     let is_slot : slot ≡ get_or wide code None = read ∙ get_or_default wide code slot None within in

@@ -1,9 +1,8 @@
 -- Lines as they grow, and where they break off.
 use Rattle.dob_probe.proofs.Common.{◌%◌, ◌++◌, ◌+◌, ◌-◌, ◌<◌, ◌∙◌, ◌∷◌, ◌≡◌, ◌≤◌, ◌⊎◌, Err, IfErr, IfOk, List, None, Ok, Result, Some, [], ap, append-nil}
 use Rattle.dob_probe.proofs.Common.{arith, get_or, inl, inr, length, refl, slice_get, subst, suc, sym, zero, ℕ, cases_order, same_Some, slice_get_read}
-use Rattle.dob_probe.proofs.Common.{before_or_here, standing}
-use Rattle.dob_probe.proofs.Common.{Profile, Setup, Goes-is, Goes, AreMoves, CanCatch, IsFirstCatch, Move, IsInClass, IsPositionOf, move_goes}
-use Rattle.dob_probe.proofs.Common.{moves_keep_the_family}
+use Rattle.dob_probe.proofs.Common.{before_or_here, standing, Profile, Setup, Goes-is, Goes, AreMoves, CanCatch, IsFirstCatch, Move, IsInClass, IsPositionOf}
+use Rattle.dob_probe.proofs.Common.{move_goes, moves_keep_the_family}
 use Rattle.dob_pieces.specs.declared.profile.Family.{Family}
 use Rattle.dob_probe.proofs.Common.{ClassTable, IsEntry, MAX_DISTANCE, Value, Draw, Loss, Win, IsFaultOfLine, IsGap, Begins, BreaksAt, Continues, EndsAt}
 use Rattle.dob_probe.proofs.Common.{GivenBy, GoesOnTo, IsFirstTo, IsLine, LacksMove, LeadsTo, value_wanted, Fault, FarChick, Inconsistent, Memory, OtherSet}

@@ -1,5 +1,6 @@
 -- The verdicts of the entries in order, and the first refusal among them.
-use Rattle.dob_check.proofs.Common.{◌-◌, ◌<◌, ◌∙◌, ◌≡◌, List, ap, arith, length, subst, ℕ, AllZip, range_with_len, AllZip-weaken, nat_range-All, nat_range, IsToldAt}
+use Rattle.dob_check.proofs.Common.{◌-◌, ◌<◌, ◌∙◌, ◌≡◌, List, ap, arith, length, subst, ℕ, AllZip, range_with_len, AllZip-weaken, nat_range-All, nat_range}
+use Rattle.dob_check.proofs.Common.{IsToldAt}
 use Rattle.dob_certificate.specs.declared.entry.Entry.{Entry}
 use Rattle.dob_certificate.specs.Lists.{Supports}
 use Rattle.dob_check.proofs.Found.{each_has, first_found}
@@ -9,9 +10,8 @@ use Rattle.dob_check.proofs.certificates.check_list.Goals as goal
 pub find_first-first_refusal-requires-clause-items : goal.find_first-first_refusal-requires-clause-items
 find_first-first_refusal-requires-clause-items g c = λ κs lives.
     let ends = c.into_par_iter.ensures in
-    let entries = c.args.entries.now in
-    let count : length c.as_slice.result.now ≡ length entries = ap length c.as_slice.ensures.entries in
-    let inside = nat_range-All (λ i. i < length entries) 0 (length c.as_slice.result.now) (λ i low high. omega (arith, high, count)) in
+    let long = ap length c.as_slice.ensures.entries in
+    let inside = nat_range-All (λ i. i < length c.args.entries.now) 0 (length c.as_slice.result.now) (λ i low high. omega (arith, high, long)) in
     rw (c.map_init.ensures.base, c.map_init.ensures.f, ends.0, ends.1) (tt, λ k d lt. (λ p. inside k d lt, λ p q y e b same. tt))
 
 -- the answer of each entry, and what was told of it
@@ -40,8 +40,7 @@ returns-clause-verdict g c =
 
 pub returns-clause-told : goal.returns-clause-told
 returns-clause-told g c = λ place low.
-    let entries = c.args.entries.now in
-    let Told : ℕ → Type 0 = IsToldAt (g.W.Watch.told c.args.watch.now) (length entries) in
+    let many = length c.args.entries.now in
     let found = c.find_first-first_refusal.ensures.0 in
-    each_has Told 0 (length entries) found
-    (AllZip-weaken _ (λ (k : ℕ) (v : Answer). Told k) (λ place answer h. h.1) (range_with_len 0 (length entries)) found (all_say g c)) place (omega arith) (omega (arith, low))
+    each_has (IsToldAt (g.W.Watch.told c.args.watch.now) many) 0 many found
+    (AllZip-weaken _ _ (λ place answer h. h.1) (range_with_len 0 many) found (all_say g c)) place (omega arith) (omega (arith, low))

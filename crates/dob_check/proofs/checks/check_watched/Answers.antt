@@ -1,6 +1,6 @@
 -- The verdicts of the classes in order, and the first fault among them.
-use Rattle.dob_check.proofs.Common.{◌-◌, ◌<◌, ◌∙◌, ◌≡◌, List, ap, arith, length, subst, sym, ℕ, AllZip, range_with_len, IfErr, IfOk, AllZip-weaken, nat_range-All}
-use Rattle.dob_check.proofs.Common.{nat_range, Verdict, passed_answered, IsToldAt}
+use Rattle.dob_check.proofs.Common.{◌-◌, ◌<◌, ◌∙◌, ◌≡◌, List, ap, arith, length, subst, sym, ℕ, AllZip, range_with_len, IfErr, IfOk, AllZip-weaken}
+use Rattle.dob_check.proofs.Common.{nat_range-All, nat_range, Verdict, passed_answered, IsToldAt}
 use Rattle.dob_value.specs.Follows.{IsConsistent}
 use Rattle.dob_probe.specs.Checks.{ClassFollows}
 use Rattle.dob_probe.specs.Faults.{IsVerdict, IsFaultOfCheck}
@@ -9,10 +9,10 @@ use Rattle.dob_check.proofs.checks.check_watched.Goals as goal
 
 pub find_first-first_fault-requires-clause-items : goal.find_first-first_fault-requires-clause-items
 find_first-first_fault-requires-clause-items g c = λ κs lives.
-    let ends = c.into_par_iter.ensures in
-    let values = c.args.table.now.values in
-    let inside = nat_range-All (λ i. i < length values) 0 c.class_count.result (λ i low high. omega (arith, high, c.class_count.ensures.length)) in
-    rw (c.map_init.ensures.base, c.map_init.ensures.f, ends.0, ends.1) (tt, λ k d lt. (λ p. inside k d lt, λ p q y e b same. tt))
+    let inside = nat_range-All (λ i. i < length c.args.table.now.values) 0 c.class_count.result
+    (λ i low high. omega (arith, high, c.class_count.ensures.length)) in
+    rw (c.map_init.ensures.base, c.map_init.ensures.f, c.into_par_iter.ensures.0, c.into_par_iter.ensures.1)
+    (tt, λ k d lt. (λ p. inside k d lt, λ p q y e b same. tt))
 
 -- the verdict of each class, and what was told of it
 abbrev Says : (g : _) (c : goal.After-unwrap_or g) → ℕ → Verdict → Type 0
@@ -58,9 +58,7 @@ returns-clause-passed g c = λ consistent. passed_answered c.args.table.now c.un
 
 pub returns-clause-told : goal.returns-clause-told
 returns-clause-told g c = λ class low.
-    let values = c.args.table.now.values in
-    let Told : ℕ → Type 0 = IsToldAt (g.W.Watch.told c.args.watch.now) (length values) in
+    let many = length c.args.table.now.values in
     let found = c.find_first-first_fault.ensures.0 in
-    each_has Told 0 (length values) found
-    (AllZip-weaken _ (λ (k : ℕ) (v : Verdict). Told k) (λ class verdict h. h.1) (range_with_len 0 (length values)) found (all_say g c))
-    class (omega arith) (omega (arith, low))
+    each_has (IsToldAt (g.W.Watch.told c.args.watch.now) many) 0 many found
+    (AllZip-weaken _ _ (λ class verdict h. h.1) (range_with_len 0 many) found (all_say g c)) class (omega arith) (omega (arith, low))

@@ -8,7 +8,8 @@ loop-slot-init c = λ values are. rw c.new-groups.ensures.items (groups_none c.a
 
 pub loop-slot-preserved : goal.loop-slot-preserved
 loop-slot-preserved c = λ values are.
-    rw c.in_ok-push_group.ensures (groups_more values c.args.slots.now are c.loop-slot.slot-index c.loop-slot.groups.items (get_or c.args.slots.now c.loop-slot.slot-index None) refl
+    rw c.in_ok-push_group.ensures
+    (groups_more values c.args.slots.now are c.loop-slot.slot-index c.loop-slot.groups.items (get_or c.args.slots.now c.loop-slot.slot-index None) refl
     (c.loop-slot.invariant values are))
 
 pub returns : goal.returns

@@ -1,5 +1,5 @@
 -- Each class is counted with its value.
-use Rattle.dob_probe.proofs.Common.{◌-◌, ◌≤◌, List, arith, subst, sym, slice_get_within, Value, AreSlots, part_of}
+use Rattle.dob_probe.proofs.Common.{◌-◌, ◌≤◌, arith, slice_get_within, part_of}
 use Rattle.dob_probe.proofs.Slotted.{part_long, part_more, part_none, slots_none}
 use Rattle.dob_probe.proofs.groups.slots_between.Goals as goal
 

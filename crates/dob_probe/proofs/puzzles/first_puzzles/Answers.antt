@@ -1,6 +1,5 @@
 -- The puzzles of one place more, until there are as many as were asked for.
-use Rattle.dob_probe.proofs.Common.{◌<◌, ◌∙◌, ◌≡◌, ◌≤◌, List, None, Option, Some, [], ap, arith, length, rules, subst, sym, vec_len, ℕ, ArePuzzles, IsPuzzleOf}
-use Rattle.dob_probe.proofs.Common.{begin_at, class_on, first_class, Puzzle}
+use Rattle.dob_probe.proofs.Common.{◌<◌, ◌∙◌, ◌≡◌, ◌≤◌, [], ap, arith, length, rules, subst, sym, vec_len, ℕ, begin_at, class_on, first_class, Puzzle}
 use Rattle.dob_probe.proofs.OnlyMoves.{ArePuzzlesBelow, begin, next_few, puzzles_all, puzzles_full, puzzles_next, puzzles_none, puzzles_same, puzzles_too_long}
 use Rattle.dob_probe.proofs.Walked.{first_below}
 use Rattle.dob_probe.proofs.puzzles.first_puzzles.Goals as goal

@@ -1,5 +1,5 @@
 -- A puzzle is passed where one with its outline is listed.
-use Rattle.dob_probe.proofs.Common.{◌&&◌, ◌++◌, ◌∙◌, ◌∷◌, List, [], ap, inl, inr, refl, subst, sym, list_any, AreOutlines, same_outline, puzzle_of, Puzzle}
+use Rattle.dob_probe.proofs.Common.{◌&&◌, ◌∙◌, List, ap, inl, inr, refl, sym, list_any, same_outline, puzzle_of}
 use Rattle.dob_probe.specs.declared.outlines.Outline.{Outline}
 use Rattle.dob_probe.proofs.Alike.{listed_one, outlines_more, passed_one}
 use Rattle.dob_probe.proofs.puzzles.list_puzzle.Goals as goal

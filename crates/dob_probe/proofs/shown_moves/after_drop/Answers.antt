@@ -1,5 +1,5 @@
 -- The piece has arrived from the hand.
-use Rattle.dob_probe.proofs.Common.{◌-◌, ◌<◌, rules, subst, sym, ℕ, length-turned, turned, Kind, dropped, HasArrived}
+use Rattle.dob_probe.proofs.Common.{◌<◌, rules, length-turned, turned, dropped, HasArrived}
 use Rattle.dob_probe.proofs.ShownMoves.{drop_arrived, hands_after_drop}
 use Rattle.dob_probe.proofs.shown_moves.after_drop.Goals as goal
 

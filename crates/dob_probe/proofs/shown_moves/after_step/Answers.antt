@@ -1,6 +1,5 @@
 -- The piece has left a square and arrived on another.
-use Rattle.dob_probe.proofs.Common.{◌-◌, ◌<◌, ◌∙◌, ◌≡◌, None, arith, length, rules, subst, sym, ℕ, length-set, length-turned, turned, Kind, stepped, with_cell}
-use Rattle.dob_probe.proofs.Common.{with_one, HasArrived}
+use Rattle.dob_probe.proofs.Common.{◌<◌, ◌∙◌, ◌≡◌, None, arith, length, rules, length-set, length-turned, turned, stepped, with_cell, with_one, HasArrived}
 use Rattle.dob_probe.proofs.ShownMoves.{step_arrived, hands_after_step}
 use Rattle.dob_probe.proofs.shown_moves.after_step.Goals as goal
 

@@ -1,6 +1,5 @@
 -- The position that a move of an open position leads to is of the table's family, and the sets show it.
-use Rattle.dob_probe.proofs.Common.{◌≡◌, Setup, can_go, goes, Goes, class_number, IsInClass-class_number}
-use Rattle.dob_probe.proofs.Common.{class_number-below, IsShown, moves_keep_the_family}
+use Rattle.dob_probe.proofs.Common.{◌≡◌, Setup, can_go, goes, Goes, class_number, IsInClass-class_number, class_number-below, IsShown, moves_keep_the_family}
 use Rattle.dob_probe.proofs.successors.value_shown.Goals as goal
 use Rattle.dob_probe.proofs.successors.value_shown.Goals.{After-bits_after-bits, After-class_shown-class}
 
