@@ -1,7 +1,8 @@
 -- The front that is read is the one that was written, and what was written is read again.
 use Rattle.dob_certfile.proofs.Common.{◌%◌, ◌*◌, ◌++◌, ◌+◌, ◌/◌, ◌<◌, ◌∙◌, ◌∷◌, ◌≡◌, ◌≤◌, Err, List, Ok, Result, [], ap, arith, drop, eqb, get_or, inl, inr}
-use Rattle.dob_certfile.proofs.Common.{leb, length, ltb, refl, subst, suc, sym, take, true, zero, ℕ, cases_Bool, cases_lt, drop_more, eq-eqb, eqb-true, le-leb, leb-true}
-use Rattle.dob_certfile.proofs.Common.{lt-ltb, ltb-true, little_bytes, little_number, Family, classes_of-below, classes_of, family_of, FitsClaim, claim_bytes}
+use Rattle.dob_certfile.proofs.Common.{leb, length, ltb, refl, subst, suc, sym, take, true, zero, ℕ, cases_Bool, cases_lt, drop_more, eq-eqb, eqb-true, le-leb}
+use Rattle.dob_certfile.proofs.Common.{leb-true, lt-ltb, ltb-true, little_bytes, little_number, Family, classes_of-below, classes_of, family_of, FitsClaim}
+use Rattle.dob_certfile.proofs.Common.{claim_bytes}
 use Rattle.dob_certfile.proofs.Common.{title, ◌>>=◌, FrontContent, are_same, claim_at, claim_of_kind, family_at, few_at, front_at, part, profile_at, set_at}
 use Rattle.dob_certfile.proofs.Common.{wants, word, Defect, ClaimByte, EntryCount, Magic, ProfileByte, RootClass, SetByte, Truncated, Version}
 use Rattle.std.proofs.Common.{◌≢◌, slice_index}
@@ -163,7 +164,8 @@ cells_back a b c d fa fb fc fd =
 
 word_back : (bytes : List ℕ) → length bytes ≡ 4 → IsBytes bytes → bytes ≡ little_bytes 4 (little_number 4 bytes)
 word_back bytes long =
-    of_four (λ xs. IsBytes xs → xs ≡ little_bytes 4 (little_number 4 xs)) (λ a b c d fits. sym (cells_back a b c d (fits 0) (fits 1) (fits 2) (fits 3))) bytes long
+    of_four (λ xs. IsBytes xs → xs ≡ little_bytes 4 (little_number 4 xs))
+    (λ a b c d fits. sym (cells_back a b c d (fits 0) (fits 1) (fits 2) (fits 3))) bytes long
 
 word_again : (n : ℕ) → n < 4294967296 → little_number 4 (little_bytes 4 n) ≡ n
 word_again n fits = little_number-reads_back 4 n [] fits

@@ -1,4 +1,4 @@
--- Entries by ascending class: what a search finds, and that a class has one entry at most.
+-- Items by ascending keys, as entries by ascending class: what a search finds, and that a key stands at one place at most.
 use Rattle.dob_certificate.proofs.Common.{◌+◌, ◌<◌, ◌∙◌, ◌≡◌, ◌≢◌, ◌≤◌, Contains, Err, IfErr, IfNone, IfOk, IfSome, List, None, Ok, Option, Result, Some, ap}
 use Rattle.dob_certificate.proofs.Common.{arith, get_or, inl, inr, length, subst, suc, sym, zero, ℕ, cases_lt, nat_tests, IsNonDecreasingBy-from_default}
 use Rattle.dob_certificate.proofs.Common.{Family, Setup, IsInClass, one_class, AreAscending, class_at, entry_at, IsEntryFor, Entry}
@@ -60,8 +60,12 @@ module _ {X : Type 0} (key : X → ℕ) (d : X) (xs : List X)
     searched (Err at) in_range parted = record {
       found = tt;
       absent = λ place within same. elim (cases_lt place at) [
-        | inl before ↦ let low : key (get_or xs place d) < wanted = ranked _ wanted _ (sym ((parted comparisons_rise).0 place d (omega arith) before)) in omega arith
-        | inr behind ↦ let high : wanted < key (get_or xs place d) = ranked _ wanted _ (sym ((parted comparisons_rise).1 place d behind within)) in omega arith
+        | inl before ↦
+            let low : key (get_or xs place d) < wanted = ranked _ wanted _ (sym ((parted comparisons_rise).0 place d (omega arith) before)) in
+            omega arith
+        | inr behind ↦
+            let high : wanted < key (get_or xs place d) = ranked _ wanted _ (sym ((parted comparisons_rise).1 place d behind within)) in
+            omega arith
       ];
     }
 

@@ -1,11 +1,10 @@
 -- Moves by their places: none stands where the square's piece or the hand has none, and each place has one at most.
 use Rattle.dobutsu_web.proofs.Common.{◌&&◌, ◌*◌, ◌+◌, ◌<◌, ◌↔◌, ◌∙◌, ◌≡◌, ◌≤◌, Bool, IsTrue, None, Some, ap, arith, false, inl, inr, length, nat_lt, refl}
-use Rattle.dobutsu_web.proofs.Common.{subst, sym, true, ℕ, cases_lt, lt-ltb, Setup, can_go, goes, CanGo, Goes, HasOutcome, first_drop, hand_place, place, Open, EachAt}
-use Rattle.dobutsu_web.proofs.Common.{NoneStands, SomeAt, leads_from}
+use Rattle.dobutsu_web.proofs.Common.{subst, sym, true, ℕ, cases_lt, lt-ltb, Setup, can_go, goes, CanGo, Goes, HasOutcome, first_drop, hand_place, place, Open}
+use Rattle.dobutsu_web.proofs.Common.{EachAt, NoneStands, SomeAt, leads_from}
 use Rattle.std.specs.Option.{is_none}
 use Rattle.dob_pieces.specs.declared.kind.Kind.{Kind}
 use Rattle.dob_pieces.specs.declared.kind.HandKind.{HandKind}
-use Rattle.dob_pieces.specs.declared.kind.HandKind.TheVariants as hand
 use Rattle.dob_pieces.specs.declared.kind.Side.TheVariants.{Mover}
 use Rattle.dob_pieces.specs.declared.profile.Profile.{Profile}
 use Rattle.dob_pieces.specs.Pieces.{leads}

@@ -24,5 +24,6 @@ returns-in-Ok-clause-alone c = λ other there same.
 pub returns-in-Err-clause-none : goal.returns-in-Err-clause-none
 returns-in-Err-clause-none c =
     let entries = c.args.entries.now in
-    no_place entries c.args.class (searched (λ (entry : Entry). entry.class) no_entry entries c.requires c.args.class (Err c.in-Err.field-0) c.in-Err.ensures.bound
+    no_place entries c.args.class
+    (searched (λ (entry : Entry). entry.class) no_entry entries c.requires c.args.class (Err c.in-Err.field-0) c.in-Err.ensures.bound
     (c.in-Err.ensures.position (λ (entry : Entry). entry.class) (answers_always _ _ _ (λ f a r g called. search rules)))).absent

@@ -5,4 +5,5 @@ use Rattle.dob_certify.proofs.replies.reply_to.Goals as goal
 
 pub returns-clause-right : goal.returns-clause-right
 returns-clause-right c =
-    IfOk-weaker c.found_reply.result _ _ (reply_right c.args.classes.now.family c.args.lost.now c.args.position.now.setup c.requires.supported) c.found_reply.ensures
+    IfOk-weaker c.found_reply.result _ _
+    (reply_right c.args.classes.now.family c.args.lost.now c.args.position.now.setup c.requires.supported) c.found_reply.ensures

@@ -1,5 +1,5 @@
 -- By the status.
-use Rattle.std.proofs.Common.{◌≤◌, arith, false, inl, refl}
+use Rattle.std.proofs.Common.{arith, false, inl, refl}
 use Rattle.dob_moves.specs.declared.position_status.Status.TheVariants.{Open}
 use Rattle.dob_certificate.proofs.Cases.{not_so, of_status, over_by, said_lost_caught}
 use Rattle.dob_certify.proofs.replies.said_lost.Goals as goal
