@@ -1,7 +1,6 @@
 -- By the file of a value table the moves that are answered have the values that they have by definition.
 use Rattle.dobutsu_c.proofs.Common.{List, ℕ, Setup, IsPositionOf, moves_keep_the_family, ClassTable, IsValueTable, HasValue, Value, CountsClasses, IsFile}
-use Rattle.dobutsu_c.proofs.Common.{Format}
-use Rattle.dobutsu_c.proofs.Common.{AreValuedMoves, ValuedMove, AreToldMoves, IsGiven, IsTextOf}
+use Rattle.dobutsu_c.proofs.Common.{Format, AreValuedMoves, ValuedMove, AreToldMoves, IsGiven, IsTextOf}
 use Rattle.dob_dbfile.proofs.Looked.{table_has_record}
 use Rattle.dob_probe.specs.Lines.{GivenBy}
 use Rattle.dob_probe.proofs.Best.{of_value}
@@ -17,7 +16,8 @@ module _ (file : List ℕ) (table : ClassTable) (is : IsFile file table) (right 
       let entry : GivenBy table q value = of_value table right q value member has in
       (entry.class, entry.number, table_has_record table file format table.family entry.class value right.table is counts entry.entry)
 
-  valued_right : (p : Setup) (list : List ValuedMove) → IsPositionOf table.family p → AreValuedMoves table.family.profile (IsGiven file format table.family) p list
+  valued_right : (p : Setup) (list : List ValuedMove) → IsPositionOf table.family p
+      → AreValuedMoves table.family.profile (IsGiven file format table.family) p list
       → AreValuedMoves table.family.profile (HasValue table.family.profile) p list
   valued_right =
       listed_by table.family.profile (IsPositionOf table.family) (λ p m q is. moves_keep_the_family table.family p m q is) (IsGiven file format table.family)

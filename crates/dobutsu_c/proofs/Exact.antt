@@ -1,5 +1,5 @@
 -- At most one fault holds, none where the position is one of the file's family, and a position is given one value.
-use Rattle.dobutsu_c.proofs.Common.{◌<◌, ◌∙◌, ◌≡◌, ◌≢◌, List, ap, refl, subst, sym, ℕ, Family, A, Setup, same_spelled, TextFault, IsInClass, IsPositionOf}
+use Rattle.dobutsu_c.proofs.Common.{◌<◌, ◌≡◌, ◌≢◌, List, ap, refl, subst, ℕ, Family, A, Setup, same_spelled, TextFault, IsPositionOf}
 use Rattle.dobutsu_c.proofs.Common.{class_number, classes_of, IsInClass-class_number, class_number-below, one_class, ClassTable, IsValueTable, HasValue, Value}
 use Rattle.dobutsu_c.proofs.Common.{whole, CountsClasses, HasReadFault, IsNoLonger, IsFile, Format, AreRead, HasProbeFault, IsAsked, IsGiven, IsTextOf, IsTold}
 use Rattle.dobutsu_c.proofs.Common.{Fault}

@@ -1,5 +1,5 @@
 -- The text is of one position, and one family has those numbers; each refusal comes where its own test fails and those before it pass.
-use Rattle.dobutsu_c.proofs.Common.{◌≡◌, ◌≢◌, inl, inr, refl, subst, sym, ℕ, both_ways, Family, Setup, same_spelled, IsInClass, IsPositionOf}
+use Rattle.dobutsu_c.proofs.Common.{◌≡◌, ◌≢◌, inl, inr, refl, subst, ℕ, both_ways, Family, Setup, same_spelled, IsPositionOf}
 use Rattle.dobutsu_c.proofs.Common.{IsInClass-class_number, IsIndex, IsTextOf}
 use Rattle.dobutsu_c.specs.ByIndex.{IsClassFault, IsUnfit}
 use Rattle.dobutsu_c.specs.Counts.{IsFamily}

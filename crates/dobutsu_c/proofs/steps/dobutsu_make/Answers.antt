@@ -7,7 +7,7 @@ use Rattle.dobutsu_c.proofs.steps.dobutsu_make.Goals.{In-Some}
 
 is_move : (c : In-Some) → HasStatus c.in-Ok.asked.family.profile c.in-Ok.asked.position.setup Open
     × CanGo c.in-Ok.asked.family.profile c.in-Ok.asked.position.setup c.in-Some.played
-is_move c = c.in-Ok-moves.ensures.sound c.in-Some.played (subst (λ (list : List Move). Contains list c.in-Some.played) c.deref.ensures.value c.in-Some.ensures.0)
+is_move c = c.in-Ok-moves.ensures.sound c.in-Some.played (rw c.deref.ensures.value at c.in-Some.ensures.0)
 
 pub apply-requires-clause-open : goal.apply-requires-clause-open
 apply-requires-clause-open c =
