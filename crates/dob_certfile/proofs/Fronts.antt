@@ -1,7 +1,8 @@
 -- The front that is read is the one that was written, and what was written is read again.
 use Rattle.dob_certfile.proofs.Common.{◌%◌, ◌*◌, ◌++◌, ◌+◌, ◌/◌, ◌<◌, ◌∙◌, ◌∷◌, ◌≡◌, ◌≤◌, Err, List, Ok, Result, [], ap, arith, drop, eqb, get_or, inl, inr}
-use Rattle.dob_certfile.proofs.Common.{leb, length, ltb, refl, subst, suc, sym, take, true, zero, ℕ, cases_Bool, cases_lt, eq-eqb, eqb-true, le-leb, leb-true}
-use Rattle.dob_certfile.proofs.Common.{lt-ltb, ltb-true, little_bytes, little_number, Family, classes_of-below, classes_of, family_of, FitsClaim, claim_bytes}
+use Rattle.dob_certfile.proofs.Common.{leb, length, ltb, refl, subst, suc, sym, take, true, zero, ℕ, cases_Bool, cases_lt, drop_more, eq-eqb, eqb-true, le-leb}
+use Rattle.dob_certfile.proofs.Common.{leb-true, lt-ltb, ltb-true, little_bytes, little_number, Family, classes_of-below, classes_of, family_of, FitsClaim}
+use Rattle.dob_certfile.proofs.Common.{claim_bytes}
 use Rattle.dob_certfile.proofs.Common.{title, ◌>>=◌, FrontContent, are_same, claim_at, claim_of_kind, family_at, few_at, front_at, part, profile_at, set_at}
 use Rattle.dob_certfile.proofs.Common.{wants, word, Defect, ClaimByte, EntryCount, Magic, ProfileByte, RootClass, SetByte, Truncated, Version}
 use Rattle.std.proofs.Common.{◌≢◌, slice_index}
@@ -17,6 +18,15 @@ use Rattle.dob_certificate.specs.declared.claim.Claim.{Claim}
 use Rattle.dob_certificate.specs.declared.claim.Claim.TheVariants.{Exactly, LostWithin, WonWithin}
 use Rattle.dob_certfile.proofs.Fields.{IsBytes, bind_ok, wants_ok, ok_is}
 use Rattle.dob_certfile.proofs.Same.{same_is, is_same}
+
+-- what holds of each four cells holds of each list of four
+of_four : (P : List ℕ → Type 0) → ((a b c d : ℕ) → P (a ∷ b ∷ c ∷ d ∷ [])) → (xs : List ℕ) → length xs ≡ 4 → P xs
+of_four P each [] long = absurd (omega (arith, long))
+of_four P each (a ∷ []) long = absurd (omega (arith, long))
+of_four P each (a ∷ b ∷ []) long = absurd (omega (arith, long))
+of_four P each (a ∷ b ∷ c ∷ []) long = absurd (omega (arith, long))
+of_four P each (a ∷ b ∷ c ∷ d ∷ []) long = each a b c d
+of_four P each (a ∷ b ∷ c ∷ d ∷ x ∷ xs) long = absurd (omega (arith, long))
 
 -- ---- the set
 
@@ -42,9 +52,7 @@ abbrev set_from : (x y z : (m : ℕ) × (m ≤ 2)) → PieceSet
 set_from x y z = record { chicks = x.0; elephants = y.0; giraffes = z.0; few_chicks = x.1; few_elephants = y.1; few_giraffes = z.1 }
 
 four : (a b c d w x y z : ℕ) → w ≡ a → x ≡ b → y ≡ c → z ≡ d → a ∷ b ∷ c ∷ d ∷ [] ≡ w ∷ x ∷ y ∷ z ∷ []
-four a b c d w x y z ea eb ec ed =
-    ap (λ (n : ℕ). n ∷ b ∷ c ∷ d ∷ []) (sym ea) ∙ ap (λ (n : ℕ). w ∷ n ∷ c ∷ d ∷ []) (sym eb) ∙ ap (λ (n : ℕ). w ∷ x ∷ n ∷ d ∷ []) (sym ec)
-    ∙ ap (λ (n : ℕ). w ∷ x ∷ y ∷ n ∷ []) (sym ed)
+four a b c d w x y z ea eb ec ed = cc
 
 set_of_cells : (a b c d : ℕ) (set : PieceSet) → set_at (a ∷ b ∷ c ∷ d ∷ []) ≡ Ok set → a ∷ b ∷ c ∷ d ∷ [] ≡ set_bytes set
 unfolding set_at
@@ -56,12 +64,7 @@ set_of_cells a b c d set e =
     four a b c d x.0.0 y.0.0 z.0.0 2 (few_ok a x.0 x.1) (few_ok b y.0 y.1) (few_ok c z.0 z.1) (sym (eqb-true d 2 w.0)) ∙ ap set_bytes (ok_is (set_from x.0 y.0 z.0) set w.1)
 
 pub set_takes : (bytes : List ℕ) (set : PieceSet) → length bytes ≡ 4 → set_at bytes ≡ Ok set → bytes ≡ set_bytes set
-set_takes [] set long e = absurd (omega (arith, long))
-set_takes (a ∷ []) set long e = absurd (omega (arith, long))
-set_takes (a ∷ b ∷ []) set long e = absurd (omega (arith, long))
-set_takes (a ∷ b ∷ c ∷ []) set long e = absurd (omega (arith, long))
-set_takes (a ∷ b ∷ c ∷ d ∷ []) set long e = set_of_cells a b c d set e
-set_takes (a ∷ b ∷ c ∷ d ∷ x ∷ bytes) set long e = absurd (omega (arith, long))
+set_takes bytes set long = of_four (λ xs. set_at xs ≡ Ok set → xs ≡ set_bytes set) (λ a b c d. set_of_cells a b c d set) bytes long
 
 set_cells : (a b c : ℕ) → (few_a : a ≤ 2) → (few_b : b ≤ 2) → (few_c : c ≤ 2) → (set : PieceSet) × (set_at (a ∷ b ∷ c ∷ 2 ∷ []) ≡ Ok set) × (set_bytes set ≡ a ∷ b ∷ c ∷ 2 ∷ [])
 unfolding set_at
@@ -107,12 +110,8 @@ none_of_cells a b c d none = elim (cases_lt 2 a) [
 ]
 
 pub set_none : (bytes : List ℕ) → length bytes ≡ 4 → ((set : PieceSet) → bytes ≢ set_bytes set) → Err SetByte ≡ set_at bytes
-set_none [] long none = absurd (omega (arith, long))
-set_none (a ∷ []) long none = absurd (omega (arith, long))
-set_none (a ∷ b ∷ []) long none = absurd (omega (arith, long))
-set_none (a ∷ b ∷ c ∷ []) long none = absurd (omega (arith, long))
-set_none (a ∷ b ∷ c ∷ d ∷ []) long none = sym (none_of_cells a b c d none)
-set_none (a ∷ b ∷ c ∷ d ∷ x ∷ bytes) long none = absurd (omega (arith, long))
+set_none bytes long =
+    of_four (λ xs. ((set : PieceSet) → xs ≢ set_bytes set) → Err SetByte ≡ set_at xs) (λ a b c d none. sym (none_of_cells a b c d none)) bytes long
 
 -- ---- the profile, the claim, words
 
@@ -161,18 +160,12 @@ cells_back a b c d fa fb fc fd =
     let e1 : n / 256 % 256 ≡ b = omega (arith, fa, fb, fc, fd) in
     let e2 : n / 65536 % 256 ≡ c = omega (arith, fa, fb, fc, fd) in
     let e3 : n / 16777216 % 256 ≡ d = omega (arith, fa, fb, fc, fd) in
-    ap (λ (x : ℕ). x ∷ n / 256 % 256 ∷ n / 65536 % 256 ∷ n / 16777216 % 256 ∷ []) e0
-    ∙ ap (λ (x : ℕ). a ∷ x ∷ n / 65536 % 256 ∷ n / 16777216 % 256 ∷ []) e1
-    ∙ ap (λ (x : ℕ). a ∷ b ∷ x ∷ n / 16777216 % 256 ∷ []) e2
-    ∙ ap (λ (x : ℕ). a ∷ b ∷ c ∷ x ∷ []) e3
+    cc
 
 word_back : (bytes : List ℕ) → length bytes ≡ 4 → IsBytes bytes → bytes ≡ little_bytes 4 (little_number 4 bytes)
-word_back [] long fits = absurd (omega (arith, long))
-word_back (a ∷ []) long fits = absurd (omega (arith, long))
-word_back (a ∷ b ∷ []) long fits = absurd (omega (arith, long))
-word_back (a ∷ b ∷ c ∷ []) long fits = absurd (omega (arith, long))
-word_back (a ∷ b ∷ c ∷ d ∷ []) long fits = sym (cells_back a b c d (fits 0) (fits 1) (fits 2) (fits 3))
-word_back (a ∷ b ∷ c ∷ d ∷ x ∷ bytes) long fits = absurd (omega (arith, long))
+word_back bytes long =
+    of_four (λ xs. IsBytes xs → xs ≡ little_bytes 4 (little_number 4 xs))
+    (λ a b c d fits. sym (cells_back a b c d (fits 0) (fits 1) (fits 2) (fits 3))) bytes long
 
 word_again : (n : ℕ) → n < 4294967296 → little_number 4 (little_bytes 4 n) ≡ n
 word_again n fits = little_number-reads_back 4 n [] fits
@@ -202,19 +195,11 @@ cut place count next bytes text at is =
     ∙ ap (λ (xs : List ℕ). text ++ xs) (drop-drop count place bytes ∙ ap (λ (n : ℕ). drop n bytes) at)
 
 one_cell : (place : ℕ) (bytes : List ℕ) → place < length bytes → part place 1 bytes ≡ get_or bytes place 0 ∷ []
-one_cell zero [] within = absurd (omega (arith, within))
-one_cell zero (b ∷ bytes) within = refl
-one_cell (suc place) [] within = absurd (omega (arith, within))
-one_cell (suc place) (b ∷ bytes) within = one_cell place bytes (omega (arith, within))
+one_cell place bytes within = ap (take 1) (drop_more bytes place 0 within)
 
 two_cells : (place : ℕ) (bytes : List ℕ) → place + 1 < length bytes → part place 2 bytes ≡ get_or bytes place 0 ∷ get_or bytes (place + 1) 0 ∷ []
-two_cells zero [] within = absurd (omega (arith, within))
-two_cells zero (b ∷ []) within = absurd (omega (arith, within))
-two_cells zero (b ∷ c ∷ bytes) within = refl
-two_cells (suc place) [] within = absurd (omega (arith, within))
-two_cells (suc place) (b ∷ bytes) within =
-    let moved : suc place + 1 ≡ suc (place + 1) = omega arith in
-    two_cells place bytes (omega (arith, within)) ∙ ap (λ (n : ℕ). get_or bytes place 0 ∷ get_or (b ∷ bytes) n 0 ∷ []) (sym moved)
+two_cells place bytes within =
+    ap (take 2) (drop_more bytes place 0 (omega (arith, within)) ∙ ap (λ (rest : List ℕ). get_or bytes place 0 ∷ rest) (drop_more bytes (place + 1) 0 within))
 
 -- ---- the whole front
 

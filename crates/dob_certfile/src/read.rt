@@ -66,9 +66,7 @@ fn list_of(
     ensures { MayGive (λ x. (x.0, x.1.now)) result (entries_at classes 0 count bytes.now) }
 {
     let (entries, rest) = entries_of(alloc, bytes, count, classes)?;
-    let Some(entries) = Entries::from_vec(entries) else {
-        unreachable!()
-    };
+    let entries = Entries::from_ascending(entries);
     Ok((entries, rest))
 }
 

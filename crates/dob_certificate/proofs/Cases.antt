@@ -31,72 +31,86 @@ listed_by family entries q Enough b entry is alone enough = (
   λ listed. enough.1 (subst Enough (sym (alone listed.0 listed.1)) listed.2),
 )
 
--- ---- statuses
+-- ---- by the status
 
--- a status of a match's arm is the position's
-pub of_status : (profile : Profile) (p : Setup) (s t : Status) → s ≡ t → HasStatus profile p s → HasStatus profile p t
-of_status profile p s t is has = subst (HasStatus profile p) is has
+-- a status is the position's where it is that of a match's arm, tried or stuck it has lost
+module _ (profile : Profile) (p : Setup) {s : Status} (has : HasStatus profile p s) where
+  pub of_status : (t : Status) → s ≡ t → HasStatus profile p t
+  of_status t is = subst (HasStatus profile p) is has
 
--- tried or stuck, it has lost
-pub over_by : (profile : Profile) (p : Setup) (s : Status) → (s ≡ Tried) ⊎ (s ≡ Stuck) → HasStatus profile p s → HasLost profile p
-over_by profile p s is has = elim is [
-  | inl tried ↦ inl (subst (HasStatus profile p) tried has)
-  | inr stuck ↦ inr (subst (HasStatus profile p) stuck has)
-]
+  pub over_by : (s ≡ Tried) ⊎ (s ≡ Stuck) → HasLost profile p
+  over_by is = elim is [ inl tried ↦ inl (of_status Tried tried) | inr stuck ↦ inr (of_status Stuck stuck) ]
 
 not_both : (profile : Profile) (p : Setup) → HasStatus profile p Caught → ¬ HasStatus profile p Open
 not_both profile p caught goes_on = goes_on.0 caught
 
 -- ---- classes that are lost
-module _ (family : Family) (lost : List Entry) (n : ℕ) (p : Setup) where
-  pub said_lost_caught : HasStatus family.profile p Caught → ¬ IsSaidLost family lost n p
-  said_lost_caught caught said = elim said [
-    | inl over ↦ lost_not_caught family.profile p over caught
-    | inr listed ↦ not_both family.profile p caught listed.0
-  ]
+module _ (family : Family) (lost : List Entry) (n : ℕ) (p : Setup) {s : Status} where
+  pub said_lost_caught : s ≡ Caught → HasStatus family.profile p s → IsTrue false ↔ IsSaidLost family lost n p
+  said_lost_caught is has =
+      let caught = of_status family.profile p has Caught is in
+      said_no (λ said. elim said [
+        | inl over ↦ lost_not_caught family.profile p over caught
+        | inr listed ↦ not_both family.profile p caught listed.0
+      ])
 
-  pub said_lost_open : (b : Bool) → HasStatus family.profile p Open → IsTrue b ↔ IsListedWithin family lost n p → IsTrue b ↔ IsSaidLost family lost n p
-  said_lost_open b goes_on listed = (
-    λ shown. inr (goes_on, listed.0 shown),
-    λ said. elim said [
-      | inl over ↦ absurd (lost_not_open family.profile p over goes_on)
-      | inr is ↦ listed.1 is.1
-    ],
-  )
+  pub said_lost_over : (s ≡ Tried) ⊎ (s ≡ Stuck) → HasStatus family.profile p s → IsTrue true ↔ IsSaidLost family lost n p
+  said_lost_over is has = said_yes (inl (over_by family.profile p has is))
 
-  pub answered_over : HasLost family.profile p → ¬ IsAnswered family lost n p
-  answered_over over answered = elim answered [
-    | inl caught ↦ lost_not_caught family.profile p over caught
-    | inr reply ↦ lost_not_open family.profile p over reply.goes_on
-  ]
+  pub said_lost_open : s ≡ Open → HasStatus family.profile p s → (b : Bool) → IsTrue b ↔ IsListedWithin family lost n p
+      → IsTrue b ↔ IsSaidLost family lost n p
+  said_lost_open is has b listed =
+      let goes_on = of_status family.profile p has Open is in (
+        λ shown. inr (goes_on, listed.0 shown),
+        λ said. elim said [
+          | inl over ↦ absurd (lost_not_open family.profile p over goes_on)
+          | inr more ↦ listed.1 more.1
+        ],
+      )
 
-  pub answered_open : (b : Bool) → HasStatus family.profile p Open → IsTrue b ↔ HasReply family lost n p → IsTrue b ↔ IsAnswered family lost n p
-  answered_open b goes_on has = (
-    λ shown. inr (has.0 shown),
+  pub answered_caught : s ≡ Caught → HasStatus family.profile p s → IsTrue true ↔ IsAnswered family lost n p
+  answered_caught is has = said_yes (inl (of_status family.profile p has Caught is))
+
+  pub answered_over : (s ≡ Tried) ⊎ (s ≡ Stuck) → HasStatus family.profile p s → IsTrue false ↔ IsAnswered family lost n p
+  answered_over is has =
+      let over = over_by family.profile p has is in
+      said_no (λ answered. elim answered [
+        | inl caught ↦ lost_not_caught family.profile p over caught
+        | inr reply ↦ lost_not_open family.profile p over reply.goes_on
+      ])
+
+  pub answered_open : s ≡ Open → HasStatus family.profile p s → (b : Bool) → IsTrue b ↔ HasReply family lost n p → IsTrue b ↔ IsAnswered family lost n p
+  answered_open is has b reply = (
+    λ shown. inr (reply.0 shown),
     λ answered. elim answered [
-      | inl caught ↦ absurd (not_both family.profile p caught goes_on)
-      | inr reply ↦ has.1 reply
+      | inl caught ↦ absurd (not_both family.profile p caught (of_status family.profile p has Open is))
+      | inr more ↦ reply.1 more
     ],
   )
 
-  pub loss_caught : HasStatus family.profile p Caught → ¬ IsLossSupported family lost n p
-  loss_caught caught supported = elim supported [
-    | inl over ↦ lost_not_caught family.profile p over caught
-    | inr more ↦ not_both family.profile p caught more.1.goes_on
-  ]
+  pub loss_caught : s ≡ Caught → HasStatus family.profile p s → IsTrue false ↔ IsLossSupported family lost n p
+  loss_caught is has =
+      let caught = of_status family.profile p has Caught is in
+      said_no (λ supported. elim supported [
+        | inl over ↦ lost_not_caught family.profile p over caught
+        | inr more ↦ not_both family.profile p caught more.1.goes_on
+      ])
 
-  pub loss_soon : HasStatus family.profile p Open → n < 2 → ¬ IsLossSupported family lost n p
-  loss_soon goes_on few supported = elim supported [
-    | inl over ↦ lost_not_open family.profile p over goes_on
+  pub loss_over : (s ≡ Tried) ⊎ (s ≡ Stuck) → HasStatus family.profile p s → IsTrue true ↔ IsLossSupported family lost n p
+  loss_over is has = said_yes (inl (over_by family.profile p has is))
+
+  pub loss_soon : s ≡ Open → HasStatus family.profile p s → n < 2 → ¬ IsLossSupported family lost n p
+  loss_soon is has few supported = elim supported [
+    | inl over ↦ lost_not_open family.profile p over (of_status family.profile p has Open is)
     | inr more ↦ let many : 2 ≤ n = more.0 in absurd (omega (arith, few, many))
   ]
 
-  pub loss_open : (b : Bool) → HasStatus family.profile p Open → 2 ≤ n → IsTrue b ↔ AreAllAnswered family lost (n - 2) p →
-      IsTrue b ↔ IsLossSupported family lost n p
-  loss_open b goes_on many all = (
+  pub loss_open : s ≡ Open → HasStatus family.profile p s → 2 ≤ n → (b : Bool) → IsTrue b ↔ AreAllAnswered family lost (n - 2) p
+      → IsTrue b ↔ IsLossSupported family lost n p
+  loss_open is has many b all = (
     λ shown. inr (many, all.0 shown),
     λ supported. elim supported [
-      | inl over ↦ absurd (lost_not_open family.profile p over goes_on)
+      | inl over ↦ absurd (lost_not_open family.profile p over (of_status family.profile p has Open is))
       | inr more ↦ all.1 more.1
     ],
   )
@@ -110,34 +124,46 @@ supports_lost_by family lost entry p within is number b given = (
 )
 
 -- ---- classes that aren't lost
-module _ (family : Family) (held : List Entry) (n : ℕ) (p : Setup) where
-  pub said_held_over : HasLost family.profile p → ¬ IsSaidHeld family held n p
-  said_held_over over said = elim said [
-    | inl caught ↦ lost_not_caught family.profile p over caught
-    | inr other ↦ lost_not_open family.profile p over other.0
-  ]
+module _ (family : Family) (held : List Entry) (n : ℕ) (p : Setup) {s : Status} where
+  pub said_held_caught : s ≡ Caught → HasStatus family.profile p s → IsTrue true ↔ IsSaidHeld family held n p
+  said_held_caught is has = said_yes (inl (of_status family.profile p has Caught is))
+
+  pub said_held_over : (s ≡ Tried) ⊎ (s ≡ Stuck) → HasStatus family.profile p s → IsTrue false ↔ IsSaidHeld family held n p
+  said_held_over is has =
+      let over = over_by family.profile p has is in
+      said_no (λ said. elim said [
+        | inl caught ↦ lost_not_caught family.profile p over caught
+        | inr other ↦ lost_not_open family.profile p over other.0
+      ])
+
+  pub safe_caught : s ≡ Caught → HasStatus family.profile p s → IsTrue false ↔ IsSafe family held n p
+  safe_caught is has = said_no (λ safe. safe.free (of_status family.profile p has Caught is))
 
   -- where the game has ended there is nothing to answer
-  pub safe_over : HasLost family.profile p → IsSafe family held n p
-  safe_over over = record {
-    free = lost_not_caught family.profile p over;
-    all_held = λ goes_on reply r goes. absurd (lost_not_open family.profile p over goes_on);
-  }
+  pub safe_over : (s ≡ Tried) ⊎ (s ≡ Stuck) → HasStatus family.profile p s → IsTrue true ↔ IsSafe family held n p
+  safe_over is has =
+      let over = over_by family.profile p has is in
+      said_yes (record {
+        free = lost_not_caught family.profile p over;
+        all_held = λ goes_on reply r goes. absurd (lost_not_open family.profile p over goes_on);
+      })
 
-  pub safe_caught : HasStatus family.profile p Caught → ¬ IsSafe family held n p
-  safe_caught caught safe = safe.free caught
-
-  pub safe_open : (b : Bool) → HasStatus family.profile p Open → IsTrue b ↔ AreAllHeld family held n p → IsTrue b ↔ IsSafe family held n p
-  safe_open b goes_on all = (
-    λ shown. record { free = λ caught. not_both family.profile p caught goes_on; all_held = all.0 shown },
+  pub safe_open : s ≡ Open → HasStatus family.profile p s → (b : Bool) → IsTrue b ↔ AreAllHeld family held n p → IsTrue b ↔ IsSafe family held n p
+  safe_open is has b all = (
+    λ shown. record { free = λ caught. not_both family.profile p caught (of_status family.profile p has Open is); all_held = all.0 shown },
     λ safe. all.1 safe.all_held,
   )
 
-  pub hold_over : HasLost family.profile p → ¬ IsHoldSupported family held n p
-  hold_over over supported = elim supported [
-    | inl caught ↦ lost_not_caught family.profile p over caught
-    | inr more ↦ lost_not_open family.profile p over more.0
-  ]
+  pub hold_caught : s ≡ Caught → HasStatus family.profile p s → IsTrue true ↔ IsHoldSupported family held n p
+  hold_caught is has = said_yes (inl (of_status family.profile p has Caught is))
+
+  pub hold_over : (s ≡ Tried) ⊎ (s ≡ Stuck) → HasStatus family.profile p s → IsTrue false ↔ IsHoldSupported family held n p
+  hold_over is has =
+      let over = over_by family.profile p has is in
+      said_no (λ supported. elim supported [
+        | inl caught ↦ lost_not_caught family.profile p over caught
+        | inr more ↦ lost_not_open family.profile p over more.0
+      ])
 
 pub supports_held_by : (family : Family) (held : List Entry) (entry : Entry) (p : Setup) → entry.class < classes_of family → IsRepresentative family p →
     HasClass family p entry.class → (b : Bool) → IsTrue b ↔ IsHoldSupported family held entry.plies p → IsTrue b ↔ SupportsHeld family held entry

@@ -1,4 +1,4 @@
--- Entries by ascending class: what a search finds, and that a class has one entry at most.
+-- Items by ascending keys, as entries by ascending class: what a search finds, and that a key stands at one place at most.
 use Rattle.dob_certificate.proofs.Common.{◌+◌, ◌<◌, ◌∙◌, ◌≡◌, ◌≢◌, ◌≤◌, Contains, Err, IfErr, IfNone, IfOk, IfSome, List, None, Ok, Option, Result, Some, ap}
 use Rattle.dob_certificate.proofs.Common.{arith, get_or, inl, inr, length, subst, suc, sym, zero, ℕ, cases_lt, nat_tests, IsNonDecreasingBy-from_default}
 use Rattle.dob_certificate.proofs.Common.{Family, Setup, IsInClass, one_class, AreAscending, class_at, entry_at, IsEntryFor, Entry}
@@ -11,20 +11,65 @@ use Rattle.std.proofs.lemmas.List.{get_or_default}
 abbrev pub no_entry : Entry
 no_entry = record { class = 0; plies = 0 }
 
--- an earlier entry has a lower class
-pub rises : (entries : List Entry) → AreAscending entries → (earlier later : ℕ) → earlier < later → later < length entries →
-    class_at entries earlier < class_at entries later
-rises entries ascending earlier zero before within = absurd (omega arith)
-rises entries ascending earlier (suc later) before within =
-    let next : later + 1 ≡ suc later = omega arith in
-    let step : class_at entries later < class_at entries (suc later) =
-    subst (λ k. class_at entries later < class_at entries k) next (ascending later (omega arith)) in
-    elim (cases_lt earlier later) [
-      | inl further ↦ let far = rises entries ascending earlier later further (omega arith) in omega arith
-      | inr here ↦
-          let same : later ≡ earlier = omega arith in
-          subst (λ k. class_at entries k < class_at entries (suc later)) same step
+-- ---- items with ascending keys
+
+module _ {X : Type 0} (key : X → ℕ) (d : X) (xs : List X)
+    (ascending : (place : ℕ) → place + 1 < length xs → key (get_or xs place d) < key (get_or xs (place + 1) d)) where
+  -- an earlier item has a lower key
+  rises : (earlier later : ℕ) → earlier < later → later < length xs → key (get_or xs earlier d) < key (get_or xs later d)
+  rises earlier zero before within = absurd (omega arith)
+  rises earlier (suc later) before within =
+      let next : later + 1 ≡ suc later = omega arith in
+      let step : key (get_or xs later d) < key (get_or xs (suc later) d) =
+      subst (λ k. key (get_or xs later d) < key (get_or xs k d)) next (ascending later (omega arith)) in
+      elim (cases_lt earlier later) [
+        | inl further ↦ let far = rises earlier later further (omega arith) in omega arith
+        | inr here ↦
+            let same : later ≡ earlier = omega arith in
+            subst (λ k. key (get_or xs k d) < key (get_or xs (suc later) d)) same step
+      ]
+
+  pub one_place : (a b : ℕ) → a < length xs → b < length xs → key (get_or xs a d) ≡ key (get_or xs b d) → a ≡ b
+  one_place a b at_a at_b same = elim (cases_lt a b) [
+    | inl before ↦ let low = rises a b before at_b in absurd (omega arith)
+    | inr later ↦ elim (cases_lt b a) [
+      | inl before ↦ let low = rises b a before at_a in absurd (omega arith)
+      | inr back ↦ omega arith
     ]
+  ]
+
+  module _ (wanted : ℕ) where
+    -- the comparisons with a key rise along the list, as a binary search asks
+    comparisons_rise : IsNonDecreasingBy (λ (x : X). ordering_index (nat_cmp (key x) wanted)) xs
+    comparisons_rise = IsNonDecreasingBy-from_default (λ (x : X). ordering_index (nat_cmp (key x) wanted)) xs d (λ i j le in_range.
+        let keys_rise : key (get_or xs i d) ≤ key (get_or xs j d) = elim (cases_lt i j) [
+          | inl before ↦ let less = rises i j before in_range in omega arith
+          | inr back ↦
+              let same : i ≡ j = omega arith in
+              let equal : key (get_or xs i d) ≡ key (get_or xs j d) = ap (λ (k : ℕ). key (get_or xs k d)) same in omega arith
+        ] in
+        grind (arith, nat_tests))
+
+    -- a binary search ends at the key, or where no place has it
+    pub searched : (r : Result ℕ ℕ) → IsSearchInRange r (length xs) → IsBinarySearchResult (λ (x : X). nat_cmp (key x) wanted) xs r →
+        record {
+          found : IfOk r (λ place. (place < length xs) × (key (get_or xs place d) ≡ wanted));
+          absent : IfErr r (λ _. (place : ℕ) → place < length xs → key (get_or xs place d) ≢ wanted);
+        }
+    searched (Ok at) in_range equal = record { found = (in_range, ranked _ wanted _ (sym (equal d))); absent = tt }
+    searched (Err at) in_range parted = record {
+      found = tt;
+      absent = λ place within same. elim (cases_lt place at) [
+        | inl before ↦
+            let low : key (get_or xs place d) < wanted = ranked _ wanted _ (sym ((parted comparisons_rise).0 place d (omega arith) before)) in
+            omega arith
+        | inr behind ↦
+            let high : wanted < key (get_or xs place d) = ranked _ wanted _ (sym ((parted comparisons_rise).1 place d behind within)) in
+            omega arith
+      ];
+    }
+
+-- ---- entries by ascending class
 
 -- what is read at a place is the entry there, whatever is read behind the end
 pub read_at : (entries : List Entry) (place : ℕ) (entry : Entry) → place < length entries → get_or entries place entry ≡ entry → entry_at entries place ≡ entry
@@ -37,15 +82,8 @@ one_entry entries ascending a b at_a at_b same =
     let here_b : entry_at entries at_b.0 ≡ b = read_at entries at_b.0 b at_b.1 at_b.2 in
     let class_a : class_at entries at_a.0 ≡ a.class = ap (λ (entry : Entry). entry.class) here_a in
     let class_b : class_at entries at_b.0 ≡ b.class = ap (λ (entry : Entry). entry.class) here_b in
-    elim (cases_lt at_a.0 at_b.0) [
-      | inl before ↦ let low = rises entries ascending at_a.0 at_b.0 before at_b.1 in absurd (omega arith)
-      | inr later ↦ elim (cases_lt at_b.0 at_a.0) [
-        | inl before ↦ let low = rises entries ascending at_b.0 at_a.0 before at_a.1 in absurd (omega arith)
-        | inr back ↦
-            let place : at_a.0 ≡ at_b.0 = omega arith in
-            sym here_a ∙ ap (entry_at entries) place ∙ here_b
-      ]
-    ]
+    let place = one_place (λ (entry : Entry). entry.class) no_entry entries ascending at_a.0 at_b.0 at_a.1 at_b.1 (class_a ∙ same ∙ sym class_b) in
+    sym here_a ∙ ap (entry_at entries) place ∙ here_b
 
 -- no entry of a class stands in a list none of whose places has it
 pub no_place : (entries : List Entry) (class : ℕ) → ((place : ℕ) → place < length entries → class_at entries place ≢ class) →
@@ -64,28 +102,3 @@ module _ (family : Family) (entries : List Entry) (q : Setup) (class : ℕ) (is 
       IfSome found (λ entry. (other : Entry) → IsEntryFor family entries q other → entry ≡ other)
   alone_for None alone = tt
   alone_for (Some entry) alone = λ other found. alone other found.listed (one_class family q other.class class found.stands is)
-
-module _ (entries : List Entry) (ascending : AreAscending entries) (class : ℕ) where
-  -- the comparisons with the class rise along the list, as a binary search asks
-  comparisons_rise : IsNonDecreasingBy (λ (entry : Entry). ordering_index (nat_cmp entry.class class)) entries
-  comparisons_rise = IsNonDecreasingBy-from_default (λ (entry : Entry). ordering_index (nat_cmp entry.class class)) entries no_entry (λ i j le in_range.
-      let classes_rise : class_at entries i ≤ class_at entries j = elim (cases_lt i j) [
-        | inl before ↦ let less = rises entries ascending i j before in_range in omega arith
-        | inr back ↦ let same : i ≡ j = omega arith in let equal : class_at entries i ≡ class_at entries j = ap (class_at entries) same in omega arith
-      ] in
-      grind (arith, nat_tests))
-
-  -- a binary search ends at the class, or where no place has it
-  pub searched : (r : Result ℕ ℕ) → IsSearchInRange r (length entries) → IsBinarySearchResult (λ (entry : Entry). nat_cmp entry.class class) entries r →
-      record {
-        found : IfOk r (λ place. (place < length entries) × (class_at entries place ≡ class));
-        absent : IfErr r (λ _. (place : ℕ) → place < length entries → class_at entries place ≢ class);
-      }
-  searched (Ok at) in_range equal = record { found = (in_range, ranked _ class _ (sym (equal no_entry))); absent = tt }
-  searched (Err at) in_range parted = record {
-    found = tt;
-    absent = λ place within same. elim (cases_lt place at) [
-      | inl before ↦ let low : class_at entries place < class = ranked _ class _ (sym ((parted comparisons_rise).0 place no_entry (omega arith) before)) in omega arith
-      | inr behind ↦ let high : class < class_at entries place = ranked _ class _ (sym ((parted comparisons_rise).1 place no_entry behind within)) in omega arith
-    ];
-  }

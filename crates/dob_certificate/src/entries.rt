@@ -47,6 +47,14 @@ impl Entries {
         }
     }
 
+    /// Entries that ascend.
+    pub fn from_ascending(entries: Vec<Entry>) -> Entries
+        requires { AreAscending entries.items }
+        ensures { result ≡ entries.items }
+    {
+        Entries { entries }
+    }
+
     /// The entries in the order of their classes.
     pub fn as_slice(&self) -> &[Entry]
         ensures entries { result.now ≡ self.now }

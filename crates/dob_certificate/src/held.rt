@@ -10,11 +10,12 @@ ghost use Rattle.dob_certificate.specs.Held.{IsListedBeyond, IsSaidHeld, AreAllH
 
 use crate::entries::Entries;
 use crate::entry::{EVER, Entry};
-use crate::lookup::{after, entry_for};
+use crate::lookup::entry_for;
 use crate::room::Room;
 use dob_classes::Classes;
 use dob_moves::{Move, Status, moves_into, status};
 use dob_pieces::{Memory, Position};
+use dob_value::outcome_of;
 
 /// Whether the list says that the position isn't lost within `plies`, or that shows at once.
 pub(crate) fn is_said_held(
@@ -58,7 +59,7 @@ fn are_all_held(
     ensures { IsTrue result ↔ AreAllHeld classes.now.family held.now plies position.now.setup }
 {
     for reply in replies {
-        let outcome = after(classes, position, *reply);
+        let outcome = outcome_of(classes.family, position, *reply);
         if !is_said_held(classes, held, plies, &outcome) {
             return false;
         }
@@ -106,7 +107,7 @@ fn has_escape(
     ensures { IfOk result (λ yes. IsTrue yes ↔ HasEscape classes.now.family held.now plies position.now.setup) }
 {
     for played in legal {
-        let outcome = after(classes, position, *played);
+        let outcome = outcome_of(classes.family, position, *played);
         let safe = is_safe(replies, classes, held, plies, &outcome)?;
         if safe {
             return Ok(true);

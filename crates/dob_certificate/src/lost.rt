@@ -8,11 +8,12 @@ ghost use Rattle.dob_certificate.specs.Lost.{IsListedWithin, IsSaidLost, HasRepl
 
 use crate::entries::Entries;
 use crate::entry::Entry;
-use crate::lookup::{after, entry_for};
+use crate::lookup::entry_for;
 use crate::room::Room;
 use dob_classes::Classes;
 use dob_moves::{Move, Status, moves_into, status};
 use dob_pieces::{Memory, Position};
+use dob_value::outcome_of;
 
 /// Whether the list says that the position is lost within `plies`, or that shows at once.
 pub(crate) fn is_said_lost(
@@ -55,7 +56,12 @@ fn has_reply(
     ensures { IsTrue result ↔ HasReply classes.now.family lost.now plies position.now.setup }
 {
     for reply in replies {
-        if is_said_lost(classes, lost, plies, &after(classes, position, *reply)) {
+        if is_said_lost(
+            classes,
+            lost,
+            plies,
+            &outcome_of(classes.family, position, *reply),
+        ) {
             return true;
         }
     }
@@ -102,7 +108,7 @@ fn are_all_answered(
     ensures { IfOk result (λ yes. IsTrue yes ↔ AreAllAnswered classes.now.family lost.now plies position.now.setup) }
 {
     for played in legal {
-        let outcome = after(classes, position, *played);
+        let outcome = outcome_of(classes.family, position, *played);
         let answered = is_answered(replies, classes, lost, plies, &outcome)?;
         if !answered {
             return Ok(false);

@@ -1,15 +1,11 @@
 // A table of values with the classes to which the moves of a class lead.
-ghost use Rattle.std.specs.Prelude.{◌≡◌};
-ghost use Rattle.dob_pieces.specs.declared.setup.Setup.{Setup};
-ghost use Rattle.dob_moves.specs.declared.position_status.Status.{Status};
-ghost use Rattle.dob_moves.specs.Moves.{CanGo, Goes};
-ghost use Rattle.dob_moves.specs.Statuses.{AreMoves, HasStatus};
+ghost use Rattle.dob_moves.specs.Statuses.{AreMoves};
 ghost use Rattle.dob_rank.specs.Families.{IsPositionOf};
 
 use dob_classes::Classes;
-use dob_moves::{Move, apply, first_catch, moves_into};
+use dob_moves::{Move, first_catch, moves_into};
 use dob_pieces::{Memory, Position};
-use dob_value::{Table, Value};
+use dob_value::{Table, Value, outcome_of};
 use std::alloc::Global;
 
 /// Which of the classes to which moves lead are listed.
@@ -87,23 +83,12 @@ fn push_outcomes(
     requires legal { AreMoves classes.now.family.profile position.now.setup legal.now }
 {
     for played in legal {
-        let outcome = outcome_of(classes, position, *played);
+        let outcome = outcome_of(classes.family, position, *played);
         if matches!(listed, Listed::All) || first_catch(&outcome).is_none() {
             outcomes.push(number_of(classes, &outcome))?;
         }
     }
     Ok(())
-}
-
-/// The position of the family to which the move leads.
-pub(crate) fn outcome_of(classes: &Classes, position: &Position, played: Move) -> Position
-    requires member { IsPositionOf classes.now.family position.now.setup }
-    requires played { HasStatus classes.now.family.profile position.now.setup Status.Open × CanGo classes.now.family.profile position.now.setup played }
-    ensures member { IsPositionOf classes.now.family result.setup }
-    ensures goes { Goes classes.now.family.profile position.now.setup played result.setup }
-    ensures alone { (q : Setup) → Goes classes.now.family.profile position.now.setup played q → result.setup ≡ q }
-{
-    apply(position, played)
 }
 
 /// The number of the position's class.

@@ -6,11 +6,11 @@ ghost use Rattle.dob_rank.specs.Families.{IsPositionOf};
 ghost use Rattle.dob_certificate.specs.Lost.{SupportsAllLost};
 ghost use Rattle.dob_certify.specs.Replies.{IsReply, IsRight, IsShortest, SaysLost, loss, shorter};
 
-use crate::outcomes::outcome_of;
 use dob_certificate::{Entries, entry_for};
 use dob_classes::Classes;
 use dob_moves::{Move, Status, first_catch, moves_into, status};
 use dob_pieces::{Memory, Position};
+use dob_value::outcome_of;
 use std::alloc::Global;
 
 /// What a list of lost classes says of a position.
@@ -82,19 +82,14 @@ fn loss(plies: Option<u16>) -> Option<Reply>
 }
 
 // The first of the moves to a position that is said to be lost within the fewest plies.
-fn shortest(
-    classes: &Classes,
-    lost: &Entries,
-    position: &Position,
-    legal: &[Move],
-) -> Option<Lead>
+fn shortest(classes: &Classes, lost: &Entries, position: &Position, legal: &[Move]) -> Option<Lead>
     requires member { IsPositionOf classes.now.family position.now.setup }
     requires legal { AreMoves classes.now.family.profile position.now.setup legal.now }
     ensures { IsShortest classes.now.family lost.now position.now.setup result }
 {
     let mut best = None;
     for played in legal {
-        let outcome = outcome_of(classes, position, *played);
+        let outcome = outcome_of(classes.family, position, *played);
         let found = said_lost(classes, lost, &outcome);
         best = shorter(best, *played, found);
     }

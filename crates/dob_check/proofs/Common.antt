@@ -5,13 +5,13 @@ pub use Rattle.std.proofs.lemmas.Bool.{cases_lt}
 pub use Rattle.std.specs.Borrow.{Bor}
 pub use Rattle.std.specs.List.{AllZip, range_with_len}
 pub use Rattle.std.specs.Option.{unwrap_or}
-pub use Rattle.std.specs.Prelude.{IfOk, Result, is_err, slice_get}
+pub use Rattle.std.specs.Prelude.{IfErr, IfOk, Result, is_err, slice_get}
 pub use Rattle.rayon.proofs.ListFacts.{AllZip-weaken}
 pub use Rattle.rayon.proofs.ToStd.{nat_range-All}
 pub use Rattle.rayon.specs.Lists.{filter_by_mask}
 pub use Rattle.rayon.specs.Numbers.{nat_range}
 pub use Rattle.dob_pieces.proofs.Zips.{as_many, each_is, made_all}
-pub use Rattle.dob_probe.proofs.Verdicts.{IsFirstFault, Verdict, fault_holds, passed_answered}
+pub use Rattle.dob_probe.proofs.Verdicts.{Verdict, fault_holds, passed_answered}
 pub use Rattle.dob_probe.specs.Slots.{AreSlots, part_of}
 pub use Rattle.dob_probe.specs.declared.groups.Group.{Group}
 pub use Rattle.dob_check.specs.Parts.{IsPart, IsPlace, part_count, part_size}

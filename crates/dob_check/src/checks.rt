@@ -69,7 +69,9 @@ pub fn check_watched<R: Threads + Sync, W: Watch + Sync>(
     ensures passed { IsConsistent table.now.family table.now.values → (result ≡ Ok tt) ⊎ (result ≡ Err Fault.Memory) }
     ensures told { (class : ℕ) → class < length table.now.values → IsToldAt (W.told watch.now) (length table.now.values) class }
 {
-    let first_fault = (0..table.classes().class_count())
+    // That the table has an entry for each class is known from here on.
+    let _family = table.family();
+    let first_fault = (0..table.class_count())
         .into_par_iter()
         .map_init(
             || -> Vec<Move> { Vec::new(alloc) },

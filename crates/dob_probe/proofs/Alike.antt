@@ -1,21 +1,12 @@
 -- Outlines of positions, and puzzles that are alike.
-use Rattle.dob_probe.proofs.Common.{◌&&◌, ◌++◌, ◌==◌, ◌∙◌, ◌∷◌, ◌≡◌, Bool, Contains, List, [], ap, arith, false, inl, inr, refl, subst, sym, true, true≢false}
+use Rattle.dob_probe.proofs.Common.{◌&&◌, ◌++◌, ◌==◌, ◌∙◌, ◌∷◌, ◌≡◌, Bool, Contains, List, [], arith, false, inl, inr, refl, subst, sym, true, true≢false}
 use Rattle.dob_probe.proofs.Common.{ℕ, and_from, and_parts, cases_Bool, eq-eqb, eqb-true, Contains-append_right, list_any, one_lion, HasLions, Enemy, Mover}
 use Rattle.dob_probe.proofs.Common.{Setup, class_setup, ClassTable, AreAlike, AreLike, AreOutlines, IsOutline, IsOutlineOf, same_outline, Puzzle}
 use Rattle.dob_pieces.proofs.Lists.{cons_cases}
 use Rattle.dob_probe.specs.declared.outlines.Outline.{Outline}
 
-abbrev outline_with : ℕ → ℕ → ℕ → ℕ → ℕ → Outline
-outline_with chicks elephants giraffes lion enemy_lion =
-    record { chicks = chicks; elephants = elephants; giraffes = giraffes; lion = lion; enemy_lion = enemy_lion }
-
 same_fields : (a b : Outline) → a.chicks ≡ b.chicks → a.elephants ≡ b.elephants → a.giraffes ≡ b.giraffes → a.lion ≡ b.lion → a.enemy_lion ≡ b.enemy_lion → a ≡ b
-same_fields a b c e g l n =
-    ap (λ (k : ℕ). outline_with k a.elephants a.giraffes a.lion a.enemy_lion) c
-    ∙ (ap (λ (k : ℕ). outline_with b.chicks k a.giraffes a.lion a.enemy_lion) e
-    ∙ (ap (λ (k : ℕ). outline_with b.chicks b.elephants k a.lion a.enemy_lion) g
-    ∙ (ap (λ (k : ℕ). outline_with b.chicks b.elephants b.giraffes k a.enemy_lion) l
-    ∙ ap (λ (k : ℕ). outline_with b.chicks b.elephants b.giraffes b.lion k) n)))
+same_fields a b c e g l n = λ i. record { chicks = c i; elephants = e i; giraffes = g i; lion = l i; enemy_lion = n i }
 
 -- a position has one outline
 one_outline : (p : Setup) (a b : Outline) → HasLions p → IsOutline p a → IsOutline p b → a ≡ b

@@ -1,11 +1,13 @@
 -- By the value table lines are the best lines, and none breaks off.
 use Rattle.dob_probe.proofs.Common.{◌-◌, ◌∙◌, ◌∷◌, ◌≡◌, ◌≤◌, Err, IfErr, IfOk, List, MatchResult, None, Ok, Result, Some, [], ap, arith, inl, inr, refl, subst}
 use Rattle.dob_probe.proofs.Common.{suc, sym, zero, ℕ, cases_lt, Setup, Goes, CanCatch, HasStatus, Move, Open, IsPositionOf, consistent_is_right}
-use Rattle.dob_probe.proofs.Common.{moves_keep_the_family, ClassTable, IsConsistent, IsValueTable, Value, Draw, Loss, Win, IsFaultOfLine, Begins, Continues}
-use Rattle.dob_probe.proofs.Common.{GivenBy, GoesOnTo, IsLine, LacksMove, LeadsTo, value_wanted, Fault, FarChick, Inconsistent, Memory, OtherSet}
+use Rattle.dob_probe.proofs.Common.{moves_keep_the_family, ClassTable, IsConsistent, IsValueTable, Value, Draw, Loss, Win, IsFaultOfLine, Begins}
+use Rattle.dob_probe.proofs.Common.{ValuedMove, GivenBy, IsLine, LacksMove, LeadsTo, value_wanted, Fault, FarChick, Inconsistent, Memory, OtherSet}
 use Rattle.dob_value.specs.Values.{Won, Lost, HasValue}
 use Rattle.dob_value.proofs.Depths.{won_stays, won_not_lost, at_most_one_value}
 use Rattle.dob_probe.specs.Laws.{LinesAreBest, NoneBreaks}
+use Rattle.dob_probe.specs.ValuedMoves.{AreValuedMoves}
+use Rattle.dob_probe.proofs.Relations.{leads_by, line_by, listed_by}
 
 module _ (table : ClassTable) (right : IsValueTable table.family table.values) where
   pub to_value : (p : Setup) (v : Value) → IsPositionOf table.family p → GivenBy table p v → HasValue table.family.profile p v
@@ -20,53 +22,17 @@ module _ (table : ClassTable) (right : IsValueTable table.family table.values) w
   after : (p : Setup) (m : Move) (q : Setup) → IsPositionOf table.family p → HasStatus table.family.profile p Open → Goes table.family.profile p m q → IsPositionOf table.family q
   after p m q is goes_on goes = moves_keep_the_family table.family p m q is goes_on goes
 
-  leads_by_value : (p : Setup) (wanted : Value) (m : Move) (q : Setup) → IsPositionOf table.family p → LeadsTo table.family.profile (GivenBy table) p wanted m q →
-      LeadsTo table.family.profile (HasValue table.family.profile) p wanted m q
-  leads_by_value p wanted m q is leads = record {
-    goes_on = leads.goes_on;
-    goes = leads.goes;
-    has = to_value q wanted (after p m q is leads.goes_on leads.goes) leads.has;
-  }
+  leads_by_table : (p : Setup) (wanted : Value) (m : Move) (q : Setup) → IsPositionOf table.family p
+      → LeadsTo table.family.profile (HasValue table.family.profile) p wanted m q → LeadsTo table.family.profile (GivenBy table) p wanted m q
+  leads_by_table = leads_by table.family.profile (IsPositionOf table.family) after (HasValue table.family.profile) (GivenBy table) of_value
 
-  leads_by_table : (p : Setup) (wanted : Value) (m : Move) (q : Setup) → IsPositionOf table.family p → LeadsTo table.family.profile (HasValue table.family.profile) p wanted m q →
-      LeadsTo table.family.profile (GivenBy table) p wanted m q
-  leads_by_table p wanted m q is leads = record {
-    goes_on = leads.goes_on;
-    goes = leads.goes;
-    has = of_value q wanted (after p m q is leads.goes_on leads.goes) leads.has;
-  }
+  pub best : (moves : List Move) (p : Setup) → IsPositionOf table.family p → IsLine table.family.profile (GivenBy table) p moves
+      → IsLine table.family.profile (HasValue table.family.profile) p moves
+  best = line_by table.family.profile (IsPositionOf table.family) after (GivenBy table) (HasValue table.family.profile) to_value of_value
 
-  goes_on_by_value : (p : Setup) (wanted : Value) → IsPositionOf table.family p → GoesOnTo (GivenBy table) p wanted → GoesOnTo (HasValue table.family.profile) p wanted
-  goes_on_by_value p wanted is goes_on = record {
-    no_catch = goes_on.no_catch;
-    value = goes_on.value;
-    has = to_value p goes_on.value is goes_on.has;
-    next = goes_on.next;
-  }
-
-  continues_by_value : (p : Setup) (m : Move) (q : Setup) → IsPositionOf table.family p → Continues table.family.profile (GivenBy table) p m q → Continues table.family.profile (HasValue table.family.profile) p m q
-  continues_by_value p m q is next = (
-    next.0,
-    goes_on_by_value p next.0 is next.1,
-    record {
-      leads = leads_by_value p next.0 m q is next.2.leads;
-      first = λ other r leads. next.2.first other r (leads_by_table p next.0 other r is leads);
-    },
-  )
-
-  pub best : (moves : List Move) (p : Setup) → IsPositionOf table.family p → IsLine table.family.profile (GivenBy table) p moves → IsLine table.family.profile (HasValue table.family.profile) p moves
-  best [] p is ends = record {
-    no_catch = ends.no_catch;
-    value = ends.value;
-    has = to_value p ends.value is ends.has;
-    over = ends.over;
-  }
-  best (m ∷ moves) p is line = elim line [
-    | inl catch ↦ inl catch
-    | inr next ↦
-        let member = after p m next.0 is next.1.2.leads.goes_on next.1.2.leads.goes in
-        inr (next.0, continues_by_value p m next.0 is next.1, best moves next.0 member next.2)
-  ]
+  pub valued_best : (p : Setup) (list : List ValuedMove) → IsPositionOf table.family p → AreValuedMoves table.family.profile (GivenBy table) p list
+      → AreValuedMoves table.family.profile (HasValue table.family.profile) p list
+  valued_best = listed_by table.family.profile (IsPositionOf table.family) after (GivenBy table) (HasValue table.family.profile) to_value of_value
 
   -- a position lost within n plies, but in no fewer, is a loss in n; and likewise one won
   loss_of : (n : ℕ) (q : Setup) (v : Value) → HasValue table.family.profile q v → Lost table.family.profile n q → ((e : ℕ) → Lost table.family.profile e q → n ≤ e) → v ≡ Loss n

@@ -7,7 +7,7 @@ use Rattle.std.proofs.lemmas.Grind.{in_insert}
 use Rattle.std.proofs.lemmas.List.Edits.{length-insert, get_or-insert_below, get_or-insert_at, get_or-insert_above}
 use Rattle.dob_value.specs.Values.{HasValue}
 use Rattle.dob_probe.specs.ValuedMoves.{seen_from_before, HasMoveValue, AreValuedMoves}
-use Rattle.dob_probe.proofs.Best.{to_value, of_value}
+use Rattle.dob_probe.proofs.Best.{valued_best}
 use Rattle.dob_probe.proofs.InOrder.{same_valued}
 
 -- ---- values by preference
@@ -22,21 +22,13 @@ better_still (Win a) Draw (Loss c) h k = tt
 better_still (Win a) (Loss b) (Win c) h k = absurd k
 better_still (Win a) (Loss b) Draw h k = absurd k
 better_still (Win a) (Loss b) (Loss c) h k = tt
-better_still Draw (Win b) (Win c) h k = absurd h
-better_still Draw (Win b) Draw h k = absurd h
-better_still Draw (Win b) (Loss c) h k = absurd h
-better_still Draw Draw (Win c) h k = absurd h
-better_still Draw Draw Draw h k = absurd h
-better_still Draw Draw (Loss c) h k = absurd h
+better_still Draw (Win b) z h k = absurd h
+better_still Draw Draw z h k = absurd h
 better_still Draw (Loss b) (Win c) h k = absurd k
 better_still Draw (Loss b) Draw h k = absurd k
 better_still Draw (Loss b) (Loss c) h k = tt
-better_still (Loss a) (Win b) (Win c) h k = absurd h
-better_still (Loss a) (Win b) Draw h k = absurd h
-better_still (Loss a) (Win b) (Loss c) h k = absurd h
-better_still (Loss a) Draw (Win c) h k = absurd h
-better_still (Loss a) Draw Draw h k = absurd h
-better_still (Loss a) Draw (Loss c) h k = absurd h
+better_still (Loss a) (Win b) z h k = absurd h
+better_still (Loss a) Draw z h k = absurd h
 better_still (Loss a) (Loss b) (Win c) h k = absurd k
 better_still (Loss a) (Loss b) Draw h k = absurd k
 better_still (Loss a) (Loss b) (Loss c) h k = omega (arith, h, k)
@@ -227,43 +219,6 @@ listed_all profile Has p legal upto list free are all listed = record {
 
 -- ---- by the value table the values are the right ones
 
--- where what it leads to has the value by another relation too, it has its value by that
-pub valued_by : (profile : Profile) (By Other : Setup → Value → Type 0) (p : Setup) (valued : ValuedMove) (has : HasMoveValue profile By p valued)
-    → (By has.outcome has.value → Other has.outcome has.value) → HasMoveValue profile Other p valued
-valued_by profile By Other p valued has gives = record {
-  goes_on = has.goes_on;
-  outcome = has.outcome;
-  goes = has.goes;
-  value = has.value;
-  has = gives has.has;
-  seen = has.seen;
-}
-
--- and where each move has the same value by both, a list of valued moves by the one is one by the other
-pub moves_by : (profile : Profile) (By Other : Setup → Value → Type 0) (p : Setup)
-    → ((valued : ValuedMove) → HasMoveValue profile By p valued → HasMoveValue profile Other p valued)
-    → ((valued : ValuedMove) → HasMoveValue profile Other p valued → HasMoveValue profile By p valued)
-    → (list : List ValuedMove) → AreValuedMoves profile By p list → AreValuedMoves profile Other p list
-moves_by profile By Other p there back list are = record {
-  sound = λ valued listed. elim (are.sound valued listed) [
-    | inl catch ↦ inl catch
-    | inr has ↦ inr (there valued has)
-  ];
-  caught = are.caught;
-  whole = λ valued has. are.whole valued (back valued has);
-  ordered = are.ordered;
-}
-
-module _ (table : ClassTable) (right : IsValueTable table.family table.values) (p : Setup) (is : IsPositionOf table.family p) where
-  by_value : (valued : ValuedMove) → HasMoveValue table.family.profile (GivenBy table) p valued → HasMoveValue table.family.profile (HasValue table.family.profile) p valued
-  by_value valued has =
-      valued_by table.family.profile (GivenBy table) (HasValue table.family.profile) p valued has
-      (to_value table right has.outcome has.value (moves_keep_the_family table.family p valued.played has.outcome is has.goes_on has.goes))
-
-  by_table : (valued : ValuedMove) → HasMoveValue table.family.profile (HasValue table.family.profile) p valued → HasMoveValue table.family.profile (GivenBy table) p valued
-  by_table valued has =
-      valued_by table.family.profile (HasValue table.family.profile) (GivenBy table) p valued has
-      (of_value table right has.outcome has.value (moves_keep_the_family table.family p valued.played has.outcome is has.goes_on has.goes))
-
-  pub valued_rightly : (list : List ValuedMove) → AreValuedMoves table.family.profile (GivenBy table) p list → AreValuedMoves table.family.profile (HasValue table.family.profile) p list
-  valued_rightly list are = moves_by table.family.profile (GivenBy table) (HasValue table.family.profile) p by_value by_table list are
+pub valued_rightly : (table : ClassTable) → IsValueTable table.family table.values → (p : Setup) → IsPositionOf table.family p → (list : List ValuedMove)
+    → AreValuedMoves table.family.profile (GivenBy table) p list → AreValuedMoves table.family.profile (HasValue table.family.profile) p list
+valued_rightly table right p is list are = valued_best table right p list is are

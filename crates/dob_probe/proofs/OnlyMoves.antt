@@ -3,7 +3,7 @@ use Rattle.dob_probe.proofs.Common.{◌++◌, ◌+◌, ◌-◌, ◌<◌, ◌∙�
 use Rattle.dob_probe.proofs.Common.{get_or, inl, inr, length, slice_get, subst, sym, true, true≢false, ℕ, cases_lt, Contains-append_left, Contains-get_or}
 use Rattle.dob_probe.proofs.Common.{Contains-push, Contains-push_cases, all_pairs_push, same_Some, slice_get_within, before_or_here, standing, Profile, Setup}
 use Rattle.dob_probe.proofs.Common.{place, AreMoves, Move, ClassTable, IsEntry, IsTable, MAX_DISTANCE, Value, Loss, Win, HasEntry, GivenBy, LeadsTo, AreLike}
-use Rattle.dob_probe.proofs.Common.{ArePuzzles, IsListedNext, IsOnlyTo, IsPassed, IsPuzzle, IsSpread, IsWalked, walk_place, IsPuzzleOf, IsSingleMove, begin_at}
+use Rattle.dob_probe.proofs.Common.{ArePuzzles, IsListedNext, IsOnlyTo, IsPassed, IsPuzzle, IsSpread, walk_place, IsPuzzleOf, IsSingleMove, begin_at}
 use Rattle.dob_probe.proofs.Common.{class_on, first_class, Puzzle}
 use Rattle.std.proofs.Common.{length-append, is_some}
 use Rattle.dob_classes.proofs.OfFamilies.FamilyRepresentatives.{one_of_class}
@@ -63,20 +63,16 @@ module _ (profile : Profile) (Has : Setup → Value → Type 0) (p : Setup) (wan
   }
 
   -- where a second one leads there too, none is the only one
-  pub single_doubled : (upto : ℕ) (played single : Move) (q : Setup) → AreMoves profile p legal → upto < length legal → slice_get legal upto ≡ Some played →
-      LeadsTo profile Has p wanted played q → IsOnlyBelow profile Has p wanted legal upto single → IsSingleMove profile Has p wanted None
-  single_doubled upto played single q are within here leads before = λ move only.
+  pub single_twice : (upto : ℕ) (played : Move) (single : Option Move) (q : Setup) → is_some single ≡ true → AreMoves profile p legal → upto < length legal →
+      slice_get legal upto ≡ Some played → LeadsTo profile Has p wanted played q → IsSingleBelow profile Has p wanted legal upto single →
+      IsSingleMove profile Has p wanted None
+  single_twice upto played None q some are within here leads before = absurd (true≢false (sym some))
+  single_twice upto played (Some single) q some are within here leads before = λ move only.
       let one : move ≡ single = only.only single before.outcome before.leads in
       let other : move ≡ played = only.only played q leads in
       let rising = in_order profile p legal before.index upto single played are before.below within before.there here in
       let same : place single ≡ place played = ap place (sym one ∙ other) in
       absurd (omega (arith, rising, same))
-
-  pub single_twice : (upto : ℕ) (played : Move) (single : Option Move) (q : Setup) → is_some single ≡ true → AreMoves profile p legal → upto < length legal →
-      slice_get legal upto ≡ Some played → LeadsTo profile Has p wanted played q → IsSingleBelow profile Has p wanted legal upto single →
-      IsSingleMove profile Has p wanted None
-  single_twice upto played None q some are within here leads before = absurd (true≢false (sym some))
-  single_twice upto played (Some single) q some are within here leads before = single_doubled upto played single q are within here leads before
 
   pub single_taken : (upto : ℕ) (played : Move) (single : Option Move) (q : Setup) → is_some single ≡ false → slice_get legal upto ≡ Some played →
       LeadsTo profile Has p wanted played q → IsSingleBelow profile Has p wanted legal upto single → IsSingleBelow profile Has p wanted legal (upto + 1) (Some played)
@@ -155,19 +151,24 @@ module _ (table : ClassTable) (plies : ℕ) (walk : Walk) where
         let same : walk_place table walk puzzle.class ≡ upto = omega (arith, below, later) in
         class_only _ (length table.values) upto puzzle.class (first_below walk.seed (length table.values) (omega (arith, here))) (class_of puzzle is) same ∙ sym on
 
-    pub puzzles_same : (list : List Puzzle) → IsPuzzleOf table plies class None → ArePuzzlesBelow upto list → ArePuzzlesBelow (upto + 1) list
-    puzzles_same list none are = record {
+    -- where the place has no puzzle that isn't listed or passed the list stays
+    kept : (list : List Puzzle) → ((puzzle : Puzzle) → IsPuzzle table plies puzzle → puzzle.class ≡ class → upto ≤ walk_place table walk puzzle.class
+        → Contains list puzzle ⊎ IsPassed table walk list puzzle) → ArePuzzlesBelow upto list → ArePuzzlesBelow (upto + 1) list
+    kept list here_is are = record {
       sound = λ puzzle there.
           let found = are.sound puzzle there in
           let below : walk_place table walk puzzle.class < upto = found.1 in
           (found.0, omega (arith, below), found.2);
       whole = λ puzzle is from below. elim (cases_lt (walk_place table walk puzzle.class) upto) [
         | inl earlier ↦ are.whole puzzle is from earlier
-        | inr later ↦ absurd (none puzzle (of_place puzzle is below later) is)
+        | inr later ↦ here_is puzzle is (of_place puzzle is below later) later
       ];
       unlike = are.unlike;
       ordered = are.ordered;
     }
+
+    pub puzzles_same : (list : List Puzzle) → IsPuzzleOf table plies class None → ArePuzzlesBelow upto list → ArePuzzlesBelow (upto + 1) list
+    puzzles_same list none are = kept list (λ puzzle is at later. absurd (none puzzle at is)) are
 
     -- what was listed or passed is so of a longer list
     longer : (list : List Puzzle) (more puzzle : Puzzle) → Contains list puzzle ⊎ IsPassed table walk list puzzle
@@ -178,22 +179,10 @@ module _ (table : ClassTable) (plies : ℕ) (walk : Walk) where
     -- a puzzle is passed
     pub puzzles_passed : (list : List Puzzle) (more : Puzzle) → IsPuzzleOf table plies class (Some more) → IsSpread walk
         → (listed : Puzzle) → Contains list listed → AreLike table listed more → ArePuzzlesBelow upto list → ArePuzzlesBelow (upto + 1) list
-    puzzles_passed list more found spread listed there like are = record {
-      sound = λ puzzle stands.
-          let known = are.sound puzzle stands in
-          let below : walk_place table walk puzzle.class < upto = known.1 in
-          (known.0, omega (arith, below), known.2);
-      whole = λ puzzle is from below. elim (cases_lt (walk_place table walk puzzle.class) upto) [
-        | inl earlier ↦ are.whole puzzle is from earlier
-        | inr later ↦
-            let class_is : more.class ≡ puzzle.class = found.0 ∙ sym (of_place puzzle is below later) in
-            let same = one_puzzle table plies more puzzle class_is found.1 is in
-            let before : walk_place table walk listed.class < upto = (are.sound listed there).1 in
-            inr (spread, (listed, there, subst (λ (x : Puzzle). AreLike table listed x) same like, omega (arith, before, later)))
-      ];
-      unlike = are.unlike;
-      ordered = are.ordered;
-    }
+    puzzles_passed list more found spread listed there like are = kept list (λ puzzle is at later.
+        let same = one_puzzle table plies more puzzle (found.0 ∙ sym at) found.1 is in
+        let before : walk_place table walk listed.class < upto = (are.sound listed there).1 in
+        inr (spread, (listed, there, subst (λ (x : Puzzle). AreLike table listed x) same like, omega (arith, before, later)))) are
 
     pub puzzles_more : (list : List Puzzle) (more : Puzzle) → begin ≤ upto → IsPuzzleOf table plies class (Some more)
         → (IsSpread walk → (listed : Puzzle) → Contains list listed → ¬ AreLike table listed more) → ArePuzzlesBelow upto list
@@ -237,53 +226,49 @@ module _ (table : ClassTable) (plies : ℕ) (walk : Walk) where
   next_few is_spread list new more (inl next) = let long = length-append list (more ∷ []) in let e = ap length next.0 in omega (arith, long, e)
   next_few is_spread list new more (inr passed) = let e = ap length passed.0 in omega (arith, e)
 
-  -- what is listed is walked over
-  sound_walked : (upto : ℕ) (list : List Puzzle) → ArePuzzlesBelow upto list → (puzzle : Puzzle) → Contains list puzzle
-      → IsPuzzle table plies puzzle × IsWalked table walk puzzle.class
-  sound_walked upto list are puzzle there =
-      let found = are.sound puzzle there in
-      let within = class_of puzzle found.2 in (
-        found.2,
-        begin_behind walk.behind _ (length table.values) puzzle.class (first_below walk.seed (length table.values) (omega (arith, within))) within found.0,
-      )
-
   -- what is listed or passed is what a puzzle may be
   settled : (list : List Puzzle) (puzzle : Puzzle) {Full : Type 0} → Contains list puzzle ⊎ IsPassed table walk list puzzle
       → Contains list puzzle ⊎ IsPassed table walk list puzzle ⊎ Full
   settled list puzzle (inl there) = inl there
   settled list puzzle (inr passed) = inr (inl passed)
 
-  -- as many as were asked for, or all of them
-  pub puzzles_full : (upto count : ℕ) (list : List Puzzle) → length list ≡ count → ArePuzzlesBelow upto list → ArePuzzles table walk plies count list
-  puzzles_full upto count list full are = record {
-    sound = sound_walked upto list are;
-    ordered = are.ordered;
-    few = omega (arith, full);
-    whole = λ puzzle is walked. elim (cases_lt (walk_place table walk puzzle.class) upto) [
-      | inl earlier ↦ settled list puzzle (are.whole puzzle is (behind_begin walk.behind _ (length table.values) puzzle.class (class_of puzzle is) walked) earlier)
-      | inr later ↦ inr (inr (
-        full,
-        λ listed there.
-            let below : walk_place table walk listed.class < upto = (are.sound listed there).1 in
-            omega (arith, below, later),
-      ))
-    ];
-    unlike = are.unlike;
-  }
-
-  pub puzzles_all : (upto count : ℕ) (list : List Puzzle) → length table.values ≤ upto → length list ≤ count → ArePuzzlesBelow upto list →
-      ArePuzzles table walk plies count list
-  puzzles_all upto count list all few are = record {
-    sound = sound_walked upto list are;
+  -- a list that is as long as was asked for, or has the puzzles of all places
+  ended : (upto count : ℕ) (list : List Puzzle) → length list ≤ count → (length list ≡ count) ⊎ (length table.values ≤ upto) → ArePuzzlesBelow upto list
+      → ArePuzzles table walk plies count list
+  ended upto count list few end are = record {
+    sound = λ puzzle there.
+        let found = are.sound puzzle there in
+        let within = class_of puzzle found.2 in (
+          found.2,
+          begin_behind walk.behind _ (length table.values) puzzle.class (first_below walk.seed (length table.values) (omega (arith, within))) within found.0,
+        );
     ordered = are.ordered;
     few = few;
     whole = λ puzzle is walked.
         let within = class_of puzzle is in
-        let first = first_below walk.seed (length table.values) (omega (arith, within)) in
-        let below = place_below _ (length table.values) puzzle.class first within in
-        settled list puzzle (are.whole puzzle is (behind_begin walk.behind _ (length table.values) puzzle.class within walked) (omega (arith, below, all)));
+        elim (cases_lt (walk_place table walk puzzle.class) upto) [
+          | inl earlier ↦ settled list puzzle (are.whole puzzle is (behind_begin walk.behind _ (length table.values) puzzle.class within walked) earlier)
+          | inr later ↦ elim end [
+            | inl full ↦ inr (inr (
+              full,
+              λ listed there.
+                  let below : walk_place table walk listed.class < upto = (are.sound listed there).1 in
+                  omega (arith, below, later),
+            ))
+            | inr all ↦
+                let below = place_below _ (length table.values) puzzle.class (first_below walk.seed (length table.values) (omega (arith, within))) within in
+                absurd (omega (arith, below, all, later))
+          ]
+        ];
     unlike = are.unlike;
   }
+
+  pub puzzles_full : (upto count : ℕ) (list : List Puzzle) → length list ≡ count → ArePuzzlesBelow upto list → ArePuzzles table walk plies count list
+  puzzles_full upto count list full are = ended upto count list (omega (arith, full)) (inl full) are
+
+  pub puzzles_all : (upto count : ℕ) (list : List Puzzle) → length table.values ≤ upto → length list ≤ count → ArePuzzlesBelow upto list →
+      ArePuzzles table walk plies count list
+  puzzles_all upto count list all few are = ended upto count list few (inr all) are
 
   -- no table has so long a distance
   pub puzzles_too_long : (count : ℕ) → IsTable table.family table.values → 65535 < plies → ArePuzzles table walk plies count []

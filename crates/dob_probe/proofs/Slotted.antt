@@ -3,7 +3,7 @@ use Rattle.dob_probe.proofs.Common.{◌%◌, ◌++◌, ◌+◌, ◌-◌, ◌<◌
 use Rattle.dob_probe.proofs.Common.{append-nil, ap₂, arith, cond, count_by, drop, false, get_or, inl, inr, length, option_to_list, refl, rules, set, slice_get}
 use Rattle.dob_probe.proofs.Common.{subst, suc, sym, take, true, zero, ℕ, cases_eq, cases_lt, get_or-set_other, get_or-set_same, get_or_default}
 use Rattle.dob_probe.proofs.Common.{Contains-append_left, Contains-get_or, Contains-push, Contains-push_cases, all_pairs_push, get_or_from_slice_get, same_Some}
-use Rattle.dob_probe.proofs.Common.{slice_get-get_or, slice_get_within, at_end, get_front, middle, IsEntry, Value, Draw, Loss, Win, AreSlots, part_of}
+use Rattle.dob_probe.proofs.Common.{slice_get-get_or, slice_get_within, get_front, IsEntry, Value, Draw, Loss, Win, AreSlots, part_of}
 use Rattle.std.proofs.lemmas.List.{drop-take, get_or-drop, get_or_past, length-append, length-drop, length-take, take-append-drop, take-take, take_more}
 use Rattle.std.proofs.lemmas.List.Sums.{sum_by-append, sum_by-cons, count_by-le-length}
 use Rattle.dob_value.specs.Codes.{code_of_value}
@@ -24,10 +24,10 @@ one_of_code Draw (Win b) v w e = absurd (omega (arith, e))
 one_of_code Draw (Loss b) v w e = absurd (omega (arith, e))
 one_of_code Draw Draw v w e = refl
 
--- ---- one value more
+-- ---- what is counted
 
-count_push : (p : Value → Bool) (xs : List Value) (v : Value) → count_by p (xs ++ v ∷ []) ≡ count_by p xs + cond (p v) 1 0
-count_push p xs v = sum_by-append (λ x. cond {A = ℕ} (p x) 1 0) xs (v ∷ []) ∙ omega arith
+count_one : (p : Value → Bool) (v : Value) → count_by p (v ∷ []) ≡ cond (p v) 1 0
+count_one p v = sum_by-cons (λ x. cond {A = ℕ} (p x) 1 0) v [] ∙ omega arith
 
 -- where none is counted none is there
 none_counted : (p : Value → Bool) (xs : List Value) (v : Value) (k : ℕ) → count_by p xs ≡ 0 → p v ≡ true → ¬ (slice_get xs k ≡ Some v)
@@ -48,91 +48,156 @@ has_own v code e = search rules
 has_other : (v : Value) (code : ℕ) → code_of_value v ≢ code → has_code code v ≡ false
 has_other v code apart = search rules
 
-module _ (xs : List Value) (v : Value) where
-  -- it is counted of its own code alone
-  counted_own : (code : ℕ) → code_of_value v ≡ code → count_by (has_code code) (xs ++ v ∷ []) ≡ count_by (has_code code) xs + 1
-  counted_own code e =
-      let more = count_push (has_code code) xs v in
-      let yes : cond {A = ℕ} (has_code code v) 1 0 ≡ 1 = ap (λ b. cond {A = ℕ} b 1 0) (has_own v code e) in
-      omega (arith, more, yes)
+-- ---- the values of two parts
 
-  counted_other : (code : ℕ) → code_of_value v ≢ code → count_by (has_code code) (xs ++ v ∷ []) ≡ count_by (has_code code) xs
-  counted_other code apart =
-      let more = count_push (has_code code) xs v in
-      let no : cond {A = ℕ} (has_code code v) 1 0 ≡ 0 = ap (λ b. cond {A = ℕ} b 1 0) (has_other v code apart) in
-      omega (arith, more, no)
+-- what stands in two lists joined stands in one of them
+in_front : (xs ys : List Value) (v : Value) (j : ℕ) → j < length xs → slice_get (xs ++ ys) j ≡ Some v → slice_get xs j ≡ Some v
+in_front [] ys v j within there = absurd (omega (arith, within))
+in_front (x ∷ xs) ys v zero within there = there
+in_front (x ∷ xs) ys v (suc j) within there = in_front xs ys v j (omega (arith, within)) there
 
-  -- of another code
-  slot_stays : (code : ℕ) (slot : Option Group) → code_of_value v ≢ code → HasSlot xs code slot → HasSlot (xs ++ v ∷ []) code slot
-  slot_stays code None apart none = counted_other code apart ∙ none
-  slot_stays code (Some group) apart has = (
-    has.0,
-    record {
-      entry = has.1.entry;
-      classes =
-          let more = counted_other (code_of_value group.value) (λ e. apart (e ∙ has.0)) in
-          let old = has.1.classes in
-          omega (arith, more, old);
-      first = get_front xs (v ∷ []) group.value group.first has.1.first;
-      before = λ class below there. elim (at_end xs v group.value class there) [
-        | inl earlier ↦ has.1.before class below earlier
-        | inr last ↦ absurd (apart (ap code_of_value last.1 ∙ has.0))
-      ];
-    },
-  )
+at_rest : (xs ys : List Value) (j : ℕ) → slice_get (xs ++ ys) (length xs + j) ≡ slice_get ys j
+at_rest [] ys j = let same : 0 + j ≡ j = omega arith in ap (slice_get ys) same
+at_rest (x ∷ xs) ys j =
+    let same : length (x ∷ xs) + j ≡ suc (length xs + j) = omega arith in
+    ap (slice_get (x ∷ xs ++ ys)) same ∙ at_rest xs ys j
 
-  -- of the value's own code
-  slot_grows : (slot : Option Group) → IsEntry v → HasSlot xs (code_of_value v) slot →
-      HasSlot (xs ++ v ∷ []) (code_of_value v) (Some (with_class slot v (length xs)))
-  slot_grows None entry none = (
-    refl,
-    record {
-      entry = entry;
-      classes = let more = counted_own (code_of_value v) refl in omega (arith, more, none);
-      first = middle xs [] v;
-      before = λ class below there. elim (at_end xs v v class there) [
-        | inl earlier ↦ none_counted (has_code (code_of_value v)) xs v class none (has_own v (code_of_value v) refl) earlier
-        | inr last ↦ let at = last.0 in absurd (omega (arith, at, below))
-      ];
-    },
-  )
-  slot_grows (Some group) entry has = (
-    has.0,
-    record {
-      entry = has.1.entry;
-      classes =
-          let more = counted_own (code_of_value group.value) (sym has.0) in
-          let old = has.1.classes in
-          omega (arith, more, old);
-      first = get_front xs (v ∷ []) group.value group.first has.1.first;
-      before = λ class below there. elim (at_end xs v group.value class there) [
-        | inl earlier ↦ has.1.before class below earlier
-        | inr last ↦
-            let at = last.0 in
-            let within = slice_get_within xs group.first group.value has.1.first in
-            absurd (omega (arith, at, below, within))
-      ];
-    },
-  )
+-- of the first values and the rest the codes below a number have their slots, and the others those of the first values still
+abbrev pub AreAdded : List Value → List Value → ℕ → List (Option Group) → Type 0
+AreAdded xs ys upto slots =
+    (code : ℕ) → (code < upto → HasSlot (xs ++ ys) code (get_or slots code None)) × (upto ≤ code → HasSlot xs code (get_or slots code None))
 
-  -- the slot of the value's code is written
-  pub slots_more : (slots wide : List (Option Group)) → IsEntry v → code_of_value v < length wide →
-      ((k : ℕ) → get_or wide k None ≡ get_or slots k None) → AreSlots xs slots →
-      AreSlots (xs ++ v ∷ []) (set wide (code_of_value v) (Some (with_class (get_or wide (code_of_value v) None) v (length xs))))
-  slots_more slots wide entry within same are code = elim (cases_eq (code_of_value v) code) [
+module _ (xs ys : List Value) (classes : ℕ) (long : length xs ≡ classes) (few : length (xs ++ ys) < 2 ^ 64) where
+  count_both : (p : Value → Bool) → count_by p (xs ++ ys) ≡ count_by p xs + count_by p ys
+  count_both p = sum_by-append (λ x. cond {A = ℕ} (p x) 1 0) xs ys
+
+  -- a group of the first part, with as many classes as both have
+  first_group : (group : Group) (classes : ℕ) → IsGroup xs group → classes ≡ count_by (has_code (code_of_value group.value)) (xs ++ ys)
+      → IsGroup (xs ++ ys) (record group { classes = classes })
+  first_group group classes is counted = record {
+    entry = is.entry;
+    classes = counted;
+    first = get_front xs ys group.value group.first is.first;
+    before = λ class below there.
+        let within = slice_get_within xs group.first group.value is.first in
+        is.before class below (in_front xs ys group.value class (omega (arith, below, within)) there);
+  }
+
+  -- a code in both parts
+  slot_joined : (code : ℕ) (slot more : Option Group) → HasSlot xs code slot → HasSlot ys code more → HasSlot (xs ++ ys) code (both_slots slot more classes)
+  slot_joined code None None none none_more = let both = count_both (has_code code) in omega (arith, both, none, none_more)
+  slot_joined code (Some group) None has none =
+      let both = count_both (has_code (code_of_value group.value)) in
+      let old = has.1.classes in
+      let no : count_by (has_code (code_of_value group.value)) ys ≡ 0 = subst (λ (n : ℕ). count_by (has_code n) ys ≡ 0) (sym has.0) none in
+      (has.0, first_group group group.classes has.1 (omega (arith, both, old, no)))
+  slot_joined code None (Some further) none has =
+      let within = slice_get_within ys further.first further.value has.1.first in
+      let whole = length-append xs ys in
+      let first : (classes + further.first) % 2 ^ 64 ≡ length xs + further.first = omega (arith, long, few, within, whole) in
+      let no : count_by (has_code (code_of_value further.value)) xs ≡ 0 = subst (λ (n : ℕ). count_by (has_code n) xs ≡ 0) (sym has.0) none in (
+        has.0,
+        record {
+          entry = has.1.entry;
+          classes =
+              let both = count_both (has_code (code_of_value further.value)) in
+              let old = has.1.classes in
+              omega (arith, both, old, no);
+          first = subst (λ (n : ℕ). slice_get (xs ++ ys) n ≡ Some further.value) (sym first) (at_rest xs ys further.first ∙ has.1.first);
+          before = λ class below there. elim (cases_lt class (length xs)) [
+            | inl front ↦
+                none_counted (has_code (code_of_value further.value)) xs further.value class no (has_own further.value (code_of_value further.value) refl)
+                (in_front xs ys further.value class front there)
+            | inr behind ↦
+                let place : class ≡ length xs + (class - length xs) = omega (arith, behind) in
+                has.1.before (class - length xs) (omega (arith, below, first, behind))
+                (sym (at_rest xs ys (class - length xs)) ∙ subst (λ (n : ℕ). slice_get (xs ++ ys) n ≡ Some further.value) place there)
+          ];
+        },
+      )
+  slot_joined code (Some group) (Some further) has more =
+      let both = count_both (has_code (code_of_value group.value)) in
+      let old = has.1.classes in
+      let new : further.classes ≡ count_by (has_code (code_of_value group.value)) ys =
+      more.1.classes ∙ ap (λ (n : ℕ). count_by (has_code n) ys) (more.0 ∙ sym has.0) in
+      let low = count_by-le-length (has_code (code_of_value group.value)) xs in
+      let high = count_by-le-length (has_code (code_of_value group.value)) ys in
+      let whole = length-append xs ys in
+      (has.0, first_group group ((group.classes + further.classes) % 2 ^ 64) has.1 (omega (arith, both, old, new, low, high, whole, few)))
+
+  pub added_none : (slots : List (Option Group)) → AreSlots xs slots → AreAdded xs ys 0 slots
+  added_none slots are code = (λ below. absurd (omega (arith, below)), λ from. are code)
+
+  pub added_more : (slots wide more : List (Option Group)) (upto : ℕ) (slot next new : Option Group) → slot ≡ get_or wide upto slot
+      → next ≡ get_or more upto next → new ≡ both_slots slot next classes → upto < length wide → upto < length more
+      → ((k : ℕ) → get_or wide k None ≡ get_or slots k None) → AreSlots ys more → AreAdded xs ys upto slots → AreAdded xs ys (upto + 1) (set wide upto new)
+  added_more slots wide more upto slot next new read read_next made within within_more same are added code = elim (cases_eq upto code) [
     | inl own ↦
-        let here : HasSlot xs (code_of_value v) (get_or wide (code_of_value v) None) =
-        subst (HasSlot xs (code_of_value v)) (sym (same (code_of_value v))) (are (code_of_value v)) in
-        let new : Option Group = Some (with_class (get_or wide (code_of_value v) None) v (length xs)) in
-        subst (λ k. HasSlot (xs ++ v ∷ []) k (get_or (set wide (code_of_value v) new) k None)) own
-        (subst (HasSlot (xs ++ v ∷ []) (code_of_value v)) (sym (get_or-set_same wide (code_of_value v) new None within))
-        (slot_grows (get_or wide (code_of_value v) None) entry here))
+        let is_slot : slot ≡ get_or slots upto None = read ∙ (get_or_default wide upto slot None within ∙ same upto) in
+        let is_next : next ≡ get_or more upto None = read_next ∙ get_or_default more upto next None within_more in
+        let joined : HasSlot (xs ++ ys) upto new =
+        subst (λ (o : Option Group). HasSlot (xs ++ ys) upto o) (sym made)
+        (slot_joined upto slot next (subst (λ (o : Option Group). HasSlot xs upto o) (sym is_slot) ((added upto).1 (omega arith)))
+        (subst (λ (o : Option Group). HasSlot ys upto o) (sym is_next) (are upto))) in
+        let here : HasSlot (xs ++ ys) upto (get_or (set wide upto new) upto None) =
+        subst (λ (o : Option Group). HasSlot (xs ++ ys) upto o) (sym (get_or-set_same wide upto new None within)) joined in (
+          λ below. subst (λ (k : ℕ). HasSlot (xs ++ ys) k (get_or (set wide upto new) k None)) own here,
+          λ from. absurd (omega (arith, own, from)),
+        )
     | inr other ↦
-        let new : Option Group = Some (with_class (get_or wide (code_of_value v) None) v (length xs)) in
-        let there : HasSlot xs code (get_or wide code None) = subst (HasSlot xs code) (sym (same code)) (are code) in
-        subst (HasSlot (xs ++ v ∷ []) code) (sym (get_or-set_other wide (code_of_value v) code new None (λ e. other (sym e))))
-        (slot_stays code (get_or wide code None) other there)
+        let stays : get_or slots code None ≡ get_or (set wide upto new) code None =
+        sym (same code) ∙ sym (get_or-set_other wide upto code new None (λ e. other (sym e))) in (
+          λ below. subst (λ (o : Option Group). HasSlot (xs ++ ys) code o) stays ((added code).0 (omega (arith, below, other))),
+          λ from. subst (λ (o : Option Group). HasSlot xs code o) stays ((added code).1 (omega (arith, from))),
+        )
   ]
+
+  -- the codes behind the last of the second part are in the first one alone
+  only_first : (code : ℕ) (slot : Option Group) → HasSlot xs code slot → HasSlot ys code None → HasSlot (xs ++ ys) code slot
+  only_first code None has none = slot_joined code None None has none
+  only_first code (Some group) has none = slot_joined code (Some group) None has none
+
+  pub added_all : (slots more : List (Option Group)) (upto : ℕ) → length more ≤ upto → AreSlots ys more → AreAdded xs ys upto slots → AreSlots (xs ++ ys) slots
+  added_all slots more upto all are added code = elim (cases_lt code upto) [
+    | inl below ↦ (added code).0 below
+    | inr from ↦
+        only_first code (get_or slots code None) ((added code).1 from)
+        (subst (λ (o : Option Group). HasSlot ys code o) (get_or_past more code None (omega (arith, all, from))) (are code))
+  ]
+
+-- ---- one value more
+
+abbrev single : Value → Group
+single v = record { value = v; classes = 1; first = 0 }
+
+-- a value alone has the slot of its own code
+alone_own : (v : Value) → IsEntry v → HasSlot (v ∷ []) (code_of_value v) (Some (single v))
+alone_own v entry = (
+  refl,
+  record {
+    entry = entry;
+    classes =
+        let yes : cond {A = ℕ} (has_code (code_of_value v) v) 1 0 ≡ 1 = ap (λ b. cond {A = ℕ} b 1 0) (has_own v (code_of_value v) refl) in
+        omega (arith, count_one (has_code (code_of_value v)) v, yes);
+    first = refl;
+    before = λ class below. absurd (omega (arith, below));
+  },
+)
+
+alone_other : (v : Value) (code : ℕ) → code_of_value v ≢ code → HasSlot (v ∷ []) code None
+alone_other v code apart =
+    let no : cond {A = ℕ} (has_code code v) 1 0 ≡ 0 = ap (λ b. cond {A = ℕ} b 1 0) (has_other v code apart) in
+    omega (arith, count_one (has_code code) v, no)
+
+-- a class more is the value alone, joined
+joined_one : (slot : Option Group) (v : Value) (class : ℕ) → HasRoom slot → class < 2 ^ 64
+    → both_slots slot (Some (single v)) class ≡ Some (with_class slot v class)
+joined_one None v class room small =
+    let place : (class + 0) % 2 ^ 64 ≡ class = omega (arith, small) in
+    ap (λ (n : ℕ). let group : Group = record { value = v; classes = 1; first = n } in Some group) place
+joined_one (Some group) v class room small =
+    let count : (group.classes + 1) % 2 ^ 64 ≡ group.classes + 1 = omega (arith, room) in
+    ap (λ (n : ℕ). Some (record group { classes = n })) count
 
 -- one more can be counted while there are fewer classes than a word holds
 pub slot_has_room : (xs : List Value) (code : ℕ) (slot : Option Group) → length xs + 1 < 2 ^ 64 → HasSlot xs code slot → HasRoom slot
@@ -142,18 +207,43 @@ slot_has_room xs code (Some group) room has =
     let old = has.1.classes in
     omega (arith, few, old, room)
 
+module _ (xs : List Value) (v : Value) (room : length xs + 1 < 2 ^ 64) where
+  few : length (xs ++ v ∷ []) < 2 ^ 64
+  few = let long = length-append xs (v ∷ []) in omega (arith, long, room)
+
+  -- the slot of the value's code is written
+  pub slots_more : (slots wide : List (Option Group)) → IsEntry v → code_of_value v < length wide →
+      ((k : ℕ) → get_or wide k None ≡ get_or slots k None) → AreSlots xs slots →
+      AreSlots (xs ++ v ∷ []) (set wide (code_of_value v) (Some (with_class (get_or wide (code_of_value v) None) v (length xs))))
+  slots_more slots wide entry within same are code =
+      let old : Option Group = get_or wide (code_of_value v) None in
+      let new : Option Group = Some (with_class old v (length xs)) in
+      elim (cases_eq (code_of_value v) code) [
+        | inl own ↦
+            let here : HasSlot xs (code_of_value v) old = subst (HasSlot xs (code_of_value v)) (sym (same (code_of_value v))) (are (code_of_value v)) in
+            let joined = joined_one old v (length xs) (slot_has_room xs (code_of_value v) old room here) (omega (arith, room)) in
+            subst (λ k. HasSlot (xs ++ v ∷ []) k (get_or (set wide (code_of_value v) new) k None)) own
+            (subst (HasSlot (xs ++ v ∷ []) (code_of_value v)) (joined ∙ sym (get_or-set_same wide (code_of_value v) new None within))
+            (slot_joined xs (v ∷ []) (length xs) refl few (code_of_value v) old (Some (single v)) here (alone_own v entry)))
+        | inr other ↦
+            let there : HasSlot xs code (get_or wide code None) = subst (HasSlot xs code) (sym (same code)) (are code) in
+            subst (HasSlot (xs ++ v ∷ []) code) (sym (get_or-set_other wide (code_of_value v) code new None (λ e. other (sym e))))
+            (only_first xs (v ∷ []) (length xs) refl few code (get_or wide code None) there (alone_other v code other))
+      ]
+
 -- the same of numbers and a group that were read and made
 pub slots_counted : (xs : List Value) (v : Value) (slots wide : List (Option Group)) (code class : ℕ) (slot : Option Group) (group : Group) →
-    code ≡ code_of_value v → slot ≡ get_or wide code slot → group ≡ with_class slot v class → length xs ≡ class → IsEntry v → code < length wide →
+    code ≡ code_of_value v → slot ≡ get_or wide code slot → group ≡ with_class slot v class → length xs ≡ class → class + 1 < 2 ^ 64 → IsEntry v →
+    code < length wide →
     ((k : ℕ) → get_or wide k None ≡ get_or slots k None) → AreSlots xs slots → AreSlots (xs ++ v ∷ []) (set wide code (Some group))
-slots_counted xs v slots wide code class slot group is_code read made counted entry within same are =
+slots_counted xs v slots wide code class slot group is_code read made counted room entry within same are =
     let is_slot : slot ≡ get_or wide code None = read ∙ get_or_default wide code slot None within in
     let is_group : group ≡ with_class (get_or wide (code_of_value v) None) v (length xs) =
     made ∙ (ap (λ (o : Option Group). with_class o v class) (is_slot ∙ ap (λ (n : ℕ). get_or wide n None) is_code)
     ∙ ap (λ (n : ℕ). with_class (get_or wide (code_of_value v) None) v n) (sym counted)) in
     subst (λ (n : ℕ). AreSlots (xs ++ v ∷ []) (set wide n (Some group))) (sym is_code)
     (subst (λ (g : Group). AreSlots (xs ++ v ∷ []) (set wide (code_of_value v) (Some g))) (sym is_group)
-    (slots_more xs v slots wide entry (subst (λ (n : ℕ). n < length wide) is_code within) same are))
+    (slots_more xs v (omega (arith, counted, room)) slots wide entry (subst (λ (n : ℕ). n < length wide) is_code within) same are))
 
 pub room_counted : (xs : List Value) (slots wide : List (Option Group)) (code class : ℕ) (slot : Option Group) → slot ≡ get_or wide code slot →
     length xs ≡ class → class + 1 < 2 ^ 64 → code < length wide → ((k : ℕ) → get_or wide k None ≡ get_or slots k None) → AreSlots xs slots → HasRoom slot
@@ -200,135 +290,6 @@ module _ (values : List Value) where
   part_joins first count =
       ap₂ (λ (l r : List Value). l ++ r) (sym (take-take first (first + count) values (omega arith))) (sym (drop-take first count values))
       ∙ take-append-drop first (take (first + count) values)
-
--- what stands in two lists joined stands in one of them
-in_front : (xs ys : List Value) (v : Value) (j : ℕ) → j < length xs → slice_get (xs ++ ys) j ≡ Some v → slice_get xs j ≡ Some v
-in_front [] ys v j within there = absurd (omega (arith, within))
-in_front (x ∷ xs) ys v zero within there = there
-in_front (x ∷ xs) ys v (suc j) within there = in_front xs ys v j (omega (arith, within)) there
-
-in_rest : (xs ys : List Value) (v : Value) (j : ℕ) → slice_get ys j ≡ Some v → slice_get (xs ++ ys) (length xs + j) ≡ Some v
-in_rest [] ys v j there = let same : 0 + j ≡ j = omega arith in subst (λ (n : ℕ). slice_get ys n ≡ Some v) (sym same) there
-in_rest (x ∷ xs) ys v j there =
-    let same : length (x ∷ xs) + j ≡ suc (length xs + j) = omega arith in
-    subst (λ (n : ℕ). slice_get (x ∷ xs ++ ys) n ≡ Some v) (sym same) (in_rest xs ys v j there)
-
-from_rest : (xs ys : List Value) (v : Value) (j : ℕ) → slice_get (xs ++ ys) (length xs + j) ≡ Some v → slice_get ys j ≡ Some v
-from_rest [] ys v j there = let same : 0 + j ≡ j = omega arith in subst (λ (n : ℕ). slice_get ys n ≡ Some v) same there
-from_rest (x ∷ xs) ys v j there =
-    let same : length (x ∷ xs) + j ≡ suc (length xs + j) = omega arith in
-    from_rest xs ys v j (subst (λ (n : ℕ). slice_get (x ∷ xs ++ ys) n ≡ Some v) same there)
-
--- of the first values and the rest the codes below a number have their slots, and the others those of the first values still
-abbrev pub AreAdded : List Value → List Value → ℕ → List (Option Group) → Type 0
-AreAdded xs ys upto slots =
-    (code : ℕ) → (code < upto → HasSlot (xs ++ ys) code (get_or slots code None)) × (upto ≤ code → HasSlot xs code (get_or slots code None))
-
-module _ (xs ys : List Value) (classes : ℕ) (long : length xs ≡ classes) (few : length (xs ++ ys) < 2 ^ 64) where
-  count_both : (p : Value → Bool) → count_by p (xs ++ ys) ≡ count_by p xs + count_by p ys
-  count_both p = sum_by-append (λ x. cond {A = ℕ} (p x) 1 0) xs ys
-
-  -- a code in both parts
-  slot_joined : (code : ℕ) (slot more : Option Group) → HasSlot xs code slot → HasSlot ys code more → HasSlot (xs ++ ys) code (both_slots slot more classes)
-  slot_joined code None None none none_more = let both = count_both (has_code code) in omega (arith, both, none, none_more)
-  slot_joined code (Some group) None has none = (
-    has.0,
-    record {
-      entry = has.1.entry;
-      classes =
-          let both = count_both (has_code (code_of_value group.value)) in
-          let old = has.1.classes in
-          let no : count_by (has_code (code_of_value group.value)) ys ≡ 0 = subst (λ (n : ℕ). count_by (has_code n) ys ≡ 0) (sym has.0) none in
-          omega (arith, both, old, no);
-      first = get_front xs ys group.value group.first has.1.first;
-      before = λ class below there.
-          let within = slice_get_within xs group.first group.value has.1.first in
-          has.1.before class below (in_front xs ys group.value class (omega (arith, below, within)) there);
-    },
-  )
-  slot_joined code None (Some further) none has =
-      let within = slice_get_within ys further.first further.value has.1.first in
-      let whole = length-append xs ys in
-      let first : (classes + further.first) % 2 ^ 64 ≡ length xs + further.first = omega (arith, long, few, within, whole) in
-      let no : count_by (has_code (code_of_value further.value)) xs ≡ 0 = subst (λ (n : ℕ). count_by (has_code n) xs ≡ 0) (sym has.0) none in (
-        has.0,
-        record {
-          entry = has.1.entry;
-          classes =
-              let both = count_both (has_code (code_of_value further.value)) in
-              let old = has.1.classes in
-              omega (arith, both, old, no);
-          first = subst (λ (n : ℕ). slice_get (xs ++ ys) n ≡ Some further.value) (sym first) (in_rest xs ys further.value further.first has.1.first);
-          before = λ class below there. elim (cases_lt class (length xs)) [
-            | inl front ↦
-                none_counted (has_code (code_of_value further.value)) xs further.value class no (has_own further.value (code_of_value further.value) refl)
-                (in_front xs ys further.value class front there)
-            | inr behind ↦
-                let place : class ≡ length xs + (class - length xs) = omega (arith, behind) in
-                has.1.before (class - length xs) (omega (arith, below, first, behind))
-                (from_rest xs ys further.value (class - length xs) (subst (λ (n : ℕ). slice_get (xs ++ ys) n ≡ Some further.value) place there))
-          ];
-        },
-      )
-  slot_joined code (Some group) (Some further) has more = (
-    has.0,
-    record {
-      entry = has.1.entry;
-      classes =
-          let both = count_both (has_code (code_of_value group.value)) in
-          let old = has.1.classes in
-          let new : further.classes ≡ count_by (has_code (code_of_value group.value)) ys =
-          more.1.classes ∙ ap (λ (n : ℕ). count_by (has_code n) ys) (more.0 ∙ sym has.0) in
-          let low = count_by-le-length (has_code (code_of_value group.value)) xs in
-          let high = count_by-le-length (has_code (code_of_value group.value)) ys in
-          let whole = length-append xs ys in
-          omega (arith, both, old, new, low, high, whole, few);
-      first = get_front xs ys group.value group.first has.1.first;
-      before = λ class below there.
-          let within = slice_get_within xs group.first group.value has.1.first in
-          has.1.before class below (in_front xs ys group.value class (omega (arith, below, within)) there);
-    },
-  )
-
-  pub added_none : (slots : List (Option Group)) → AreSlots xs slots → AreAdded xs ys 0 slots
-  added_none slots are code = (λ below. absurd (omega (arith, below)), λ from. are code)
-
-  pub added_more : (slots wide more : List (Option Group)) (upto : ℕ) (slot next new : Option Group) → slot ≡ get_or wide upto slot
-      → next ≡ get_or more upto next → new ≡ both_slots slot next classes → upto < length wide → upto < length more
-      → ((k : ℕ) → get_or wide k None ≡ get_or slots k None) → AreSlots ys more → AreAdded xs ys upto slots → AreAdded xs ys (upto + 1) (set wide upto new)
-  added_more slots wide more upto slot next new read read_next made within within_more same are added code = elim (cases_eq upto code) [
-    | inl own ↦
-        let is_slot : slot ≡ get_or slots upto None = read ∙ (get_or_default wide upto slot None within ∙ same upto) in
-        let is_next : next ≡ get_or more upto None = read_next ∙ get_or_default more upto next None within_more in
-        let joined : HasSlot (xs ++ ys) upto new =
-        subst (λ (o : Option Group). HasSlot (xs ++ ys) upto o) (sym made)
-        (slot_joined upto slot next (subst (λ (o : Option Group). HasSlot xs upto o) (sym is_slot) ((added upto).1 (omega arith)))
-        (subst (λ (o : Option Group). HasSlot ys upto o) (sym is_next) (are upto))) in
-        let here : HasSlot (xs ++ ys) upto (get_or (set wide upto new) upto None) =
-        subst (λ (o : Option Group). HasSlot (xs ++ ys) upto o) (sym (get_or-set_same wide upto new None within)) joined in (
-          λ below. subst (λ (k : ℕ). HasSlot (xs ++ ys) k (get_or (set wide upto new) k None)) own here,
-          λ from. absurd (omega (arith, own, from)),
-        )
-    | inr other ↦
-        let stays : get_or slots code None ≡ get_or (set wide upto new) code None =
-        sym (same code) ∙ sym (get_or-set_other wide upto code new None (λ e. other (sym e))) in (
-          λ below. subst (λ (o : Option Group). HasSlot (xs ++ ys) code o) stays ((added code).0 (omega (arith, below, other))),
-          λ from. subst (λ (o : Option Group). HasSlot xs code o) stays ((added code).1 (omega (arith, from))),
-        )
-  ]
-
-  -- the codes behind the last of the second part are in the first one alone
-  only_first : (code : ℕ) (slot : Option Group) → HasSlot xs code slot → HasSlot ys code None → HasSlot (xs ++ ys) code slot
-  only_first code None has none = slot_joined code None None has none
-  only_first code (Some group) has none = slot_joined code (Some group) None has none
-
-  pub added_all : (slots more : List (Option Group)) (upto : ℕ) → length more ≤ upto → AreSlots ys more → AreAdded xs ys upto slots → AreSlots (xs ++ ys) slots
-  added_all slots more upto all are added code = elim (cases_lt code upto) [
-    | inl below ↦ (added code).0 below
-    | inr from ↦
-        only_first code (get_or slots code None) ((added code).1 from)
-        (subst (λ (o : Option Group). HasSlot ys code o) (get_or_past more code None (omega (arith, all, from))) (are code))
-  ]
 
 -- ---- the groups that are there
 

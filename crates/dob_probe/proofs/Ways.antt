@@ -1,7 +1,9 @@
 -- Lines as they grow, and where they break off.
 use Rattle.dob_probe.proofs.Common.{◌%◌, ◌++◌, ◌+◌, ◌-◌, ◌<◌, ◌∙◌, ◌∷◌, ◌≡◌, ◌≤◌, ◌⊎◌, Err, IfErr, IfOk, List, None, Ok, Result, Some, [], ap, append-nil}
-use Rattle.dob_probe.proofs.Common.{arith, inl, inr, length, refl, slice_get, subst, suc, sym, zero, ℕ, cases_order, same_Some, before_or_here, standing}
-use Rattle.dob_probe.proofs.Common.{Profile, Setup, Goes-is, Goes, AreMoves, CanCatch, IsFirstCatch, Move, IsInClass, IsPositionOf, moves_keep_the_family}
+use Rattle.dob_probe.proofs.Common.{arith, get_or, inl, inr, length, refl, slice_get, subst, suc, sym, zero, ℕ, cases_order, same_Some, slice_get_read}
+use Rattle.dob_probe.proofs.Common.{before_or_here, standing, Profile, Setup, Goes-is, Goes, AreMoves, CanCatch, IsFirstCatch, Move, IsInClass, IsPositionOf}
+use Rattle.dob_probe.proofs.Common.{move_goes, moves_keep_the_family}
+use Rattle.dob_pieces.specs.declared.profile.Family.{Family}
 use Rattle.dob_probe.proofs.Common.{ClassTable, IsEntry, MAX_DISTANCE, Value, Draw, Loss, Win, IsFaultOfLine, IsGap, Begins, BreaksAt, Continues, EndsAt}
 use Rattle.dob_probe.proofs.Common.{GivenBy, GoesOnTo, IsFirstTo, IsLine, LacksMove, LeadsTo, value_wanted, Fault, FarChick, Inconsistent, Memory, OtherSet}
 use Rattle.dob_classes.proofs.OfFamilies.FamilyRepresentatives.{one_class}
@@ -36,23 +38,30 @@ module _ (profile : Profile) (Has : Setup → Value → Type 0) (p : Setup) (wan
     | inr same ↦ other q (subst (λ m. LeadsTo profile Has p wanted m q) same leads)
   ]
 
-  pub first_found : (index : ℕ) (played : Move) (q : Setup) → AreMoves profile p legal → index < length legal →
-      slice_get legal index ≡ Some played → NoneBelow profile Has p wanted legal index → LeadsTo profile Has p wanted played q →
-      IsFirstTo profile Has p wanted played q
-  first_found index played q are within here none leads = record {
-    leads = leads;
-    first = λ other r leads_too.
-        let there = standing legal other (are.whole other leads_too.goes_on (r, leads_too.goes)) in
-        elim (cases_order there.0 index) [
-          | inl same ↦
-              let here_too : slice_get legal there.0 ≡ Some played = subst (λ k. slice_get legal k ≡ Some played) (sym same) here in
-              inl (same_Some played other (sym here_too ∙ there.2))
-          | inr order ↦ elim order [
-            | inl before ↦ absurd (none there.0 other r before there.2 leads_too)
-            | inr after ↦ inr (in_order profile p legal index there.0 played other are after there.1 here there.2)
-          ]
-        ];
-  }
+  -- the move at the index is looked at, and none below it leads to the value
+  module _ (index : ℕ) (played : Move) (are : AreMoves profile p legal) (within : index < length legal) (read : played ≡ get_or legal index played)
+      (none : NoneBelow profile Has p wanted legal index) where
+    here : slice_get legal index ≡ Some played
+    here = slice_get_read legal _ index played refl within read
+
+    pub none_here : ((q : Setup) → ¬ LeadsTo profile Has p wanted played q) → NoneBelow profile Has p wanted legal (index + 1)
+    none_here other = none_below_more index played here other none
+
+    pub first_here : (q : Setup) (value : Value) → Goes profile p played q → Has q value → value ≡ wanted → IsFirstTo profile Has p wanted played q
+    first_here q value goes has same = record {
+      leads = record { goes_on = (move_goes profile p legal index played are within read).0; goes = goes; has = subst (Has q) same has };
+      first = λ other r leads_too.
+          let there = standing legal other (are.whole other leads_too.goes_on (r, leads_too.goes)) in
+          elim (cases_order there.0 index) [
+            | inl same ↦
+                let here_too : slice_get legal there.0 ≡ Some played = subst (λ k. slice_get legal k ≡ Some played) (sym same) here in
+                inl (same_Some played other (sym here_too ∙ there.2))
+            | inr order ↦ elim order [
+              | inl before ↦ absurd (none there.0 other r before there.2 leads_too)
+              | inr after ↦ inr (in_order profile p legal index there.0 played other are after there.1 here there.2)
+            ]
+          ];
+    }
 
   pub none_leads : (upto : ℕ) → AreMoves profile p legal → length legal ≤ upto → NoneBelow profile Has p wanted legal upto →
       (move : Move) (q : Setup) → ¬ LeadsTo profile Has p wanted move q
@@ -147,12 +156,38 @@ distance (Win plies) = plies
 distance (Loss plies) = plies
 distance Draw = 0
 
--- the moves are a beginning of the line of p, and lead to a position of the family with that value
+-- the moves are a beginning of the line of p, and lead to a position with that value
+pub record IsBegun (profile : Profile) (Has : Setup → Value → Type 0) (p : Setup) (moves : List Move) (q : Setup) (value : Value) : Type 0 where
+  pub begins : Begins profile Has p moves q
+  pub has : Has q value
+
+module _ {profile : Profile} {Has : Setup → Value → Type 0} {p : Setup} {moves : List Move} {q : Setup} {value : Value}
+    (on : IsBegun profile Has p moves q value) (no_catch : ¬ CanCatch q) where
+  pub goes_on_to : (wanted : Value) → value_wanted value ≡ Some wanted → GoesOnTo Has q wanted
+  goes_on_to wanted next = record { no_catch = no_catch; value = value; has = on.has; next = next }
+
+  pub begun_more : (wanted : Value) (m : Move) (r : Setup) → value_wanted value ≡ Some wanted → IsFirstTo profile Has q wanted m r
+      → IsBegun profile Has p (moves ++ m ∷ []) r wanted
+  begun_more wanted m r next first = record {
+    begins = begins_more profile Has moves p q m r on.begins (wanted, goes_on_to wanted next, first);
+    has = first.leads.has;
+  }
+
+  pub line_ends : value_wanted value ≡ None → IsLine profile Has p moves
+  line_ends over =
+      subst (IsLine profile Has p) (append-nil moves)
+      (line_after profile Has moves [] p q on.begins (record { no_catch = no_catch; value = value; has = on.has; over = over }))
+
+pub line_catches : {profile : Profile} {Has : Setup → Value → Type 0} {p : Setup} {moves : List Move} {q : Setup} {value : Value}
+    → IsBegun profile Has p moves q value → (m : Move) → IsFirstCatch q m → IsLine profile Has p (moves ++ m ∷ [])
+line_catches {profile = profile} {Has = Has} {p = p} {moves = moves} {q = q} on m catch =
+    line_after profile Has moves (m ∷ []) p q on.begins (inl (catch, refl))
+
+-- and the positions are of the table's family
 pub record IsOnLine (table : ClassTable) (p : Setup) (moves : List Move) (q : Setup) (value : Value) : Type 0 where
   pub started : IsPositionOf table.family p
-  pub begins : Begins table.family.profile (GivenBy table) p moves q
+  pub on : IsBegun table.family.profile (GivenBy table) p moves q value
   pub member : IsPositionOf table.family q
-  pub given : GivenBy table q value
   pub entry : IsEntry value
 
 -- the value that is wanted is again one of a table
@@ -171,38 +206,21 @@ wanted_is_entry (Loss (suc n)) wanted entry next =
     subst IsEntry (sym same) (omega arith, omega arith)
 wanted_is_entry Draw wanted entry next = let never : None ≡ Some wanted = next in absurd (cc)
 
-module _ (table : ClassTable) (p : Setup) (moves : List Move) (q : Setup) (value : Value) (on : IsOnLine table p moves q value) where
-  goes_on_to : (wanted : Value) → ¬ CanCatch q → value_wanted value ≡ Some wanted → GoesOnTo (GivenBy table) q wanted
-  goes_on_to wanted no_catch next = record { no_catch = no_catch; value = value; has = on.given; next = next }
-
-  pub on_line_more : (wanted : Value) (m : Move) (r : Setup) → ¬ CanCatch q → value_wanted value ≡ Some wanted →
-      IsFirstTo table.family.profile (GivenBy table) q wanted m r → IsOnLine table p (moves ++ m ∷ []) r wanted
-  on_line_more wanted m r no_catch next first = record {
-    started = on.started;
-    begins = begins_more table.family.profile (GivenBy table) moves p q m r on.begins (wanted, goes_on_to wanted no_catch next, first);
-    member = moves_keep_the_family table.family q m r on.member first.leads.goes_on first.leads.goes;
-    given = first.leads.has;
-    entry = wanted_is_entry value wanted on.entry next;
+module _ {table : ClassTable} {p : Setup} {moves : List Move} {q : Setup} {value : Value} (come : IsOnLine table p moves q value) (no_catch : ¬ CanCatch q)
+    (wanted : Value) (next : value_wanted value ≡ Some wanted) where
+  pub on_line_more : (m : Move) (r : Setup) → IsFirstTo table.family.profile (GivenBy table) q wanted m r → IsOnLine table p (moves ++ m ∷ []) r wanted
+  on_line_more m r first = record {
+    started = come.started;
+    on = begun_more come.on no_catch wanted m r next first;
+    member = moves_keep_the_family table.family q m r come.member first.leads.goes_on first.leads.goes;
+    entry = wanted_is_entry value wanted come.entry next;
   }
 
-  pub line_ends : ¬ CanCatch q → value_wanted value ≡ None → IsLine table.family.profile (GivenBy table) p moves
-  line_ends no_catch over =
-      subst (IsLine table.family.profile (GivenBy table) p) (append-nil moves)
-      (line_after table.family.profile (GivenBy table) moves [] p q on.begins (record { no_catch = no_catch; value = value; has = on.given; over = over }))
-
-  pub line_catches : (m : Move) → IsFirstCatch q m → IsLine table.family.profile (GivenBy table) p (moves ++ m ∷ [])
-  line_catches m catch = line_after table.family.profile (GivenBy table) moves (m ∷ []) p q on.begins (inl (catch, refl))
-
-  line_breaks : (wanted : Value) (class : ℕ) → ¬ CanCatch q → value_wanted value ≡ Some wanted → IsInClass table.family q class →
-      ((m : Move) (r : Setup) → ¬ LeadsTo table.family.profile (GivenBy table) q wanted m r) → BreaksAt table p class
-  line_breaks wanted class no_catch next number none = (moves, q, on.begins, number, (wanted, goes_on_to wanted no_catch next, none))
-
-  pub gap_breaks : (wanted : Value) (fault : Fault) → ¬ CanCatch q → value_wanted value ≡ Some wanted → IsGap table q wanted fault →
-      IsFaultOfLine table p fault
-  gap_breaks wanted FarChick no_catch next gap = absurd gap
-  gap_breaks wanted OtherSet no_catch next gap = absurd gap
-  gap_breaks wanted (Inconsistent class) no_catch next gap = (on.started, line_breaks wanted class no_catch next gap.0 gap.1)
-  gap_breaks wanted Memory no_catch next gap = tt
+  pub gap_breaks : (fault : Fault) → IsGap table q wanted fault → IsFaultOfLine table p fault
+  gap_breaks FarChick gap = absurd gap
+  gap_breaks OtherSet gap = absurd gap
+  gap_breaks (Inconsistent class) gap = (come.started, (moves, q, come.on.begins, gap.0, (wanted, goes_on_to come.on no_catch wanted next, gap.1)))
+  gap_breaks Memory gap = tt
 
 -- ---- what is said of a line, whatever came of it
 
@@ -218,10 +236,10 @@ module _ {T : Type 0} (moves_of : T → List Move) (table : ClassTable) (p : Set
       inl (ap (λ k. let r : Result T Fault = Err (Inconsistent k) in r) same)
   break_answered class (Err Memory) line fault is breaks = inr refl
 
--- a move to a position with another value doesn't lead to the value that is wanted
-pub other_value : (table : ClassTable) (p : Setup) (m : Move) (next : Setup) (v wanted : Value) → IsPositionOf table.family p → Goes table.family.profile p m next →
-    GivenBy table next v → ¬ (v ≡ wanted) → (q : Setup) → ¬ LeadsTo table.family.profile (GivenBy table) p wanted m q
-other_value table p m next v wanted is goes given apart q leads =
-    let same : q ≡ next = Goes-is table.family.profile p m q leads.goes ∙ sym (Goes-is table.family.profile p m next goes) in
-    let member = moves_keep_the_family table.family p m next is leads.goes_on goes in
-    apart (one_given table next v wanted member given (subst (λ s. GivenBy table s wanted) same leads.has))
+-- a move to positions with another value doesn't lead to the value that is wanted, where a position of the family has one value at most
+pub other_value : (family : Family) (Has : Setup → Value → Type 0) → ((q : Setup) (v w : Value) → IsPositionOf family q → Has q v → Has q w → v ≡ w)
+    → (p : Setup) (m : Move) (value wanted : Value) → IsPositionOf family p → ((q : Setup) → Goes family.profile p m q → Has q value) → ¬ (value ≡ wanted)
+    → (q : Setup) → ¬ LeadsTo family.profile Has p wanted m q
+other_value family Has one p m value wanted is says apart q leads =
+    let member = moves_keep_the_family family p m q is leads.goes_on leads.goes in
+    apart (one q value wanted member (says q leads.goes) leads.has)

@@ -21,8 +21,10 @@ pub fn check(alloc: Global, table: &Table) -> Result<(), Fault>
     ensures fault { IfErr result (IsFaultOfCheck table.now) }
     ensures passed { IsConsistent table.now.family table.now.values → (result ≡ Ok tt) ⊎ (result ≡ Err Fault.Memory) }
 {
+    // That the table has an entry for each class is known from here on.
+    let _family = table.family();
     let mut room = Vec::new(alloc);
-    for class in 0..table.classes().class_count() {
+    for class in 0..table.class_count() {
         check_class(&mut room, table, class)?;
     }
     Ok(())

@@ -1,6 +1,7 @@
 // The line of a position by a table.
 ghost use Rattle.std.specs.Prelude.{◌≡◌, ◌⊎◌, ◌++◌, ◌∷◌, [], ℕ, IfOk, IfErr, MatchResult, OnOk, Err};
 ghost use Rattle.dob_pieces.specs.Profiles.{IsAllowed};
+ghost use Rattle.dob_moves.specs.Statuses.{AreMoves};
 ghost use Rattle.dob_rank.specs.Families.{IsPositionOf};
 ghost use Rattle.dob_rank.specs.Order.{IsPositionOfSet};
 ghost use Rattle.dob_value.specs.Values.{HasValue};
@@ -10,7 +11,8 @@ ghost use Rattle.dob_probe.specs.Faults.{IsGap, IsFaultOfLine};
 
 use crate::fault::Fault;
 use crate::probes::probe;
-use dob_moves::{Move, apply, first_catch, moves};
+use crate::successors::position_after;
+use dob_moves::{Move, first_catch, moves};
 use dob_pieces::{Memory, Position};
 use dob_value::{Table, Value};
 use std::alloc::Global;
@@ -103,8 +105,25 @@ fn first_to(
     ensures missing { IfErr result (IsGap table.now position.now.setup wanted) }
 {
     let legal = moves(alloc, table.family().profile, position)?;
-    for played in &legal {
-        let next = apply(position, *played);
+    first_among(table, position, &legal, wanted)
+}
+
+// The first of the moves to a position with that value, and that position.
+//
+// Error: `Inconsistent` with the position's class where none of them leads to one.
+fn first_among(
+    table: &Table,
+    position: &Position,
+    legal: &[Move],
+    wanted: Value,
+) -> Result<(Move, Position), Fault>
+    requires member { IsPositionOf table.now.family position.now.setup }
+    requires legal { AreMoves table.now.family.profile position.now.setup legal.now }
+    ensures found { IfOk result (λ found. IsFirstTo table.now.family.profile (GivenBy table.now) position.now.setup wanted found.0 found.1.setup) }
+    ensures missing { IfErr result (IsGap table.now position.now.setup wanted) }
+{
+    for played in legal {
+        let next = position_after(table, position, *played);
         if table.value_of(&next) == wanted {
             return Ok((*played, next));
         }

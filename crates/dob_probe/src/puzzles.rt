@@ -143,12 +143,7 @@ fn puzzle_of(
 
 // The only one of the position's moves that leads to a position of that value; `None` if there is no such move or
 // more than one.
-fn single_move(
-    table: &Table,
-    position: &Position,
-    legal: &[Move],
-    wanted: Value,
-) -> Option<Move>
+fn single_move(table: &Table, position: &Position, legal: &[Move], wanted: Value) -> Option<Move>
     requires member { IsPositionOf table.now.family position.now.setup }
     requires legal { AreMoves table.now.family.profile position.now.setup legal.now }
     ensures { IsSingleMove table.now.family.profile (GivenBy table.now) position.now.setup wanted result }

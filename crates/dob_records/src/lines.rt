@@ -3,7 +3,7 @@ ghost use Rattle.std.specs.Prelude.{◌≡◌, ◌||◌, IfErr, IfOk, OnOk};
 ghost use Rattle.dob_rank.specs.Families.{IsPositionOf};
 ghost use Rattle.dob_value.specs.Follows.{IsEntry};
 ghost use Rattle.dob_dbfile.specs.Devices.{Stream};
-ghost use Rattle.dob_moves.specs.Statuses.{CanCatch};
+ghost use Rattle.dob_moves.specs.Statuses.{AreMoves, CanCatch};
 ghost use Rattle.dob_probe.specs.Lines.{IsFirstTo, IsLine};
 ghost use Rattle.dob_records.specs.Faults.{IsFaultOfLine, IsGap, is_io_error};
 ghost use Rattle.dob_records.specs.Records.{IsRecorded};
@@ -12,10 +12,10 @@ use crate::fault::Fault;
 use crate::values::{value_after, value_at};
 use dob_classes::Classes;
 use dob_dbfile::{Format, PlacedSource};
-use dob_moves::{Move, apply, first_catch, moves};
+use dob_moves::{Move, first_catch, moves};
 use dob_pieces::Position;
 use dob_probe::{push_move, value_wanted};
-use dob_value::Value;
+use dob_value::{Value, outcome_of};
 use std::alloc::Global;
 
 /// The value that the record of the position says, and its line as `line` of `dob_probe` gives it by a table. Of the file just the record of the position
@@ -104,9 +104,35 @@ fn first_to<R: PlacedSource>(
     ensures failed { R.has_failed source.new ≡ (R.has_failed source.old || is_io_error result) }
 {
     let legal = moves(alloc, classes.family.profile, position)?;
-    for played in &legal {
+    first_among(source, format, classes, position, &legal, wanted)
+}
+
+// The first of the moves to a position whose record says that value, and that position.
+//
+// Errors: `File`, as of `first_to`; `Inconsistent` with the position's class where none of the moves leads to one.
+fn first_among<R: PlacedSource>(
+    source: &mut R,
+    format: Format,
+    classes: &Classes,
+    position: &Position,
+    legal: &[Move],
+    wanted: Value,
+) -> Result<(Move, Position), Fault>
+    requires member { IsPositionOf classes.now.family position.now.setup }
+    requires legal { AreMoves classes.now.family.profile position.now.setup legal.now }
+    ensures found { (stream : Stream) → R.shows source.old stream → IfOk result (λ found.
+        IsFirstTo classes.now.family.profile (IsRecorded stream format classes.now.family) position.now.setup wanted found.0 found.1.setup) }
+    ensures member { IfOk result (λ found. IsPositionOf classes.now.family found.1.setup) }
+    ensures entry { OnOk result (IsEntry wanted) }
+    ensures missing { (stream : Stream) → R.shows source.old stream
+        → IfErr result (IsGap stream format classes.now.family position.now.setup wanted) }
+    ensures shown { (stream : Stream) → R.shows source.old stream → R.shows source.new stream }
+    ensures failed { R.has_failed source.new ≡ (R.has_failed source.old || is_io_error result) }
+{
+    for played in legal {
         if value_after(source, format, classes, position, *played)? == wanted {
-            return Ok((*played, apply(position, *played)));
+            let next = outcome_of(classes.family, position, *played);
+            return Ok((*played, next));
         }
     }
     Err(Fault::Inconsistent(classes.class_of(position)))

@@ -12,9 +12,9 @@ ghost use Rattle.dob_records.specs.Records.{IsRecorded, LacksNext, LacksRecord};
 
 use dob_classes::Classes;
 use dob_dbfile::{Fault, Format, PlacedSource, read_value};
-use dob_moves::{Move, apply};
+use dob_moves::Move;
 use dob_pieces::Position;
-use dob_value::Value;
+use dob_value::{Value, outcome_of};
 
 /// The value that the record of the position's class says.
 ///
@@ -50,8 +50,7 @@ pub(crate) fn value_after<R: PlacedSource>(
     played: Move,
 ) -> Result<Value, Fault>
     requires member { IsPositionOf classes.now.family position.now.setup }
-    requires goes_on { HasStatus classes.now.family.profile position.now.setup Open }
-    requires can_go { CanGo classes.now.family.profile position.now.setup played }
+    requires played { HasStatus classes.now.family.profile position.now.setup Open × CanGo classes.now.family.profile position.now.setup played }
     ensures said { (stream : Stream) → R.shows source.old stream → IfOk result (λ value. (q : Setup)
         → Goes classes.now.family.profile position.now.setup played q → IsRecorded stream format classes.now.family q value) }
     ensures entry { IfOk result IsEntry }
@@ -59,6 +58,6 @@ pub(crate) fn value_after<R: PlacedSource>(
     ensures shown { (stream : Stream) → R.shows source.old stream → R.shows source.new stream }
     ensures failed { R.has_failed source.new ≡ (R.has_failed source.old || is_io_error result) }
 {
-    let next = apply(position, played);
+    let next = outcome_of(classes.family, position, played);
     value_at(source, format, classes, &next)
 }

@@ -12,6 +12,7 @@ mod codes;
 mod fault;
 mod graph;
 pub mod laws;
+mod outcomes;
 mod position_value;
 mod sweep;
 mod table;
@@ -19,6 +20,7 @@ mod value;
 
 pub use codes::{code_of_value, value_of_code};
 pub use fault::Fault;
+pub use outcomes::outcome_of;
 pub use position_value::{sweep_table, sweep_value};
 pub use sweep::MAX_DISTANCE;
 pub use table::Table;

@@ -1,6 +1,6 @@
 -- An answer of many is that of one call, and those that are written stay.
-use Rattle.dobutsu_c.proofs.Common.{◌+◌, ◌<◌, ◌∙◌, ◌≡◌, ◌≢◌, ◌≤◌, ◌⊎◌, Err, List, MatchResult, Ok, Result, ap, arith, get_or, inl, inr, length, refl, slice_set}
-use Rattle.dobutsu_c.proofs.Common.{subst, suc, sym, zero, ℕ, get_or-set_other, get_or-set_same, get_or_default, Family, Setup, RepresentsClass, Value}
+use Rattle.dobutsu_c.proofs.Common.{◌+◌, ◌<◌, ◌∙◌, ◌≡◌, ◌≢◌, ◌≤◌, Err, List, MatchResult, Ok, Result, ap, arith, get_or, inl, inr, length, slice_set}
+use Rattle.dobutsu_c.proofs.Common.{subst, suc, sym, ℕ, get_or-set_other, get_or-set_same, get_or_default, Family, Setup, RepresentsClass, Value}
 use Rattle.dobutsu_c.proofs.Common.{HasByFault, IsToldBy, number_by, IsAnswer, start_at, IsShown, shown, ByFault, DobutsuAnswer, Numbering, DobutsuPosition}
 use Rattle.std.proofs.lemmas.Bool.{cases_lt}
 use Rattle.std.proofs.lemmas.Grind.{get_or-set_at}

@@ -1,7 +1,8 @@
 -- At most one fault holds, none where the position is one of the file's family, and a position is given one value.
-use Rattle.dobutsu_c.proofs.Common.{◌<◌, ◌∙◌, ◌≡◌, ◌≢◌, List, ap, refl, subst, sym, ℕ, Family, A, Setup, same_spelled, TextFault, IsInClass, IsPositionOf}
+use Rattle.dobutsu_c.proofs.Common.{◌<◌, ◌≡◌, ◌≢◌, List, ap, refl, subst, ℕ, Family, A, Setup, same_spelled, TextFault, IsPositionOf}
 use Rattle.dobutsu_c.proofs.Common.{class_number, classes_of, IsInClass-class_number, class_number-below, one_class, ClassTable, IsValueTable, HasValue, Value}
-use Rattle.dobutsu_c.proofs.Common.{whole, HasReadFault, IsNoLonger, IsFile, Format, AreRead, HasProbeFault, IsAsked, IsGiven, IsTextOf, IsTold, Fault}
+use Rattle.dobutsu_c.proofs.Common.{whole, CountsClasses, HasReadFault, IsNoLonger, IsFile, Format, AreRead, HasProbeFault, IsAsked, IsGiven, IsTextOf, IsTold}
+use Rattle.dobutsu_c.proofs.Common.{Fault}
 use Rattle.dob_text.specs.Faults.{HasTextFault}
 use Rattle.dob_text.proofs.Verdicts as texts
 use Rattle.dob_pieces.specs.Profiles.{IsAllowed}
@@ -81,17 +82,31 @@ one_told file text v w at_v at_w =
 
 -- ---- by the file of the value table
 
+module _ (file : List ℕ) (table : ClassTable) (is : IsFile file table) (right : IsValueTable table.family table.values) where
+  -- what the file gives a position of the family is its value
+  pub given_right : (format : Format) → CountsClasses format table.family file → (q : Setup) (value : Value) → IsPositionOf table.family q
+      → IsGiven file format table.family q value → HasValue table.family.profile q value
+  given_right format counts q value member given =
+      let number : given.0 ≡ class_number table.family q =
+      one_class table.family q given.0 (class_number table.family q) given.1 (IsInClass-class_number table.family q member) in
+      let below : given.0 < classes_of table.family = rw number (class_number-below table.family q member) in
+      right.values_are q value member (record {
+        class = given.0;
+        number = given.1;
+        entry = table_record table file format table.family given.0 value right.table is counts below given.2;
+      })
+
+  -- what was read is of the table's family
+  pub as_table : (text : List ℕ) (setup : Setup) (format : Format) (family : Family) (p : Setup) → IsTextOf text setup → IsAsked file text format family p
+      → (family ≡ table.family) × (p ≡ setup) × IsPositionOf table.family setup × CountsClasses format table.family file
+  as_table text setup format family p named asked =
+      let counts = asked.0.1.0.0 in
+      let same : family ≡ table.family = table_family table file format family right.table is counts in
+      let read : p ≡ setup = same_spelled text p setup asked.0.0.1 named.1 in
+      (same, read, rw (same, read) at asked.1, rw same at counts)
+
 pub told_right : (file text : List ℕ) (table : ClassTable) (setup : Setup) (value : Value) → IsFile file table → IsValueTable table.family table.values
     → IsTextOf text setup → IsTold file text value → HasValue table.family.profile setup value
 told_right file text table setup value is right named told =
-    let counts = told.3.0.1.0.0 in
-    let family : told.1 ≡ table.family = table_family table file told.0 told.1 right.table is counts in
-    let same : told.2 ≡ setup = same_spelled text told.2 setup told.3.0.0.1 named.1 in
-    let member : IsPositionOf table.family setup = subst (IsPositionOf table.family) same (subst (λ (f : Family). IsPositionOf f told.2) family told.3.1) in
-    let stands : IsInClass table.family setup told.4.0 =
-    subst (λ (p : Setup). IsInClass table.family p told.4.0) same (subst (λ (f : Family). IsInClass f told.2 told.4.0) family told.4.1) in
-    let number : told.4.0 ≡ class_number table.family setup =
-    one_class table.family setup told.4.0 (class_number table.family setup) stands (IsInClass-class_number table.family setup member) in
-    let below : told.4.0 < classes_of table.family = subst (λ (n : ℕ). n < classes_of table.family) (sym number) (class_number-below table.family setup member) in
-    right.values_are setup value member
-    (record { class = told.4.0; number = stands; entry = table_record table file told.0 told.1 told.4.0 value right.table is counts below told.4.2 })
+    let as_is = as_table file table is right text setup told.0 told.1 told.2 named told.3 in
+    given_right file table is right told.0 as_is.3 setup value as_is.2 (rw (as_is.0, as_is.1) at told.4)

@@ -5,6 +5,7 @@ use Rattle.dobutsu_c.proofs.Common.{IsPositionOf, Value, Format, same_valued, Ar
 use Rattle.dobutsu_c.proofs.Common.{IsGivenBy, IsRight, AreMovesBy, IsGiven, Numbering}
 use Rattle.dob_pieces.proofs.Elements.{before_or_here, standing}
 use Rattle.dob_moves.specs.Statuses.{AreMoves, CanCatch, HasStatus}
+use Rattle.dob_probe.proofs.Relations.{valued_by}
 use Rattle.dobutsu_c.proofs.Exact.{one_given}
 use Rattle.dobutsu_c.proofs.Indexed.{given_by}
 
@@ -106,14 +107,9 @@ module _ (file : List ℕ) (by : Numbering) (format : Format) (family : Family) 
     where
       by_file : (valued : ValuedMove) → HasMoveValue family.profile (IsGivenBy file by format family classes) setup valued
           → HasMoveValue family.profile (IsGiven file format family) setup valued
-      by_file valued has = record {
-        goes_on = has.goes_on;
-        outcome = has.outcome;
-        goes = has.goes;
-        value = has.value;
-        has = given_by file by format family classes has.outcome has.value index_is has.has;
-        seen = has.seen;
-      }
+      by_file valued has =
+          valued_by family.profile (λ q. Unit {0}) (λ p m q is goes_on goes. tt) (IsGivenBy file by format family classes) (IsGiven file format family)
+          (λ q value is given. given_by file by format family classes q value index_is given) setup valued tt has
 
       one_outcome : (m : Move) (q r : Setup) → Goes family.profile setup m q → Goes family.profile setup m r → q ≡ r
       one_outcome m q r to_q to_r = HasOutcome-is setup m q (goes family.profile setup m q to_q) ∙ sym (HasOutcome-is setup m r (goes family.profile setup m r to_r))
@@ -122,9 +118,3 @@ module _ (file : List ℕ) (by : Numbering) (format : Format) (family : Family) 
 pub onward : {X : Type 0} (found : Option X) (N : Type 0) (P Q : X → Type 0) → ((x : X) → P x → Q x) → MatchOption found N P → MatchOption found N Q
 onward None N P Q follows is = is
 onward (Some x) N P Q follows is = follows x is
-
-pub told_of : {X : Type 0} (found : Option X) (x : X) (N : Type 0) (P : X → Type 0) → found ≡ Some x → MatchOption found N P → P x
-told_of {X = X} found x N P same is = subst (λ (f : Option X). MatchOption f N P) same is
-
-pub none_of : {X : Type 0} (found : Option X) (N : Type 0) (P : X → Type 0) → found ≡ None → MatchOption found N P → N
-none_of {X = X} found N P same is = subst (λ (f : Option X). MatchOption f N P) same is

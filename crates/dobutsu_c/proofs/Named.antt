@@ -1,5 +1,5 @@
 -- The names are those that the faults have elsewhere.
-use Rattle.dobutsu_c.proofs.Common.{◌∙◌, ◌≡◌, List, ap, refl, subst, sym, ℕ, TextFault, file_number, text_number, IsText, defect_number, name_of}
+use Rattle.dobutsu_c.proofs.Common.{◌∙◌, ◌≡◌, List, ap, refl, subst, ℕ, TextFault, file_number, text_number, IsText, defect_number, name_of}
 use Rattle.dob_text.specs.declared.fault.TextFault.TheVariants as text
 use Rattle.dob_text.specs.Faults as texts
 use Rattle.dob_dbfile.specs.declared.fault.Fault.{Fault}

@@ -1,5 +1,5 @@
 -- What is told of moves by the index of the family, or by a count, is what the file says of them.
-use Rattle.dobutsu_c.proofs.Common.{◌∙◌, ◌≡◌, ◌≢◌, ◌⊎◌, List, inl, inr, ℕ, Family, Setup, Format, ValuedMove, HasByFault, IsIndexFor, IsMarkedBy, number_by}
+use Rattle.dobutsu_c.proofs.Common.{◌∙◌, ◌≡◌, ◌⊎◌, List, inl, inr, ℕ, Family, Setup, Format, ValuedMove, HasByFault, IsIndexFor, IsMarkedBy, number_by}
 use Rattle.dobutsu_c.proofs.Common.{fault_number, AreToldMoves, AreToldMovesBy, IsMovesFault, AreRead, HasProbeFault, ByFault, Fault, Numbering}
 use Rattle.dobutsu_c.proofs.Exact.{no_fault}
 use Rattle.dobutsu_c.proofs.Indexed.{asked_by, not_unmarked, one_fault_by, some_fault_by, unmarked_fault}

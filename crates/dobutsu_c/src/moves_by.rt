@@ -25,10 +25,10 @@ use crate::by_index::{AskedBy, ask_by, value_by};
 use crate::moves::{DobutsuMove, write_moves};
 use crate::numbering::Numbering;
 use crate::numbers::{INDEX, MEMORY};
-use dob_moves::{Move, apply, first_catch, moves};
+use dob_moves::{Move, first_catch, moves};
 use dob_pieces::Memory;
 use dob_probe::{ValuedMove, insert_by_value, value_seen};
-use dob_value::Value;
+use dob_value::{Value, outcome_of};
 use std::alloc::Global;
 
 /// What `dobutsu_moves` gives of the position, by the index of the file's family as `dobutsu_index` wrote it: the same moves with the same values, by a file of
@@ -150,12 +150,12 @@ fn moves_in_order(
 fn value_after(file: &[u8], by: Numbering, asked: &AskedBy, played: Move) -> Option<Value>
     requires held { IsHeldBy file.now by asked.now.held.format asked.now.held.family asked.now.held.classes }
     requires member { IsPositionOf asked.now.held.family asked.now.position.setup }
-    requires open { HasStatus asked.now.held.family.profile asked.now.position.setup Open }
-    requires can_go { CanGo asked.now.held.family.profile asked.now.position.setup played }
+    requires played { HasStatus asked.now.held.family.profile asked.now.position.setup Open
+        × CanGo asked.now.held.family.profile asked.now.position.setup played }
     ensures { MatchOption result (¬ IsRight by.entry asked.now.held.family) (λ value. IsEntry value
         × ((q : Setup) → Goes asked.now.held.family.profile asked.now.position.setup played q
         → IsGivenBy file.now by.entry asked.now.held.format asked.now.held.family asked.now.held.classes q value)) }
 {
-    let after = apply(&asked.position, played);
+    let after = outcome_of(asked.held.family, &asked.position, played);
     value_by(file, by, asked.held, &after)
 }

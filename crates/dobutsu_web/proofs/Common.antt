@@ -7,14 +7,13 @@ pub use Rattle.std.proofs.lemmas.List.Sorted.{IsNonDecreasingBy-from_default, an
 pub use Rattle.dob_pieces.specs.declared.profile.Family.{Family}
 pub use Rattle.dob_pieces.specs.declared.setup.Setup.{Setup}
 pub use Rattle.dob_moves.proofs.ByProfile.{can_go, goes}
-pub use Rattle.dob_moves.proofs.ProfileMoves.{goes_there, status_there}
 pub use Rattle.dob_moves.specs.Moves.{CanGo, Goes, HasOutcome, first_drop, hand_place, place}
-pub use Rattle.dob_moves.specs.declared.position_status.Status.TheVariants.{Caught, Open}
+pub use Rattle.dob_moves.specs.declared.position_status.Status.TheVariants.{Open}
 pub use Rattle.dob_rank.specs.Families.{HasClass, IsPositionOf, IsRepresentative}
 pub use Rattle.dob_classes.proofs.OfFamilies.FamilyNumbers.{IsPositionOf-mirrored, class_number-below}
-pub use Rattle.dob_value.proofs.Successors.{moves_keep_the_family}
-pub use Rattle.dob_certificate.proofs.Cases.{answered_open, answered_over, at_most, hold_over, listed_by, not_so, of_status, over_by, safe_caught, safe_open}
-pub use Rattle.dob_certificate.proofs.Cases.{safe_over, said_held_over, said_lost_caught, said_lost_open, said_no, said_yes, supports_held_by, supports_lost_by}
+pub use Rattle.dob_certificate.proofs.Cases.{answered_caught, answered_open, answered_over, at_most, hold_caught, hold_over, listed_by, not_so, safe_caught}
+pub use Rattle.dob_certificate.proofs.Cases.{safe_open, safe_over, said_held_caught, said_held_over, said_lost_caught, said_lost_open, said_lost_over, said_no}
+pub use Rattle.dob_certificate.proofs.Cases.{said_yes, supports_held_by, supports_lost_by}
 pub use Rattle.dob_certificate.specs.Claims.{Prove, Show, ShowsDraw, ShowsValue}
 pub use Rattle.dob_certificate.specs.Held.{IsSafe, IsSaidHeld}
 pub use Rattle.dob_certificate.specs.Lists.{Supports}

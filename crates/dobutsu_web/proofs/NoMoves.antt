@@ -1,11 +1,10 @@
 -- Moves by their places: none stands where the square's piece or the hand has none, and each place has one at most.
-use Rattle.dobutsu_web.proofs.Common.{◌&&◌, ◌*◌, ◌+◌, ◌<◌, ◌↔◌, ◌∙◌, ◌≡◌, Bool, IsTrue, None, Some, ap, arith, false, inl, inr, length, nat_lt, refl, subst}
-use Rattle.dobutsu_web.proofs.Common.{sym, true, ℕ, cases_lt, lt-ltb, Setup, can_go, goes, CanGo, Goes, HasOutcome, first_drop, hand_place, place, Open, EachAt}
-use Rattle.dobutsu_web.proofs.Common.{NoneStands, SomeAt, leads_from}
+use Rattle.dobutsu_web.proofs.Common.{◌&&◌, ◌*◌, ◌+◌, ◌<◌, ◌↔◌, ◌∙◌, ◌≡◌, ◌≤◌, Bool, IsTrue, None, Some, ap, arith, false, inl, inr, length, nat_lt, refl}
+use Rattle.dobutsu_web.proofs.Common.{subst, sym, true, ℕ, cases_lt, lt-ltb, Setup, can_go, goes, CanGo, Goes, HasOutcome, first_drop, hand_place, place, Open}
+use Rattle.dobutsu_web.proofs.Common.{EachAt, NoneStands, SomeAt, leads_from}
 use Rattle.std.specs.Option.{is_none}
 use Rattle.dob_pieces.specs.declared.kind.Kind.{Kind}
 use Rattle.dob_pieces.specs.declared.kind.HandKind.{HandKind}
-use Rattle.dob_pieces.specs.declared.kind.HandKind.TheVariants as hand
 use Rattle.dob_pieces.specs.declared.kind.Side.TheVariants.{Mover}
 use Rattle.dob_pieces.specs.declared.profile.Profile.{Profile}
 use Rattle.dob_pieces.specs.Pieces.{leads}
@@ -88,6 +87,16 @@ module _ (profile : Profile) (p : Setup) (len : length p.board ≡ 12) where
     | inl below ↦ below
     | inr far ↦ absurd (none_behind profile p (place m) len far m can refl)
   ]
+
+  -- what holds of the moves of all places holds of each move
+  module _ (Fits : Setup → Type 0) (upto : ℕ) (all : 180 ≤ upto) where
+    pub each_leads : ((k : ℕ) → k < upto → EachAt profile p k Fits) → (m : Move) (q : Setup) → Goes profile p m q → Fits q
+    each_leads each m q to = let below = place_below m (q, to) in each (place m) (omega (arith, below, all)) m q refl to
+
+    pub none_leads : ((k : ℕ) → k < upto → ¬ SomeAt profile p k Fits) → (m : Move) (q : Setup) → Goes profile p m q → ¬ Fits q
+    none_leads none m q to fits =
+        let below = place_below m (q, to) in
+        none (place m) (omega (arith, below, all)) (record { move = m; outcome = q; stands = refl; goes = to; fits = fits })
 
   module _ (there : ℕ) (Fits : Setup → Type 0) where
     -- where no move stands none leads anywhere

@@ -1,10 +1,8 @@
 -- What ranks stand for: the position of each, and the entries of the list.
-use Rattle.dobutsu_web.proofs.Common.{◌+◌, ◌-◌, ◌<◌, ◌↔◌, ◌∙◌, ◌≡◌, ◌≢◌, ◌≤◌, Contains, Err, IfErr, IfOk, IsTrue, List, Ok, Result, ap, arith, inl, inr, length}
-use Rattle.dobutsu_web.proofs.Common.{nat_eq, refl, slice_index, subst, suc, sym, zero, ℕ, cases_lt, nat_tests, IsNonDecreasingBy-from_default, Family, Setup}
+use Rattle.dobutsu_web.proofs.Common.{◌+◌, ◌-◌, ◌<◌, ◌↔◌, ◌∙◌, ◌≡◌, ◌≢◌, Contains, IsTrue, List, ap, arith, inl, inr, length, nat_eq, refl, slice_index, subst}
+use Rattle.dobutsu_web.proofs.Common.{sym, ℕ, nat_tests, Family, Setup}
 use Rattle.dobutsu_web.proofs.Common.{HasClass, IsPositionOf, IsRepresentative, Entry, AreRanks, entries_by, entry_by, ranked_setup}
-use Rattle.std.specs.List.Sorted.{IsSearchInRange, IsBinarySearchResult, IsNonDecreasingBy, IsStrictlyIncreasing}
-use Rattle.std.specs.Ordering.{nat_cmp, ordering_index}
-use Rattle.std.proofs.lemmas.Cmp.{ranked}
+use Rattle.std.specs.List.Sorted.{IsStrictlyIncreasing}
 use Rattle.std.proofs.lemmas.List.FromFn.{length-map-range_with_len, get_or-map-range_with_len}
 use Rattle.dob_rank.specs.ClassRows.{marked_place}
 use Rattle.dob_rank.specs.Families.{IsInClass, is_present, class_number, size_of, rank_of}
@@ -18,6 +16,7 @@ use Rattle.dob_rank.proofs.OfFamilies.Present.{allowed, HasClass-marked}
 use Rattle.dob_classes.proofs.OfFamilies.FamilyNumbers.{IsInClass-class_number, class_number-mirrored, class_number-representative}
 use Rattle.dob_classes.proofs.OfFamilies.FamilyRepresentatives.{one_class, one_of_class, same_representative}
 use Rattle.dob_certificate.specs.Listed.{IsEntryFor}
+use Rattle.dob_certificate.proofs.Orders.{one_place}
 
 -- ---- the position of a rank
 
@@ -72,57 +71,11 @@ first_by family rank p earlier below is rank_is stands earlier_is n n_is =
 
 -- ---- ascending ranks
 
-rises : (ranks : List ℕ) → IsStrictlyIncreasing ranks → (earlier later : ℕ) → earlier < later → later < length ranks → slice_index ranks earlier < slice_index ranks later
-rises ranks ascending earlier zero before within = absurd (omega arith)
-rises ranks ascending earlier (suc later) before within =
-    let next : later + 1 ≡ suc later = omega arith in
-    let step : slice_index ranks later < slice_index ranks (suc later) =
-    subst (λ k. slice_index ranks later < slice_index ranks k) next (ascending later (omega arith)) in
-    elim (cases_lt earlier later) [
-      | inl further ↦ let far = rises ranks ascending earlier later further (omega arith) in omega arith
-      | inr here ↦
-          let same : later ≡ earlier = omega arith in
-          subst (λ k. slice_index ranks k < slice_index ranks (suc later)) same step
-    ]
-
-one_place : (ranks : List ℕ) → IsStrictlyIncreasing ranks → (a b : ℕ) → a < length ranks → b < length ranks → slice_index ranks a ≡ slice_index ranks b → a ≡ b
-one_place ranks ascending a b at_a at_b same = elim (cases_lt a b) [
-  | inl before ↦ let low = rises ranks ascending a b before at_b in absurd (omega arith)
-  | inr later ↦ elim (cases_lt b a) [
-    | inl before ↦ let low = rises ranks ascending b a before at_a in absurd (omega arith)
-    | inr back ↦ omega arith
-  ]
-]
-
 pub ascending : (family : Family) (ranks plies : List ℕ) → AreRanks family ranks plies → IsStrictlyIncreasing ranks
 ascending family ranks plies are = λ k within.
     let above = (are.each (k + 1) within).above (omega arith) in
     let before : k + 1 - 1 ≡ k = omega arith in
     subst (λ j. slice_index ranks j < slice_index ranks (k + 1)) before above
-
-module _ (ranks : List ℕ) (is : IsStrictlyIncreasing ranks) (rank : ℕ) where
-  comparisons_rise : IsNonDecreasingBy (λ (x : ℕ). ordering_index (nat_cmp x rank)) ranks
-  comparisons_rise = IsNonDecreasingBy-from_default (λ (x : ℕ). ordering_index (nat_cmp x rank)) ranks 0 (λ i j le in_range.
-      let ranks_rise : slice_index ranks i ≤ slice_index ranks j = elim (cases_lt i j) [
-        | inl before ↦ let less = rises ranks is i j before in_range in omega arith
-        | inr back ↦ let same : i ≡ j = omega arith in let equal : slice_index ranks i ≡ slice_index ranks j = ap (slice_index ranks) same in omega arith
-      ] in
-      grind (arith, nat_tests))
-
-  -- a binary search ends at the rank, or where no place has it
-  pub searched : (r : Result ℕ ℕ) → IsSearchInRange r (length ranks) → IsBinarySearchResult (λ (x : ℕ). nat_cmp x rank) ranks r →
-      record {
-        found : IfOk r (λ place. (place < length ranks) × (slice_index ranks place ≡ rank));
-        absent : IfErr r (λ _. (place : ℕ) → place < length ranks → slice_index ranks place ≢ rank);
-      }
-  searched (Ok at) in_range equal = record { found = (in_range, ranked _ rank _ (sym (equal 0))); absent = tt }
-  searched (Err at) in_range parted = record {
-    found = tt;
-    absent = λ place within same. elim (cases_lt place at) [
-      | inl before ↦ let low : slice_index ranks place < rank = ranked _ rank _ (sym ((parted comparisons_rise).0 place 0 (omega arith) before)) in omega arith
-      | inr behind ↦ let high : rank < slice_index ranks place = ranked _ rank _ (sym ((parted comparisons_rise).1 place 0 behind within)) in omega arith
-    ];
-  }
 
 -- ---- the entries that they stand for
 
@@ -191,5 +144,5 @@ module _ (family : Family) (ranks plies : List ℕ) (are : AreRanks family ranks
         let at = entry_from family ranks plies other found.listed in
         let there : slice_index ranks at.0 ≡ rank_of family earlier =
         place_is at.0 at.1.within (subst (λ (e : Entry). IsInClass family q e.class) (sym at.1.is) found.stands) in
-        let one : place ≡ at.0 = one_place ranks (ascending family ranks plies are) place at.0 within at.1.within (same ∙ sym there) in
+        let one : place ≡ at.0 = one_place (λ (x : ℕ). x) 0 ranks (ascending family ranks plies are) place at.0 within at.1.within (same ∙ sym there) in
         ap (entry_by family ranks plies) one ∙ at.1.is

@@ -10,10 +10,10 @@ ghost use Rattle.dobutsu_web.specs.Ranked.{AreRanksIn, entries_in, entry_in};
 
 use crate::open_moves::{PLACES, found_at};
 use crate::ranked::{Listed, plies_of, position_at};
-use crate::within::after;
 use dob_certificate::EVER;
 use dob_moves::{Status, status};
 use dob_pieces::Position;
+use dob_value::outcome_of;
 
 /// Whether the list says that the position isn't lost within N plies, or that shows at once.
 pub(crate) fn is_said_held(listed: &Listed, plies: u16, position: &Position) -> bool
@@ -49,7 +49,7 @@ fn is_held_at(listed: &Listed, plies: u16, position: &Position, place: usize) ->
     ensures { IsTrue result ↔ EachAt listed.now.family.profile position.now.setup place (IsSaidHeld listed.now.family (entries_in listed.now) plies) }
 {
     match found_at(listed.family.profile, position, place) {
-        Some(reply) => is_said_held(listed, plies, &after(listed.family, position, reply)),
+        Some(reply) => is_said_held(listed, plies, &outcome_of(listed.family, position, reply)),
         None => true,
     }
 }
@@ -91,7 +91,7 @@ fn is_escape_at(listed: &Listed, plies: u16, position: &Position, place: usize) 
     ensures { IsTrue result ↔ SomeAt listed.now.family.profile position.now.setup place (IsSafe listed.now.family (entries_in listed.now) plies) }
 {
     match found_at(listed.family.profile, position, place) {
-        Some(played) => is_safe(listed, plies, &after(listed.family, position, played)),
+        Some(played) => is_safe(listed, plies, &outcome_of(listed.family, position, played)),
         None => false,
     }
 }

@@ -4,7 +4,6 @@ ghost use Rattle.dob_pieces.specs.declared.profile.Family.{Family as AnyFamily};
 ghost use Rattle.dob_pieces.specs.declared.setup.Setup.{Setup as AnySetup};
 ghost use Rattle.dob_moves.specs.declared.game_move.Move.{Move as AnyMove};
 ghost use Rattle.dob_moves.specs.AtPlaces.{IsMoveAt};
-ghost use Rattle.dob_moves.specs.Moves.{Goes};
 ghost use Rattle.dob_rank.specs.Families.{IsPositionOf};
 ghost use Rattle.dobutsu_web.specs.Asked.{IsTextAsked, IsRefused};
 ghost use Rattle.dobutsu_web.specs.Rows.{IsRightRow};
@@ -15,8 +14,8 @@ use crate::numbers::{NO_MOVE, NO_ROW};
 use crate::rows::class_below;
 use dob_classes::block_number;
 use dob_foreign::{MoveNumbers, move_numbers};
-use dob_moves::{Move, apply, catch_at, move_at};
-use dob_pieces::Position;
+use dob_moves::{Move, catch_at, move_at};
+use dob_value::outcome_of;
 
 /// A move: a step of a piece of that kind from one square to another, or where it comes from 12 a drop. Chick 0, elephant 1, giraffe 2, hen 3,
 /// lion 4, as the piece was before; square a1 is 0, b1 1, c1 2, a2 3 and so on to c4, 11. `catches` is 1 if a piece is caught and `grows` where
@@ -77,7 +76,7 @@ pub extern "C" fn dobutsu_class_after(
     match ask(text, profile) {
         Ok(asked) => match move_at(asked.family.profile, &asked.position, place as usize) {
             Some(played) => {
-                let outcome = outcome_of(&asked, &played);
+                let outcome = outcome_of(asked.family, &asked.position, played);
                 match class_below(asked.family, row, classes, &outcome) {
                     Some(found) => {
                         *class = found;
@@ -127,18 +126,8 @@ fn step_of_move(asked: &Asked, played: &Move) -> DobutsuStep
     ensures { (place : ℕ) → IsMoveAt asked.now.family.profile asked.now.position.setup place played.now
         → IsShownMove asked.now.family asked.now.position.setup place result }
 {
-    let outcome = outcome_of(asked, played);
+    let outcome = outcome_of(asked.family, &asked.position, *played);
     shown_step(played, block_number(asked.family, &outcome))
-}
-
-/// What a move leads to that stands at some place.
-pub(crate) fn outcome_of(asked: &Asked, played: &Move) -> Position
-    requires member { IsPositionOf asked.now.family asked.now.position.setup }
-    requires played { (place : ℕ) × IsMoveAt asked.now.family.profile asked.now.position.setup place played.now }
-    ensures goes { Goes asked.now.family.profile asked.now.position.setup played.now result.setup }
-    ensures member { IsPositionOf asked.now.family result.setup }
-{
-    apply(&asked.position, *played)
 }
 
 // The move as it is shown.

@@ -9,12 +9,13 @@ ghost use Rattle.dobutsu_web.specs.Texts.{IsToldMoveText, IsToldOutcome};
 
 use crate::asked::ask;
 use crate::numbers::NO_MOVE;
-use crate::steps::{move_by_place, outcome_of};
+use crate::steps::move_by_place;
 use arrayvec::ArrayVec;
 use dob_foreign::{DobutsuText, position_text, written};
 use dob_moves::{Move, move_at};
 use dob_pieces::{Side, Square};
 use dob_text::piece_letter;
+use dob_value::outcome_of;
 
 /// The text of the move or catch that `dobutsu_move` finds at that place. `second` is not 0 if the side that moves isn't the one that moves first in a
 /// line: its letter is then in lower case, and its squares are turned back. It answers 0 and writes the text, or 28 or a fault as `dobutsu_move` does.
@@ -60,7 +61,7 @@ pub extern "C" fn dobutsu_after(
     match ask(text, profile) {
         Ok(asked) => match move_at(asked.family.profile, &asked.position, place as usize) {
             Some(played) => {
-                *written = position_text(&outcome_of(&asked, &played));
+                *written = position_text(&outcome_of(asked.family, &asked.position, played));
                 0
             }
             None => NO_MOVE,

@@ -1,11 +1,9 @@
 // What a list of lost classes says of a position, and whether it supports an entry: as crates/dob_certificate does it, with the moves looked for place by
 // place, so that no memory is taken.
 ghost use Rattle.std.specs.Prelude.{◌≡◌, ◌<◌, ◌≤◌, ◌↔◌, IsTrue, length};
-ghost use Rattle.dob_pieces.specs.declared.setup.Setup.{Setup};
 ghost use Rattle.dob_certificate.specs.Claims.{ShowsWon};
 ghost use Rattle.dob_certificate.specs.Lost.{IsListedWithin, IsSaidLost, HasReply, IsAnswered, AreAllAnswered, IsLossSupported, SupportsLost};
 ghost use Rattle.dob_moves.specs.declared.position_status.Status.{Status};
-ghost use Rattle.dob_moves.specs.Moves.{CanGo, Goes};
 ghost use Rattle.dob_moves.specs.Statuses.{HasStatus};
 ghost use Rattle.dob_rank.specs.Families.{IsPositionOf};
 ghost use Rattle.dobutsu_web.specs.Ranked.{AreRanksIn, entries_in, entry_in};
@@ -13,8 +11,9 @@ ghost use Rattle.dobutsu_web.specs.Places.{EachAt, SomeAt};
 
 use crate::open_moves::{PLACES, found_at};
 use crate::ranked::{Listed, plies_of, position_at};
-use dob_moves::{Move, Status, apply, status};
-use dob_pieces::{Family, Position};
+use dob_moves::{Status, status};
+use dob_pieces::Position;
+use dob_value::outcome_of;
 
 /// Whether the list says that the position is lost within N plies, or that shows at once.
 pub(crate) fn is_said_lost(listed: &Listed, plies: u16, position: &Position) -> bool
@@ -41,18 +40,6 @@ fn is_listed_within(listed: &Listed, plies: u16, position: &Position) -> bool
     }
 }
 
-/// The position of the family to which the move leads.
-pub(crate) fn after(family: Family, position: &Position, played: Move) -> Position
-    requires member { IsPositionOf family position.now.setup }
-    requires goes_on { HasStatus family.profile position.now.setup Status.Open }
-    requires played { CanGo family.profile position.now.setup played }
-    ensures member { IsPositionOf family result.setup }
-    ensures goes { Goes family.profile position.now.setup played result.setup }
-    ensures alone { (q : Setup) → Goes family.profile position.now.setup played q → result.setup ≡ q }
-{
-    apply(position, played)
-}
-
 // Whether an open position's move at that place leads to one that is said to be lost within N plies.
 fn is_reply_at(listed: &Listed, plies: u16, position: &Position, place: usize) -> bool
     requires ranks { AreRanksIn listed.now }
@@ -62,7 +49,7 @@ fn is_reply_at(listed: &Listed, plies: u16, position: &Position, place: usize) -
     ensures { IsTrue result ↔ SomeAt listed.now.family.profile position.now.setup place (IsSaidLost listed.now.family (entries_in listed.now) plies) }
 {
     match found_at(listed.family.profile, position, place) {
-        Some(reply) => is_said_lost(listed, plies, &after(listed.family, position, reply)),
+        Some(reply) => is_said_lost(listed, plies, &outcome_of(listed.family, position, reply)),
         None => false,
     }
 }
@@ -104,7 +91,7 @@ fn is_answered_at(listed: &Listed, plies: u16, position: &Position, place: usize
     ensures { IsTrue result ↔ EachAt listed.now.family.profile position.now.setup place (IsAnswered listed.now.family (entries_in listed.now) plies) }
 {
     match found_at(listed.family.profile, position, place) {
-        Some(played) => is_answered(listed, plies, &after(listed.family, position, played)),
+        Some(played) => is_answered(listed, plies, &outcome_of(listed.family, position, played)),
         None => true,
     }
 }

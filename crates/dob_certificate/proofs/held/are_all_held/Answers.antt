@@ -4,8 +4,8 @@ use Rattle.dob_certificate.proofs.Cases.{said_yes}
 use Rattle.dob_certificate.proofs.Replies.{all_more, all_done}
 use Rattle.dob_certificate.proofs.held.are_all_held.Goals as goal
 
-pub after-outcome-requires-clause-played : goal.after-outcome-requires-clause-played
-after-outcome-requires-clause-played c =
+pub outcome_of-outcome-requires-clause-played : goal.outcome_of-outcome-requires-clause-played
+outcome_of-outcome-requires-clause-played c =
     move_goes c.args.classes.now.family.profile c.args.position.now.setup c.args.replies.now c.loop-reply.reply-index c.reply-item.result
     c.requires.replies c.loop-reply-test.true c.reply-item.is
 
@@ -14,9 +14,9 @@ loop-reply-preserved c =
     let family = c.args.classes.now.family in
     let replies = c.args.replies.now in
     all_more family.profile (IsSaidHeld family c.args.held.now c.args.plies) c.args.position.now.setup replies c.loop-reply.reply-index
-    c.reply-item.result c.after-outcome.result.setup
+    c.reply-item.result c.outcome_of-outcome.result.setup
     (slice_get_read replies _ c.loop-reply.reply-index c.reply-item.result refl c.loop-reply-test.true c.reply-item.is)
-    c.after-outcome.ensures.alone (c.is_said_held.ensures.0 (search rules)) c.loop-reply.invariant
+    c.outcome_of-outcome.ensures.alone (c.is_said_held.ensures.0 (search rules)) c.loop-reply.invariant
 
 pub returns : goal.returns
 returns c = said_yes (

@@ -1,13 +1,11 @@
 -- By the status: where the game goes on, by an escape.
-use Rattle.dob_certificate.proofs.Common.{inl, Caught}
-use Rattle.dob_certificate.proofs.Cases.{said_no, said_yes, of_status, over_by, hold_over}
+use Rattle.dob_certificate.proofs.Cases.{hold_caught, hold_over}
 use Rattle.dob_certificate.proofs.held.is_hold_supported.Goals as goal
 
 pub returns-in-Caught : goal.returns-in-Caught
-returns-in-Caught c = said_yes (inl (of_status c.args.classes.now.family.profile c.args.position.now.setup _ Caught c.in-Caught.is c.in_ok-moves_into.ensures.status))
+returns-in-Caught c =
+    hold_caught c.args.classes.now.family c.args.held.now c.args.plies c.args.position.now.setup c.in-Caught.is c.in_ok-moves_into.ensures.status
 
 pub returns-in-Tried : goal.returns-in-Tried
 returns-in-Tried c =
-    let family = c.args.classes.now.family in
-    let setup = c.args.position.now.setup in
-    said_no (hold_over family c.args.held.now c.args.plies setup (over_by family.profile setup _ c.in-Tried.is c.in_ok-moves_into.ensures.status))
+    hold_over c.args.classes.now.family c.args.held.now c.args.plies c.args.position.now.setup c.in-Tried.is c.in_ok-moves_into.ensures.status

@@ -4,8 +4,8 @@ use Rattle.dob_certificate.proofs.Cases.{said_no, said_yes, not_so}
 use Rattle.dob_certificate.proofs.Replies.{all_more, all_done}
 use Rattle.dob_certificate.proofs.lost.has_reply.Goals as goal
 
-pub after-requires-clause-played : goal.after-requires-clause-played
-after-requires-clause-played c =
+pub outcome_of-requires-clause-played : goal.outcome_of-requires-clause-played
+outcome_of-requires-clause-played c =
     move_goes c.args.classes.now.family.profile c.args.position.now.setup c.args.replies.now c.loop-reply.reply-index c.reply-item.result
     c.requires.replies c.loop-reply-test.true c.reply-item.is
 
@@ -14,9 +14,9 @@ loop-reply-preserved c =
     let family = c.args.classes.now.family in
     let replies = c.args.replies.now in
     all_more family.profile (λ (q : Setup). ¬ IsSaidLost family c.args.lost.now c.args.plies q) c.args.position.now.setup replies c.loop-reply.reply-index
-    c.reply-item.result c.after.result.setup
+    c.reply-item.result c.outcome_of.result.setup
     (slice_get_read replies _ c.loop-reply.reply-index c.reply-item.result refl c.loop-reply-test.true c.reply-item.is)
-    c.after.ensures.alone (not_so c.is_said_lost.result (search rules) c.is_said_lost.ensures) c.loop-reply.invariant
+    c.outcome_of.ensures.alone (not_so c.is_said_lost.result (search rules) c.is_said_lost.ensures) c.loop-reply.invariant
 
 pub returns-then-is_said_lost : goal.returns-then-is_said_lost
 returns-then-is_said_lost c =
@@ -25,8 +25,8 @@ returns-then-is_said_lost c =
     said_yes (record {
       goes_on = step.0;
       reply = c.reply-item.result;
-      outcome = c.after.result.setup;
-      goes = c.after.ensures.goes;
+      outcome = c.outcome_of.result.setup;
+      goes = c.outcome_of.ensures.goes;
       said = c.is_said_lost.ensures.0 (search rules);
     })
 

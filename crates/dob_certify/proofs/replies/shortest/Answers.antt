@@ -1,9 +1,8 @@
 -- Each move is one more.
-use Rattle.std.proofs.Common.{◌+◌, refl, subst, sym, Option}
+use Rattle.std.proofs.Common.{refl}
 use Rattle.std.proofs.lemmas.Option.{slice_get_read}
 use Rattle.dob_value.proofs.Successors.{move_goes}
-use Rattle.dob_certify.specs.declared.replies.Lead.{Lead}
-use Rattle.dob_certify.proofs.Shortest.{IsShortestBelow, shortest_done, shortest_more, shortest_none}
+use Rattle.dob_certify.proofs.Shortest.{shortest_done, shortest_more, shortest_none}
 use Rattle.dob_certify.proofs.replies.shortest.Goals as goal
 
 pub loop-played-init : goal.loop-played-init
@@ -16,14 +15,12 @@ outcome_of-outcome-requires-clause-played c =
 
 pub loop-played-preserved : goal.loop-played-preserved
 loop-played-preserved c =
-    let family = c.args.classes.now.family in
     let setup = c.args.position.now.setup in
     let legal = c.args.legal.now in
     let index = c.loop-played.played-index in
     let played = c.played-item.result in
-    let step = move_goes family.profile setup legal index played c.requires.legal c.loop-played-test.true c.played-item.is in
-    subst (λ (lead : Option Lead). IsShortestBelow family c.args.lost.now setup legal (index + 1) lead) (sym c.shorter-best.ensures)
-    (shortest_more family c.args.lost.now setup legal index played c.outcome_of-outcome.result.setup
+    let step = move_goes c.args.classes.now.family.profile setup legal index played c.requires.legal c.loop-played-test.true c.played-item.is in
+    rw c.shorter-best.ensures (shortest_more c.args.classes.now.family c.args.lost.now setup legal index played c.outcome_of-outcome.result.setup
     (slice_get_read legal _ index played refl c.loop-played-test.true c.played-item.is) step.0
     c.outcome_of-outcome.ensures.goes c.outcome_of-outcome.ensures.alone c.loop-played.best c.said_lost-found.result c.said_lost-found.ensures
     c.loop-played.invariant)

@@ -1,18 +1,17 @@
 -- The verdicts of the entries in order, and the first refusal among them.
-use Rattle.dob_check.proofs.Common.{◌-◌, ◌<◌, ◌∙◌, ◌≡◌, Bool, List, ap, arith, length, subst, ℕ, Bor, AllZip, range_with_len, is_err, AllZip-weaken}
-use Rattle.dob_check.proofs.Common.{nat_range-All, nat_range, IsToldAt}
+use Rattle.dob_check.proofs.Common.{◌-◌, ◌<◌, ◌∙◌, ◌≡◌, List, ap, arith, length, subst, ℕ, AllZip, range_with_len, AllZip-weaken, nat_range-All, nat_range}
+use Rattle.dob_check.proofs.Common.{IsToldAt}
 use Rattle.dob_certificate.specs.declared.entry.Entry.{Entry}
 use Rattle.dob_certificate.specs.Lists.{Supports}
-use Rattle.dob_check.proofs.Found.{each_has}
-use Rattle.dob_check.proofs.Firsts.{Answer, AnswersAt, first_refused, list_answered}
+use Rattle.dob_check.proofs.Found.{each_has, first_found}
+use Rattle.dob_check.proofs.Firsts.{Answer, AnswersAt, SupportedAt, list_answered}
 use Rattle.dob_check.proofs.certificates.check_list.Goals as goal
 
 pub find_first-first_refusal-requires-clause-items : goal.find_first-first_refusal-requires-clause-items
 find_first-first_refusal-requires-clause-items g c = λ κs lives.
     let ends = c.into_par_iter.ensures in
-    let entries = c.args.entries.now in
-    let count : length c.as_slice.result.now ≡ length entries = ap length c.as_slice.ensures.entries in
-    let inside = nat_range-All (λ i. i < length entries) 0 (length c.as_slice.result.now) (λ i low high. omega (arith, high, count)) in
+    let long = ap length c.as_slice.ensures.entries in
+    let inside = nat_range-All (λ i. i < length c.args.entries.now) 0 (length c.as_slice.result.now) (λ i low high. omega (arith, high, long)) in
     rw (c.map_init.ensures.base, c.map_init.ensures.f, ends.0, ends.1) (tt, λ k d lt. (λ p. inside k d lt, λ p q y e b same. tt))
 
 -- the answer of each entry, and what was told of it
@@ -36,16 +35,12 @@ returns-clause-verdict g c =
     let Fits : Entry → Type 0 = Supports c.args.kind c.args.classes.now.family entries in
     let done = c.find_first-first_refusal.ensures in
     let verdicts = AllZip-weaken _ (AnswersAt Fits entries) (λ place answer h. h.0) (range_with_len 0 (length entries)) done.0 (all_say g c) in
-    let told : AllZip (λ (v : Answer) (b : Bool). b ≡ is_err v) done.0 done.1 =
-    AllZip-weaken (λ (v : Answer) (b : Bool). (p : Bor Answer) × (p.now ≡ v) × (b ≡ is_err p.now)) (λ (v : Answer) (b : Bool). b ≡ is_err v)
-    (λ v b h. h.2 ∙ ap is_err h.1) done.0 done.1 done.3 in
     list_answered Fits entries c.find_first-first_refusal.result c.unwrap_or.result c.unwrap_or.ensures
-    (rw done.4 (first_refused Fits entries 0 (length entries) done.0 done.1 verdicts told))
+    (rw done.4 (first_found (SupportedAt Fits entries) (AnswersAt Fits entries) (λ k x is. is) 0 (length entries) done.0 done.1 verdicts done.3))
 
 pub returns-clause-told : goal.returns-clause-told
 returns-clause-told g c = λ place low.
-    let entries = c.args.entries.now in
-    let Told : ℕ → Type 0 = IsToldAt (g.W.Watch.told c.args.watch.now) (length entries) in
+    let many = length c.args.entries.now in
     let found = c.find_first-first_refusal.ensures.0 in
-    each_has Told 0 (length entries) found
-    (AllZip-weaken _ (λ (k : ℕ) (v : Answer). Told k) (λ place answer h. h.1) (range_with_len 0 (length entries)) found (all_say g c)) place (omega arith) (omega (arith, low))
+    each_has (IsToldAt (g.W.Watch.told c.args.watch.now) many) 0 many found
+    (AllZip-weaken _ _ (λ place answer h. h.1) (range_with_len 0 many) found (all_say g c)) place (omega arith) (omega (arith, low))

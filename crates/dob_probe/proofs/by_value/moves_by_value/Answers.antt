@@ -1,14 +1,14 @@
 -- Each move is later than those listed, and its value is that of the position that it leads to.
-use Rattle.dob_probe.proofs.Common.{List, refl, subst, sym, slice_get_read, move_goes, GivenBy, ValuedMove}
+use Rattle.dob_probe.proofs.Common.{refl, slice_get_read, move_goes, GivenBy, ValuedMove}
 use Rattle.dob_probe.proofs.Entries.{given_is_entry, one_given}
-use Rattle.dob_probe.proofs.ByValue.{AreListed, listed_none, listed_more, listed_all}
+use Rattle.dob_probe.proofs.ByValue.{listed_none, listed_more, listed_all}
 use Rattle.dob_probe.proofs.InOrder.{before_next}
 use Rattle.dob_probe.proofs.by_value.moves_by_value.Goals as goal
 
 pub loop-played-init : goal.loop-played-init
 loop-played-init c =
-    subst (λ (xs : List ValuedMove). AreListed c.args.table.now.family.profile (GivenBy c.args.table.now) c.args.position.now.setup c.args.legal.now 0 xs)
-    (sym c.new-list.ensures.items) (listed_none c.args.table.now.family.profile (GivenBy c.args.table.now) c.args.position.now.setup c.args.legal.now)
+    rw c.new-list.ensures.items
+    (listed_none c.args.table.now.family.profile (GivenBy c.args.table.now) c.args.position.now.setup c.args.legal.now)
 
 pub value_to-requires-clause-played : goal.value_to-requires-clause-played
 value_to-requires-clause-played c =

@@ -10,5 +10,6 @@ with_class-requires c =
 pub returns : goal.returns
 returns c = λ values counted are.
     slots_counted values c.args.value c.args.slots.now.items c.make_room.new.slots.items c.code_of_value-code.result c.args.class
-    c.index-slot.result.now c.with_class.result c.code_of_value-code.ensures.code c.index-slot.ensures c.with_class.ensures counted c.requires.entry
+    c.index-slot.result.now c.with_class.result c.code_of_value-code.ensures.code c.index-slot.ensures c.with_class.ensures counted
+    c.requires.room c.requires.entry
     c.in_ok-make_room.ensures.long c.in_ok-make_room.ensures.same are

@@ -1,6 +1,5 @@
 -- The puzzles of one place more, until there are as many as were asked for.
-use Rattle.dob_probe.proofs.Common.{◌<◌, ◌∙◌, ◌≡◌, ◌≤◌, List, None, Option, Some, [], ap, arith, length, rules, subst, sym, vec_len, ℕ, ArePuzzles, IsPuzzleOf}
-use Rattle.dob_probe.proofs.Common.{begin_at, class_on, first_class, Puzzle}
+use Rattle.dob_probe.proofs.Common.{◌<◌, ◌∙◌, ◌≡◌, ◌≤◌, [], ap, arith, length, rules, subst, sym, vec_len, ℕ, begin_at, class_on, first_class, Puzzle}
 use Rattle.dob_probe.proofs.OnlyMoves.{ArePuzzlesBelow, begin, next_few, puzzles_all, puzzles_full, puzzles_next, puzzles_none, puzzles_same, puzzles_too_long}
 use Rattle.dob_probe.proofs.Walked.{first_below}
 use Rattle.dob_probe.proofs.puzzles.first_puzzles.Goals as goal
@@ -17,18 +16,16 @@ begin_is c =
 
 pub returns-then-plies : goal.returns-then-plies
 returns-then-plies c =
-    subst (λ (xs : List Puzzle). ArePuzzles c.args.table.now c.args.walk c.args.plies c.args.count xs) (sym c.new.ensures.items)
+    rw c.new.ensures.items
     (puzzles_too_long c.args.table.now c.args.plies c.args.walk c.args.count c.family-family.ensures.table c.if-plies.true)
 
 pub begin_at-begin-requires : goal.begin_at-begin-requires
-begin_at-begin-requires c = λ some.
-    subst (λ (n : ℕ). n < c.class_count-classes.result) (sym c.first_class-first.ensures) (first_below c.args.walk.seed c.class_count-classes.result some)
+begin_at-begin-requires c = λ some. rw c.first_class-first.ensures (first_below c.args.walk.seed c.class_count-classes.result some)
 
 pub class_on-requires-clause-first : goal.class_on-requires-clause-first
 class_on-requires-clause-first c =
     let here : c.loop-place.place < c.class_count-classes.result = c.loop-place-test.true in
-    subst (λ (n : ℕ). n < c.class_count-classes.result) (sym c.first_class-first.ensures)
-    (first_below c.args.walk.seed c.class_count-classes.result (omega (arith, here)))
+    rw c.first_class-first.ensures (first_below c.args.walk.seed c.class_count-classes.result (omega (arith, here)))
 
 pub loop-place-init : goal.loop-place-init
 loop-place-init c =
@@ -71,8 +68,7 @@ loop-place-preserved c =
     elim c.match-branch-2.branch [
       | in-Some+in_ok-list_puzzle w ↦
           let puzzle : Puzzle = w.in-Some.puzzle in
-          let found : IsPuzzleOf table plies class (Some puzzle) =
-          subst (λ (o : Option Puzzle). IsPuzzleOf table plies class o) w.in-Some.is (c.in_ok-puzzle.ensures) in
+          let found = rw w.in-Some.is at c.in_ok-puzzle.ensures in
           let next = w.in_ok-list_puzzle.ensures.listed in
           let more = next_few table plies walk c.is_some-is_spread.result list w.list_puzzle.new.list.items puzzle next in
           rw (w.list-is, w.outlines-is) (
@@ -83,8 +79,7 @@ loop-place-preserved c =
             w.in_ok-list_puzzle.ensures.outlines,
           )
       | in_default w ↦
-          let missing : IsPuzzleOf table plies class None =
-          subst (λ (o : Option Puzzle). IsPuzzleOf table plies class o) w.in_default.is (c.in_ok-puzzle.ensures) in
+          let missing = rw w.in_default.is at c.in_ok-puzzle.ensures in
           let same : c.match-branch-2.list.items ≡ list = search rules in
           let same_outlines : c.match-branch-2.outlines.items ≡ c.loop-place.outlines.items = search rules in
           rw (same, same_outlines) (

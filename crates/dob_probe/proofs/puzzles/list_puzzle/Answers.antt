@@ -1,5 +1,5 @@
 -- A puzzle is passed where one with its outline is listed.
-use Rattle.dob_probe.proofs.Common.{◌&&◌, ◌++◌, ◌∙◌, ◌∷◌, List, [], ap, inl, inr, refl, subst, sym, list_any, AreOutlines, same_outline, puzzle_of, Puzzle}
+use Rattle.dob_probe.proofs.Common.{◌&&◌, ◌∙◌, List, ap, inl, inr, refl, sym, list_any, same_outline, puzzle_of}
 use Rattle.dob_probe.specs.declared.outlines.Outline.{Outline}
 use Rattle.dob_probe.proofs.Alike.{listed_one, outlines_more, passed_one}
 use Rattle.dob_probe.proofs.puzzles.list_puzzle.Goals as goal
@@ -16,8 +16,7 @@ pub returns-clause-outlines : goal.returns-clause-outlines
 returns-clause-outlines c =
     let more = outlines_more c.args.table.now c.args.list.now.items c.args.outlines.now.items (puzzle_of c.args.class c.args.played) c.outline_at-outline.result
     (c.outline_at-outline.ensures c.args.played) c.requires.outlines in
-    subst (λ (l : List Puzzle). AreOutlines c.args.table.now l c.push-2.new.self.items) (sym c.in_ok-push.ensures.items)
-    (subst (λ (l : List Outline). AreOutlines c.args.table.now (c.args.list.now.items ++ puzzle_of c.args.class c.args.played ∷ []) l) (sym c.in_ok-push-2.ensures.items) more)
+    rw (c.in_ok-push.ensures.items, c.in_ok-push-2.ensures.items) more
 
 pub returns-clause-listed : goal.returns-clause-listed
 returns-clause-listed c =

@@ -2,6 +2,7 @@
 use Rattle.dob_probe.proofs.Common.{◌≡◌, Some, false, refl, rules, slice_get, subst, true, slice_get_read, CanGo, HasStatus, Open, move_goes, GivenBy, LeadsTo}
 use Rattle.std.proofs.Common.{is_some}
 use Rattle.dob_probe.proofs.OnlyMoves.{single_all, single_skipped, single_taken, single_twice}
+use Rattle.dob_probe.proofs.Entries.{one_given}
 use Rattle.dob_probe.proofs.Ways.{other_value}
 use Rattle.dob_probe.proofs.puzzles.single_move.Goals as goal
 use Rattle.dob_probe.proofs.puzzles.single_move.Goals.{After-value_to, then-eq+else-is_some, else-eq}
@@ -57,7 +58,7 @@ loop-played-preserved c =
       | else-eq w ↦
           let apart : ¬ (c.value_to.result ≡ c.args.wanted) = search rules in
           rw w.single-is (single_skipped table.family.profile (GivenBy table) setup c.args.wanted legal index played c.loop-played.single (here at)
-          (other_value table setup played to.0 c.value_to.result c.args.wanted c.requires.member to.1 (c.value_to.ensures to.0 to.1) apart)
+          (other_value table.family (GivenBy table) (one_given table) setup played c.value_to.result c.args.wanted c.requires.member c.value_to.ensures apart)
           c.loop-played.invariant)
     ]
 

@@ -1,5 +1,5 @@
 -- The piece has arrived from the hand.
-use Rattle.dob_probe.proofs.Common.{◌-◌, ◌<◌, rules, subst, sym, ℕ, length-turned, turned, Kind, dropped, HasArrived}
+use Rattle.dob_probe.proofs.Common.{◌<◌, rules, length-turned, turned, dropped, HasArrived}
 use Rattle.dob_probe.proofs.ShownMoves.{drop_arrived, hands_after_drop}
 use Rattle.dob_probe.proofs.shown_moves.after_drop.Goals as goal
 
@@ -9,7 +9,5 @@ returns c =
     let low : c.args.to < 12 = search rules in
     let after = turned (dropped p c.args.kind c.args.to) in
     let arrived : HasArrived (turned p) after c.turned.result c.on_board.result =
-    subst (λ (n : ℕ). HasArrived (turned p) after n c.on_board.result) (sym c.turned.ensures)
-    (subst (λ (k : Kind). HasArrived (turned p) after (11 - c.args.to) k) (sym c.on_board.ensures)
-    (drop_arrived p c.args.kind c.args.to c.args.position.now.legal.squares low)) in
+    rw (c.turned.ensures, c.on_board.ensures) (drop_arrived p c.args.kind c.args.to c.args.position.now.legal.squares low) in
     c.with_arrived.ensures (turned p) after (length-turned p) arrived (hands_after_drop p c.args.kind c.args.to _ c.with_one_less.ensures) c.requires.seen

@@ -1,6 +1,5 @@
 -- The piece has left a square and arrived on another.
-use Rattle.dob_probe.proofs.Common.{◌-◌, ◌<◌, ◌∙◌, ◌≡◌, None, arith, length, rules, subst, sym, ℕ, length-set, length-turned, turned, Kind, stepped, with_cell}
-use Rattle.dob_probe.proofs.Common.{with_one, HasArrived}
+use Rattle.dob_probe.proofs.Common.{◌<◌, ◌∙◌, ◌≡◌, None, arith, length, rules, length-set, length-turned, turned, stepped, with_cell, with_one, HasArrived}
 use Rattle.dob_probe.proofs.ShownMoves.{step_arrived, hands_after_step}
 use Rattle.dob_probe.proofs.shown_moves.after_step.Goals as goal
 
@@ -14,9 +13,6 @@ returns c =
     let after = turned (stepped p c.args.kind c.args.from c.args.to c.args.grows) in
     let long : length before.board ≡ 12 = length-set (turned p).board c.turned.result None ∙ length-turned p in
     let arrived : HasArrived before after c.turned-2.result c.arrives_as.result =
-    subst (λ (n : ℕ). HasArrived (with_cell (turned p) n None) after c.turned-2.result c.arrives_as.result) (sym c.turned.ensures)
-    (subst (λ (n : ℕ). HasArrived (with_cell (turned p) (11 - c.args.from) None) after n c.arrives_as.result) (sym c.turned-2.ensures)
-    (subst (λ (k : Kind). HasArrived (with_cell (turned p) (11 - c.args.from) None) after (11 - c.args.to) k) (sym c.arrives_as.ensures)
-    (step_arrived p c.args.kind c.args.from c.args.to c.args.grows twelve low_from low_to))) in
+    rw (c.turned.ensures, c.turned-2.ensures, c.arrives_as.ensures) (step_arrived p c.args.kind c.args.from c.args.to c.args.grows twelve low_from low_to) in
     c.with_arrived.ensures before after long arrived (hands_after_step p c.args.kind c.args.from c.args.to c.args.grows _ c.with_caught.ensures)
     (c.without-left.ensures (turned p) before (with_one (turned p) c.turned.result None (length-turned p) (omega (arith, low_from, c.turned.ensures))) c.requires)

@@ -1,37 +1,30 @@
 -- The value follows from what is kept of the successors' values.
-use Rattle.dob_probe.proofs.Common.{subst, sym, HasStatus, Status, Open, FollowsFromSuccessors, Value, GivenBy}
+use Rattle.dob_probe.proofs.Common.{HasStatus, Open}
 use Rattle.dob_probe.proofs.Following.{follows_from, least_has_next, greatest_has_next}
 use Rattle.dob_probe.proofs.successors.value_that_follows.Goals as goal
 use Rattle.dob_probe.proofs.successors.value_that_follows.Goals.{In-Open}
 
 -- the position is open
 open_is : (c : In-Open) → HasStatus c.args.table.now.family.profile c.args.position.now.setup Open
-open_is c = subst (λ (s : Status). HasStatus c.args.table.now.family.profile c.args.position.now.setup s) c.in-Open.is c.in_ok-list_moves.ensures.status
+open_is c = rw c.in-Open.is at c.in_ok-list_moves.ensures.status
 
 pub value-requires-clause-least : goal.value-requires-clause-least
 value-requires-clause-least c =
-    let kept = c.successors_of.ensures in
-    least_has_next c.args.table.now c.args.position.now.setup c.requires.member
-    (open_is (goal.at.value-requires-clause-least c).In-Open) kept.0 kept.1 c.requires.whole
-    c.successors_of.result.least_loss kept.2.least
+    least_has_next c.args.table.now c.args.position.now.setup c.requires.member (open_is (goal.at.value-requires-clause-least c).In-Open)
+    c.successors_of.ensures.0 c.successors_of.ensures.1 c.requires.whole c.successors_of.result.least_loss c.successors_of.ensures.2.least
 
 pub value-requires-clause-greatest : goal.value-requires-clause-greatest
 value-requires-clause-greatest c =
-    let kept = c.successors_of.ensures in
-    greatest_has_next c.args.table.now c.args.position.now.setup c.requires.member
-    (open_is (goal.at.value-requires-clause-greatest c).In-Open) kept.0 kept.1 c.requires.whole
-    c.successors_of.result.greatest_win kept.2.greatest
+    greatest_has_next c.args.table.now c.args.position.now.setup c.requires.member (open_is (goal.at.value-requires-clause-greatest c).In-Open)
+    c.successors_of.ensures.0 c.successors_of.ensures.1 c.requires.whole c.successors_of.result.greatest_win c.successors_of.ensures.2.greatest
 
 pub returns-in-Open : goal.returns-in-Open
 returns-in-Open c =
-    let table = c.args.table.now in
-    let setup = c.args.position.now.setup in
     let found = c.successors_of.result in
     let kept = c.successors_of.ensures in
     let is_open = open_is (goal.at.returns-in-Open c).In-Open in (
       Open,
       is_open,
-      subst (λ (v : Value). FollowsFromSuccessors c.args.table.now.family.profile (GivenBy table) setup v) (sym c.value.ensures)
-          (follows_from table setup c.requires.member is_open kept.0 kept.1 found.least_loss found.greatest_win found.has_draw kept.2.least
-          kept.2.greatest kept.2.draw),
+      rw c.value.ensures (follows_from c.args.table.now c.args.position.now.setup c.requires.member is_open kept.0 kept.1 found.least_loss found.greatest_win
+          found.has_draw kept.2.least kept.2.greatest kept.2.draw),
     )

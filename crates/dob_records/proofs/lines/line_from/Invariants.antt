@@ -1,6 +1,5 @@
 -- The moves so far begin the line and lead to a position of which the record says that value, whose distance falls.
-use Rattle.dob_records.proofs.Common.{◌≡◌, IsPositionOf, IsEntry, Stream, distance, IsRecorded}
-use Rattle.dob_records.proofs.Onward.{IsOnLine}
+use Rattle.dob_records.proofs.Common.{◌≡◌, IsPositionOf, IsEntry, Stream, IsBegun, distance, IsRecorded}
 use Rattle.dob_records.proofs.lines.line_from.Given as goal
 
 abbrev pub invariant-loop-catch : goal.invariant-loop-catch
@@ -9,7 +8,7 @@ invariant-loop-catch g l = record {
   entry : IsEntry l.value;
   shown : (stream : Stream) → g.R.Source.shows l.fn.source stream → g.R.Source.shows l.source stream;
   on : (stream : Stream) → g.R.Source.shows l.fn.source stream → IsRecorded stream l.format l.classes.family l.fn.position.setup l.fn.value
-      → IsOnLine l.classes.family (IsRecorded stream l.format l.classes.family) l.fn.position.setup l.line.items l.position.setup l.value;
+      → IsBegun l.classes.family.profile (IsRecorded stream l.format l.classes.family) l.fn.position.setup l.line.items l.position.setup l.value;
   failed : g.R.Source.has_failed l.source ≡ g.R.Source.has_failed l.fn.source;
 }
 

@@ -3,15 +3,10 @@ use Rattle.dob_records.proofs.Common.{refl, rules, slice_get_read, move_goes, li
 use Rattle.dob_records.proofs.Recorded.{one_recorded}
 use Rattle.dob_records.proofs.listing.moves_in_order.Goals as goal
 
-pub value_after-requires-clause-goes_on : goal.value_after-requires-clause-goes_on
-value_after-requires-clause-goes_on g c =
-    (move_goes c.args.classes.now.family.profile c.args.position.now.setup c.args.legal.now c.loop-played.played-index c.played-item.result
-    c.requires.legal c.loop-played-test.true c.played-item.is).0
-
-pub value_after-requires-clause-can_go : goal.value_after-requires-clause-can_go
-value_after-requires-clause-can_go g c =
-    (move_goes c.args.classes.now.family.profile c.args.position.now.setup c.args.legal.now c.loop-played.played-index c.played-item.result
-    c.requires.legal c.loop-played-test.true c.played-item.is).1
+pub value_after-requires-clause-played : goal.value_after-requires-clause-played
+value_after-requires-clause-played g c =
+    move_goes c.args.classes.now.family.profile c.args.position.now.setup c.args.legal.now c.loop-played.played-index c.played-item.result
+    c.requires.legal c.loop-played-test.true c.played-item.is
 
 pub insert_by_value-requires-clause-later : goal.insert_by_value-requires-clause-later
 insert_by_value-requires-clause-later g c =

@@ -1,5 +1,5 @@
 -- The record that is read is that of the position's class.
-use Rattle.dob_records.proofs.Common.{arith, IfErr-weaker, IfOk-weaker, HasRecord, HasRecordFault, IsRecorded, LacksRecord}
+use Rattle.dob_records.proofs.Common.{arith, IfErr-weaker, IfOk-weaker}
 use Rattle.dob_rank.proofs.OfFamilies.ClassBounds.{classes_of-below}
 use Rattle.dob_records.proofs.values.value_at.Goals as goal
 
@@ -8,14 +8,12 @@ read_value-requires g c = let few = classes_of-below c.args.classes.now.family i
 
 pub returns-clause-said : goal.returns-clause-said
 returns-clause-said g c = λ stream shows.
-    IfOk-weaker c.read_value.result (HasRecord stream c.args.format c.class_of.result)
-    (IsRecorded stream c.args.format c.args.classes.now.family c.args.position.now.setup)
+    IfOk-weaker c.read_value.result _ _
     (λ value says. record { class = c.class_of.result; number = c.class_of.ensures.class; below = c.class_of.ensures.bound; says = says })
     (c.read_value.ensures.read stream shows)
 
 pub returns-clause-fault : goal.returns-clause-fault
 returns-clause-fault g c = λ stream shows.
-    IfErr-weaker c.read_value.result (HasRecordFault stream c.args.format c.class_of.result)
-    (LacksRecord stream c.args.format c.args.classes.now.family c.args.position.now.setup)
+    IfErr-weaker c.read_value.result _ _
     (λ fault fails. record { class = c.class_of.result; number = c.class_of.ensures.class; below = c.class_of.ensures.bound; fails = fails })
     (c.read_value.ensures.fault stream shows)

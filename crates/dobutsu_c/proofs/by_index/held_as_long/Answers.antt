@@ -1,6 +1,6 @@
 -- A file of a family is as long as its classes need.
 use Rattle.dobutsu_c.proofs.Common.{arith, classes_of-below}
-use Rattle.dobutsu_c.proofs.Indexed.{long_classes, both}
+use Rattle.dobutsu_c.proofs.Indexed.{long_classes}
 use Rattle.dobutsu_c.proofs.by_index.held_as_long.Goals as goal
 
 pub returns-then-classes-gt-MOST_CLASSES : goal.returns-then-classes-gt-MOST_CLASSES

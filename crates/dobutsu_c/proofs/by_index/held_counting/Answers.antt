@@ -1,5 +1,5 @@
 -- A file of a family is as long as its classes need.
-use Rattle.dobutsu_c.proofs.Common.{◌∙◌, ◌≡◌, arith, sym, classes_of}
+use Rattle.dobutsu_c.proofs.Common.{◌∙◌, ◌≡◌, arith, classes_of}
 use Rattle.dobutsu_c.proofs.Indexed.{long_classes}
 use Rattle.dobutsu_c.proofs.by_index.held_counting.Goals as goal
 

@@ -1,5 +1,5 @@
 -- The index leads to the position's class, which is one of the file's.
-use Rattle.dobutsu_c.proofs.Common.{arith, subst, sym, IsInClass, IsInClass-class_number, class_number-below}
+use Rattle.dobutsu_c.proofs.Common.{arith, IsInClass-class_number, class_number-below}
 use Rattle.dobutsu_c.proofs.by_index.value_by.Goals as goal
 
 pub returns-then-class-held : goal.returns-then-class-held
@@ -9,8 +9,7 @@ returns-then-class-held c = (
     class = c.class_of-class.result;
     below = c.if-class-held.true;
     read = c.held_value.ensures.read;
-    right = λ is. subst (IsInClass c.args.held.family c.args.position.now.setup) (sym (c.class_of-class.ensures is))
-        (IsInClass-class_number c.args.held.family c.args.position.now.setup c.requires.member);
+    right = λ is. rw (c.class_of-class.ensures is) (IsInClass-class_number c.args.held.family c.args.position.now.setup c.requires.member);
   },
 )
 

@@ -1,5 +1,5 @@
 -- What reading and checking give.
-use Rattle.dobutsu_c.proofs.Common.{◌∙◌, ◌≡◌, ap, inl, inr, subst, sym, ClassTable, IsConsistent, whole, file_number}
+use Rattle.dobutsu_c.proofs.Common.{◌∙◌, ap, inl, inr, subst, sym, ClassTable, IsConsistent, whole, file_number}
 use Rattle.dob_probe.specs.Faults.{IsFaultOfCheck}
 use Rattle.dob_probe.proofs.Following.{consistent_has_no_break}
 use Rattle.dobutsu_c.proofs.checks.dobutsu_check.Goals as goal

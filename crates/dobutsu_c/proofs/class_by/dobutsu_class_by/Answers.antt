@@ -1,35 +1,46 @@
 -- The text is of one position, and one family has those numbers; each refusal comes where its own test fails and those before it pass.
-use Rattle.dobutsu_c.proofs.Common.{◌≢◌, inl, inr, refl, subst, sym, ℕ, both_ways, Family, Setup, same_spelled, IsInClass, IsPositionOf, IsInClass-class_number}
-use Rattle.dobutsu_c.proofs.Common.{IsIndex}
+use Rattle.dobutsu_c.proofs.Common.{◌≡◌, ◌≢◌, inl, inr, refl, subst, ℕ, both_ways, Family, Setup, same_spelled, IsPositionOf}
+use Rattle.dobutsu_c.proofs.Common.{IsInClass-class_number, IsIndex, IsTextOf}
+use Rattle.dobutsu_c.specs.ByIndex.{IsClassFault, IsUnfit}
+use Rattle.dobutsu_c.specs.Counts.{IsFamily}
 use Rattle.dobutsu_c.proofs.Indexed.{one_family}
 use Rattle.dobutsu_c.proofs.class_by.dobutsu_class_by.Goals as goal
+use Rattle.dobutsu_c.proofs.class_by.dobutsu_class_by.Goals.{In-Ok-family_of}
+
+-- what is asked is what was found
+found : (c : In-Ok-family_of) (family : Family) (setup : Setup) → IsFamily c.args.chicks c.args.elephants c.args.giraffes c.args.profile family
+    → IsTextOf c.args.text.now setup → IsPositionOf family setup
+    → (family ≡ c.in-Ok-family_of.family) × (setup ≡ c.in-Ok.position.setup) × IsPositionOf c.in-Ok-family_of.family c.in-Ok.position.setup
+found c family setup is named member =
+    let same = one_family c.args.chicks c.args.elephants c.args.giraffes c.args.profile family c.in-Ok-family_of.family is c.in-Ok-family_of.ensures.0 in
+    let read = same_spelled c.args.text.now setup c.in-Ok.position.setup named.1 c.in-Ok.ensures.read.2 in
+    (same, read, subst (IsPositionOf c.in-Ok-family_of.family) read (subst (λ (f : Family). IsPositionOf f setup) same member))
+
+-- the numbers name a family, which the index or the position doesn't fit
+unfit : (c : In-Ok-family_of) (number : ℕ) → IsUnfit c.in-Ok-family_of.family c.args.index.now c.in-Ok.position.setup number
+    → IsClassFault c.args.chicks c.args.elephants c.args.giraffes c.args.profile c.args.index.now c.args.text.now number
+unfit c number is = inr (
+  c.in-Ok.position.setup,
+  (c.in-Ok.ensures.read.0, c.in-Ok.ensures.read.2),
+  inr (c.in-Ok-family_of.family, c.in-Ok-family_of.ensures.0, is),
+)
 
 pub returns-clause-class : goal.returns-clause-class
 returns-clause-class c = λ family setup is index named member.
-    let found = c.in-Ok-family_of.family in
-    let same = one_family c.args.chicks c.args.elephants c.args.giraffes c.args.profile family found is c.in-Ok-family_of.ensures.0 in
-    let read = same_spelled c.args.text.now setup c.in-Ok.position.setup named.1 c.in-Ok.ensures.read.2 in
-    let there = subst (IsPositionOf found) read (subst (λ (f : Family). IsPositionOf f setup) same member) in
-    let number = c.class_by.ensures (subst (λ (f : Family). IsIndex f c.args.index.now) same index) in
-    let in_class = subst (IsInClass found c.in-Ok.position.setup) (sym number) (IsInClass-class_number found c.in-Ok.position.setup there) in (
-      refl,
-      subst (λ (f : Family). IsInClass f setup c.class_by.result) (sym same) (subst (λ (s : Setup). IsInClass found s c.class_by.result) (sym read) in_class),
-    )
+    let as_found = found (goal.at.returns-clause-class c).In-Ok-family_of family setup is named member in
+    let number = c.class_by.ensures (rw as_found.0 at index) in
+    (refl, rw (as_found.0, as_found.1, number) (IsInClass-class_number c.in-Ok-family_of.family c.in-Ok.position.setup as_found.2))
 
 pub returns-then-not-is_index_of-clause-class : goal.returns-then-not-is_index_of-clause-class
 returns-then-not-is_index_of-clause-class c = λ family setup is index named member.
-    let found = c.in-Ok-family_of.family in
-    let same = one_family c.args.chicks c.args.elephants c.args.giraffes c.args.profile family found is c.in-Ok-family_of.ensures.0 in
-    let there : IsIndex found c.args.index.now = subst (λ (f : Family). IsIndex f c.args.index.now) same index in
+    let as_found = found (goal.at.returns-then-not-is_index_of-clause-class c).In-Ok-family_of family setup is named member in
+    let there : IsIndex c.in-Ok-family_of.family c.args.index.now = subst (λ (f : Family). IsIndex f c.args.index.now) as_found.0 index in
     absurd (both_ways _ c.if-not-is_index_of.true (c.is_index_of.ensures.1 there.marked))
 
 pub returns-then-not-is_of_set-clause-class : goal.returns-then-not-is_of_set-clause-class
 returns-then-not-is_of_set-clause-class c = λ family setup is index named member.
-    let found = c.in-Ok-family_of.family in
-    let same = one_family c.args.chicks c.args.elephants c.args.giraffes c.args.profile family found is c.in-Ok-family_of.ensures.0 in
-    let read = same_spelled c.args.text.now setup c.in-Ok.position.setup named.1 c.in-Ok.ensures.read.2 in
-    let there : IsPositionOf found c.in-Ok.position.setup = subst (IsPositionOf found) read (subst (λ (f : Family). IsPositionOf f setup) same member) in
-    absurd (both_ways _ c.if-not-is_of_set.true (c.is_of_set.ensures.1 there.of_set))
+    let as_found = found (goal.at.returns-then-not-is_of_set-clause-class c).In-Ok-family_of family setup is named member in
+    absurd (both_ways _ c.if-not-is_of_set.true (c.is_of_set.ensures.1 as_found.2.of_set))
 
 pub returns-clause-told : goal.returns-clause-told
 returns-clause-told c = λ none. (
@@ -52,40 +63,24 @@ returns-in-Err-family_of-clause-refused c = λ some. inr (
 )
 
 pub returns-then-not-is_index_of-clause-refused : goal.returns-then-not-is_index_of-clause-refused
-returns-then-not-is_index_of-clause-refused c = λ _. inr (
-  c.in-Ok.position.setup,
-  (c.in-Ok.ensures.read.0, c.in-Ok.ensures.read.2),
-  inr (c.in-Ok-family_of.family, c.in-Ok-family_of.ensures.0, inl (λ marked. both_ways _ c.if-not-is_index_of.true (c.is_index_of.ensures.1 marked), refl)),
-)
+returns-then-not-is_index_of-clause-refused c = λ _.
+    unfit (goal.at.returns-then-not-is_index_of-clause-refused c).In-Ok-family_of _
+    (inl (λ marked. both_ways _ c.if-not-is_index_of.true (c.is_index_of.ensures.1 marked), refl))
 
 pub returns-then-not-is_allowed-clause-refused : goal.returns-then-not-is_allowed-clause-refused
-returns-then-not-is_allowed-clause-refused c = λ _. inr (
-  c.in-Ok.position.setup,
-  (c.in-Ok.ensures.read.0, c.in-Ok.ensures.read.2),
-  inr (
-    c.in-Ok-family_of.family,
-    c.in-Ok-family_of.ensures.0,
-    inr (
+returns-then-not-is_allowed-clause-refused c = λ _.
+    unfit (goal.at.returns-then-not-is_allowed-clause-refused c).In-Ok-family_of _ (inr (
       c.is_index_of.ensures.0 c.if-not-is_index_of.false,
       inl (λ allowed. both_ways _ c.if-not-is_allowed.true (c.is_allowed.ensures.1 allowed), c.number-then-not-is_allowed.ensures.number),
-    ),
-  ),
-)
+    ))
 
 pub returns-then-not-is_of_set-clause-refused : goal.returns-then-not-is_of_set-clause-refused
-returns-then-not-is_of_set-clause-refused c = λ _. inr (
-  c.in-Ok.position.setup,
-  (c.in-Ok.ensures.read.0, c.in-Ok.ensures.read.2),
-  inr (
-    c.in-Ok-family_of.family,
-    c.in-Ok-family_of.ensures.0,
-    inr (
+returns-then-not-is_of_set-clause-refused c = λ _.
+    unfit (goal.at.returns-then-not-is_of_set-clause-refused c).In-Ok-family_of _ (inr (
       c.is_index_of.ensures.0 c.if-not-is_index_of.false,
       inr (
         c.is_allowed.ensures.0 c.if-not-is_allowed.false,
         λ of. both_ways _ c.if-not-is_of_set.true (c.is_of_set.ensures.1 of),
         c.number-then-not-is_of_set.ensures.number,
       ),
-    ),
-  ),
-)
+    ))

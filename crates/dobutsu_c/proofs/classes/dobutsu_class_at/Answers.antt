@@ -1,5 +1,5 @@
 -- The classes that were opened are the family's.
-use Rattle.dobutsu_c.proofs.Common.{◌∙◌, ◌≡◌, ap, arith, subst, Family, classes_of, AreClassesFrom}
+use Rattle.dobutsu_c.proofs.Common.{◌∙◌, ◌≡◌, ap, arith, classes_of}
 use Rattle.dobutsu_c.proofs.classes.dobutsu_class_at.Goals as goal
 
 pub returns-then-class_count-saturating_add-clause-none : goal.returns-then-class_count-saturating_add-clause-none
@@ -13,7 +13,4 @@ write_classes-requires c =
     omega (arith, c.class_count.ensures.number, c.class_count.ensures.bound, c.saturating_add.ensures, c.if-class_count-saturating_add.false)
 
 pub returns-clause-told : goal.returns-clause-told
-returns-clause-told c = λ none.
-    let family = c.in-Ok.family in
-    let from = subst (λ (f : Family). AreClassesFrom f c.args.first c.write_classes.new.positions) c.in-Ok-open.ensures.family c.write_classes.ensures in
-    (family, c.in-Ok.ensures.0, from)
+returns-clause-told c = λ none. (c.in-Ok.family, c.in-Ok.ensures.0, rw c.in-Ok-open.ensures.family at c.write_classes.ensures)

@@ -1,5 +1,5 @@
 -- Behind the last name there is none.
-use Rattle.dobutsu_c.proofs.Common.{◌≤◌, [], arith, sym, ℕ, names}
+use Rattle.dobutsu_c.proofs.Common.{◌≤◌, [], arith, sym, names}
 use Rattle.std.proofs.Math.ListN.{get_or-eq_default}
 use Rattle.dobutsu_c.proofs.fault_names.name_of.Goals as goal
 

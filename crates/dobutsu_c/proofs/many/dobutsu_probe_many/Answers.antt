@@ -1,6 +1,6 @@
 -- Each text is read from where the one before ended, and its answer stays.
-use Rattle.dobutsu_c.proofs.Common.{◌-◌, ◌<◌, ◌∙◌, ◌≡◌, List, ap, arith, drop, get_or, length, refl, slice_set, subst, sym, take, ℕ, get_or_default, length-set}
-use Rattle.dobutsu_c.proofs.Common.{IsAnswer, start_at, text_at, DobutsuAnswer, Numbering}
+use Rattle.dobutsu_c.proofs.Common.{◌-◌, ◌<◌, ◌∙◌, ◌≡◌, List, ap, arith, drop, get_or, length, refl, subst, sym, take, ℕ, get_or_default, length-set}
+use Rattle.dobutsu_c.proofs.Common.{IsAnswer, text_at, DobutsuAnswer, Numbering}
 use Rattle.dobutsu_c.specs.declared.numbering.Numbering.TheVariants as numbering
 use Rattle.dobutsu_c.proofs.Answered.{begins_next, one_written, others_left}
 use Rattle.dobutsu_c.proofs.many.dobutsu_probe_many.Goals as goal

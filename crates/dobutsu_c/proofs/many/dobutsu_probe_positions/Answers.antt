@@ -1,5 +1,5 @@
 -- Each position's answer stays.
-use Rattle.dobutsu_c.proofs.Common.{◌<◌, ◌∙◌, ◌≡◌, ◌≤◌, List, arith, get_or, length, subst, ℕ, length-set, IsAnswerAt, DobutsuAnswer, Numbering}
+use Rattle.dobutsu_c.proofs.Common.{◌<◌, ◌∙◌, arith, get_or, length, ℕ, length-set, IsAnswerAt, DobutsuAnswer, Numbering}
 use Rattle.dobutsu_c.proofs.Common.{DobutsuPosition}
 use Rattle.dobutsu_c.specs.declared.numbering.Numbering.TheVariants as numbering
 use Rattle.dobutsu_c.proofs.Answered.{one_written, others_left, read_there}

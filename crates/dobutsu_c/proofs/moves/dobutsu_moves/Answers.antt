@@ -1,5 +1,5 @@
 -- The answer is the moves that were listed, or the one fault.
-use Rattle.dobutsu_c.proofs.Common.{List, rules, subst, ValuedMove, AreWritten, Numbering}
+use Rattle.dobutsu_c.proofs.Common.{rules}
 use Rattle.dobutsu_c.specs.declared.numbering.Numbering.TheVariants as numbering
 use Rattle.dobutsu_c.proofs.ByFile.{moves_right}
 use Rattle.dobutsu_c.proofs.Indexed.{all_counted}
@@ -10,7 +10,7 @@ pub returns-in-Ok-clause-moves : goal.returns-in-Ok-clause-moves
 returns-in-Ok-clause-moves c = λ none. (
   c.in-Ok.list.items,
   moves_told c.args.file.now c.args.text.now numbering.Counted c.in-Ok.list.items (all_counted c.args.file.now) c.in-Ok.ensures.told,
-  subst (λ (list : List ValuedMove). AreWritten list c.args.moves.now c.write_moves.new.places) c.deref.ensures.value c.write_moves.ensures,
+  rw c.deref.ensures.value at c.write_moves.ensures,
   search rules,
 )
 
@@ -19,7 +19,7 @@ returns-in-Ok-clause-right c = λ table setup is right named none. (
   c.in-Ok.list.items,
   moves_right c.args.file.now c.args.text.now table setup c.in-Ok.list.items is right named
       (moves_told c.args.file.now c.args.text.now numbering.Counted c.in-Ok.list.items (all_counted c.args.file.now) c.in-Ok.ensures.told),
-  subst (λ (list : List ValuedMove). AreWritten list c.args.moves.now c.write_moves.new.places) c.deref.ensures.value c.write_moves.ensures,
+  rw c.deref.ensures.value at c.write_moves.ensures,
   search rules,
 )
 

@@ -1,19 +1,13 @@
 -- Each move is later than those listed, and its value is given to the position that it leads to.
-use Rattle.dobutsu_c.proofs.Common.{AllPairs, List, refl, subst, sym, move_goes, AreOfFirst, before_next, none_first, none_ordered, one_more, ComesBefore}
-use Rattle.dobutsu_c.proofs.Common.{ValuedMove, IsGivenBy}
+use Rattle.dobutsu_c.proofs.Common.{refl, move_goes, before_next, none_first, none_ordered, one_more, ValuedMove, IsGivenBy}
 use Rattle.std.proofs.lemmas.Option.{slice_get_read}
-use Rattle.dobutsu_c.proofs.IndexedMoves.{AreListedBy, all_listed, more_listed, none_listed}
+use Rattle.dobutsu_c.proofs.IndexedMoves.{all_listed, more_listed, none_listed}
 use Rattle.dobutsu_c.proofs.moves_by.moves_in_order.Goals as goal
 
-pub value_after-requires-clause-open : goal.value_after-requires-clause-open
-value_after-requires-clause-open c =
-    (move_goes c.args.asked.held.family.profile c.args.asked.position.setup c.args.legal.now c.loop-played.played-index c.played-item.result
-    c.requires.legal c.loop-played-test.true c.played-item.is).0
-
-pub value_after-requires-clause-can_go : goal.value_after-requires-clause-can_go
-value_after-requires-clause-can_go c =
-    (move_goes c.args.asked.held.family.profile c.args.asked.position.setup c.args.legal.now c.loop-played.played-index c.played-item.result
-    c.requires.legal c.loop-played-test.true c.played-item.is).1
+pub value_after-requires-clause-played : goal.value_after-requires-clause-played
+value_after-requires-clause-played c =
+    move_goes c.args.asked.held.family.profile c.args.asked.position.setup c.args.legal.now c.loop-played.played-index c.played-item.result
+    c.requires.legal c.loop-played-test.true c.played-item.is
 
 pub insert_by_value-requires-clause-later : goal.insert_by_value-requires-clause-later
 insert_by_value-requires-clause-later c =
@@ -24,13 +18,12 @@ insert_by_value-requires-clause-later c =
 pub loop-played-init : goal.loop-played-init
 loop-played-init c =
     let held = c.args.asked.held in
-    let Has = IsGivenBy c.args.file.now c.args.by held.format held.family held.classes in
-    record {
-      ordered = subst (AllPairs ComesBefore) (sym c.new-list.ensures.items) none_ordered;
-      first = subst (AreOfFirst c.args.legal.now 0) (sym c.new-list.ensures.items) (none_first c.args.legal.now);
-      listed = subst (λ (xs : List ValuedMove). AreListedBy held.family.profile Has c.args.asked.position.setup c.args.legal.now 0 xs)
-          (sym c.new-list.ensures.items) (none_listed held.family.profile Has c.args.asked.position.setup c.args.legal.now);
-    }
+    rw c.new-list.ensures.items (record {
+      ordered = none_ordered;
+      first = none_first c.args.legal.now;
+      listed = none_listed held.family.profile (IsGivenBy c.args.file.now c.args.by held.format held.family held.classes) c.args.asked.position.setup
+          c.args.legal.now;
+    })
 
 pub loop-played-preserved : goal.loop-played-preserved
 loop-played-preserved c =

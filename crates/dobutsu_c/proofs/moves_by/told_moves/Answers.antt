@@ -1,7 +1,6 @@
 -- The moves were listed, or the numbers lead outside of the file, or memory ran out.
 use Rattle.std.proofs.Common.{refl, inl, inr}
 use Rattle.dobutsu_c.specs.declared.by_index.ByFault.TheVariants as fault
-use Rattle.dobutsu_c.proofs.IndexedMoves.{none_of, told_of}
 use Rattle.dobutsu_c.proofs.moves_by.told_moves.Goals as goal
 
 pub returns-in-Ok-Some-clause-told : goal.returns-in-Ok-Some-clause-told
@@ -12,7 +11,7 @@ returns-in-Ok-Some-clause-told c =
       held.classes,
       c.in-Ok.asked.position.setup,
       c.in-Ok.ensures,
-      told_of c.in-Ok-Some.field-0 c.in-Ok-Some.list _ _ c.in-Ok-Some.field-0-is c.in-Ok-Some.ensures,
+      rw c.in-Ok-Some.field-0-is at c.in-Ok-Some.ensures,
     )
 
 pub returns-in-Ok-None-clause-told : goal.returns-in-Ok-None-clause-told
@@ -25,7 +24,7 @@ returns-in-Ok-None-clause-told c =
         c.in-Ok.asked.position.setup,
         c.in-Ok.ensures.named,
         inr (
-          none_of c.in-Ok-None.field-0 _ _ c.in-Ok-None.field-0-is c.in-Ok-None.ensures,
+          rw c.in-Ok-None.field-0-is at c.in-Ok-None.ensures,
           inr (held.classes, c.in-Ok.ensures.held, c.in-Ok.ensures.member),
         ),
       ),

@@ -1,8 +1,7 @@
 -- The classes are those of the certificate's family.
-use Rattle.dobutsu_c.proofs.Common.{◌≡◌, Err, None, Some, rules, subst, Family, content}
+use Rattle.dobutsu_c.proofs.Common.{◌≡◌, Err, rules, subst, Family}
 use Rattle.dob_certificate.specs.declared.refusal.Refusal.TheVariants as refusal
 use Rattle.dob_certificate.specs.Lost.{SupportsAllLost}
-use Rattle.dob_certify.specs.Replies.{IsReply, IsRight}
 use Rattle.dobutsu_c.proofs.Replied.{unsupported_by, no_claim}
 use Rattle.dobutsu_c.proofs.replies.reply_of.Goals as goal
 
@@ -10,31 +9,20 @@ pub reply_to-requires-clause-supported : goal.reply_to-requires-clause-supported
 reply_to-requires-clause-supported c = c.in-Ok-check_list.ensures
 
 pub returns-in-Ok-Some : goal.returns-in-Ok-Some
-returns-in-Ok-Some c =
-    let said = content c.args.certificate.now in
-    let setup = c.args.position.now.setup in
-    let found = c.in-Ok-Some.found in
-    record {
-      member = c.requires;
-      supported = subst (λ (family : Family). SupportsAllLost family said.lost) c.in-Ok.ensures.family c.in-Ok-check_list.ensures;
-      reply = subst (λ (family : Family). IsReply family said.lost setup (Some found)) c.in-Ok.ensures.family
-          (subst (IsReply c.in-Ok.classes.family said.lost setup) c.in-Ok-Some.field-0-is c.in-Ok-Some.ensures.reply);
-      right = subst (λ (family : Family). IsRight family.profile setup (Some found)) c.in-Ok.ensures.family
-          (subst (IsRight c.in-Ok.classes.family.profile setup) c.in-Ok-Some.field-0-is c.in-Ok-Some.ensures.right);
-    }
+returns-in-Ok-Some c = record {
+  member = c.requires;
+  supported = rw c.in-Ok.ensures.family at c.in-Ok-check_list.ensures;
+  reply = rw (c.in-Ok.ensures.family, c.in-Ok-Some.field-0-is) at c.in-Ok-Some.ensures.reply;
+  right = rw (c.in-Ok.ensures.family, c.in-Ok-Some.field-0-is) at c.in-Ok-Some.ensures.right;
+}
 
 pub returns-in-Ok-None : goal.returns-in-Ok-None
-returns-in-Ok-None c =
-    let said = content c.args.certificate.now in
-    let setup = c.args.position.now.setup in
-    record {
-      member = c.requires;
-      supported = subst (λ (family : Family). SupportsAllLost family said.lost) c.in-Ok.ensures.family c.in-Ok-check_list.ensures;
-      reply = subst (λ (family : Family). IsReply family said.lost setup None) c.in-Ok.ensures.family
-          (subst (IsReply c.in-Ok.classes.family said.lost setup) c.in-Ok-None.field-0-is c.in-Ok-None.ensures.reply);
-      right = subst (λ (family : Family). IsRight family.profile setup None) c.in-Ok.ensures.family
-          (subst (IsRight c.in-Ok.classes.family.profile setup) c.in-Ok-None.field-0-is c.in-Ok-None.ensures.right);
-    }
+returns-in-Ok-None c = record {
+  member = c.requires;
+  supported = rw c.in-Ok.ensures.family at c.in-Ok-check_list.ensures;
+  reply = rw (c.in-Ok.ensures.family, c.in-Ok-None.field-0-is) at c.in-Ok-None.ensures.reply;
+  right = rw (c.in-Ok.ensures.family, c.in-Ok-None.field-0-is) at c.in-Ok-None.ensures.right;
+}
 
 pub returns-in-Err-Unsupported : goal.returns-in-Err-Unsupported
 returns-in-Err-Unsupported c =

@@ -1,25 +1,27 @@
 -- The move is one of the list of all.
-use Rattle.dobutsu_c.proofs.Common.{Contains, List, subst, sym, can_go, Move, Open}
+use Rattle.dobutsu_c.proofs.Common.{Contains, List, subst, sym, can_go, CanGo, Move, Open}
+use Rattle.dob_moves.specs.Statuses.{HasStatus}
 use Rattle.dob_moves.proofs.ProfileMoves.{goes_there, status_there}
 use Rattle.dobutsu_c.proofs.steps.dobutsu_make.Goals as goal
+use Rattle.dobutsu_c.proofs.steps.dobutsu_make.Goals.{In-Some}
+
+is_move : (c : In-Some) → HasStatus c.in-Ok.asked.family.profile c.in-Ok.asked.position.setup Open
+    × CanGo c.in-Ok.asked.family.profile c.in-Ok.asked.position.setup c.in-Some.played
+is_move c = c.in-Ok-moves.ensures.sound c.in-Some.played (rw c.deref.ensures.value at c.in-Some.ensures.0)
 
 pub apply-requires-clause-open : goal.apply-requires-clause-open
 apply-requires-clause-open c =
     let asked = c.in-Ok.asked in
-    let there = subst (λ (list : List Move). Contains list c.in-Some.played) c.deref.ensures.value c.in-Some.ensures.0 in
-    status_there asked.family.profile asked.position.setup Open asked.position.legal (c.in-Ok-moves.ensures.sound c.in-Some.played there).0
+    status_there asked.family.profile asked.position.setup Open asked.position.legal (is_move (goal.at.apply-requires-clause-open c).In-Some).0
 
 pub apply-requires-clause-can_go : goal.apply-requires-clause-can_go
 apply-requires-clause-can_go c =
-    let asked = c.in-Ok.asked in
-    let there = subst (λ (list : List Move). Contains list c.in-Some.played) c.deref.ensures.value c.in-Some.ensures.0 in
-    can_go asked.family.profile asked.position.setup c.in-Some.played (c.in-Ok-moves.ensures.sound c.in-Some.played there).1
+    can_go c.in-Ok.asked.family.profile c.in-Ok.asked.position.setup c.in-Some.played (is_move (goal.at.apply-requires-clause-can_go c).In-Some).1
 
 pub returns-in-Some-clause-told : goal.returns-in-Some-clause-told
 returns-in-Some-clause-told c = λ none.
     let asked = c.in-Ok.asked in
-    let there = subst (λ (list : List Move). Contains list c.in-Some.played) c.deref.ensures.value c.in-Some.ensures.0 in
-    let found = c.in-Ok-moves.ensures.sound c.in-Some.played there in (
+    let found = is_move (goal.at.returns-in-Some-clause-told c).In-Some in (
       asked.family,
       asked.position.setup,
       c.in-Some.played,

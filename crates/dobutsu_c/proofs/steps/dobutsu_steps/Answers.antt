@@ -1,5 +1,5 @@
 -- The list that is written is the one that was made.
-use Rattle.dobutsu_c.proofs.Common.{List, rules, subst, Move, AreWrittenSteps}
+use Rattle.dobutsu_c.proofs.Common.{rules}
 use Rattle.dobutsu_c.proofs.steps.dobutsu_steps.Goals as goal
 
 pub returns-in-Ok-steps_of-clause-told : goal.returns-in-Ok-steps_of-clause-told
@@ -10,6 +10,6 @@ returns-in-Ok-steps_of-clause-told c = λ none.
       c.in-Ok-steps_of.list.items,
       c.in-Ok.ensures,
       c.in-Ok-steps_of.ensures,
-      subst (λ (list : List Move). AreWrittenSteps list c.args.steps.now c.write_steps.new.places) c.deref.ensures.value c.write_steps.ensures,
+      rw c.deref.ensures.value at c.write_steps.ensures,
       search rules,
     )

@@ -1,18 +1,15 @@
 -- The one move of the place decides.
 use Rattle.dobutsu_web.proofs.Common.{said_yes, IsSaidHeld, entries_in}
-use Rattle.dobutsu_web.proofs.NoMoves.{each_at, none_each}
+use Rattle.dobutsu_web.proofs.NoMoves.{none_each, each_at}
 use Rattle.dobutsu_web.proofs.held.is_held_at.Goals as goal
 
 pub returns-in-Some : goal.returns-in-Some
 returns-in-Some c =
-    let listed = c.args.listed.now in
-    let p = c.args.position.now in
-    each_at listed.family.profile p.setup p.legal.squares c.args.place (IsSaidHeld listed.family (entries_in listed) c.args.plies) c.in-Some.reply
-    c.after.result.setup c.in-Some.ensures.1 c.in-Some.ensures.2 c.after.ensures.goes c.after.ensures.alone c.is_said_held.result c.is_said_held.ensures
+    each_at _ _ c.args.position.now.legal.squares _ (IsSaidHeld c.args.listed.now.family (entries_in c.args.listed.now) c.args.plies)
+    c.in-Some.reply c.outcome_of.result.setup c.in-Some.ensures.1 c.in-Some.ensures.2 c.outcome_of.ensures.goes c.outcome_of.ensures.alone
+    c.is_said_held.result c.is_said_held.ensures
 
 pub returns-in-None : goal.returns-in-None
 returns-in-None c =
-    let listed = c.args.listed.now in
-    let p = c.args.position.now in
-    said_yes (none_each listed.family.profile p.setup p.legal.squares c.args.place (IsSaidHeld listed.family (entries_in listed) c.args.plies)
+    said_yes (none_each _ _ c.args.position.now.legal.squares _ (IsSaidHeld c.args.listed.now.family (entries_in c.args.listed.now) c.args.plies)
     c.requires.goes_on c.in-None.ensures)

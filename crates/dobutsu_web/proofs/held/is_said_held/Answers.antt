@@ -1,12 +1,11 @@
 -- By the status: where the game goes on, the list says it.
-use Rattle.dobutsu_web.proofs.Common.{inl, Caught, of_status, over_by, said_held_over, said_no, said_yes, entries_in}
+use Rattle.dobutsu_web.proofs.Common.{said_held_caught, said_held_over, entries_in}
 use Rattle.dobutsu_web.proofs.held.is_said_held.Goals as goal
 
 pub returns-in-Caught : goal.returns-in-Caught
-returns-in-Caught c = said_yes (inl (of_status c.args.listed.now.family.profile c.args.position.now.setup _ Caught c.in-Caught.is c.status.ensures))
+returns-in-Caught c =
+    said_held_caught c.args.listed.now.family (entries_in c.args.listed.now) c.args.plies c.args.position.now.setup c.in-Caught.is c.status.ensures
 
 pub returns-in-Tried : goal.returns-in-Tried
 returns-in-Tried c =
-    let listed = c.args.listed.now in
-    let setup = c.args.position.now.setup in
-    said_no (said_held_over listed.family (entries_in listed) c.args.plies setup (over_by listed.family.profile setup _ c.in-Tried.is c.status.ensures))
+    said_held_over c.args.listed.now.family (entries_in c.args.listed.now) c.args.plies c.args.position.now.setup c.in-Tried.is c.status.ensures

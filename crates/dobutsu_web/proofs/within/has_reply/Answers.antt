@@ -1,6 +1,6 @@
 -- The reply that was found is a move, and where no place has one none is.
-use Rattle.dobutsu_web.proofs.Common.{arith, refl, rules, ℕ, place, not_so, said_no, said_yes, IsSaidLost, SomeAt, entries_in}
-use Rattle.dobutsu_web.proofs.NoMoves.{one_more, place_below}
+use Rattle.dobutsu_web.proofs.Common.{rules, ℕ, not_so, said_no, said_yes, IsSaidLost, SomeAt, entries_in}
+use Rattle.dobutsu_web.proofs.NoMoves.{none_leads, one_more}
 use Rattle.dobutsu_web.proofs.within.has_reply.Goals as goal
 
 pub loop-place-preserved : goal.loop-place-preserved
@@ -16,12 +16,5 @@ returns-then-is_reply_at c =
 
 pub returns : goal.returns
 returns c = said_no (λ found.
-    let p = c.args.position.now in
-    let below = place_below c.args.listed.now.family.profile p.setup p.legal.squares found.reply (found.outcome, found.goes) in
-    c.loop-place.invariant (place found.reply) (omega (arith, below, c.loop-place-test.false)) (record {
-      move = found.reply;
-      outcome = found.outcome;
-      stands = refl;
-      goes = found.goes;
-      fits = found.said;
-    }))
+    none_leads c.args.listed.now.family.profile c.args.position.now.setup c.args.position.now.legal.squares _ c.loop-place.place
+    c.loop-place-test.false c.loop-place.invariant found.reply found.outcome found.goes found.said)
