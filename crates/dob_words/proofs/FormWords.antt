@@ -7,8 +7,8 @@ use Rattle.dob_words.proofs.Common.{asked, asks, at_end, behind, between, call, 
 use Rattle.dob_words.proofs.Common.{label_of, meaning_of_form, name_in, named_part, once, option, placed, text, text_behind, texts_of, unknown, usage, valued}
 use Rattle.dob_words.proofs.Common.{version, wanted, wants}
 use Rattle.clap.specs.Walk.{rows_after, value as a_value, is_pending, with_default, Held, Row, Rule, Waiting, Walk, arg_by_id, arg_by_index, arg_by_long}
-use Rattle.clap.specs.Walk.{arg_by_short, finished, idle, next_position, nothing_held, option as waits_for, positional as several, settled, settled_rows}
-use Rattle.clap.specs.Walk.{subcommand_met, walk_from, walked}
+use Rattle.clap.specs.Walk.{arg_by_short, finished, idle, next_position, nothing_held, option as waits_for, settled, settled_rows}
+use Rattle.clap.specs.Walk.{subcommand_met, walked}
 use Rattle.clap.specs.Faults.{check_fault, defaults_fault, level_fault, settle_fault, step_fault, turn_fault, walk_fault}
 use Rattle.clap.specs.declared.error.kind.ErrorKind.TheVariants as kind
 use Rattle.dob_words.specs.Forms.{Form, is_among, labels}

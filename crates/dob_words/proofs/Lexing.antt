@@ -1,7 +1,7 @@
 -- What `clap`'s lexer makes of a word, by the word's first bytes.
 use Rattle.dob_words.proofs.Common.{◌+◌, ◌∙◌, ◌∷◌, ◌≡◌, Bool, None, Option, Some, [], ap, arith, codes, false, refl, subst, suc, sym, take, true, true≢false, ℕ}
 use Rattle.dob_words.proofs.Common.{or-false, false_from_ne_true, Decides-eqb, bytes_eq-Decides, before_first, option_map_or, is_some, not, slice_get, bytes_eq, chars, has_byte}
-use Rattle.dob_words.proofs.Common.{long_of, short_of, Text, flag_of, is_help_flag, is_text}
+use Rattle.dob_words.proofs.Common.{long_of, Text, flag_of, is_help_flag, is_text}
 use Rattle.std.proofs.Common.{◌==◌, ◌||◌}
 
 -- the first bytes of a word

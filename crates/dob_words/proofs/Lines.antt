@@ -5,7 +5,7 @@ use Rattle.dob_words.proofs.Common.{option_map_or, ◌&&◌, ◌==◌, ◌||◌,
 use Rattle.dob_words.proofs.Common.{IsFit, Given, Meaning, Part, Stand, after_dashes, after_part, after_word, asked, asks, at_end, behind, between, call}
 use Rattle.dob_words.proofs.Common.{dashes, ended, fits, flag, has_topic, help, is_clear, is_dashes, is_help_flag, is_text, kept, label_of, meaning_of}
 use Rattle.dob_words.proofs.Common.{meaning_of_command, meaning_of_form, meaning_of_other, meaning_of_topic, name_in, named_part, option, part_named, placed}
-use Rattle.dob_words.proofs.Common.{settled, takes_lines, text, text_behind, texts_of, unknown, usage, valued, version, wanted, wants, writes_stream, Reading}
+use Rattle.dob_words.proofs.Common.{settled, takes_lines, text, text_behind, texts_of, unknown, usage, valued, version, wants, writes_stream, Reading}
 use Rattle.dob_words.specs.Forms.{is_among, is_needed, Form, Text, forms, labels, no_form}
 use Rattle.dob_words.specs.Lines.{AreNew, Behind, Gives, IsAmong, IsCommandLine, by_dashes, by_flag, by_option, by_place, by_value, next, none, nothing}
 use Rattle.dob_words.specs.Readings.{ComesFromLine, SomeLine}

@@ -1,16 +1,16 @@
 -- The texts of a subcommand, from its own matches, which form's matches they are, and the row of its name.
 use Rattle.dob_words.proofs.Common.{◌∙◌, ◌∷◌, ◌≡◌, Bool, List, None, Option, Some, [], ap, ap₂, arith, codes, false, inl, inr, length, map, refl, rules, subst}
 use Rattle.dob_words.proofs.Common.{suc, sym, true, true≢false, ℕ, Ok-from_Ok_iff, bytes_eq-Decides, Bor, list_any, option_map, unwrap_or, bytes_eq}
-use Rattle.dob_words.proofs.Common.{first_value-rows, first_of, subcommand_rows_of, IsReadFor, AreFit, Finds, HasFit, IsFit, IsMet, IsMetBySome, IsNamed}
+use Rattle.dob_words.proofs.Common.{first_value-rows, first_of, subcommand_rows_of, IsReadFor, AreFit, Finds, HasFit, IsMet, IsMetBySome, IsNamed}
 use Rattle.dob_words.proofs.Common.{ReadRow, texts_in, asks, cleared, is_number, number_in, settled, Order}
-use Rattle.std.proofs.Common.{◌<◌, zero, ◌||◌, is_some}
+use Rattle.std.proofs.Common.{◌<◌, zero, ◌||◌}
 use Rattle.std.specs.Prelude.{Err, get_or, is_err, Result}
 use Rattle.std.specs.Str.Parse.{ParsesUnsigned}
 use Rattle.clap.specs.Words.{Row, first_value, found_of, rows_of, subcommand_name_of}
 use Rattle.clap.specs.declared.parser.ArgMatches.{ArgMatches}
 use Rattle.clap.specs.declared.builder.value_parser.ValueParser.TheVariants.{Unsigned}
 use Rattle.clap.proofs.ValueTestLemmas.{accepts-Accepts}
-use Rattle.dob_words.specs.Forms.{Form, Text, form_named, forms, is_needed, labels}
+use Rattle.dob_words.specs.Forms.{Form, Text, form_named, forms, labels}
 use Rattle.dob_words.specs.Lines.{IsAmong}
 use Rattle.dob_words.specs.Readings.{AreNamed, IsFlaggedBy, IsOneOf, form_for, name_of, subcommand_asked, texts_asked}
 use Rattle.dob_words.specs.declared.command.orders.Asked.{Asked}

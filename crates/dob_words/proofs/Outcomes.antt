@@ -1,7 +1,7 @@
 -- What the matches and the errors of the program's command come to.
-use Rattle.dob_words.proofs.Common.{◌∙◌, ◌∷◌, ◌≡◌, Bool, List, Option, [], ap, false, inl, inr, refl, subst, sym, true, true≢false, not-true, both, App}
-use Rattle.dob_words.proofs.Common.{false_from_ne_true, app_of, subcommand_rows_of, IsReadFor, IsReadingOf, AreProfiles, Finds, IsMet, IsMetBySome, ProfileNames, dobutsu_app, Meaning}
-use Rattle.dob_words.proofs.Common.{asks, help, is_topic, is_version, meaning_of, meaning_of_command, meaning_of_topic, settled, usage, version, Reading, Order}
+use Rattle.dob_words.proofs.Common.{◌∙◌, ◌∷◌, ◌≡◌, Bool, List, Option, [], ap, false, inl, inr, refl, subst, sym, true, true≢false, not-true, both}
+use Rattle.dob_words.proofs.Common.{false_from_ne_true, app_of, subcommand_rows_of, IsReadFor, IsReadingOf, Finds, IsMet, dobutsu_app, Meaning}
+use Rattle.dob_words.proofs.Common.{asks, help, is_topic, is_version, meaning_of, meaning_of_command, settled, usage, version, Reading, Order}
 use Rattle.std.proofs.Common.{◌⊎◌, not}
 use Rattle.clap.specs.Words.{HasKind, IsAmong, Kinds, Row, fault_of, is_simple, is_simple_and_free, kind_of, subcommand_of}
 use Rattle.clap.specs.declared.Error.{Error}
@@ -12,7 +12,7 @@ use Rattle.clap.specs.declared.error.ErrorKind.TheVariants as kind
 use Rattle.clap.specs.declared.parser.ArgMatches.{ArgMatches}
 use Rattle.dob_words.specs.Forms.{Form, Text, forms}
 use Rattle.dob_words.specs.Lines.{IsAmong as IsAmongForms}
-use Rattle.dob_words.specs.Readings.{IsOrder, IsReadingOfKind}
+use Rattle.dob_words.specs.Readings.{IsReadingOfKind}
 use Rattle.dob_words.specs.declared.command.Reading.TheVariants as reading
 use Rattle.dob_words.proofs.Turns.{is_help_kind, is_usage, no_help_kind}
 use Rattle.dob_words.proofs.AllWords.{Fits, topic_kinds, words_fit}
