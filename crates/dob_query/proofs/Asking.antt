@@ -1,14 +1,11 @@
 -- The faults of the records, of the header and of opening the file are those of asking it, and by the file of a value table the answer is right.
-use Rattle.dob_query.proofs.Common.{◌≡◌, ◌⊎◌, List, inl, inr, subst, sym, ℕ, Err, IfOk, Ok, Result, Family, Profile, Setup, IsPositionOf, ClassTable, HasValue}
-use Rattle.dob_query.proofs.Common.{Value, Stream, whole, CountsClasses, Format, IsRefusal, IsRecorded, ShelfChange, ShelfFault, AnswersOver, Ending}
-use Rattle.dob_query.proofs.Common.{IsAnswered, fault_of_shelf, AnswersQuestionRight, AreAnswerLines, AreRightAnswerLines, GivesWhole, IsAnswerOf, IsAskFault}
-use Rattle.dob_query.proofs.Common.{IsAskingFault, IsFaultOfAsking, IsOfNamed, IsRecordsFault, IsToldBy, TellsMoves, TellsPlay, HasValueFile, IsTextOf, Fault}
-use Rattle.dob_query.proofs.Common.{Certificate, File, Io, Memory, PuzzlePlies, Run, SetText, Table, Text, TooDeep, Question, Best, Draw, Line, LineObject}
+use Rattle.dob_query.proofs.Common.{◌≡◌, List, inr, subst, sym, ℕ, Err, IfOk, Ok, Result, Family, Profile, Setup, ClassTable, HasValue}
+use Rattle.dob_query.proofs.Common.{Value, Stream, whole, CountsClasses, Format, IsRefusal, IsRecorded, ShelfChange, AnswersOver, Ending}
+use Rattle.dob_query.proofs.Common.{IsAnswered, AnswersQuestionRight, AreAnswerLines, AreRightAnswerLines, IsAnswerOf, IsAskFault}
+use Rattle.dob_query.proofs.Common.{IsAskingFault, IsFaultOfAsking, IsOfNamed, IsRecordsFault, IsToldBy, HasValueFile, IsTextOf, Fault}
+use Rattle.dob_query.proofs.Common.{File, Memory, Table, Text, Question, Best}
 use Rattle.dob_query.proofs.Common.{Look, Moves, MovesObject, ValueObject}
 use Rattle.dob_moves.specs.declared.game_move.Move.{Move as GameMove}
-use Rattle.dob_dbfile.specs.declared.fault.Fault as file
-use Rattle.dob_dbfile.specs.declared.fault.Fault.TheVariants as file_fault
-use Rattle.dob_dbfile.specs.Looking.{HasFrontFault}
 use Rattle.dob_dbfile.proofs.Looked.{table_family}
 use Rattle.dob_probe.specs.Lines.{GivenBy, IsLine}
 use Rattle.dob_probe.specs.ValuedMoves.{AreValuedMoves}
@@ -18,8 +15,7 @@ use Rattle.dob_probe.specs.declared.fault.Fault.TheVariants as table_fault
 use Rattle.dob_probe.proofs.Best.{lines_are_best}
 use Rattle.dob_probe.proofs.ByValue.{valued_rightly}
 use Rattle.dob_records.proofs.Tabled.{given_by_record, line_by, listed_by, record_of_given}
-use Rattle.dob_shelf.specs.declared.shelf.ShelfFault.TheVariants as shelf_fault
-use Rattle.dob_query.proofs.TableFaults.{is_shut, over_weaker}
+use Rattle.dob_query.proofs.TableFaults.{over_weaker}
 
 -- what each of the bytes that a file may have gives of an Ok value, all of them give of it
 pub ok_each : {T E : Type 0} (Has : List ℕ → Type 0) (P : List ℕ → T → Type 0) (result : Result T E) → ((bytes : List ℕ) → Has bytes → IfOk result (P bytes))

@@ -3,7 +3,7 @@ use Rattle.dob_query.proofs.Common.{◌++◌, ◌||◌, ◌∙◌, ◌∷◌, �
 use Rattle.dob_query.proofs.Common.{sym, true, ℕ, or-false, Err, IfErr, Ok, OnOk, Result, is_err, Profile, ClassTable, Value, Change, Puts, SinkState, Stops}
 use Rattle.dob_query.proofs.Common.{change, FailsWhere, ShelfChange, AnswersEachRight, AreEachLines, IsAnswer, IsEachFault, IsGivenTo, answer_line, Ending}
 use Rattle.dob_query.proofs.Common.{is_io, IsValueOf, HasValueFile, IsFileOf, IsOpeningFault, AnswersLines, AreAllLines, EndsLines, HearsLine, PutsText}
-use Rattle.dob_query.proofs.Common.{TellsOf, TellsSome, Told, Fault, Certificate, File, Io, Memory, PuzzlePlies, Run, SetText, Table, Text, TooDeep}
+use Rattle.dob_query.proofs.Common.{TellsOf, TellsSome, Told, Fault, File, Io, Memory}
 use Rattle.std.proofs.Common.{append_assoc}
 use Rattle.std.proofs.lemmas.Grind.{flat_map-append}
 use Rattle.std.proofs.lemmas.List.Folds.{concat-append, list_any-append}

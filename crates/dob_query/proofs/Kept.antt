@@ -1,9 +1,9 @@
 -- What is told of a table, the lines of its counts; and what files are kept that were filled.
-use Rattle.dob_query.proofs.Common.{◌++◌, ◌||◌, ◌∙◌, ◌∷◌, ◌≡◌, Bool, List, None, Option, Some, [], ap, codes, false, inl, inr, length, refl, subst, sym, true}
+use Rattle.dob_query.proofs.Common.{◌++◌, ◌||◌, ◌∙◌, ◌∷◌, ◌≡◌, Bool, List, None, Option, Some, [], ap, codes, false, inl, inr, length, refl, subst, sym}
 use Rattle.dob_query.proofs.Common.{ℕ, or-false, decimal, Err, IsTrue, Ok, Result, String, Value, Change, others_chain, others_kept, Files, HasJust, SameFiles}
 use Rattle.dob_query.proofs.Common.{SameOthers, ShelfChange, ShelfState, is_failed, shelf_change, ShelfFault, IsAnswered, fault_of_shelf, is_io, FillsSink}
-use Rattle.dob_query.proofs.Common.{IsShelfFault, IsTally, KeepsFilled, LeavesFiles, class_lines, count_line, Fault, Certificate, File, Io, Memory, PuzzlePlies}
-use Rattle.dob_query.proofs.Common.{Run, SetText, Table, Text, TooDeep, Tally}
+use Rattle.dob_query.proofs.Common.{IsShelfFault, IsTally, KeepsFilled, LeavesFiles, class_lines, count_line, Fault, Io, Memory}
+use Rattle.dob_query.proofs.Common.{Tally}
 use Rattle.std.proofs.Common.{append_assoc}
 use Rattle.std.specs.Prelude.{string_bytes}
 use Rattle.std.specs.Io.KnownBytes.{Appends}

@@ -1,13 +1,13 @@
 -- The faults of reading a file, of making a certificate and of keeping its bytes are those of certifying.
 use Rattle.dob_query.proofs.Common.{◌∙◌, ◌≡◌, Bool, List, false, inl, inr, refl, subst, sym, ℕ, Err, IsTrue, Ok, Result, String, Setup, ClassTable, Change}
 use Rattle.dob_query.proofs.Common.{Content, HasJust, SameFiles, ShelfChange, ShelfState, is_io, AreThese, FillsSink, IsShelfFault, LeavesFiles, IsFileOf}
-use Rattle.dob_query.proofs.Common.{IsOpeningFault, IsTextOf, Fault, Certificate, File, Io, Memory, PuzzlePlies, Run, SetText, Table, Text, TooDeep}
+use Rattle.dob_query.proofs.Common.{IsOpeningFault, IsTextOf, Fault, Certificate, File, Io, Memory, Table}
 use Rattle.std.specs.Prelude.{string_bytes}
 use Rattle.dob_certfile.specs.Format.{bytes_of}
 use Rattle.dob_certify.specs.declared.fault.Fault as making
 use Rattle.dob_certify.specs.declared.fault.Fault.TheVariants as making_fault
 use Rattle.dob_certify.specs.Faults.{IsFault}
-use Rattle.dob_query.specs.declared.certificate_fault.CertificateFault.TheVariants.{Defect, Unproved, TooMany, Unfit, Unlisted}
+use Rattle.dob_query.specs.declared.certificate_fault.CertificateFault.TheVariants.{Unproved, TooMany, Unfit}
 use Rattle.dob_query.specs.Certificates.{AreCertifyLines, AreMade, IsCertifyFault, IsSaidOf, IsTableMakingFault, IsUnfit, fault_of_making, made_lines}
 use Rattle.dob_query.proofs.Kept.{AreKept, of_shelf_fault, same_chain}
 

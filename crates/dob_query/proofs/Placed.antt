@@ -1,15 +1,15 @@
 -- What the lines of standard input come to by the records of a source is what is owed for asking for each, and right by the file of a value table.
-use Rattle.dob_query.proofs.Common.{◌∙◌, ◌≡◌, Bool, List, Option, ap, false, inl, inr, refl, subst, sym, true, true≢false, ℕ, Err, IfErr, IfOk, Ok, Result}
+use Rattle.dob_query.proofs.Common.{◌∙◌, ◌≡◌, Bool, List, Option, ap, inl, inr, refl, subst, sym, true, true≢false, ℕ, Err, IfErr, IfOk, Ok, Result}
 use Rattle.dob_query.proofs.Common.{String, is_err, Family, Profile, Setup, IsPositionOf, Stream, whole, CountsClasses, Format, IsRefusal, IsRecorded}
-use Rattle.dob_query.proofs.Common.{ShelfChange, Ending, is_io_error, GivesWhole, IsRecordsFault, IsToldBy, LacksFor, HasValueFile, IsTextOf, AnswersLines}
-use Rattle.dob_query.proofs.Common.{EndsLines, Fault, Certificate, File, Io, Memory, PuzzlePlies, Run, SetText, Table, Text, TooDeep, Question, Best, Draw}
-use Rattle.dob_query.proofs.Common.{Line, LineObject, Look, Moves, MovesObject, ValueObject}
+use Rattle.dob_query.proofs.Common.{ShelfChange, Ending, GivesWhole, IsRecordsFault, IsToldBy, LacksFor, HasValueFile, IsTextOf, AnswersLines}
+use Rattle.dob_query.proofs.Common.{EndsLines, Fault, File, Io, Memory, Table, Text, Question}
+use Rattle.dob_query.proofs.Common.{Look, ValueObject}
 use Rattle.std.specs.Prelude.{string_bytes}
 use Rattle.dob_probe.specs.declared.fault.Fault as probing
 use Rattle.dob_dbfile.specs.declared.fault.Fault.TheVariants as file_fault
 use Rattle.dob_probe.specs.declared.fault.Fault.TheVariants as table_fault
 use Rattle.dob_query.specs.QuestionsEach.{AnswersLine, AnswersLineRight, AnswersQuestionEachRight, ArePlaceLines, EndsRecords, GivesRecordAnswer, IsPlaceAnswer}
-use Rattle.dob_query.specs.QuestionsEach.{IsPlacesFault, IsRecordAnswer, IsRecordEnd, TellsRecords, bytes_of, end_of, ended_lines, ends_all, ends_all_in}
+use Rattle.dob_query.specs.QuestionsEach.{IsPlacesFault, IsRecordAnswer, IsRecordEnd, TellsRecords, end_of, ended_lines, ends_all}
 use Rattle.dob_query.proofs.Asking.{answer_right}
 use Rattle.dob_query.proofs.EachLine.{lines_weaker, tells_are}
 

@@ -1,15 +1,13 @@
 -- The faults of reading a certificate and of its lists are those of verifying it, of making one, and of asking one for a reply.
-use Rattle.dob_query.proofs.Common.{◌||◌, ◌∙◌, ◌≡◌, ◌⊎◌, Bool, List, false, inl, inr, refl, subst, sym, ℕ, Err, IfErr, IfOk, IsTrue, Ok, Result, String, Setup}
-use Rattle.dob_query.proofs.Common.{Content, HasCertFault, FailsWhere, ShelfChange, ShelfFault, fault_of_shelf, is_io, IsShut, IsTextOf, Fault, Certificate}
-use Rattle.dob_query.proofs.Common.{File, Io, Memory, PuzzlePlies, Run, SetText, Table, Text, TooDeep}
+use Rattle.dob_query.proofs.Common.{◌||◌, ◌≡◌, ◌⊎◌, Bool, List, false, inl, inr, subst, ℕ, Err, IfErr, IfOk, Ok, Result, String, Setup}
+use Rattle.dob_query.proofs.Common.{Content, HasCertFault, FailsWhere, ShelfChange, ShelfFault, fault_of_shelf, is_io, IsTextOf, Fault, Certificate}
+use Rattle.dob_query.proofs.Common.{File, Io, Memory, Text}
 use Rattle.std.specs.Prelude.{string_bytes}
-use Rattle.dob_certificate.specs.declared.refusal.Refusal.{Refusal}
-use Rattle.dob_certificate.specs.declared.refusal.Refusal.TheVariants as refusal
 use Rattle.dob_certfile.specs.declared.defect.Defect.{Defect as AnyDefect}
 use Rattle.dob_certfile.specs.declared.defect.ReadFault.{ReadFault}
 use Rattle.dob_certfile.specs.declared.defect.ReadFault.TheVariants as reading
-use Rattle.dob_query.specs.declared.certificate_fault.CertificateFault.TheVariants.{Defect, Unproved, TooMany, Unfit, Unlisted}
-use Rattle.dob_query.specs.Certificates.{AreBytes, GivesVerify, IsBytesFault, IsCertificateFile, IsDisproved, IsReadingFault, IsVerdict, IsVerdictFault}
+use Rattle.dob_query.specs.declared.certificate_fault.CertificateFault.TheVariants.{Unproved}
+use Rattle.dob_query.specs.Certificates.{AreBytes, GivesVerify, IsBytesFault, IsCertificateFile, IsReadingFault, IsVerdict, IsVerdictFault}
 use Rattle.dob_query.specs.Certificates.{IsVerifyFault, fault_of_reading}
 use Rattle.dob_query.specs.Replying.{GivesReply, IsReplyFault, IsReplyFaultOf, IsToldReply}
 use Rattle.dob_query.proofs.TableFaults.{is_shut}

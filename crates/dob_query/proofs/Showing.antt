@@ -1,8 +1,7 @@
 -- The faults of drawing a position, and of keeping its picture, are those of showing it.
-use Rattle.dob_query.proofs.Common.{List, None, Option, Some, inr, refl, ℕ, Setup, Files, SameFiles, ShelfChange, ShelfState, IsShelfFault, IsAskingFault}
-use Rattle.dob_query.proofs.Common.{IsDrawingFault, IsFaultBy, IsShowFault, IsTextOf, Fault, Certificate, File, Io, Memory, PuzzlePlies, Run, SetText, Table}
-use Rattle.dob_query.proofs.Common.{Text, TooDeep, Draw}
-use Rattle.dob_text.specs.declared.fault.TextFault.{TextFault}
+use Rattle.dob_query.proofs.Common.{List, Option, Some, inr, refl, ℕ, Setup, Files, SameFiles, ShelfChange, ShelfState, IsShelfFault, IsAskingFault}
+use Rattle.dob_query.proofs.Common.{IsDrawingFault, IsShowFault, IsTextOf, Fault, Memory}
+use Rattle.dob_query.proofs.Common.{Draw}
 use Rattle.dob_query.proofs.Kept.{of_shelf_fault, same_chain}
 
 -- ---- a fault of the file

@@ -2,7 +2,7 @@
 use Rattle.dob_query.proofs.Common.{◌||◌, ◌≡◌, Bool, List, false, inl, inr, subst, ℕ, Err, Profile, Setup, ClassTable, IsValueTable, HasValue, Value}
 use Rattle.dob_query.proofs.Common.{IsFaultOfCheck, IsRefusal, FailsWhere, ShelfChange, is_failed, ShelfFault, IsGivenTo, Answers, AnswersOver, Ending}
 use Rattle.dob_query.proofs.Common.{fault_of_shelf, is_io, IsValueLineOf, IsValueOf, HasValueFile, IsFileOf, IsOpeningFault, IsPositionFault, IsShut, IsTextOf}
-use Rattle.dob_query.proofs.Common.{Fault, Certificate, File, Io, Memory, PuzzlePlies, Run, SetText, Table, Text, TooDeep}
+use Rattle.dob_query.proofs.Common.{Fault, File, Io, Memory, Table}
 use Rattle.dob_pieces.specs.Profiles.{IsAllowed}
 use Rattle.dob_dbfile.proofs.Written.{same_files}
 use Rattle.dob_probe.specs.declared.fault.Fault as probing

@@ -1,5 +1,5 @@
 -- The table is the file's, and the position one of its family.
-use Rattle.dob_query.proofs.Common.{refl, subst, sym, err_from_is_err_and, IsPositionOf, class_number, IsRefusal}
+use Rattle.dob_query.proofs.Common.{subst, sym, err_from_is_err_and, IsPositionOf, class_number, IsRefusal}
 use Rattle.dob_reach.specs.Reached.{AreReachedFrom}
 use Rattle.dob_query.proofs.TableFaults.{refusal_holds}
 use Rattle.dob_query.proofs.reaches.by_file.Goals as goal
