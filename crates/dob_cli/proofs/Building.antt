@@ -6,11 +6,11 @@ use Rattle.dob_safra.specs.Laws.{IsSize}
 use Rattle.dob_pieces.specs.declared.piece_set.PieceSet.{PieceSet}
 use Rattle.dob_pieces.specs.Sets.{set_text}
 use Rattle.dob_pieces.specs.declared.profile.Family.{Family}
-use Rattle.dob_value.specs.Follows.{ClassTable, IsValueTable}
+use Rattle.dob_value.specs.Follows.{IsValueTable}
 use Rattle.dob_run.specs.declared.built_table.Built.{Built}
 use Rattle.dob_run.specs.Built.{IsBuilt}
 use Rattle.dob_run.specs.Faults.{AreWithin}
-use Rattle.dob_query.specs.declared.fault.Fault.TheVariants.{Text, SetText, TooDeep, Run, File, Table, PuzzlePlies, Certificate, Memory, Io}
+use Rattle.dob_query.specs.declared.fault.Fault.TheVariants.{Run, File, Memory}
 use Rattle.dob_cli.specs.Builds.{AreBuildLines, AreBuilt, AreNodes, HasNoBuild, IsBuildFault, IsTableFor, IsUnbuilt}
 use Rattle.dob_query.specs.Keeping.{AreThese, FillsSink, IsShelfFault, IsWritingFault, LeavesFiles, class_lines}
 use Rattle.dob_query.proofs.Kept.{AreKept, of_shelf_fault, same_chain}

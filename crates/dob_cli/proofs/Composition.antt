@@ -7,8 +7,7 @@ use Rattle.dob_dbfile.specs.declared.fault.Fault.TheVariants as file_fault
 use Rattle.dob_probe.specs.declared.fault.Fault.TheVariants as table_fault
 use Rattle.dob_certificate.specs.declared.refusal.Refusal.TheVariants as refusal
 use Rattle.dob_query.specs.declared.certificate_fault.CertificateFault.TheVariants as certificate_fault
-use Rattle.dob_query.specs.declared.fault.Fault.TheVariants as fault
-use Rattle.dob_query.specs.declared.fault.Fault.TheVariants.{SetText, TooDeep, Run, File, Table, PuzzlePlies, Certificate, Memory, Io}
+use Rattle.dob_query.specs.declared.fault.Fault.TheVariants.{Run, File, Table, Certificate, Memory, Io}
 use Rattle.dob_query.specs.Faults.{status_of}
 use Rattle.dob_words.specs.declared.command.Reading.TheVariants as reading
 use Rattle.dob_cli.specs.Laws.{BuildThenProbe, WordsAreAnswered}

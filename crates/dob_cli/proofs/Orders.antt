@@ -1,12 +1,11 @@
 -- What is owed for an order is right by a value table's file, and is owed for the words that ask for it.
-use Rattle.dob_cli.proofs.Common.{◌∙◌, ◌∷◌, ◌≡◌, Bool, List, None, Option, Some, [], ap, codes, false, inl, inr, option_map, refl, subst, sym, true, true≢false}
+use Rattle.dob_cli.proofs.Common.{◌∙◌, ◌∷◌, ◌≡◌, List, None, Option, Some, [], ap, codes, false, option_map, refl, subst, sym, true≢false}
 use Rattle.dob_cli.proofs.Common.{ℕ, Profile, Text, IsOrder, number_in, profile_named, Order, EachLine, Lines, ShelfChange, AnswersOver, Ending, AnswersValue}
 use Rattle.dob_cli.proofs.Common.{AnswersProbe, AnswersLines, AnswersBuild}
 use Rattle.std.specs.Borrow.{Bor}
 use Rattle.std.specs.Str.{bytes_eq}
 use Rattle.std.proofs.lemmas.Slice.Eq.{bytes_eq-Decides}
-use Rattle.dob_words.specs.Readings.{name_of, name_of_order, subcommand_asked, text_given}
-use Rattle.dob_words.specs.declared.command.orders.Asked.{Asked}
+use Rattle.dob_words.specs.Readings.{name_of_order, text_given}
 use Rattle.dob_words.specs.declared.command.orders.Asked.TheVariants as ask
 use Rattle.dob_words.specs.declared.command.orders.LinesOrder.{LinesOrder}
 use Rattle.dob_words.specs.declared.command.orders.LinesOrder.TheVariants.{Ask, Build, Puzzles, Reach, Show, Stats, Value, Zugzwangs}

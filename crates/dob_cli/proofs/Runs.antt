@@ -1,5 +1,5 @@
 -- From what the program does with what it read to what it owes for the words.
-use Rattle.dob_cli.proofs.Common.{◌||◌, ◌∙◌, ◌∷◌, ◌≡◌, Bool, List, [], ap, false, inl, inr, refl, subst, sym, true, ℕ, Err, Change, IsSame, IsUntouched, Says}
+use Rattle.dob_cli.proofs.Common.{◌∙◌, ◌∷◌, ◌≡◌, Bool, List, [], ap, inl, inr, refl, subst, sym, ℕ, Err, Change, IsSame, IsUntouched, Says}
 use Rattle.dob_cli.proofs.Common.{SinkState, change, Text, IsReadingOf, meaning_of, Reading, Order, EachLine, Lines, unchanged, ShelfChange, ShelfState}
 use Rattle.dob_cli.proofs.Common.{shelf_change, AnswersOver, Ending, TellsOneFault, AnswersLines, PutsAll, PutsText, StopsText, TellsOver, Fault}
 use Rattle.dob_query.specs.declared.fault.Fault.TheVariants.{Io}
