@@ -6,11 +6,11 @@ use Rattle.dob_safra.specs.Laws.{IsSize}
 use Rattle.dob_pieces.specs.declared.piece_set.PieceSet.{PieceSet}
 use Rattle.dob_pieces.specs.Sets.{set_text}
 use Rattle.dob_pieces.specs.declared.profile.Family.{Family}
-use Rattle.dob_value.specs.Follows.{ClassTable, IsValueTable}
+use Rattle.dob_value.specs.Follows.{IsValueTable}
 use Rattle.dob_run.specs.declared.built_table.Built.{Built}
 use Rattle.dob_run.specs.Built.{IsBuilt}
 use Rattle.dob_run.specs.Faults.{AreWithin}
-use Rattle.dob_query.specs.declared.fault.Fault.TheVariants.{Text, SetText, TooDeep, Run, File, Table, PuzzlePlies, Certificate, Memory, Io}
+use Rattle.dob_query.specs.declared.fault.Fault.TheVariants.{Run, File, Memory}
 use Rattle.dob_cli.specs.Builds.{AreBuildLines, AreBuilt, AreNodes, HasNoBuild, IsBuildFault, IsTableFor, IsUnbuilt}
 use Rattle.dob_query.specs.Keeping.{AreThese, FillsSink, IsShelfFault, IsWritingFault, LeavesFiles, class_lines}
 use Rattle.dob_query.proofs.Kept.{AreKept, of_shelf_fault, same_chain}
@@ -37,13 +37,7 @@ module _ (profile : Profile) (text : List ℕ) (set : PieceSet) (named : text �
   unbuilt (Run f) holds = (set, named, nodes, asked, holds)
   unbuilt (File f) holds = (holds.0.table, table_for profile text set number nodes 64 holds.0 named asked holds.1 holds.2, holds.3)
   unbuilt Memory holds = tt
-  unbuilt Io holds = absurd holds
-  unbuilt (Text f) holds = absurd holds
-  unbuilt SetText holds = absurd holds
-  unbuilt TooDeep holds = absurd holds
-  unbuilt PuzzlePlies holds = absurd holds
-  unbuilt (Certificate f) holds = absurd holds
-  unbuilt (Table f) holds = absurd holds
+  unbuilt fault holds = absurd holds
 
   -- so is why it wasn't kept
   pub unkept : (fault : Fault) → IsShelfFault fault → HasNoBuild profile text number fault
@@ -82,12 +76,4 @@ built_fills family nodes built is within told (Err fault) c fills = record { who
   where
     unwritten : (fault : Fault) → IsWritingFault built.table fault → IsUnbuilt family nodes fault
     unwritten (File f) holds = (built, is, within, holds)
-    unwritten (Run f) holds = absurd holds
-    unwritten Memory holds = absurd holds
-    unwritten Io holds = absurd holds
-    unwritten (Text f) holds = absurd holds
-    unwritten SetText holds = absurd holds
-    unwritten TooDeep holds = absurd holds
-    unwritten PuzzlePlies holds = absurd holds
-    unwritten (Certificate f) holds = absurd holds
-    unwritten (Table f) holds = absurd holds
+    unwritten fault holds = absurd holds

@@ -7,8 +7,7 @@ use Rattle.dob_dbfile.specs.declared.fault.Fault.TheVariants as file_fault
 use Rattle.dob_probe.specs.declared.fault.Fault.TheVariants as table_fault
 use Rattle.dob_certificate.specs.declared.refusal.Refusal.TheVariants as refusal
 use Rattle.dob_query.specs.declared.certificate_fault.CertificateFault.TheVariants as certificate_fault
-use Rattle.dob_query.specs.declared.fault.Fault.TheVariants as fault
-use Rattle.dob_query.specs.declared.fault.Fault.TheVariants.{SetText, TooDeep, Run, File, Table, PuzzlePlies, Certificate, Memory, Io}
+use Rattle.dob_query.specs.declared.fault.Fault.TheVariants.{Run, File, Table, Certificate, Memory, Io}
 use Rattle.dob_query.specs.Faults.{status_of}
 use Rattle.dob_words.specs.declared.command.Reading.TheVariants as reading
 use Rattle.dob_cli.specs.Laws.{BuildThenProbe, WordsAreAnswered}
@@ -18,36 +17,11 @@ use Rattle.dob_cli.proofs.Orders.{done_build, done_probe, done_value, probe_told
 
 -- no fault has the status of what is done
 not_done : (fault : Fault) → status_of fault ≡ 0 → ⊥
-not_done (fault.Text f) e = omega (arith, e)
-not_done SetText e = omega (arith, e)
-not_done TooDeep e = omega (arith, e)
 not_done (Run run_fault.Nodes) e = omega (arith, e)
-not_done (Run run_fault.Sizes) e = omega (arith, e)
-not_done (Run (run_fault.Stopped node why)) e = omega (arith, e)
-not_done (Run run_fault.Memory) e = omega (arith, e)
 not_done (File file_fault.Truncated) e = omega (arith, e)
-not_done (File file_fault.Magic) e = omega (arith, e)
-not_done (File file_fault.SetByte) e = omega (arith, e)
-not_done (File file_fault.ClassCount) e = omega (arith, e)
-not_done (File file_fault.Trailing) e = omega (arith, e)
-not_done (File file_fault.Digest) e = omega (arith, e)
-not_done (File file_fault.Memory) e = omega (arith, e)
-not_done (File (file_fault.Io count)) e = omega (arith, e)
-not_done (File file_fault.ProfileByte) e = omega (arith, e)
 not_done (Table table_fault.FarChick) e = omega (arith, e)
-not_done (Table table_fault.OtherSet) e = omega (arith, e)
-not_done (Table (table_fault.Inconsistent class)) e = omega (arith, e)
-not_done (Table table_fault.Memory) e = omega (arith, e)
-not_done PuzzlePlies e = omega (arith, e)
-not_done (Certificate (certificate_fault.Defect defect)) e = omega (arith, e)
 not_done (Certificate (certificate_fault.Unproved refusal.Memory)) e = omega (arith, e)
-not_done (Certificate (certificate_fault.Unproved (refusal.Unsupported class))) e = omega (arith, e)
-not_done (Certificate (certificate_fault.Unproved refusal.Claim)) e = omega (arith, e)
-not_done (Certificate (certificate_fault.TooMany most)) e = omega (arith, e)
-not_done (Certificate certificate_fault.Unfit) e = omega (arith, e)
-not_done (Certificate certificate_fault.Unlisted) e = omega (arith, e)
-not_done Memory e = omega (arith, e)
-not_done Io e = omega (arith, e)
+not_done fault e = omega (arith, e)
 
 no_fault_told : (fault : Fault) (status : ℕ) (err : Change) → TellsOneFault fault status err → status ≡ 0 → ⊥
 no_fault_told fault status err (inl told) done = not_done fault (sym told.0 ∙ done)

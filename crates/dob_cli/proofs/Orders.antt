@@ -1,12 +1,11 @@
 -- What is owed for an order is right by a value table's file, and is owed for the words that ask for it.
-use Rattle.dob_cli.proofs.Common.{◌∙◌, ◌∷◌, ◌≡◌, Bool, List, None, Option, Some, [], ap, codes, false, inl, inr, option_map, refl, subst, sym, true, true≢false}
+use Rattle.dob_cli.proofs.Common.{◌∙◌, ◌∷◌, ◌≡◌, List, None, Option, Some, [], ap, codes, false, option_map, refl, subst, sym, true≢false}
 use Rattle.dob_cli.proofs.Common.{ℕ, Profile, Text, IsOrder, number_in, profile_named, Order, EachLine, Lines, ShelfChange, AnswersOver, Ending, AnswersValue}
 use Rattle.dob_cli.proofs.Common.{AnswersProbe, AnswersLines, AnswersBuild}
 use Rattle.std.specs.Borrow.{Bor}
 use Rattle.std.specs.Str.{bytes_eq}
 use Rattle.std.proofs.lemmas.Slice.Eq.{bytes_eq-Decides}
-use Rattle.dob_words.specs.Readings.{name_of, name_of_order, subcommand_asked, text_given}
-use Rattle.dob_words.specs.declared.command.orders.Asked.{Asked}
+use Rattle.dob_words.specs.Readings.{name_of_order, text_given}
 use Rattle.dob_words.specs.declared.command.orders.Asked.TheVariants as ask
 use Rattle.dob_words.specs.declared.command.orders.LinesOrder.{LinesOrder}
 use Rattle.dob_words.specs.declared.command.orders.LinesOrder.TheVariants.{Ask, Build, Puzzles, Reach, Show, Stats, Value, Zugzwangs}
@@ -54,21 +53,6 @@ module _ (c : ShelfChange) (e : Ending) where
 differs : (a b : Text) → bytes_eq a b ≡ false → a ≡ b → ⊥
 differs a b other e = true≢false (sym ((bytes_eq-Decides a b).1 e) ∙ other)
 
--- what is asked of a position has no such name
-asked_is_no_value : (a : Asked) → bytes_eq (name_of (subcommand_asked a)) (codes "value") ≡ false
-asked_is_no_value ask.Probe = refl
-asked_is_no_value (ask.Look j) = refl
-asked_is_no_value (ask.Moves j) = refl
-asked_is_no_value ask.Best = refl
-asked_is_no_value (ask.Line n j) = refl
-
-asked_is_no_build : (a : Asked) → bytes_eq (name_of (subcommand_asked a)) (codes "build") ≡ false
-asked_is_no_build ask.Probe = refl
-asked_is_no_build (ask.Look j) = refl
-asked_is_no_build (ask.Moves j) = refl
-asked_is_no_build ask.Best = refl
-asked_is_no_build (ask.Line n j) = refl
-
 -- the texts of lists of one shape
 value_texts : (x a : Option Text) (y b : Text) → x ∷ Some y ∷ [] ≡ a ∷ Some b ∷ [] → (x ≡ a) × (y ≡ b)
 value_texts x a y b e = (cc, cc)
@@ -90,8 +74,8 @@ module _ (c : ShelfChange) (e : Ending) where
       let same = value_texts is.1.0 rules t.now text is.1.1 in
       subst (λ (x : Profile). AnswersValue c x text e) (is.1.2 ∙ ap profile_named same.0)
       (subst (λ (x : Text). AnswersValue c p x e) same.1 answers)
-  done_value rules text (Lines (Ask f a t)) is answers = absurd (differs (name_of (subcommand_asked a)) (codes "value") (asked_is_no_value a) is.0)
-  done_value rules text (EachLine f a) is answers = absurd (differs (name_of (subcommand_asked a)) (codes "value") (asked_is_no_value a) is.0)
+  done_value rules text (Lines (Ask f ask.Probe t)) is answers = absurd (differs (codes "probe") (codes "value") refl is.0)
+  done_value rules text (EachLine f ask.Probe) is answers = absurd (differs (codes "probe") (codes "value") refl is.0)
   done_value rules text o is answers = absurd (differs (name_of_order o) (codes "value") refl is.0)
 
   pub done_build : (rules : Option Text) (set : Text) (nodes : Option Text) (file : Text) (progress : Option Text) (o : Order)
@@ -103,10 +87,8 @@ module _ (c : ShelfChange) (e : Ending) where
       (subst (λ (x : Text). AnswersBuild c b.profile x (option_map number_in nodes) file e) same.0
       (subst (λ (x : Text). AnswersBuild c b.profile b.set.now (option_map number_in nodes) x e) same.2
       (subst (λ (x : Option ℕ). AnswersBuild c b.profile b.set.now x b.file.now e) (is.1.5 ∙ ap (option_map number_in) same.1) answers)))
-  done_build rules set nodes file progress (Lines (Ask f a t)) is answers =
-      absurd (differs (name_of (subcommand_asked a)) (codes "build") (asked_is_no_build a) is.0)
-  done_build rules set nodes file progress (EachLine f a) is answers =
-      absurd (differs (name_of (subcommand_asked a)) (codes "build") (asked_is_no_build a) is.0)
+  done_build rules set nodes file progress (Lines (Ask f ask.Probe t)) is answers = absurd (differs (codes "probe") (codes "build") refl is.0)
+  done_build rules set nodes file progress (EachLine f ask.Probe) is answers = absurd (differs (codes "probe") (codes "build") refl is.0)
   done_build rules set nodes file progress o is answers = absurd (differs (name_of_order o) (codes "build") refl is.0)
 
   -- the order to probe

@@ -1,5 +1,5 @@
 -- From what the program does with what it read to what it owes for the words.
-use Rattle.dob_cli.proofs.Common.{◌||◌, ◌∙◌, ◌∷◌, ◌≡◌, Bool, List, [], ap, false, inl, inr, refl, subst, true, ℕ, Err, Change, IsSame, IsUntouched, Says}
+use Rattle.dob_cli.proofs.Common.{◌∙◌, ◌∷◌, ◌≡◌, Bool, List, [], ap, inl, inr, refl, subst, sym, ℕ, Err, Change, IsSame, IsUntouched, Says}
 use Rattle.dob_cli.proofs.Common.{SinkState, change, Text, IsReadingOf, meaning_of, Reading, Order, EachLine, Lines, unchanged, ShelfChange, ShelfState}
 use Rattle.dob_cli.proofs.Common.{shelf_change, AnswersOver, Ending, TellsOneFault, AnswersLines, PutsAll, PutsText, StopsText, TellsOver, Fault}
 use Rattle.dob_query.specs.declared.fault.Fault.TheVariants.{Io}
@@ -7,6 +7,7 @@ use Rattle.dob_words.specs.declared.command.Reading.TheVariants as reading
 use Rattle.dob_query.specs.Endings.{AnswersHelp, AnswersUsage, AnswersVersion, Tells, TellsMemory, version_line}
 use Rattle.dob_cli.specs.Orders.{AnswersOrder, AreEachAsked, AreLinesFor, IsEachAskedFault, IsFaultFor, KeepsFiles, question_of}
 use Rattle.dob_cli.specs.Runs.{Does, LeavesShelf, Ran}
+use Rattle.std.proofs.Math.Bool.{or-false}
 use Rattle.dob_cli.proofs.Orders.{order_right}
 
 -- ---- the streams are those that they were
@@ -97,11 +98,6 @@ module _ (c : ShelfChange) (words : List Text) (e : Ending) where
 pub ran_on : (c : ShelfChange) (given words : List Text) (e : Ending) → given ≡ words → Ran c given e → Ran c words e
 ran_on c given words e same done = subst (λ ws. Ran c ws e) same done
 
--- no call failed where nothing is called
-pub none_failed : (failed : Bool) → failed ≡ (failed || false)
-none_failed true = refl
-none_failed false = refl
-
--- nor is anything else done with the shelf
+-- where nothing is called no call failed, nor is anything else done with the shelf
 pub leaves : (shelf : ShelfState) → LeavesShelf (shelf_change shelf shelf)
-leaves shelf = (unchanged shelf.has, none_failed shelf.has_failed, refl)
+leaves shelf = (unchanged shelf.has, sym (or-false shelf.has_failed), refl)

@@ -1,14 +1,11 @@
 -- The faults of the records, of the header and of opening the file are those of asking it, and by the file of a value table the answer is right.
-use Rattle.dob_query.proofs.Common.{◌≡◌, ◌⊎◌, List, inl, inr, subst, sym, ℕ, Err, IfOk, Ok, Result, Family, Profile, Setup, IsPositionOf, ClassTable, HasValue}
-use Rattle.dob_query.proofs.Common.{Value, Stream, whole, CountsClasses, Format, IsRefusal, IsRecorded, ShelfChange, ShelfFault, AnswersOver, Ending}
-use Rattle.dob_query.proofs.Common.{IsAnswered, fault_of_shelf, AnswersQuestionRight, AreAnswerLines, AreRightAnswerLines, GivesWhole, IsAnswerOf, IsAskFault}
-use Rattle.dob_query.proofs.Common.{IsAskingFault, IsFaultOfAsking, IsOfNamed, IsRecordsFault, IsToldBy, TellsMoves, TellsPlay, HasValueFile, IsTextOf, Fault}
-use Rattle.dob_query.proofs.Common.{Certificate, File, Io, Memory, PuzzlePlies, Run, SetText, Table, Text, TooDeep, Question, Best, Draw, Line, LineObject}
+use Rattle.dob_query.proofs.Common.{◌≡◌, List, inr, subst, sym, ℕ, Err, IfOk, Ok, Result, Family, Profile, Setup, ClassTable, HasValue}
+use Rattle.dob_query.proofs.Common.{Value, Stream, whole, CountsClasses, Format, IsRefusal, IsRecorded, ShelfChange, AnswersOver, Ending}
+use Rattle.dob_query.proofs.Common.{IsAnswered, AnswersQuestionRight, AreAnswerLines, AreRightAnswerLines, IsAnswerOf, IsAskFault}
+use Rattle.dob_query.proofs.Common.{IsAskingFault, IsFaultOfAsking, IsOfNamed, IsRecordsFault, IsToldBy, HasValueFile, IsTextOf, Fault}
+use Rattle.dob_query.proofs.Common.{File, Memory, Table, Text, Question, Best}
 use Rattle.dob_query.proofs.Common.{Look, Moves, MovesObject, ValueObject}
 use Rattle.dob_moves.specs.declared.game_move.Move.{Move as GameMove}
-use Rattle.dob_dbfile.specs.declared.fault.Fault as file
-use Rattle.dob_dbfile.specs.declared.fault.Fault.TheVariants as file_fault
-use Rattle.dob_dbfile.specs.Looking.{HasFrontFault}
 use Rattle.dob_dbfile.proofs.Looked.{table_family}
 use Rattle.dob_probe.specs.Lines.{GivenBy, IsLine}
 use Rattle.dob_probe.specs.ValuedMoves.{AreValuedMoves}
@@ -18,8 +15,7 @@ use Rattle.dob_probe.specs.declared.fault.Fault.TheVariants as table_fault
 use Rattle.dob_probe.proofs.Best.{lines_are_best}
 use Rattle.dob_probe.proofs.ByValue.{valued_rightly}
 use Rattle.dob_records.proofs.Tabled.{given_by_record, line_by, listed_by, record_of_given}
-use Rattle.dob_shelf.specs.declared.shelf.ShelfFault.TheVariants as shelf_fault
-use Rattle.dob_query.proofs.TableFaults.{is_shut, over_weaker}
+use Rattle.dob_query.proofs.TableFaults.{over_weaker}
 
 -- what each of the bytes that a file may have gives of an Ok value, all of them give of it
 pub ok_each : {T E : Type 0} (Has : List ℕ → Type 0) (P : List ℕ → T → Type 0) (result : Result T E) → ((bytes : List ℕ) → Has bytes → IfOk result (P bytes))
@@ -40,8 +36,7 @@ pub refusal_asks : (question : Question) (Gives : Stream → Type 0) (p : Setup)
     → IsRefusal family p fault → ((stream : Stream) → Gives stream → CountsClasses format family stream.bytes) → IsFaultOfAsking question Gives p (Table fault)
 refusal_asks question Gives p format family table_fault.FarChick refused names = λ stream known. (format, family, names stream known, refused)
 refusal_asks question Gives p format family table_fault.OtherSet refused names = λ stream known. (format, family, names stream known, refused)
-refusal_asks question Gives p format family (table_fault.Inconsistent class) refused names = absurd refused
-refusal_asks question Gives p format family table_fault.Memory refused names = absurd refused
+refusal_asks question Gives p format family fault refused names = absurd refused
 
 -- the records of a source that shows what it may give
 pub records_ask : (question : Question) (Gives Shows : Stream → Type 0) (p : Setup) (format : Format) (family : Family) (fault : Fault)
@@ -51,17 +46,8 @@ records_ask question Gives Shows p format family (File fault) named shows holds 
     λ stream known. inr (inr (format, family, named stream known, holds stream (shows stream known)))
 records_ask question Gives Shows p format family (Table (table_fault.Inconsistent class)) named shows holds =
     λ stream known. (format, family, named stream known, holds stream (shows stream known))
-records_ask question Gives Shows p format family (Table table_fault.FarChick) named shows holds = absurd holds
-records_ask question Gives Shows p format family (Table table_fault.OtherSet) named shows holds = absurd holds
-records_ask question Gives Shows p format family (Table table_fault.Memory) named shows holds = absurd holds
 records_ask question Gives Shows p format family Memory named shows holds = tt
-records_ask question Gives Shows p format family (Text fault) named shows holds = absurd holds
-records_ask question Gives Shows p format family SetText named shows holds = absurd holds
-records_ask question Gives Shows p format family TooDeep named shows holds = absurd holds
-records_ask question Gives Shows p format family PuzzlePlies named shows holds = absurd holds
-records_ask question Gives Shows p format family (Certificate fault) named shows holds = absurd holds
-records_ask question Gives Shows p format family (Run fault) named shows holds = absurd holds
-records_ask question Gives Shows p format family Io named shows holds = absurd holds
+records_ask question Gives Shows p format family fault named shows holds = absurd holds
 
 -- ---- faults of asking the file
 
@@ -70,32 +56,16 @@ module _ (question : Question) (Has : List ℕ → Type 0) (p : Setup) where
   pub source_asks : (Gives : Stream → Type 0) (fault : Fault) → ((bytes : List ℕ) → Has bytes → Gives (whole bytes)) → IsFaultOfAsking question Gives p fault
       → IsAskingFault question Has p fault
   source_asks Gives (File fault) gives holds = λ stream known. holds stream (subst Gives (sym known.2) (gives known.0 known.1))
-  source_asks Gives (Table table_fault.FarChick) gives holds = λ stream known. holds stream (subst Gives (sym known.2) (gives known.0 known.1))
-  source_asks Gives (Table table_fault.OtherSet) gives holds = λ stream known. holds stream (subst Gives (sym known.2) (gives known.0 known.1))
-  source_asks Gives (Table (table_fault.Inconsistent class)) gives holds =
-      λ stream known. holds stream (subst Gives (sym known.2) (gives known.0 known.1))
   source_asks Gives (Table table_fault.Memory) gives holds = absurd holds
+  source_asks Gives (Table fault) gives holds = λ stream known. holds stream (subst Gives (sym known.2) (gives known.0 known.1))
   source_asks Gives Memory gives holds = tt
-  source_asks Gives (Text fault) gives holds = absurd holds
-  source_asks Gives SetText gives holds = absurd holds
-  source_asks Gives TooDeep gives holds = absurd holds
-  source_asks Gives PuzzlePlies gives holds = absurd holds
-  source_asks Gives (Certificate fault) gives holds = absurd holds
-  source_asks Gives (Run fault) gives holds = absurd holds
-  source_asks Gives Io gives holds = absurd holds
+  source_asks Gives fault gives holds = absurd holds
 
   -- and of asking for the position of a text
   pub asks_for_text : (words : List ℕ) (fault : Fault) → IsTextOf words p → IsAskingFault question Has p fault → IsAskFault question Has words fault
-  asks_for_text words (File fault) named holds = (p, named, holds)
-  asks_for_text words (Table fault) named holds = (p, named, holds)
-  asks_for_text words Io named holds = (p, named, holds)
   asks_for_text words Memory named holds = tt
   asks_for_text words (Text fault) named holds = absurd holds
-  asks_for_text words SetText named holds = absurd holds
-  asks_for_text words TooDeep named holds = absurd holds
-  asks_for_text words PuzzlePlies named holds = absurd holds
-  asks_for_text words (Certificate fault) named holds = absurd holds
-  asks_for_text words (Run fault) named holds = absurd holds
+  asks_for_text words fault named holds = (p, named, holds)
 
 -- ---- by the file of a value table
 
@@ -134,11 +104,8 @@ module _ (Has : List ℕ → Type 0) (profile : Profile) (file : HasValueFile Ha
   told_right ValueObject format lines by told = (told.0, value_right format told.0 by told.1, told.2)
   told_right Moves format lines by told = (told.0, moves_right format told.0 by told.1, told.2)
   told_right Best format lines by told = (told.0, moves_right format told.0 by told.1, told.2)
-  told_right (Line is_numbered) format lines by told =
-      let right = play_right format told.0 told.1 by told.2 told.3 in (told.0, told.1, right.0, right.1, told.4)
   told_right MovesObject format lines by told = (told.0, moves_right format told.0 by told.1, told.2)
-  told_right LineObject format lines by told = let right = play_right format told.0 told.1 by told.2 told.3 in (told.0, told.1, right.0, right.1, told.4)
-  told_right Draw format lines by told = let right = play_right format told.0 told.1 by told.2 told.3 in (told.0, told.1, right.0, right.1, told.4)
+  told_right line format lines by told = let right = play_right format told.0 told.1 by told.2 told.3 in (told.0, told.1, right.0, right.1, told.4)
 
   pub answer_right : (question : Question) (lines : List ℕ) → ((bytes : List ℕ) → Has bytes → IsAnswerOf question (whole bytes) p lines)
       → IsToldBy question profile (HasValue profile) p lines

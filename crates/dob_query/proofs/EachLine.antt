@@ -3,9 +3,10 @@ use Rattle.dob_query.proofs.Common.{◌++◌, ◌||◌, ◌∙◌, ◌∷◌, �
 use Rattle.dob_query.proofs.Common.{sym, true, ℕ, or-false, Err, IfErr, Ok, OnOk, Result, is_err, Profile, ClassTable, Value, Change, Puts, SinkState, Stops}
 use Rattle.dob_query.proofs.Common.{change, FailsWhere, ShelfChange, AnswersEachRight, AreEachLines, IsAnswer, IsEachFault, IsGivenTo, answer_line, Ending}
 use Rattle.dob_query.proofs.Common.{is_io, IsValueOf, HasValueFile, IsFileOf, IsOpeningFault, AnswersLines, AreAllLines, EndsLines, HearsLine, PutsText}
-use Rattle.dob_query.proofs.Common.{TellsOf, TellsSome, Told, Fault, Certificate, File, Io, Memory, PuzzlePlies, Run, SetText, Table, Text, TooDeep}
+use Rattle.dob_query.proofs.Common.{TellsOf, TellsSome, Told, Fault, File, Io, Memory}
 use Rattle.std.proofs.Common.{append_assoc}
-use Rattle.std.proofs.lemmas.List.Folds.{concat-append}
+use Rattle.std.proofs.lemmas.Grind.{flat_map-append}
+use Rattle.std.proofs.lemmas.List.Folds.{concat-append, list_any-append}
 use Rattle.std.specs.List.{concat, list_any}
 use Rattle.std.specs.Str.Lines.{lines as lines_of}
 use Rattle.dob_query.specs.Telling.{AreAnswers, AreFirstLines, PutsAll, StopsText, TellsEach, TellsLinesOf, TellsOne, TellsOver, told_refused, told_text}
@@ -18,25 +19,16 @@ module _ (A : Type 0) (Is : List ℕ → A → Type 0) where
   are_more : (ls : List (List ℕ)) (xs : List A) (line : List ℕ) (answer : A) → AreAnswers Is ls xs → Is line answer
       → AreAnswers Is (ls ++ line ∷ []) (xs ++ answer ∷ [])
   are_more [] [] line answer are is = (is, tt)
-  are_more [] (a ∷ xs) line answer are is = absurd are
-  are_more (l ∷ ls) [] line answer are is = absurd are
   are_more (l ∷ ls) (a ∷ xs) line answer are is = (are.0, are_more ls xs line answer are.1 is)
+  are_more ls xs line answer are is = absurd are
 
 -- its lines come to the others
 lines_more : (A : Type 0) (tell : A → List ℕ) (xs : List A) (answer : A) → flat_map tell (xs ++ answer ∷ []) ≡ flat_map tell xs ++ tell answer
-lines_more A tell [] answer = append-nil (tell answer)
-lines_more A tell (a ∷ xs) answer =
-    ap (λ (l : List ℕ). tell a ++ l) (lines_more A tell xs answer) ∙ sym (append_assoc (tell a) (flat_map tell xs) (tell answer))
+lines_more A tell xs answer = flat_map-append tell xs (answer ∷ []) ∙ ap (λ (l : List ℕ). flat_map tell xs ++ l) (append-nil (tell answer))
 
 -- and that it is refused
 refused_more : (A : Type 0) (refuses : A → Bool) (xs : List A) (answer : A) → list_any refuses (xs ++ answer ∷ []) ≡ (list_any refuses xs || refuses answer)
-refused_more A refuses [] answer = or-false (refuses answer)
-refused_more A refuses (a ∷ xs) answer =
-    ap (λ (b : Bool). refuses a || b) (refused_more A refuses xs answer) ∙ either (refuses a) (list_any refuses xs) (refuses answer)
-  where
-    either : (x y z : Bool) → (x || (y || z)) ≡ ((x || y) || z)
-    either true y z = refl
-    either false y z = refl
+refused_more A refuses xs answer = list_any-append refuses xs (answer ∷ []) ∙ ap (λ (b : Bool). list_any refuses xs || b) (or-false (refuses answer))
 
 module _ (A : Type 0) (tell : A → List ℕ) (refuses : A → Bool) (Is : List ℕ → A → Type 0) where
   -- no line
@@ -101,93 +93,86 @@ module _ (Is : List ℕ → Told → Type 0) (input : Option (List ℕ)) (first 
     told = put_none first;
   }
 
-  module _ (left : Option (List ℕ)) (now : SinkState) (is_refused : Bool) (held : List ℕ) (heard : AreHeard Is input left first now is_refused held) where
-    -- a front of what was held is told
-    pub ahead_told : (next : SinkState) (was_refused : Bool) (front rest : List ℕ) → was_refused ≡ is_refused → PutsText (change now next) front
-        → held ≡ front ++ rest → AreHeard Is input left first next was_refused rest
-    ahead_told next was_refused front rest same put is = record {
-      lines = heard.lines;
-      split = heard.split;
-      text = heard.text ++ front;
-      right = subst (λ (b : Bool). TellsOf Is heard.lines b ((heard.text ++ front) ++ rest)) (sym same)
-          (subst (λ (l : List ℕ). TellsOf Is heard.lines is_refused l)
-          (ap (λ (l : List ℕ). heard.text ++ l) is ∙ sym (append_assoc heard.text front rest)) heard.right);
-      told = put_more first now next heard.text front heard.told put;
-    }
+module _ {Is : List ℕ → Told → Type 0} {input left : Option (List ℕ)} {first now : SinkState} {is_refused : Bool} {held : List ℕ}
+    (heard : AreHeard Is input left first now is_refused held) where
+  -- a front of what was held is told
+  pub ahead_told : (next : SinkState) (was_refused : Bool) (front rest : List ℕ) → was_refused ≡ is_refused → PutsText (change now next) front
+      → held ≡ front ++ rest → AreHeard Is input left first next was_refused rest
+  ahead_told next was_refused front rest same put is = record {
+    lines = heard.lines;
+    split = heard.split;
+    text = heard.text ++ front;
+    right = subst (λ (b : Bool). TellsOf Is heard.lines b ((heard.text ++ front) ++ rest)) (sym same)
+        (subst (λ (l : List ℕ). TellsOf Is heard.lines is_refused l)
+        (ap (λ (l : List ℕ). heard.text ++ l) is ∙ sym (append_assoc heard.text front rest)) heard.right);
+    told = put_more first now next heard.text front heard.told put;
+  }
 
-    -- a line more is heard
-    pub one_heard : (Other : List ℕ → Told → Type 0) (after : Option (List ℕ)) (new : Told) → ((line : List ℕ) (told : Told) → Other line told → Is line told)
-        → HearsLine Other left after (record { text = held; is_refused = is_refused }) new true → AreHeard Is input after first now new.is_refused new.text
-    one_heard Other after new weaker hears =
-        let line : List ℕ = hears.0 in
-        let one : Told = hears.1 in record {
-          lines = heard.lines ++ line ∷ [];
-          split = λ known is.
-              let was = heard.split known is in
-              let takes = hears.2 was.0 was.1 in (
-                takes.0,
-                takes.1,
-                was.2 ∙ ap (λ (l : List (List ℕ)). heard.lines ++ l) takes.2 ∙ sym (append_assoc heard.lines (line ∷ []) (lines_of takes.0)),
-              );
-          text = heard.text;
-          right = one_told Told told_text told_refused Is heard.lines line one is_refused new.is_refused (heard.text ++ held) (heard.text ++ new.text)
-              heard.right (weaker line one hears.3)
-              (ap (λ (l : List ℕ). heard.text ++ l) hears.4 ∙ sym (append_assoc heard.text held one.text)) hears.5;
-          told = heard.told;
-        }
+  -- a line more is heard
+  pub one_heard : (Other : List ℕ → Told → Type 0) (after : Option (List ℕ)) (new : Told) → ((line : List ℕ) (told : Told) → Other line told → Is line told)
+      → HearsLine Other left after (record { text = held; is_refused = is_refused }) new true → AreHeard Is input after first now new.is_refused new.text
+  one_heard Other after new weaker hears =
+      let line : List ℕ = hears.0 in
+      let one : Told = hears.1 in record {
+        lines = heard.lines ++ line ∷ [];
+        split = λ known is.
+            let was = heard.split known is in
+            let takes = hears.2 was.0 was.1 in (
+              takes.0,
+              takes.1,
+              was.2 ∙ ap (λ (l : List (List ℕ)). heard.lines ++ l) takes.2 ∙ sym (append_assoc heard.lines (line ∷ []) (lines_of takes.0)),
+            );
+        text = heard.text;
+        right = one_told Told told_text told_refused Is heard.lines line one is_refused new.is_refused (heard.text ++ held) (heard.text ++ new.text)
+            heard.right (weaker line one hears.3)
+            (ap (λ (l : List ℕ). heard.text ++ l) hears.4 ∙ sym (append_assoc heard.text held one.text)) hears.5;
+        told = heard.told;
+      }
 
-    -- at the end all lines were heard, and all that was held is told
-    pub all_told : (last : SinkState) → ((known : List ℕ) → left ≡ Some known → known ≡ []) → PutsText (change now last) held
-        → TellsSome (AreAllLines input) (TellsOf Is) is_refused (PutsText (change first last))
-    all_told last none put = record {
-      lines = heard.lines;
-      which = λ known is.
-          let was = heard.split known is in
-          sym (was.2 ∙ ap (λ (l : List ℕ). heard.lines ++ lines_of l) (none was.0 was.1) ∙ append-nil heard.lines);
-      text = heard.text ++ held;
-      right = heard.right;
-      told = put_more first now last heard.text held heard.told put;
-    }
+  -- at the end all lines were heard, and all that was held is told
+  pub all_told : (last : SinkState) → ((known : List ℕ) → left ≡ Some known → known ≡ []) → PutsText (change now last) held
+      → TellsSome (AreAllLines input) (TellsOf Is) is_refused (PutsText (change first last))
+  all_told last none put = record {
+    lines = heard.lines;
+    which = λ known is.
+        let was = heard.split known is in
+        sym (was.2 ∙ ap (λ (l : List ℕ). heard.lines ++ lines_of l) (none was.0 was.1) ∙ append-nil heard.lines);
+    text = heard.text ++ held;
+    right = heard.right;
+    told = put_more first now last heard.text held heard.told put;
+  }
 
-    -- where it ends before, the first lines were heard
-    pub first_stopped : (last : SinkState) → Stops (change now last) held → TellsSome (AreFirstLines input) (TellsOf Is) is_refused (StopsText (change first last))
-    first_stopped last stops = record {
-      lines = heard.lines;
-      which = λ known is. let was = heard.split known is in (lines_of was.0, was.2);
-      text = heard.text ++ held;
-      right = heard.right;
-      told = (heard.text, held, now, heard.told, stops, refl);
-    }
+  -- where it ends before, the first lines were heard
+  first_heard : {IsToldSo : List ℕ → Type 0} → IsToldSo (heard.text ++ held) → TellsSome (AreFirstLines input) (TellsOf Is) is_refused IsToldSo
+  first_heard told = record {
+    lines = heard.lines;
+    which = λ known is. let was = heard.split known is in (lines_of was.0, was.2);
+    text = heard.text ++ held;
+    right = heard.right;
+    told = told;
+  }
 
-    pub first_told : (last : SinkState) → PutsText (change now last) held ⊎ Stops (change now last) held
-        → TellsSome (AreFirstLines input) (TellsOf Is) is_refused (λ text. PutsText (change first last) text ⊎ StopsText (change first last) text)
-    first_told last (inl put) = record {
-      lines = heard.lines;
-      which = λ known is. let was = heard.split known is in (lines_of was.0, was.2);
-      text = heard.text ++ held;
-      right = heard.right;
-      told = inl (put_more first now last heard.text held heard.told put);
-    }
-    first_told last (inr stops) = record {
-      lines = heard.lines;
-      which = λ known is. let was = heard.split known is in (lines_of was.0, was.2);
-      text = heard.text ++ held;
-      right = heard.right;
-      told = inr (heard.text, held, now, heard.told, stops, refl);
-    }
+  pub first_stopped : (last : SinkState) → Stops (change now last) held → TellsSome (AreFirstLines input) (TellsOf Is) is_refused (StopsText (change first last))
+  first_stopped last stops = first_heard (heard.text, held, now, heard.told, stops, refl)
 
-    -- of bytes that are known all are known
-    pub never_known : left ≡ None → input ≡ None
-    never_known none = go input refl
-      where
-        go : (i : Option (List ℕ)) → input ≡ i → input ≡ None
-        go None is = is
-        go (Some known) is = let was = heard.split known is in absurd (cc)
+  pub first_told : (last : SinkState) → PutsText (change now last) held ⊎ Stops (change now last) held
+      → TellsSome (AreFirstLines input) (TellsOf Is) is_refused (λ text. PutsText (change first last) text ⊎ StopsText (change first last) text)
+  first_told last (inl put) = first_heard (inl (put_more first now last heard.text held heard.told put))
+  first_told last (inr stops) = first_heard (inr (heard.text, held, now, heard.told, stops, refl))
+
+  -- of bytes that are known all are known
+  pub never_known : left ≡ None → input ≡ None
+  never_known none = go input refl
+    where
+      go : (i : Option (List ℕ)) → input ≡ i → input ≡ None
+      go None is = is
+      go (Some known) is = let was = heard.split known is in absurd (cc)
 
 -- what is held stayed as it was
-pub same_heard : (Is : List ℕ → Told → Type 0) (input left : Option (List ℕ)) (first now : SinkState) (old new : Told) → new ≡ old
-    → AreHeard Is input left first now old.is_refused old.text → AreHeard Is input left first now new.is_refused new.text
-same_heard Is input left first now old new same heard = subst (λ (t : Told). AreHeard Is input left first now t.is_refused t.text) (sym same) heard
+pub same_heard : {Is : List ℕ → Told → Type 0} {input left : Option (List ℕ)} {first now : SinkState} {is_refused : Bool} {held : List ℕ} (new : Told)
+    → new ≡ record { text = held; is_refused = is_refused } → AreHeard Is input left first now is_refused held
+    → AreHeard Is input left first now new.is_refused new.text
+same_heard {Is} {input} {left} {first} {now} new same = subst (λ (t : Told). AreHeard Is input left first now t.is_refused t.text) (sym same)
 
 -- no device failed, where none had and what answers hadn't
 pub still_works : (failed by : Bool) → by ≡ false → (failed || by) ≡ failed
@@ -207,13 +192,7 @@ pub opening_ends : (c : ShelfChange) (file : List ℕ) (fault : Fault) → IsOpe
 opening_ends c file (File fault) holds = holds
 opening_ends c file Memory holds = tt
 opening_ends c file Io holds = inl holds
-opening_ends c file (Text fault) holds = absurd holds
-opening_ends c file SetText holds = absurd holds
-opening_ends c file TooDeep holds = absurd holds
-opening_ends c file PuzzlePlies holds = absurd holds
-opening_ends c file (Certificate f) holds = absurd holds
-opening_ends c file (Run fault) holds = absurd holds
-opening_ends c file (Table fault) holds = absurd holds
+opening_ends c file fault holds = absurd holds
 
 -- one of the lines
 pub lines_end : (c : ShelfChange) (file : List ℕ) (fault : Fault) → EndsLines (λ f. f ≡ Memory) c.before.input fault → IsEachFault c file fault
@@ -282,9 +261,8 @@ fails_on before mid after fault opened told =
 pub answers_are : (A : Type 0) (Is Other : List ℕ → A → Type 0) → ((line : List ℕ) (answer : A) → Is line answer → Other line answer)
     → (ls : List (List ℕ)) (xs : List A) → AreAnswers Is ls xs → AreAnswers Other ls xs
 answers_are A Is Other weaker [] [] are = tt
-answers_are A Is Other weaker [] (a ∷ xs) are = absurd are
-answers_are A Is Other weaker (l ∷ ls) [] are = absurd are
 answers_are A Is Other weaker (l ∷ ls) (a ∷ xs) are = (weaker l a are.0, answers_are A Is Other weaker ls xs are.1)
+answers_are A Is Other weaker ls xs are = absurd are
 
 pub tells_are : (A : Type 0) (tell : A → List ℕ) (refuses : A → Bool) (Is Other : List ℕ → A → Type 0)
     → ((line : List ℕ) (answer : A) → Is line answer → Other line answer) → (lines : List (List ℕ)) (is_refused : Bool) (text : List ℕ)
@@ -301,8 +279,6 @@ module _ (A : Type 0) (tell : A → List ℕ) (refuses : A → Bool) (Is : List 
   answers_by : (ls : List (List ℕ)) (ts : List Told) → AreAnswers (TellsOne tell refuses Is) ls ts
       → (xs : List A) × AreAnswers Is ls xs × (flat_map told_text ts ≡ flat_map tell xs) × (list_any told_refused ts ≡ list_any refuses xs)
   answers_by [] [] are = ([], tt, refl, refl)
-  answers_by [] (t ∷ ts) are = absurd are
-  answers_by (l ∷ ls) [] are = absurd are
   answers_by (l ∷ ls) (t ∷ ts) are =
       let one = are.0 in
       let more = answers_by ls ts are.1 in (
@@ -311,6 +287,7 @@ module _ (A : Type 0) (tell : A → List ℕ) (refuses : A → Bool) (Is : List 
         ap (λ (x : List ℕ). x ++ flat_map told_text ts) one.2 ∙ ap (λ (x : List ℕ). tell one.0 ++ x) more.2,
         ap (λ (b : Bool). b || list_any told_refused ts) one.3 ∙ ap (λ (b : Bool). refuses one.0 || b) more.3,
       )
+  answers_by ls ts are = absurd are
 
   pub tells_by : (lines : List (List ℕ)) (is_refused : Bool) (text : List ℕ) → TellsOf (TellsOne tell refuses Is) lines is_refused text
       → TellsLinesOf A tell refuses Is lines is_refused text

@@ -1,6 +1,6 @@
 -- How the program ends: from what it tells of lines or a fault to what it owes.
 use Rattle.dob_query.proofs.Common.{◌≡◌, List, inl, inr, refl, ℕ, Err, IfErr, IfOk, Ok, Result, Profile, Setup, FailsWhere, ShelfChange, Answers, Ending}
-use Rattle.dob_query.proofs.Common.{IsAnswered, Tells, fault_of_value, is_io_error, IsFaultOf, Fault, Memory}
+use Rattle.dob_query.proofs.Common.{IsAnswered, Tells, fault_of_value, is_io_error, IsFaultOf, Fault}
 use Rattle.dob_pieces.specs.Setups.{IsLegal}
 use Rattle.dob_text.specs.PositionText.{Spells}
 use Rattle.dob_value.specs.Rosters.{SomeTooDeep, HasSamePieces}

@@ -1,9 +1,9 @@
 -- What is told of a table, the lines of its counts; and what files are kept that were filled.
-use Rattle.dob_query.proofs.Common.{◌++◌, ◌||◌, ◌∙◌, ◌∷◌, ◌≡◌, Bool, List, None, Option, Some, [], ap, codes, false, inl, inr, length, refl, subst, sym, true}
-use Rattle.dob_query.proofs.Common.{ℕ, decimal, Err, IsTrue, Ok, Result, String, Value, Change, others_chain, others_kept, Files, HasJust, SameFiles}
+use Rattle.dob_query.proofs.Common.{◌++◌, ◌||◌, ◌∙◌, ◌∷◌, ◌≡◌, Bool, List, None, Option, Some, [], ap, codes, false, inl, inr, length, refl, subst, sym}
+use Rattle.dob_query.proofs.Common.{ℕ, or-false, decimal, Err, IsTrue, Ok, Result, String, Value, Change, others_chain, others_kept, Files, HasJust, SameFiles}
 use Rattle.dob_query.proofs.Common.{SameOthers, ShelfChange, ShelfState, is_failed, shelf_change, ShelfFault, IsAnswered, fault_of_shelf, is_io, FillsSink}
-use Rattle.dob_query.proofs.Common.{IsShelfFault, IsTally, KeepsFilled, LeavesFiles, class_lines, count_line, Fault, Certificate, File, Io, Memory, PuzzlePlies}
-use Rattle.dob_query.proofs.Common.{Run, SetText, Table, Text, TooDeep, Tally}
+use Rattle.dob_query.proofs.Common.{IsShelfFault, IsTally, KeepsFilled, LeavesFiles, class_lines, count_line, Fault, Io, Memory}
+use Rattle.dob_query.proofs.Common.{Tally}
 use Rattle.std.proofs.Common.{append_assoc}
 use Rattle.std.specs.Prelude.{string_bytes}
 use Rattle.std.specs.Io.KnownBytes.{Appends}
@@ -11,33 +11,20 @@ use Rattle.dob_shelf.specs.declared.shelf.ShelfFault.TheVariants as shelf_fault
 
 -- ---- lines
 
-line_ends : (n : ℕ) (rest : List ℕ) → decimal n ++ 10 ∷ rest ≡ (decimal n ++ 10 ∷ []) ++ rest
-line_ends n rest = sym (append_assoc (decimal n) (10 ∷ []) rest)
+-- one after the other
+pub two_lines : (a x rest : List ℕ) → a ++ (x ++ 10 ∷ rest) ≡ (a ++ (x ++ 10 ∷ [])) ++ rest
+two_lines a x rest = simp append_assoc
 
-two_lines : (c d : ℕ) → codes "loss " ++ (decimal c ++ 10 ∷ (codes "draw " ++ (decimal d ++ 10 ∷ [])))
-    ≡ count_line (codes "loss ") c ++ count_line (codes "draw ") d
-two_lines c d = ap (λ (l : List ℕ). codes "loss " ++ l) (line_ends c (count_line (codes "draw ") d))
-
-three_lines : (b c d : ℕ) → codes "win " ++ (decimal b ++ 10 ∷ (codes "loss " ++ (decimal c ++ 10 ∷ (codes "draw " ++ (decimal d ++ 10 ∷ [])))))
-    ≡ count_line (codes "win ") b ++ (count_line (codes "loss ") c ++ count_line (codes "draw ") d)
-three_lines b c d =
-    ap (λ (l : List ℕ). codes "win " ++ (decimal b ++ 10 ∷ l)) (two_lines c d)
-    ∙ ap (λ (l : List ℕ). codes "win " ++ l) (line_ends b (count_line (codes "loss ") c ++ count_line (codes "draw ") d))
-
--- the lines of such numbers
-abbrev told : ℕ → ℕ → ℕ → ℕ → List ℕ
-told a b c d = codes "classes " ++ (decimal a ++ 10 ∷ (codes "win " ++ (decimal b ++ 10 ∷ (codes "loss " ++ (decimal c ++ 10 ∷ (codes "draw " ++
-    (decimal d ++ 10 ∷ [])))))))
-
-four_lines : (a b c d : ℕ) → told a b c d
-    ≡ count_line (codes "classes ") a ++ (count_line (codes "win ") b ++ (count_line (codes "loss ") c ++ count_line (codes "draw ") d))
-four_lines a b c d =
-    ap (λ (l : List ℕ). codes "classes " ++ (decimal a ++ 10 ∷ l)) (three_lines b c d)
-    ∙ ap (λ (l : List ℕ). codes "classes " ++ l) (line_ends a (count_line (codes "win ") b ++ (count_line (codes "loss ") c ++ count_line (codes "draw ") d)))
+pub three_lines : (a x b y rest : List ℕ) → a ++ (x ++ 10 ∷ (b ++ (y ++ 10 ∷ rest))) ≡ (a ++ (x ++ 10 ∷ [])) ++ ((b ++ (y ++ 10 ∷ [])) ++ rest)
+three_lines a x b y rest = simp append_assoc
 
 pub lines_told : (values : List Value) (tally : Tally) (classes : ℕ) → classes ≡ length values → IsTally values tally
-    → told classes tally.wins tally.losses tally.draws ≡ class_lines values
-lines_told values tally classes count is = four_lines classes tally.wins tally.losses tally.draws ∙ rw (count, is.wins, is.losses, is.draws) refl
+    → codes "classes " ++ (decimal classes ++ 10 ∷ (codes "win " ++ (decimal tally.wins ++ 10 ∷ (codes "loss " ++ (decimal tally.losses ++ 10
+    ∷ count_line (codes "draw ") tally.draws))))) ≡ class_lines values
+lines_told values tally classes count is =
+    ap (λ (l : List ℕ). codes "classes " ++ (decimal classes ++ 10 ∷ l))
+    (three_lines (codes "win ") (decimal tally.wins) (codes "loss ") (decimal tally.losses) (count_line (codes "draw ") tally.draws))
+    ∙ (two_lines (codes "classes ") (decimal classes) _ ∙ rw (count, is.wins, is.losses, is.draws) refl)
 
 -- an empty sink that takes the bytes has just these
 pub received_all : (old new : Option (List ℕ)) (bytes : List ℕ) → old ≡ Some [] → Appends old new bytes → new ≡ Some bytes
@@ -58,21 +45,13 @@ others_after name Old Mid New same others = others_chain name Old Mid New (other
 
 -- what fails after something that didn't
 pub fails_later : (old mid new failed : Bool) → mid ≡ (old || false) → new ≡ (mid || failed) → new ≡ (old || failed)
-fails_later true mid new failed first second = second ∙ ap (λ (b : Bool). b || failed) first
-fails_later false mid new failed first second = second ∙ ap (λ (b : Bool). b || failed) first
+fails_later old mid new failed first second = second ∙ ap (λ (b : Bool). b || failed) (first ∙ or-false old)
 
 -- what holds of lack of memory and of a device that failed holds of a fault of keeping a file
 pub of_shelf_fault : (P : Fault → Type 0) → P Memory → P Io → (fault : Fault) → IsShelfFault fault → P fault
 of_shelf_fault P memory io Memory holds = memory
 of_shelf_fault P memory io Io holds = io
-of_shelf_fault P memory io (Text f) holds = absurd holds
-of_shelf_fault P memory io SetText holds = absurd holds
-of_shelf_fault P memory io TooDeep holds = absurd holds
-of_shelf_fault P memory io PuzzlePlies holds = absurd holds
-of_shelf_fault P memory io (Certificate f) holds = absurd holds
-of_shelf_fault P memory io (Run f) holds = absurd holds
-of_shelf_fault P memory io (File f) holds = absurd holds
-of_shelf_fault P memory io (Table f) holds = absurd holds
+of_shelf_fault P memory io fault holds = absurd holds
 
 -- a fault of the shelf is one of keeping a file, and a device's just where that failed
 pub shelf_keeps : (fault : ShelfFault) → IsShelfFault (fault_of_shelf fault)
@@ -86,8 +65,7 @@ shelf_fails made before after shelf_fault.Failed failed = failed
 
 -- a sink that works is kept, and nothing fails
 pub keeps_working : (before sunk after : Bool) → sunk ≡ false → after ≡ ((before || sunk) || false) → after ≡ (before || false)
-keeps_working true sunk after works kept = kept
-keeps_working false sunk after works kept = kept ∙ ap (λ (b : Bool). b || false) works
+keeps_working before sunk after works kept = kept ∙ ap (λ (b : Bool). (before || b) || false) works ∙ ap (λ (b : Bool). b || false) (or-false before)
 
 -- what was answered after a call that failed at nothing
 pub answered_later : {X : Type 0} (old mid new : ShelfState) (Is Other : X → Type 0) (Holds Also : Fault → Type 0) (result : Result X Fault)

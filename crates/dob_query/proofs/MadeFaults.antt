@@ -1,59 +1,37 @@
 -- The faults of reading a file, of making a certificate and of keeping its bytes are those of certifying.
 use Rattle.dob_query.proofs.Common.{◌∙◌, ◌≡◌, Bool, List, false, inl, inr, refl, subst, sym, ℕ, Err, IsTrue, Ok, Result, String, Setup, ClassTable, Change}
 use Rattle.dob_query.proofs.Common.{Content, HasJust, SameFiles, ShelfChange, ShelfState, is_io, AreThese, FillsSink, IsShelfFault, LeavesFiles, IsFileOf}
-use Rattle.dob_query.proofs.Common.{IsOpeningFault, IsTextOf, Fault, Certificate, File, Io, Memory, PuzzlePlies, Run, SetText, Table, Text, TooDeep}
+use Rattle.dob_query.proofs.Common.{IsOpeningFault, IsTextOf, Fault, Certificate, File, Io, Memory, Table}
 use Rattle.std.specs.Prelude.{string_bytes}
 use Rattle.dob_certfile.specs.Format.{bytes_of}
 use Rattle.dob_certify.specs.declared.fault.Fault as making
 use Rattle.dob_certify.specs.declared.fault.Fault.TheVariants as making_fault
 use Rattle.dob_certify.specs.Faults.{IsFault}
-use Rattle.dob_query.specs.declared.certificate_fault.CertificateFault.TheVariants.{Defect, Unproved, TooMany, Unfit, Unlisted}
+use Rattle.dob_query.specs.declared.certificate_fault.CertificateFault.TheVariants.{Unproved, TooMany, Unfit}
 use Rattle.dob_query.specs.Certificates.{AreCertifyLines, AreMade, IsCertifyFault, IsSaidOf, IsTableMakingFault, IsUnfit, fault_of_making, made_lines}
 use Rattle.dob_query.proofs.Kept.{AreKept, of_shelf_fault, same_chain}
 
 -- a fault of making a certificate is one of filling its file, and no device's
 pub making_fills : (table : ClassTable) (is_exact : Bool) (most : ℕ) (position : Setup) (given : making.Fault) → IsFault table is_exact position most given
     → IsTableMakingFault table is_exact most position (fault_of_making given)
-making_fills table is_exact most position (making_fault.Table f) holds = holds
-making_fills table is_exact most position (making_fault.Unproved r) holds = holds
-making_fills table is_exact most position (making_fault.TooMany n) holds = holds
 making_fills table is_exact most position making_fault.Memory holds = tt
+making_fills table is_exact most position fault holds = holds
 
 pub making_works : (given : making.Fault) → false ≡ is_io (fault_of_making given)
-making_works (making_fault.Table f) = refl
-making_works (making_fault.Unproved r) = refl
-making_works (making_fault.TooMany n) = refl
 making_works making_fault.Memory = refl
+making_works fault = refl
 
 -- so is one of what no file can say
 pub unfit_fills : (table : ClassTable) (is_exact : Bool) (most : ℕ) (position : Setup) (said : Content) → IsSaidOf table is_exact position said
     → (fault : Fault) → IsUnfit said fault → IsTableMakingFault table is_exact most position fault
 unfit_fills table is_exact most position said made (Certificate Unfit) holds = (said, made, holds)
-unfit_fills table is_exact most position said made (Certificate (Defect d)) holds = absurd holds
-unfit_fills table is_exact most position said made (Certificate (Unproved r)) holds = absurd holds
-unfit_fills table is_exact most position said made (Certificate (TooMany n)) holds = absurd holds
-unfit_fills table is_exact most position said made (Certificate Unlisted) holds = absurd holds
 unfit_fills table is_exact most position said made Memory holds = tt
-unfit_fills table is_exact most position said made Io holds = absurd holds
-unfit_fills table is_exact most position said made (Text f) holds = absurd holds
-unfit_fills table is_exact most position said made SetText holds = absurd holds
-unfit_fills table is_exact most position said made TooDeep holds = absurd holds
-unfit_fills table is_exact most position said made PuzzlePlies holds = absurd holds
-unfit_fills table is_exact most position said made (Run f) holds = absurd holds
-unfit_fills table is_exact most position said made (File f) holds = absurd holds
-unfit_fills table is_exact most position said made (Table f) holds = absurd holds
+unfit_fills table is_exact most position said made fault holds = absurd holds
 
 pub unfit_works : (said : Content) (fault : Fault) → IsUnfit said fault → false ≡ is_io fault
-unfit_works said (Certificate f) holds = refl
-unfit_works said Memory holds = refl
 unfit_works said Io holds = absurd holds
-unfit_works said (Text f) holds = absurd holds
-unfit_works said SetText holds = absurd holds
-unfit_works said TooDeep holds = absurd holds
-unfit_works said PuzzlePlies holds = absurd holds
-unfit_works said (Run f) holds = absurd holds
 unfit_works said (File f) holds = absurd holds
-unfit_works said (Table f) holds = absurd holds
+unfit_works said fault holds = refl
 
 -- and one of filling a file with bytes
 shelf_fills : (table : ClassTable) (is_exact : Bool) (most : ℕ) (position : Setup) (fault : Fault) → IsShelfFault fault
@@ -82,13 +60,7 @@ module _ (c : ShelfChange) (file : List ℕ) (is_exact : Bool) (most : ℕ) (wor
   opening_certifies (File f) holds = (position, named, holds, same)
   opening_certifies Memory holds = same
   opening_certifies Io holds = (position, named, same)
-  opening_certifies (Text f) holds = absurd holds
-  opening_certifies SetText holds = absurd holds
-  opening_certifies TooDeep holds = absurd holds
-  opening_certifies PuzzlePlies holds = absurd holds
-  opening_certifies (Certificate f) holds = absurd holds
-  opening_certifies (Run f) holds = absurd holds
-  opening_certifies (Table f) holds = absurd holds
+  opening_certifies fault holds = absurd holds
 
   pub shelf_certifies : (fault : Fault) → IsShelfFault fault → IsCertifyFault c file is_exact most words fault
   shelf_certifies = of_shelf_fault (IsCertifyFault c file is_exact most words) same (position, named, same)
@@ -100,16 +72,9 @@ module _ (c : ShelfChange) (file : List ℕ) (is_exact : Bool) (most : ℕ) (wor
   filling_certifies table is (Certificate (TooMany n)) holds = (position, named, holds, same)
   filling_certifies table is (Certificate Unfit) holds =
       (position, named, (holds.0, record { table = table; read = is; is = holds.1 }, holds.2), same)
-  filling_certifies table is (Certificate (Defect d)) holds = absurd holds
-  filling_certifies table is (Certificate Unlisted) holds = absurd holds
   filling_certifies table is Memory holds = same
   filling_certifies table is Io holds = (position, named, same)
-  filling_certifies table is (Text f) holds = absurd holds
-  filling_certifies table is SetText holds = absurd holds
-  filling_certifies table is TooDeep holds = absurd holds
-  filling_certifies table is PuzzlePlies holds = absurd holds
-  filling_certifies table is (Run f) holds = absurd holds
-  filling_certifies table is (File f) holds = absurd holds
+  filling_certifies table is fault holds = absurd holds
 
 -- after the table was read and the other file made, which changed no file
 pub keeping_certifies : (c : ShelfChange) (file : List ℕ) (is_exact : Bool) (most : ℕ) (words : List ℕ) (position : Setup) → IsTextOf words position

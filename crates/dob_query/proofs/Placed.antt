@@ -1,15 +1,15 @@
 -- What the lines of standard input come to by the records of a source is what is owed for asking for each, and right by the file of a value table.
-use Rattle.dob_query.proofs.Common.{◌∙◌, ◌≡◌, Bool, List, Option, ap, false, inl, inr, refl, subst, sym, true, true≢false, ℕ, Err, IfErr, IfOk, Ok, Result}
+use Rattle.dob_query.proofs.Common.{◌∙◌, ◌≡◌, Bool, List, Option, ap, inl, inr, refl, subst, sym, true, true≢false, ℕ, Err, IfErr, IfOk, Ok, Result}
 use Rattle.dob_query.proofs.Common.{String, is_err, Family, Profile, Setup, IsPositionOf, Stream, whole, CountsClasses, Format, IsRefusal, IsRecorded}
-use Rattle.dob_query.proofs.Common.{ShelfChange, Ending, is_io_error, GivesWhole, IsRecordsFault, IsToldBy, LacksFor, HasValueFile, IsTextOf, AnswersLines}
-use Rattle.dob_query.proofs.Common.{EndsLines, Fault, Certificate, File, Io, Memory, PuzzlePlies, Run, SetText, Table, Text, TooDeep, Question, Best, Draw}
-use Rattle.dob_query.proofs.Common.{Line, LineObject, Look, Moves, MovesObject, ValueObject}
+use Rattle.dob_query.proofs.Common.{ShelfChange, Ending, GivesWhole, IsRecordsFault, IsToldBy, LacksFor, HasValueFile, IsTextOf, AnswersLines}
+use Rattle.dob_query.proofs.Common.{EndsLines, Fault, File, Io, Memory, Table, Text, Question}
+use Rattle.dob_query.proofs.Common.{Look, ValueObject}
 use Rattle.std.specs.Prelude.{string_bytes}
 use Rattle.dob_probe.specs.declared.fault.Fault as probing
 use Rattle.dob_dbfile.specs.declared.fault.Fault.TheVariants as file_fault
 use Rattle.dob_probe.specs.declared.fault.Fault.TheVariants as table_fault
 use Rattle.dob_query.specs.QuestionsEach.{AnswersLine, AnswersLineRight, AnswersQuestionEachRight, ArePlaceLines, EndsRecords, GivesRecordAnswer, IsPlaceAnswer}
-use Rattle.dob_query.specs.QuestionsEach.{IsPlacesFault, IsRecordAnswer, IsRecordEnd, TellsRecords, bytes_of, end_of, ended_lines, ends_all, ends_all_in}
+use Rattle.dob_query.specs.QuestionsEach.{IsPlacesFault, IsRecordAnswer, IsRecordEnd, TellsRecords, end_of, ended_lines, ends_all}
 use Rattle.dob_query.proofs.Asking.{answer_right}
 use Rattle.dob_query.proofs.EachLine.{lines_weaker, tells_are}
 
@@ -35,26 +35,19 @@ module _ (question : Question) (Has : List ℕ → Type 0) (Gives Shows : Stream
       },
     )
     place_answer line (Err (Text fault)) is = is
-    place_answer line (Err (Table table_fault.FarChick)) is = (is.0, is.1, λ stream file. (format, family, named stream (given stream file), is.2))
-    place_answer line (Err (Table table_fault.OtherSet)) is = (is.0, is.1, λ stream file. (format, family, named stream (given stream file), is.2))
     place_answer line (Err (Table (table_fault.Inconsistent class))) is = (
       is.0,
       is.1,
       λ stream file. (format, family, record { named = named stream (given stream file); member = is.2 }, is.3 stream (shown stream file)),
     )
     place_answer line (Err (Table table_fault.Memory)) is = absurd is.2
+    place_answer line (Err (Table fault)) is = (is.0, is.1, λ stream file. (format, family, named stream (given stream file), is.2))
     place_answer line (Err (File fault)) is = (
       is.0,
       is.1,
       λ stream file. (format, family, record { named = named stream (given stream file); member = is.2 }, is.3 stream (shown stream file)),
     )
-    place_answer line (Err SetText) is = absurd is
-    place_answer line (Err TooDeep) is = absurd is
-    place_answer line (Err (Run fault)) is = absurd is
-    place_answer line (Err PuzzlePlies) is = absurd is
-    place_answer line (Err (Certificate f)) is = absurd is
-    place_answer line (Err Memory) is = absurd is
-    place_answer line (Err Io) is = absurd is
+    place_answer line (Err fault) is = absurd is
 
 module _ (question : Question) (c : ShelfChange) (name : List ℕ) (Gives Shows : Stream → Type 0)
     (gives : (bytes : List ℕ) → c.before.has name bytes → Gives (whole bytes))
@@ -72,13 +65,7 @@ module _ (question : Question) (c : ShelfChange) (name : List ℕ) (Gives Shows 
       absurd (true≢false (sym (fails stream (shown question (c.before.has name) Gives Shows gives shows stream file)) ∙ ap (λ (s : Stream). s.fails) file.2))
   places_ended Memory ends = tt
   places_ended Io ends = inr (sym same ∙ ends)
-  places_ended (Text fault) ends = absurd ends
-  places_ended SetText ends = absurd ends
-  places_ended TooDeep ends = absurd ends
-  places_ended PuzzlePlies ends = absurd ends
-  places_ended (Certificate f) ends = absurd ends
-  places_ended (Run fault) ends = absurd ends
-  places_ended (Table fault) ends = absurd ends
+  places_ended fault ends = absurd ends
 
 -- of fewer streams
 pub record_weaker : (question : Question) (Shows Fewer : Stream → Type 0) → ((stream : Stream) → Fewer stream → Shows stream) → (format : Format)
@@ -88,17 +75,7 @@ record_weaker question Shows Fewer shows format family line (Ok lines) is = (is.
 record_weaker question Shows Fewer shows format family line (Err (File fault)) is = (is.0, is.1, is.2, λ stream few. is.3 stream (shows stream few))
 record_weaker question Shows Fewer shows format family line (Err (Table (table_fault.Inconsistent class))) is =
     (is.0, is.1, is.2, λ stream few. is.3 stream (shows stream few))
-record_weaker question Shows Fewer shows format family line (Err (Table table_fault.FarChick)) is = is
-record_weaker question Shows Fewer shows format family line (Err (Table table_fault.OtherSet)) is = is
-record_weaker question Shows Fewer shows format family line (Err (Table table_fault.Memory)) is = is
-record_weaker question Shows Fewer shows format family line (Err (Text fault)) is = is
-record_weaker question Shows Fewer shows format family line (Err SetText) is = is
-record_weaker question Shows Fewer shows format family line (Err TooDeep) is = is
-record_weaker question Shows Fewer shows format family line (Err (Run fault)) is = is
-record_weaker question Shows Fewer shows format family line (Err PuzzlePlies) is = is
-record_weaker question Shows Fewer shows format family line (Err (Certificate f)) is = is
-record_weaker question Shows Fewer shows format family line (Err Memory) is = is
-record_weaker question Shows Fewer shows format family line (Err Io) is = is
+record_weaker question Shows Fewer shows format family line answer is = is
 
 -- a fault of one kind is of another one
 pub err_weaker : {X : Type 0} (P Q : Fault → Type 0) (r : Result X Fault) → ((fault : Fault) → P fault → Q fault) → IfErr r P → IfErr r Q
@@ -113,8 +90,7 @@ module _ (question : Question) (Shows : Stream → Type 0) (format : Format) (fa
       → GivesRecordAnswer {X = X} question Shows format family line (Err (Table fault))
   refused_line X table_fault.FarChick named refused = (position, named, refused)
   refused_line X table_fault.OtherSet named refused = (position, named, refused)
-  refused_line X (table_fault.Inconsistent class) named refused = absurd refused
-  refused_line X table_fault.Memory named refused = absurd refused
+  refused_line X fault named refused = absurd refused
 
   -- what the records give of it
   pub told_line : {X : Type 0} (result : Result (String X) Fault) → IsTextOf line position → IsPositionOf family position
@@ -123,74 +99,31 @@ module _ (question : Question) (Shows : Stream → Type 0) (format : Format) (fa
   told_line (Ok lines) named member told fault = (position, named, member, told)
   told_line (Err (File f)) named member told fault = (position, named, member, fault)
   told_line (Err (Table (table_fault.Inconsistent class))) named member told fault = (position, named, member, fault)
-  told_line (Err (Table table_fault.FarChick)) named member told fault = absurd fault
-  told_line (Err (Table table_fault.OtherSet)) named member told fault = absurd fault
-  told_line (Err (Table table_fault.Memory)) named member told fault = absurd fault
   told_line (Err Memory) named member told fault = tt
-  told_line (Err (Text f)) named member told fault = absurd fault
-  told_line (Err SetText) named member told fault = absurd fault
-  told_line (Err TooDeep) named member told fault = absurd fault
-  told_line (Err (Run f)) named member told fault = absurd fault
-  told_line (Err PuzzlePlies) named member told fault = absurd fault
-  told_line (Err (Certificate f)) named member told fault = absurd fault
-  told_line (Err Io) named member told fault = absurd fault
+  told_line (Err f) named member told fault = absurd fault
 
 module _ (question : Question) (Shows : Stream → Type 0) (format : Format) (family : Family) (line : List ℕ) where
   -- a device that fails is the source
   lacks_io : (q : Question) → question ≡ q → (stream : Stream) (bytes : ℕ) → (position : Setup) → LacksFor q stream format family position (file_fault.Io bytes)
       → stream.fails ≡ true
   lacks_io Look same stream bytes position lacks = lacks.fails.1
-  lacks_io Moves same stream bytes position lacks = lacks.2.fails.1
-  lacks_io Best same stream bytes position lacks = lacks.2.fails.1
-  lacks_io (Line is_numbered) same stream bytes position lacks = lacks.2.fails.1
-  lacks_io Draw same stream bytes position lacks = lacks.2.fails.1
   lacks_io ValueObject same stream bytes position lacks = lacks.fails.1
-  lacks_io MovesObject same stream bytes position lacks = lacks.2.fails.1
-  lacks_io LineObject same stream bytes position lacks = lacks.2.fails.1
+  lacks_io q same stream bytes position lacks = lacks.2.fails.1
 
   -- and what ends all is that it failed, or memory
   pub line_ends : (X : Type 0) (fault : Fault) → GivesRecordAnswer {X = X} question Shows format family line (Err fault) → ends_all fault ≡ true
       → IsRecordEnd Shows fault
   line_ends X Memory is ends = tt
   line_ends X (File (file_fault.Io bytes)) is ends = λ stream shows. lacks_io question refl stream bytes is.0 (is.3 stream shows)
-  line_ends X (File file_fault.Truncated) is ends = absurd (true≢false (sym ends))
-  line_ends X (File file_fault.Magic) is ends = absurd (true≢false (sym ends))
-  line_ends X (File file_fault.SetByte) is ends = absurd (true≢false (sym ends))
-  line_ends X (File file_fault.ClassCount) is ends = absurd (true≢false (sym ends))
-  line_ends X (File file_fault.Trailing) is ends = absurd (true≢false (sym ends))
-  line_ends X (File file_fault.Digest) is ends = absurd (true≢false (sym ends))
-  line_ends X (File file_fault.Memory) is ends = absurd (true≢false (sym ends))
-  line_ends X (File file_fault.ProfileByte) is ends = absurd (true≢false (sym ends))
-  line_ends X (Text fault) is ends = absurd (true≢false (sym ends))
-  line_ends X (Table fault) is ends = absurd (true≢false (sym ends))
-  line_ends X SetText is ends = absurd is
-  line_ends X TooDeep is ends = absurd is
-  line_ends X (Run fault) is ends = absurd is
-  line_ends X PuzzlePlies is ends = absurd is
-  line_ends X (Certificate f) is ends = absurd is
   line_ends X Io is ends = absurd is
+  line_ends X fault is ends = absurd (true≢false (sym ends))
 
 -- so the source's end is that of all
 pub source_ends : (Gives Shows Later : Stream → Type 0) → ((stream : Stream) → Shows stream → Later stream) → (known : Option (List ℕ)) (fault : Fault)
     → IsRecordEnd Later fault → EndsRecords Gives Shows known fault
 source_ends Gives Shows Later later known Memory ends = tt
 source_ends Gives Shows Later later known (File (file_fault.Io bytes)) ends = inr (λ stream shows. ends stream (later stream shows))
-source_ends Gives Shows Later later known (File file_fault.Truncated) ends = absurd ends
-source_ends Gives Shows Later later known (File file_fault.Magic) ends = absurd ends
-source_ends Gives Shows Later later known (File file_fault.SetByte) ends = absurd ends
-source_ends Gives Shows Later later known (File file_fault.ClassCount) ends = absurd ends
-source_ends Gives Shows Later later known (File file_fault.Trailing) ends = absurd ends
-source_ends Gives Shows Later later known (File file_fault.Digest) ends = absurd ends
-source_ends Gives Shows Later later known (File file_fault.Memory) ends = absurd ends
-source_ends Gives Shows Later later known (File file_fault.ProfileByte) ends = absurd ends
-source_ends Gives Shows Later later known (Text fault) ends = absurd ends
-source_ends Gives Shows Later later known (Table fault) ends = absurd ends
-source_ends Gives Shows Later later known SetText ends = absurd ends
-source_ends Gives Shows Later later known TooDeep ends = absurd ends
-source_ends Gives Shows Later later known (Run fault) ends = absurd ends
-source_ends Gives Shows Later later known PuzzlePlies ends = absurd ends
-source_ends Gives Shows Later later known (Certificate f) ends = absurd ends
-source_ends Gives Shows Later later known Io ends = absurd ends
+source_ends Gives Shows Later later known fault ends = absurd ends
 
 -- and so is a line's
 pub lines_end_records : (Gives Shows Later : Stream → Type 0) → ((stream : Stream) → Shows stream → Later stream) → (known : Option (List ℕ)) (fault : Fault)

@@ -1,15 +1,13 @@
 -- The faults of reading a certificate and of its lists are those of verifying it, of making one, and of asking one for a reply.
-use Rattle.dob_query.proofs.Common.{◌||◌, ◌∙◌, ◌≡◌, ◌⊎◌, Bool, List, false, inl, inr, refl, subst, sym, ℕ, Err, IfErr, IfOk, IsTrue, Ok, Result, String, Setup}
-use Rattle.dob_query.proofs.Common.{Content, HasCertFault, FailsWhere, ShelfChange, ShelfFault, fault_of_shelf, is_io, IsShut, IsTextOf, Fault, Certificate}
-use Rattle.dob_query.proofs.Common.{File, Io, Memory, PuzzlePlies, Run, SetText, Table, Text, TooDeep}
+use Rattle.dob_query.proofs.Common.{◌||◌, ◌≡◌, ◌⊎◌, Bool, List, false, inl, inr, subst, ℕ, Err, IfErr, IfOk, Ok, Result, String, Setup}
+use Rattle.dob_query.proofs.Common.{Content, HasCertFault, FailsWhere, ShelfChange, ShelfFault, fault_of_shelf, is_io, IsTextOf, Fault, Certificate}
+use Rattle.dob_query.proofs.Common.{File, Io, Memory, Text}
 use Rattle.std.specs.Prelude.{string_bytes}
-use Rattle.dob_certificate.specs.declared.refusal.Refusal.{Refusal}
-use Rattle.dob_certificate.specs.declared.refusal.Refusal.TheVariants as refusal
 use Rattle.dob_certfile.specs.declared.defect.Defect.{Defect as AnyDefect}
 use Rattle.dob_certfile.specs.declared.defect.ReadFault.{ReadFault}
 use Rattle.dob_certfile.specs.declared.defect.ReadFault.TheVariants as reading
-use Rattle.dob_query.specs.declared.certificate_fault.CertificateFault.TheVariants.{Defect, Unproved, TooMany, Unfit, Unlisted}
-use Rattle.dob_query.specs.Certificates.{AreBytes, GivesVerify, IsBytesFault, IsCertificateFile, IsDisproved, IsReadingFault, IsVerdict, IsVerdictFault}
+use Rattle.dob_query.specs.declared.certificate_fault.CertificateFault.TheVariants.{Unproved}
+use Rattle.dob_query.specs.Certificates.{AreBytes, GivesVerify, IsBytesFault, IsCertificateFile, IsReadingFault, IsVerdict, IsVerdictFault}
 use Rattle.dob_query.specs.Certificates.{IsVerifyFault, fault_of_reading}
 use Rattle.dob_query.specs.Replying.{GivesReply, IsReplyFault, IsReplyFaultOf, IsToldReply}
 use Rattle.dob_query.proofs.TableFaults.{is_shut}
@@ -26,14 +24,7 @@ module _ (Has : List ℕ → Type 0) where
   pub bytes_read : (fault : Fault) → IsBytesFault Has fault → IsReadingFault Has fault
   bytes_read Memory holds = tt
   bytes_read Io holds = holds
-  bytes_read (Text f) holds = absurd holds
-  bytes_read SetText holds = absurd holds
-  bytes_read TooDeep holds = absurd holds
-  bytes_read PuzzlePlies holds = absurd holds
-  bytes_read (Certificate f) holds = absurd holds
-  bytes_read (Run f) holds = absurd holds
-  bytes_read (File f) holds = absurd holds
-  bytes_read (Table f) holds = absurd holds
+  bytes_read fault holds = absurd holds
 
   -- the defect of the bytes is the file's
   pub defect_read : (found : List ℕ) → AreBytes Has found → (given : ReadFault)
@@ -48,36 +39,13 @@ module _ (Has : List ℕ → Type 0) where
   -- ---- verifying
 
   pub read_verifies : (fault : Fault) → IsReadingFault Has fault → IsVerifyFault Has fault
-  read_verifies (Certificate (Defect d)) holds = holds
   read_verifies (Certificate (Unproved r)) holds = absurd holds
-  read_verifies (Certificate (TooMany n)) holds = absurd holds
-  read_verifies (Certificate Unfit) holds = absurd holds
-  read_verifies (Certificate Unlisted) holds = absurd holds
-  read_verifies Memory holds = tt
-  read_verifies Io holds = holds
-  read_verifies (Text f) holds = absurd holds
-  read_verifies SetText holds = absurd holds
-  read_verifies TooDeep holds = absurd holds
-  read_verifies PuzzlePlies holds = absurd holds
-  read_verifies (Run f) holds = absurd holds
-  read_verifies (File f) holds = absurd holds
-  read_verifies (Table f) holds = absurd holds
+  read_verifies fault holds = holds
 
   pub verdict_verifies : (said : Content) → IsCertificateFile Has said → (fault : Fault) → IsVerdictFault said fault → IsVerifyFault Has fault
   verdict_verifies said is (Certificate (Unproved r)) holds = (said, is, holds)
-  verdict_verifies said is (Certificate (Defect d)) holds = absurd holds
-  verdict_verifies said is (Certificate (TooMany n)) holds = absurd holds
-  verdict_verifies said is (Certificate Unfit) holds = absurd holds
-  verdict_verifies said is (Certificate Unlisted) holds = absurd holds
   verdict_verifies said is Memory holds = tt
-  verdict_verifies said is Io holds = absurd holds
-  verdict_verifies said is (Text f) holds = absurd holds
-  verdict_verifies said is SetText holds = absurd holds
-  verdict_verifies said is TooDeep holds = absurd holds
-  verdict_verifies said is PuzzlePlies holds = absurd holds
-  verdict_verifies said is (Run f) holds = absurd holds
-  verdict_verifies said is (File f) holds = absurd holds
-  verdict_verifies said is (Table f) holds = absurd holds
+  verdict_verifies said is fault holds = absurd holds
 
 -- a defect of a file is no device's
 pub read_fails : (before after : Bool) (given : ReadFault) → after ≡ (before || false) → after ≡ (before || is_io (fault_of_reading given))
@@ -86,16 +54,9 @@ read_fails before after (reading.Defect defect) failed = failed
 
 verdict_fails : (said : Content) (before after : Bool) (fault : Fault) → IsVerdictFault said fault → after ≡ (before || false)
     → after ≡ (before || is_io fault)
-verdict_fails said before after (Certificate f) holds failed = failed
-verdict_fails said before after Memory holds failed = failed
 verdict_fails said before after Io holds failed = absurd holds
-verdict_fails said before after (Text f) holds failed = failed
-verdict_fails said before after SetText holds failed = failed
-verdict_fails said before after TooDeep holds failed = failed
-verdict_fails said before after PuzzlePlies holds failed = failed
-verdict_fails said before after (Run f) holds failed = failed
 verdict_fails said before after (File f) holds failed = absurd holds
-verdict_fails said before after (Table f) holds failed = failed
+verdict_fails said before after fault holds failed = failed
 
 -- what is given for a certificate is given for its file
 pub verified : {X : Type 0} (c : ShelfChange) (file : List ℕ) (result : Result (String X) Fault) (said : Content) → IsCertificateFile (c.before.has file) said
@@ -108,41 +69,18 @@ verified c file (Err fault) said is failed ok err =
 
 reply_fails : (said : Content) (p : Setup) (before after : Bool) (fault : Fault) → IsReplyFault said p fault → after ≡ (before || false)
     → after ≡ (before || is_io fault)
-reply_fails said p before after (Certificate f) holds failed = failed
-reply_fails said p before after Memory holds failed = failed
 reply_fails said p before after Io holds failed = absurd holds
-reply_fails said p before after (Text f) holds failed = failed
-reply_fails said p before after SetText holds failed = failed
-reply_fails said p before after TooDeep holds failed = failed
-reply_fails said p before after PuzzlePlies holds failed = failed
-reply_fails said p before after (Run f) holds failed = failed
 reply_fails said p before after (File f) holds failed = absurd holds
-reply_fails said p before after (Table f) holds failed = failed
+reply_fails said p before after fault holds failed = failed
 
 module _ (Has : List ℕ → Type 0) (words : List ℕ) (position : Setup) (named : IsTextOf words position) where
   pub read_replies : (fault : Fault) → IsReadingFault Has fault → IsReplyFaultOf Has words fault
   read_replies (Text f) holds = absurd holds
-  read_replies (Certificate f) holds = (position, named, inl holds)
-  read_replies Memory holds = (position, named, inl tt)
-  read_replies Io holds = (position, named, inl holds)
-  read_replies SetText holds = absurd holds
-  read_replies TooDeep holds = absurd holds
-  read_replies PuzzlePlies holds = absurd holds
-  read_replies (Run f) holds = absurd holds
-  read_replies (File f) holds = absurd holds
-  read_replies (Table f) holds = absurd holds
+  read_replies fault holds = (position, named, inl holds)
 
   told_replies : (said : Content) → IsCertificateFile Has said → (fault : Fault) → IsReplyFault said position fault → IsReplyFaultOf Has words fault
   told_replies said is (Text f) holds = absurd holds
-  told_replies said is (Certificate f) holds = (position, named, inr (said, is, holds))
-  told_replies said is Memory holds = (position, named, inl tt)
-  told_replies said is Io holds = absurd holds
-  told_replies said is SetText holds = absurd holds
-  told_replies said is TooDeep holds = absurd holds
-  told_replies said is PuzzlePlies holds = absurd holds
-  told_replies said is (Run f) holds = absurd holds
-  told_replies said is (File f) holds = absurd holds
-  told_replies said is (Table f) holds = (position, named, inr (said, is, holds))
+  told_replies said is fault holds = (position, named, inr (said, is, holds))
 
 -- what is given for a certificate is given for its file
 pub replied : {X : Type 0} (c : ShelfChange) (file words : List ℕ) (position : Setup) → IsTextOf words position → (result : Result (String X) Fault)

@@ -1,5 +1,5 @@
 -- By the file of a value table what is told of it is right: drawings, counts and puzzles.
-use Rattle.dob_query.proofs.Common.{Bool, List, Option, Some, subst, ℕ, Profile, ClassTable, ShelfChange, AnswersOver, Ending, AnswersPuzzlesRight}
+use Rattle.dob_query.proofs.Common.{List, Option, Some, ℕ, Profile, ClassTable, ShelfChange, AnswersOver, Ending, AnswersPuzzlesRight}
 use Rattle.dob_query.proofs.Common.{ArePuzzleLines, IsPuzzlesFault, AnswersShowRight, AreRightShowLines, AreShowLines, IsShowFault, AnswersStatsRight}
 use Rattle.dob_query.proofs.Common.{AreStatsLines, IsStatsFault, HasValueFile, IsFileOf, IsRightFileOf, Draw}
 use Rattle.dob_query.specs.declared.stats.StatsForm.{StatsForm}

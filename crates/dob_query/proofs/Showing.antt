@@ -1,32 +1,19 @@
 -- The faults of drawing a position, and of keeping its picture, are those of showing it.
-use Rattle.dob_query.proofs.Common.{List, None, Option, Some, inr, refl, ℕ, Setup, Files, SameFiles, ShelfChange, ShelfState, IsShelfFault, IsAskingFault}
-use Rattle.dob_query.proofs.Common.{IsDrawingFault, IsFaultBy, IsShowFault, IsTextOf, Fault, Certificate, File, Io, Memory, PuzzlePlies, Run, SetText, Table}
-use Rattle.dob_query.proofs.Common.{Text, TooDeep, Draw}
-use Rattle.dob_text.specs.declared.fault.TextFault.{TextFault}
+use Rattle.dob_query.proofs.Common.{List, Option, Some, inr, refl, ℕ, Setup, Files, SameFiles, ShelfChange, ShelfState, IsShelfFault, IsAskingFault}
+use Rattle.dob_query.proofs.Common.{IsDrawingFault, IsShowFault, IsTextOf, Fault, Memory}
+use Rattle.dob_query.proofs.Common.{Draw}
 use Rattle.dob_query.proofs.Kept.{of_shelf_fault, same_chain}
 
 -- ---- a fault of the file
 
 pub asking_draws : (Has : Files) (file : List ℕ) (position : Setup) (fault : Fault) → IsAskingFault Draw (Has file) position fault
     → IsDrawingFault Has (Some file) position fault
-asking_draws Has file position (File f) holds = holds
-asking_draws Has file position Io holds = holds
 asking_draws Has file position Memory holds = tt
-asking_draws Has file position (Text f) holds = absurd holds
-asking_draws Has file position SetText holds = absurd holds
-asking_draws Has file position TooDeep holds = absurd holds
-asking_draws Has file position PuzzlePlies holds = absurd holds
-asking_draws Has file position (Certificate f) holds = absurd holds
-asking_draws Has file position (Run f) holds = absurd holds
-asking_draws Has file position (Table f) holds = holds
+asking_draws Has file position fault holds = holds
 
 -- ---- a fault of showing
 
 module _ (c : ShelfChange) (file : Option (List ℕ)) (words : List ℕ) (position : Setup) (named : IsTextOf words position) where
-  no_text : (name : Option (List ℕ)) (f : TextFault) → IsFaultBy c.before.has name position (Text f) → ⊥
-  no_text None f holds = holds
-  no_text (Some name) f holds = holds
-
   -- the file of the picture isn't kept
   pub picture_shows : (mid : ShelfState) (name : List ℕ) (fault : Fault) → SameFiles c.before.has mid.has → IsShelfFault fault → SameFiles mid.has c.after.has
       → IsShowFault c file (Some name) words fault

@@ -2,7 +2,7 @@
 use Rattle.dob_query.proofs.Common.{◌||◌, ◌≡◌, Bool, List, false, inl, inr, subst, ℕ, Err, Profile, Setup, ClassTable, IsValueTable, HasValue, Value}
 use Rattle.dob_query.proofs.Common.{IsFaultOfCheck, IsRefusal, FailsWhere, ShelfChange, is_failed, ShelfFault, IsGivenTo, Answers, AnswersOver, Ending}
 use Rattle.dob_query.proofs.Common.{fault_of_shelf, is_io, IsValueLineOf, IsValueOf, HasValueFile, IsFileOf, IsOpeningFault, IsPositionFault, IsShut, IsTextOf}
-use Rattle.dob_query.proofs.Common.{Fault, Certificate, File, Io, Memory, PuzzlePlies, Run, SetText, Table, Text, TooDeep}
+use Rattle.dob_query.proofs.Common.{Fault, File, Io, Memory, Table}
 use Rattle.dob_pieces.specs.Profiles.{IsAllowed}
 use Rattle.dob_dbfile.proofs.Written.{same_files}
 use Rattle.dob_probe.specs.declared.fault.Fault as probing
@@ -12,17 +12,15 @@ use Rattle.dob_query.specs.Tables.{AnswersProbe, AnswersProbeRight, IsCheckFault
 
 module _ (Has : List ℕ → Type 0) (table : ClassTable) (file : IsFileOf Has table) where
   pub check_fault_holds : (fault : probing.Fault) → IsFaultOfCheck table fault → IsCheckFault Has (Table fault)
-  check_fault_holds table_fault.FarChick holds = absurd holds
-  check_fault_holds table_fault.OtherSet holds = absurd holds
   check_fault_holds (table_fault.Inconsistent class) holds = (table, file, holds)
   check_fault_holds table_fault.Memory holds = tt
+  check_fault_holds fault holds = absurd holds
 
   -- a position that the table refuses
   pub refusal_probes : (position : Setup) (fault : probing.Fault) → IsRefusal table.family position fault → IsProbingFault Has position (Table fault)
-  refusal_probes position table_fault.FarChick refused = (table, file, refused)
-  refusal_probes position table_fault.OtherSet refused = (table, file, refused)
   refusal_probes position (table_fault.Inconsistent class) refused = absurd refused
   refusal_probes position table_fault.Memory refused = tt
+  refusal_probes position fault refused = (table, file, refused)
 
   pub refusal_holds : (words : List ℕ) (position : Setup) (fault : probing.Fault) → IsTextOf words position
       → IsRefusal table.family position fault → IsPositionFault Has words (Table fault)
@@ -48,14 +46,8 @@ pub opening_fault_holds : (Has : List ℕ → Type 0) (words : List ℕ) (positi
     → IsOpeningFault Has fault → IsPositionFault Has words fault
 opening_fault_holds Has words position (File fault) named holds = (position, named, holds)
 opening_fault_holds Has words position Io named holds = (position, named, holds)
-opening_fault_holds Has words position (Text fault) named holds = absurd holds
-opening_fault_holds Has words position SetText named holds = absurd holds
-opening_fault_holds Has words position TooDeep named holds = absurd holds
-opening_fault_holds Has words position PuzzlePlies named holds = absurd holds
-opening_fault_holds Has words position (Certificate f) named holds = absurd holds
-opening_fault_holds Has words position (Run fault) named holds = absurd holds
-opening_fault_holds Has words position (Table fault) named holds = absurd holds
 opening_fault_holds Has words position Memory named holds = tt
+opening_fault_holds Has words position fault named holds = absurd holds
 
 module _ (Has : List ℕ → Type 0) (profile : Profile) (file : HasValueFile Has profile) where
   -- the table that was read is the value table

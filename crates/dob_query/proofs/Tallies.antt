@@ -60,8 +60,6 @@ at_length (first ∷ before) rest value found e = at_length before rest value fo
 pub ones_at : (before rest : List Value) (ones : List Tally) → AllZip (IsTallyAt (before ++ rest)) (range_with_len (length before) (length rest)) ones
     → AreOnes rest ones
 ones_at before [] [] are = tt
-ones_at before [] (one ∷ ones) are = absurd are
-ones_at before (value ∷ rest) [] are = absurd are
 ones_at before (value ∷ rest) (one ∷ ones) are =
     let whole = append_assoc before (value ∷ []) rest in
     let next : length (before ++ value ∷ []) ≡ length before + 1 = length-append before (value ∷ []) in (
@@ -70,3 +68,4 @@ ones_at before (value ∷ rest) (one ∷ ones) are =
           (subst (λ (n : ℕ). AllZip (IsTallyAt ((before ++ value ∷ []) ++ rest)) (range_with_len n (length rest)) ones) (sym next)
           (subst (λ (l : List Value). AllZip (IsTallyAt l) (range_with_len (length before + 1) (length rest)) ones) (sym whole) are.1)),
     )
+ones_at before rest ones are = absurd are

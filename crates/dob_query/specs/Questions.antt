@@ -1,5 +1,5 @@
 -- What the program owes where it is asked about a position by a database file of which only the header and the records that it needs are read.
-use Rattle.std.specs.Prelude.{◌≡◌, ◌⊎◌, ℕ, List, Result, String}
+use Rattle.std.specs.Prelude.{◌≡◌, ◌⊎◌, ◌||◌, ℕ, Bool, IfOk, List, Result, String, string_bytes}
 use Rattle.dob_pieces.specs.declared.profile.Family.{Family}
 use Rattle.dob_pieces.specs.declared.profile.Profile.{Profile}
 use Rattle.dob_pieces.specs.declared.profile.Profile.TheVariants.{A}
@@ -28,6 +28,7 @@ use Rattle.dob_query.specs.declared.fault.Fault.TheVariants.{Text, File, Table, 
 use Rattle.dob_query.specs.declared.questions.Question.{Question}
 use Rattle.dob_query.specs.declared.questions.Question.TheVariants.{Look, Moves, Best, Line, Draw, ValueObject, MovesObject, LineObject}
 use Rattle.dob_query.specs.Endings.{AnswersOver, Ending, GivesLines}
+use Rattle.dob_query.specs.Faults.{is_io_error}
 use Rattle.dob_query.specs.Objects.{line_object, moves_object, value_object}
 use Rattle.dob_query.specs.Program.{value_line}
 use Rattle.dob_query.specs.Played.{moves_lines, played_drawing}
@@ -104,6 +105,15 @@ IsRecordsFault question Shows format family p (Table (table_fault.Inconsistent c
     (stream : Stream) → Shows stream → BreaksFor question stream format family p class
 IsRecordsFault question Shows format family p Memory = Unit {0}
 IsRecordsFault question Shows format family p _ = ⊥
+
+-- What a call gives that answers by the records of a source, in that format and family: the lines. What the source showed it still shows, and it has failed
+-- just where it had or the call's fault is a device's.
+pub record GivesTold {X : Type 0} (question : Question) (Showed Shows : Stream → Type 0) (had_failed has_failed : Bool) (format : Format) (family : Family)
+    (p : Setup) (result : Result (String X) Fault) : Type 0 where
+  pub ok : (stream : Stream) → Showed stream
+      → IfOk result (λ lines. IsToldBy question family.profile (IsRecorded stream format family) p (string_bytes lines))
+  pub shown : (stream : Stream) → Showed stream → Shows stream
+  pub failed : has_failed ≡ (had_failed || is_io_error result)
 
 -- the header names a family that refuses the position
 abbrev pub IsRefusedBy : Stream → Setup → probing.Fault → Type 0

@@ -1,13 +1,12 @@
 // What is asked of a position, and the answer by the header and the records of a database file that it needs.
-ghost use Rattle.std.specs.Prelude.{◌≡◌, ◌||◌, false, IfErr, IfOk, string_bytes};
+ghost use Rattle.std.specs.Prelude.{◌≡◌, false, IfErr, IfOk, string_bytes};
 ghost use Rattle.dob_rank.specs.Families.{IsPositionOf};
 ghost use Rattle.dob_dbfile.specs.Devices.{Stream};
-ghost use Rattle.dob_records.specs.Records.{IsRecorded};
 ghost use Rattle.dob_shelf.specs.Shelves.{Leaving, SameFiles};
 ghost use Rattle.dob_query.specs.Endings.{GivesLines};
 ghost use Rattle.dob_query.specs.Faults.{is_io_error};
 ghost use Rattle.dob_query.specs.declared.questions.Question.TheVariants.{Look, Moves, Best, Line, Draw, ValueObject, MovesObject, LineObject};
-ghost use Rattle.dob_query.specs.Questions.{GivesAnswer, IsAnswerBy, IsAnswerOf, IsAskingFault, IsFaultOfAsking, IsRecordsFault, IsToldBy};
+ghost use Rattle.dob_query.specs.Questions.{GivesAnswer, GivesTold, IsAnswerBy, IsAnswerOf, IsAskingFault, IsFaultOfAsking, IsRecordsFault};
 
 use crate::fault::Lines;
 use crate::objects::{line_object, moves_object, value_object};
@@ -106,11 +105,9 @@ pub(crate) fn answer_by_records<R: PlacedSource>(
     position: &Position,
 ) -> Lines
     requires { IsPositionOf classes.now.family position.now.setup }
-    ensures ok { (stream : Stream) → R.shows source.old stream → IfOk result (λ lines. IsToldBy question classes.now.family.profile
-        (IsRecorded stream format classes.now.family) position.now.setup (string_bytes lines)) }
+    ensures told { GivesTold question (R.shows source.old) (R.shows source.new) (R.has_failed source.old) (R.has_failed source.new)
+        format classes.now.family position.now.setup result }
     ensures fault { IfErr result (IsRecordsFault question (R.shows source.old) format classes.now.family position.now.setup) }
-    ensures shown { (stream : Stream) → R.shows source.old stream → R.shows source.new stream }
-    ensures failed { R.has_failed source.new ≡ (R.has_failed source.old || is_io_error result) }
 {
     match question {
         Question::Look => told_value(alloc, source, format, classes, position),
@@ -140,11 +137,9 @@ fn told_value<R: PlacedSource>(
     position: &Position,
 ) -> Lines
     requires { IsPositionOf classes.now.family position.now.setup }
-    ensures ok { (stream : Stream) → R.shows source.old stream → IfOk result (λ lines. IsToldBy Look classes.now.family.profile
-        (IsRecorded stream format classes.now.family) position.now.setup (string_bytes lines)) }
+    ensures told { GivesTold Look (R.shows source.old) (R.shows source.new) (R.has_failed source.old) (R.has_failed source.new)
+        format classes.now.family position.now.setup result }
     ensures fault { IfErr result (IsRecordsFault Look (R.shows source.old) format classes.now.family position.now.setup) }
-    ensures shown { (stream : Stream) → R.shows source.old stream → R.shows source.new stream }
-    ensures failed { R.has_failed source.new ≡ (R.has_failed source.old || is_io_error result) }
 {
     let value = value_at(source, format, classes, position)?;
     Ok(line_of(alloc, value)?)
@@ -159,11 +154,9 @@ fn told_moves<R: PlacedSource>(
     position: &Position,
 ) -> Lines
     requires { IsPositionOf classes.now.family position.now.setup }
-    ensures ok { (stream : Stream) → R.shows source.old stream → IfOk result (λ lines. IsToldBy Moves classes.now.family.profile
-        (IsRecorded stream format classes.now.family) position.now.setup (string_bytes lines)) }
+    ensures told { GivesTold Moves (R.shows source.old) (R.shows source.new) (R.has_failed source.old) (R.has_failed source.new)
+        format classes.now.family position.now.setup result }
     ensures fault { IfErr result (IsRecordsFault Moves (R.shows source.old) format classes.now.family position.now.setup) }
-    ensures shown { (stream : Stream) → R.shows source.old stream → R.shows source.new stream }
-    ensures failed { R.has_failed source.new ≡ (R.has_failed source.old || is_io_error result) }
 {
     let legal = moves_by_records(alloc, source, format, classes, position)?;
     Ok(move_lines(alloc, &legal)?)
@@ -178,11 +171,9 @@ fn told_best<R: PlacedSource>(
     position: &Position,
 ) -> Lines
     requires { IsPositionOf classes.now.family position.now.setup }
-    ensures ok { (stream : Stream) → R.shows source.old stream → IfOk result (λ lines. IsToldBy Best classes.now.family.profile
-        (IsRecorded stream format classes.now.family) position.now.setup (string_bytes lines)) }
+    ensures told { GivesTold Best (R.shows source.old) (R.shows source.new) (R.has_failed source.old) (R.has_failed source.new)
+        format classes.now.family position.now.setup result }
     ensures fault { IfErr result (IsRecordsFault Best (R.shows source.old) format classes.now.family position.now.setup) }
-    ensures shown { (stream : Stream) → R.shows source.old stream → R.shows source.new stream }
-    ensures failed { R.has_failed source.new ≡ (R.has_failed source.old || is_io_error result) }
 {
     let legal = moves_by_records(alloc, source, format, classes, position)?;
     Ok(best_move_line(alloc, &legal)?)
@@ -198,11 +189,9 @@ fn told_line<R: PlacedSource>(
     position: &Position,
 ) -> Lines
     requires { IsPositionOf classes.now.family position.now.setup }
-    ensures ok { (stream : Stream) → R.shows source.old stream → IfOk result (λ lines. IsToldBy (Line is_numbered) classes.now.family.profile
-        (IsRecorded stream format classes.now.family) position.now.setup (string_bytes lines)) }
+    ensures told { GivesTold (Line is_numbered) (R.shows source.old) (R.shows source.new) (R.has_failed source.old) (R.has_failed source.new)
+        format classes.now.family position.now.setup result }
     ensures fault { IfErr result (IsRecordsFault (Line is_numbered) (R.shows source.old) format classes.now.family position.now.setup) }
-    ensures shown { (stream : Stream) → R.shows source.old stream → R.shows source.new stream }
-    ensures failed { R.has_failed source.new ≡ (R.has_failed source.old || is_io_error result) }
 {
     let (value, moves) = line_by_records(alloc, source, format, classes, position)?;
     Ok(moves_lines(alloc, is_numbered, value, &moves)?)
@@ -217,11 +206,9 @@ fn told_drawing<R: PlacedSource>(
     position: &Position,
 ) -> Lines
     requires { IsPositionOf classes.now.family position.now.setup }
-    ensures ok { (stream : Stream) → R.shows source.old stream → IfOk result (λ lines. IsToldBy Draw classes.now.family.profile
-        (IsRecorded stream format classes.now.family) position.now.setup (string_bytes lines)) }
+    ensures told { GivesTold Draw (R.shows source.old) (R.shows source.new) (R.has_failed source.old) (R.has_failed source.new)
+        format classes.now.family position.now.setup result }
     ensures fault { IfErr result (IsRecordsFault Draw (R.shows source.old) format classes.now.family position.now.setup) }
-    ensures shown { (stream : Stream) → R.shows source.old stream → R.shows source.new stream }
-    ensures failed { R.has_failed source.new ≡ (R.has_failed source.old || is_io_error result) }
 {
     let (value, moves) = line_by_records(alloc, source, format, classes, position)?;
     Ok(played_drawing(alloc, position, value, &moves)?)
@@ -236,11 +223,9 @@ fn told_value_object<R: PlacedSource>(
     position: &Position,
 ) -> Lines
     requires { IsPositionOf classes.now.family position.now.setup }
-    ensures ok { (stream : Stream) → R.shows source.old stream → IfOk result (λ lines. IsToldBy ValueObject classes.now.family.profile
-        (IsRecorded stream format classes.now.family) position.now.setup (string_bytes lines)) }
+    ensures told { GivesTold ValueObject (R.shows source.old) (R.shows source.new) (R.has_failed source.old) (R.has_failed source.new)
+        format classes.now.family position.now.setup result }
     ensures fault { IfErr result (IsRecordsFault ValueObject (R.shows source.old) format classes.now.family position.now.setup) }
-    ensures shown { (stream : Stream) → R.shows source.old stream → R.shows source.new stream }
-    ensures failed { R.has_failed source.new ≡ (R.has_failed source.old || is_io_error result) }
 {
     let value = value_at(source, format, classes, position)?;
     Ok(value_object(alloc, position, value)?)
@@ -255,11 +240,9 @@ fn told_moves_object<R: PlacedSource>(
     position: &Position,
 ) -> Lines
     requires { IsPositionOf classes.now.family position.now.setup }
-    ensures ok { (stream : Stream) → R.shows source.old stream → IfOk result (λ lines. IsToldBy MovesObject classes.now.family.profile
-        (IsRecorded stream format classes.now.family) position.now.setup (string_bytes lines)) }
+    ensures told { GivesTold MovesObject (R.shows source.old) (R.shows source.new) (R.has_failed source.old) (R.has_failed source.new)
+        format classes.now.family position.now.setup result }
     ensures fault { IfErr result (IsRecordsFault MovesObject (R.shows source.old) format classes.now.family position.now.setup) }
-    ensures shown { (stream : Stream) → R.shows source.old stream → R.shows source.new stream }
-    ensures failed { R.has_failed source.new ≡ (R.has_failed source.old || is_io_error result) }
 {
     let legal = moves_by_records(alloc, source, format, classes, position)?;
     Ok(moves_object(alloc, position, &legal)?)
@@ -274,11 +257,9 @@ fn told_line_object<R: PlacedSource>(
     position: &Position,
 ) -> Lines
     requires { IsPositionOf classes.now.family position.now.setup }
-    ensures ok { (stream : Stream) → R.shows source.old stream → IfOk result (λ lines. IsToldBy LineObject classes.now.family.profile
-        (IsRecorded stream format classes.now.family) position.now.setup (string_bytes lines)) }
+    ensures told { GivesTold LineObject (R.shows source.old) (R.shows source.new) (R.has_failed source.old) (R.has_failed source.new)
+        format classes.now.family position.now.setup result }
     ensures fault { IfErr result (IsRecordsFault LineObject (R.shows source.old) format classes.now.family position.now.setup) }
-    ensures shown { (stream : Stream) → R.shows source.old stream → R.shows source.new stream }
-    ensures failed { R.has_failed source.new ≡ (R.has_failed source.old || is_io_error result) }
 {
     let (value, moves) = line_by_records(alloc, source, format, classes, position)?;
     Ok(line_object(alloc, position, value, &moves)?)

@@ -63,9 +63,6 @@ module _ (profiles : ProfileNames) (are : AreProfiles profiles) where
   abbrev kinds_at : Walk → List Text → Kinds
   kinds_at w words = or_else (walk_fault top names w words) (ending (fold (walked top.rules names) w words))
 
-  kinds_are : (words : List Text) → fault_of (dobutsu_app profiles) words ≡ kinds_at start words
-  kinds_are words = refl
-
   -- one word asks for help
   helps : (w : Walk) (word : Text) (rest : List Text) → turn_fault top names w word ≡ kind.DisplayHelp ∷ [] → kinds_at w (word ∷ rest) ≡ kind.DisplayHelp ∷ []
   unfolding walk_fault

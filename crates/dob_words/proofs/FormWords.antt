@@ -7,13 +7,13 @@ use Rattle.dob_words.proofs.Common.{asked, asks, at_end, behind, between, call, 
 use Rattle.dob_words.proofs.Common.{label_of, meaning_of_form, name_in, named_part, once, option, placed, text, text_behind, texts_of, unknown, usage, valued}
 use Rattle.dob_words.proofs.Common.{version, wanted, wants}
 use Rattle.clap.specs.Walk.{rows_after, value as a_value, is_pending, with_default, Held, Row, Rule, Waiting, Walk, arg_by_id, arg_by_index, arg_by_long}
-use Rattle.clap.specs.Walk.{arg_by_short, finished, idle, next_position, nothing_held, option as waits_for, positional as several, settled, settled_rows}
-use Rattle.clap.specs.Walk.{subcommand_met, walk_from, walked}
+use Rattle.clap.specs.Walk.{arg_by_short, finished, idle, next_position, nothing_held, option as waits_for, settled, settled_rows}
+use Rattle.clap.specs.Walk.{subcommand_met, walked}
 use Rattle.clap.specs.Faults.{check_fault, defaults_fault, level_fault, settle_fault, step_fault, turn_fault, walk_fault}
 use Rattle.clap.specs.declared.error.kind.ErrorKind.TheVariants as kind
 use Rattle.dob_words.specs.Forms.{Form, is_among, labels}
 use Rattle.dob_words.proofs.Lexing.{View, empty as no_byte, letter as a_letter, hyphen as one_hyphen, dashes as two_hyphens, long as a_long, short as a_short}
-use Rattle.dob_words.proofs.Lexing.{flip_bytes, long_name, long_short, no_first, flag_letter, view}
+use Rattle.dob_words.proofs.Lexing.{flip_bytes, long_name, no_first, view}
 use Rattle.dob_words.proofs.Turns.{KnowsHelp, help_flag, held, is_usage, or_else_usage}
 use Rattle.dob_words.proofs.Steps.{closed_at, failing_turn, help_turn, open_at, other_turn, text_taken, text_turn, text_turn_at, text_walked, waiting_at}
 use Rattle.dob_words.proofs.Texts.{Each, Looked, defaults_none, flag_arg, flag_passes, flag_twice, flagged_fresh, looked, no_faults, kept_both, misfit_usage}
@@ -239,9 +239,6 @@ module _ (profiles : ProfileNames) (are : AreProfiles profiles) (f : Form) (is :
   abbrev pub form_kinds : List Text → Kinds
   form_kinds words = level_fault s [] nothing_held words false []
 
-  kinds_are : (words : List Text) → form_kinds words ≡ kinds_at (walk_from nothing_held) words
-  kinds_are words = refl
-
   -- the kinds of error, and the rows, go with what the words ask for
   abbrev pub Comes : Meaning → Kinds → List Row → Type 0
   Comes (asks name texts) kinds rows = (f.name ≡ name) × (kinds ≡ []) × (map (λ l. first_of l rows) (labels f) ≡ texts)
@@ -283,8 +280,7 @@ module _ (profiles : ProfileNames) (are : AreProfiles profiles) (f : Form) (is :
   -- the subcommand has none of its own
   none_met : (waiting : Waiting) (word : Text) → subcommand_met [] waiting word ≡ None
   none_met idle word = refl
-  none_met (waits_for label) word = refl
-  none_met several word = refl
+  none_met waiting word = refl
 
   -- ---- where what waits can't be used, all that follows is refused
 
@@ -650,14 +646,13 @@ module _ (profiles : ProfileNames) (are : AreProfiles profiles) (f : Form) (is :
       → Reached (at_end f (fold next_stand (after_part f given left word (option_map_or (named_part f) (after_dashes word) unknown)) rest))
       (open_at rows pending p) (word ∷ rest)
   hyphen_step rest goes _ no_byte rows pending p given left good at t d c = absurd (true≢false t)
-  hyphen_step rest goes _ (a_letter x more e) rows pending p given left good at t d c =
-      absurd (true≢false (sym (ap (λ (o : Option ℕ). not (is_some o)) (flag_letter x more e)) ∙ t))
-  hyphen_step rest goes _ one_hyphen rows pending p given left good at t d c = absurd (true≢false (sym (ap (λ (o : Option ℕ). not (is_some o)) no_first) ∙ t))
+  hyphen_step rest goes _ (a_letter x more e) rows pending p given left good at t d c = absurd (true≢false (rw e at t))
+  hyphen_step rest goes _ one_hyphen rows pending p given left good at t d c = absurd (true≢false (rw no_first at t))
   hyphen_step rest goes _ two_hyphens rows pending p given left good at t d c = absurd (true≢false d)
   hyphen_step rest goes _ (a_long x xs) rows pending p given left good at t d c = long_step rest goes x xs rows pending p given left good at t d c
   hyphen_step rest goes _ (a_short y ys e) rows pending p given left good at t d c =
       rw e (unknown_step rest goes (45 ∷ y ∷ ys) rows pending p given left good at
-      (ap is_named (ap (λ (m : Option (Text × Option Text)). option_map_or (λ q. q.0) m []) (long_short y ys e)) ∙ not_named [] is.no_empty) t d c)
+      (rw e (not_named [] is.no_empty)) t d c)
 
   -- ---- all the words
 

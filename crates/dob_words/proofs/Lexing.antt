@@ -1,7 +1,7 @@
 -- What `clap`'s lexer makes of a word, by the word's first bytes.
 use Rattle.dob_words.proofs.Common.{◌+◌, ◌∙◌, ◌∷◌, ◌≡◌, Bool, None, Option, Some, [], ap, arith, codes, false, refl, subst, suc, sym, take, true, true≢false, ℕ}
-use Rattle.dob_words.proofs.Common.{or-false, Decides-eqb, bytes_eq-Decides, before_first, option_map_or, is_some, not, slice_get, bytes_eq, chars, has_byte}
-use Rattle.dob_words.proofs.Common.{long_of, short_of, Text, flag_of, is_help_flag, is_text}
+use Rattle.dob_words.proofs.Common.{or-false, false_from_ne_true, Decides-eqb, bytes_eq-Decides, before_first, option_map_or, is_some, not, slice_get, bytes_eq, chars, has_byte}
+use Rattle.dob_words.proofs.Common.{long_of, Text, flag_of, is_help_flag, is_text}
 use Rattle.std.proofs.Common.{◌==◌, ◌||◌}
 
 -- the first bytes of a word
@@ -50,21 +50,6 @@ pub no_first : slice_get (chars []) 0 ≡ None
 unfolding chars
 no_first = refl
 
-pub long_letter : (x : ℕ) (rest : Text) → (x == 45) ≡ false → long_of (x ∷ rest) ≡ None
-long_letter x rest t = rw t refl
-
-pub short_letter : (x : ℕ) (rest : Text) → (x == 45) ≡ false → short_of (x ∷ rest) ≡ None
-short_letter x rest t = rw t refl
-
-pub flag_letter : (x : ℕ) (rest : Text) → (x == 45) ≡ false → flag_of (x ∷ rest) ≡ None
-flag_letter x rest t = rw t refl
-
-pub long_short : (y : ℕ) (ys : Text) → (y == 45) ≡ false → long_of (45 ∷ y ∷ ys) ≡ None
-long_short y ys t = rw t refl
-
-pub short_short : (y : ℕ) (ys : Text) → (y == 45) ≡ false → short_of (45 ∷ y ∷ ys) ≡ Some (y ∷ ys)
-short_short y ys t = rw t refl
-
 pub take_one : (n x : ℕ) (xs : Text) → take (1 + n) (x ∷ xs) ≡ x ∷ take n xs
 take_one n x xs = let e : 1 + n ≡ suc n = omega arith in rw e refl
 
@@ -80,19 +65,9 @@ before_none (x ∷ xs) e = go (x == 61) refl e (before_none xs)
 
 -- ---- which words ask for help
 
-flip : (x y : ℕ) (b : Bool) → (x == y) ≡ b → (y == x) ≡ b
+pub flip : (x y : ℕ) (b : Bool) → (x == y) ≡ b → (y == x) ≡ b
 flip x y true e = (Decides-eqb y x).1 (sym ((Decides-eqb x y).0 e))
-flip x y false e = go (y == x) refl
-  where
-    go : (b : Bool) → (y == x) ≡ b → (y == x) ≡ false
-    go false t = t
-    go true t = absurd (true≢false (sym ((Decides-eqb x y).1 (sym ((Decides-eqb y x).0 t))) ∙ e))
-
-pub help_letter : (x : ℕ) (rest : Text) → (x == 45) ≡ false → is_help_flag (x ∷ rest) ≡ false
-help_letter x rest t = rw (t, flip x 45 false t) refl
-
-pub help_hyphen : is_help_flag (45 ∷ []) ≡ false
-help_hyphen = rw no_first refl
+flip x y false e = false_from_ne_true (y == x) (λ t. true≢false (sym ((Decides-eqb x y).1 (sym ((Decides-eqb y x).0 t))) ∙ e))
 
 pub help_dashes : is_help_flag (45 ∷ 45 ∷ []) ≡ false
 help_dashes = rw hyphen_first refl
@@ -108,19 +83,13 @@ help_short y ys t = rw (flip y 45 false t) refl
 
 pub flip_bytes : (v w : Text) (b : Bool) → bytes_eq v w ≡ b → bytes_eq w v ≡ b
 flip_bytes v w true e = (bytes_eq-Decides w v).1 (sym ((bytes_eq-Decides v w).0 e))
-flip_bytes v w false e = go (bytes_eq w v) refl
-  where
-    go : (b : Bool) → bytes_eq w v ≡ b → bytes_eq w v ≡ false
-    go false t = t
-    go true t = absurd (true≢false (sym ((bytes_eq-Decides v w).1 (sym ((bytes_eq-Decides w v).0 t))) ∙ e))
+flip_bytes v w false e =
+    false_from_ne_true (bytes_eq w v) (λ t. true≢false (sym ((bytes_eq-Decides v w).1 (sym ((bytes_eq-Decides w v).0 t))) ∙ e))
 
 -- what `--` does not pass is no test of `--`
 differs_by : (test : Text → Bool) (w : Text) → test (codes "--") ≡ false → test w ≡ true → bytes_eq w (codes "--") ≡ false
-differs_by test w fails passes = go (bytes_eq w (codes "--")) refl
-  where
-    go : (b : Bool) → bytes_eq w (codes "--") ≡ b → bytes_eq w (codes "--") ≡ false
-    go false t = t
-    go true t = absurd (true≢false (sym passes ∙ (ap test ((bytes_eq-Decides w (codes "--")).0 t) ∙ fails)))
+differs_by test w fails passes =
+    false_from_ne_true (bytes_eq w (codes "--")) (λ t. true≢false (sym passes ∙ (ap test ((bytes_eq-Decides w (codes "--")).0 t) ∙ fails)))
 
 pub text_differs : (w : Text) → is_text w ≡ true → bytes_eq w (codes "--") ≡ false
 text_differs w e = differs_by is_text w (ap (λ (o : Option ℕ). not (is_some o)) (hyphen_first [])) e

@@ -5,7 +5,7 @@ use Rattle.dob_words.proofs.Common.{option_map_or, ◌&&◌, ◌==◌, ◌||◌,
 use Rattle.dob_words.proofs.Common.{IsFit, Given, Meaning, Part, Stand, after_dashes, after_part, after_word, asked, asks, at_end, behind, between, call}
 use Rattle.dob_words.proofs.Common.{dashes, ended, fits, flag, has_topic, help, is_clear, is_dashes, is_help_flag, is_text, kept, label_of, meaning_of}
 use Rattle.dob_words.proofs.Common.{meaning_of_command, meaning_of_form, meaning_of_other, meaning_of_topic, name_in, named_part, option, part_named, placed}
-use Rattle.dob_words.proofs.Common.{settled, takes_lines, text, text_behind, texts_of, unknown, usage, valued, version, wanted, wants, writes_stream, Reading}
+use Rattle.dob_words.proofs.Common.{settled, takes_lines, text, text_behind, texts_of, unknown, usage, valued, version, wants, writes_stream, Reading}
 use Rattle.dob_words.specs.Forms.{is_among, is_needed, Form, Text, forms, labels, no_form}
 use Rattle.dob_words.specs.Lines.{AreNew, Behind, Gives, IsAmong, IsCommandLine, by_dashes, by_flag, by_option, by_place, by_value, next, none, nothing}
 use Rattle.dob_words.specs.Readings.{ComesFromLine, SomeLine}
@@ -75,9 +75,6 @@ module _ (f : Form) (name : Text) (texts : List (Option Text)) where
   Told (behind before left) words = (more : Given) × Behind left words more × Came before more
   Told (ended m) words = m ≡ asks name texts
 
-  Asks : Stand → List Text → Type 0
-  Asks stand words = at_end f (fold next_stand stand words) ≡ asks name texts
-
   ended_told : (m : Meaning) (words : List Text) → at_end f (fold next_stand (ended m) words) ≡ asks name texts → m ≡ asks name texts
   ended_told m [] e = e
   ended_told m (word ∷ rest) e = ended_told m rest e
@@ -107,47 +104,46 @@ module _ (f : Form) (name : Text) (texts : List (Option Text)) where
     abbrev Led : Stand → Type 0
     Led stand = at_end f (fold next_stand stand rest) ≡ asks name texts
 
+    -- a text that was kept is the first of its label, and fits
+    kept_led : (label t : Text) (before : Given) (stand : Stand) → Led (kept f label t before stand)
+        → (text_behind label before ≡ None) × (fits f label t ≡ true) × Led stand
+    kept_led label t before stand e = go (is_some (text_behind label before) || not (fits f label t)) refl e
+      where
+        go : (b : Bool) → (is_some (text_behind label before) || not (fits f label t)) ≡ b → Led (cond b (ended usage) stand)
+            → (text_behind label before ≡ None) × (fits f label t ≡ true) × Led stand
+        go true h e = not_usage (ended_told usage rest e)
+        go false h e = let both = kept_both (text_behind label before) (fits f label t) h in (both.0, both.1, e)
+
+    -- and the rest gives what comes after it
+    kept_told : (label t : Text) (before : Given) (left : List Text) → Led (kept f label t before (between (before ++ (label, t) ∷ []) left))
+        → (more : Given) × Gives f left rest more × Came before ((label, t) ∷ more)
+    kept_told label t before left e =
+        let k = kept_led label t before (between (before ++ (label, t) ∷ []) left) e in
+        let r : Told (between (before ++ (label, t) ∷ []) left) rest = rec (between (before ++ (label, t) ∷ []) left) k.2 in
+        (r.0, r.1, came_more label t before r.0 k.0 k.1 r.2)
+
     placed_told : (before : Given) (left : List Text) → is_text word ≡ true → Led (placed f between before left word) → Told (between before left) (word ∷ rest)
     placed_told before [] t e = not_usage (ended_told usage rest e)
-    placed_told before (label ∷ left) t e = go (is_some (text_behind label before) || not (fits f label word)) refl e
-      where
-        go : (b : Bool) → (is_some (text_behind label before) || not (fits f label word)) ≡ b
-            → Led (cond b (ended usage) (between (before ++ (label, word) ∷ []) left))
-            → Told (between before (label ∷ left)) (word ∷ rest)
-        go true h e = not_usage (ended_told usage rest e)
-        go false h e =
-            let both = kept_both (text_behind label before) (fits f label word) h in
-            let r : Told (between (before ++ (label, word) ∷ []) left) rest = rec (between (before ++ (label, word) ∷ []) left) e in
-            ((label, word) ∷ r.0, by_place label word left rest r.0 t r.1, came_more label word before r.0 both.0 both.1 r.2)
+    placed_told before (label ∷ left) t e =
+        let r = kept_told label word before left e in ((label, word) ∷ r.0, by_place label word left rest r.0 t r.1, r.2)
 
     behind_told : (before : Given) (left : List Text) → Led (placed f behind before left word) → Told (behind before left) (word ∷ rest)
     behind_told before [] e = not_usage (ended_told usage rest e)
-    behind_told before (label ∷ left) e = go (is_some (text_behind label before) || not (fits f label word)) refl e
-      where
-        go : (b : Bool) → (is_some (text_behind label before) || not (fits f label word)) ≡ b
-            → Led (cond b (ended usage) (behind (before ++ (label, word) ∷ []) left))
-            → Told (behind before (label ∷ left)) (word ∷ rest)
-        go true h e = not_usage (ended_told usage rest e)
-        go false h e =
-            let both = kept_both (text_behind label before) (fits f label word) h in
-            let r : Told (behind (before ++ (label, word) ∷ []) left) rest = rec (behind (before ++ (label, word) ∷ []) left) e in
-            ((label, word) ∷ r.0, next label word left rest r.0 r.1, came_more label word before r.0 both.0 both.1 r.2)
+    behind_told before (label ∷ left) e =
+        let k = kept_led label word before (behind (before ++ (label, word) ∷ []) left) e in
+        let r : Told (behind (before ++ (label, word) ∷ []) left) rest = rec (behind (before ++ (label, word) ∷ []) left) k.2 in
+        ((label, word) ∷ r.0, next label word left rest r.0 r.1, came_more label word before r.0 k.0 k.1 r.2)
 
     wanted_told : (label : Text) (before : Given) (left : List Text) → Led (next_stand (wants label before left) word)
         → Told (wants label before left) (word ∷ rest)
-    wanted_told label before left e = go (is_text word) refl e
+    wanted_told label before left e = go (is_text word) (fits f label word) refl refl e
       where
-        by_fit : (b : Bool) → fits f label word ≡ b → is_text word ≡ true
-            → Led (cond b (between (before ++ (label, word) ∷ []) left) (ended usage)) → Told (wants label before left) (word ∷ rest)
-        by_fit false fit t e = not_usage (ended_told usage rest e)
-        by_fit true fit t e =
+        go : (b fit : Bool) → is_text word ≡ b → fits f label word ≡ fit
+            → Led (cond b (cond fit (between (before ++ (label, word) ∷ []) left) (ended usage)) (ended usage)) → Told (wants label before left) (word ∷ rest)
+        go true true t fit e =
             let r : Told (between (before ++ (label, word) ∷ []) left) rest = rec (between (before ++ (label, word) ∷ []) left) e in
             (word, rest, r.0, refl, t, fit, r.1, r.2)
-
-        go : (b : Bool) → is_text word ≡ b → Led (cond b (wanted f label before left word) (ended usage))
-            → Told (wants label before left) (word ∷ rest)
-        go false t e = not_usage (ended_told usage rest e)
-        go true t e = by_fit (fits f label word) refl t e
+        go b fit t is e = not_usage (ended_told usage rest e)
 
     named_told : (before : Given) (left : List Text) (r : Text) → codes "--" ++ r ≡ word → Led (after_part f before left word (named_part f r))
         → Told (between before left) (word ∷ rest)
@@ -168,29 +164,20 @@ module _ (f : Form) (name : Text) (texts : List (Option Text)) where
               came_more label q.0 before q.2 fresh q.5 q.7,
             )
 
-        with_value : (label : Text) → label_of f.options (name_in r) ≡ Some label → name_in r ++ 61 ∷ behind_equals ≡ r → (b : Bool)
-            → (is_some (text_behind label before) || not (fits f label behind_equals)) ≡ b
-            → Led (cond b (ended usage) (between (before ++ (label, behind_equals) ∷ []) left)) → Told (between before left) (word ∷ rest)
-        with_value label known split true h e = not_usage (ended_told usage rest e)
-        with_value label known split false h e =
-            let both = kept_both (text_behind label before) (fits f label behind_equals) h in
-            let q : Told (between (before ++ (label, behind_equals) ∷ []) left) rest = rec (between (before ++ (label, behind_equals) ∷ []) left) e in (
+        with_value : (label : Text) → label_of f.options (name_in r) ≡ Some label → name_in r ++ 61 ∷ behind_equals ≡ r
+            → Led (kept f label behind_equals before (between (before ++ (label, behind_equals) ∷ []) left)) → Told (between before left) (word ∷ rest)
+        with_value label known split e =
+            let q = kept_told label behind_equals before left e in (
               (label, behind_equals) ∷ q.0,
               subst (λ w. Gives f left (w ∷ rest) ((label, behind_equals) ∷ q.0)) (ap (λ x. codes "--" ++ x) split ∙ is)
                   (by_value (name_in r) label behind_equals left rest q.0 known q.1),
-              came_more label behind_equals before q.0 both.0 both.1 q.2,
+              q.2,
             )
 
-        with_flag : is_among f.flags r ≡ true → (b : Bool) → (is_some (text_behind r before) || not (fits f r [])) ≡ b
-            → Led (cond b (ended usage) (between (before ++ (r, []) ∷ []) left)) → Told (between before left) (word ∷ rest)
-        with_flag own true h e = not_usage (ended_told usage rest e)
-        with_flag own false h e =
-            let both = kept_both (text_behind r before) (fits f r []) h in
-            let q : Told (between (before ++ (r, []) ∷ []) left) rest = rec (between (before ++ (r, []) ∷ []) left) e in (
-              (r, []) ∷ q.0,
-              subst (λ w. Gives f left (w ∷ rest) ((r, []) ∷ q.0)) is (by_flag r left rest q.0 own q.1),
-              came_more r [] before q.0 both.0 both.1 q.2,
-            )
+        with_flag : is_among f.flags r ≡ true → Led (kept f r [] before (between (before ++ (r, []) ∷ []) left)) → Told (between before left) (word ∷ rest)
+        with_flag own e =
+            let q = kept_told r [] before left e in
+            ((r, []) ∷ q.0, subst (λ w. Gives f left (w ∷ rest) ((r, []) ∷ q.0)) is (by_flag r left rest q.0 own q.1), q.2)
 
         -- without `=` all is the name
         all_name : has_byte 61 r ≡ false → name_in r ≡ r
@@ -204,12 +191,11 @@ module _ (f : Form) (name : Text) (texts : List (Option Text)) where
         go None b false known h own e = not_usage (ended_told usage rest e)
         go None true true known h own e = not_usage (ended_told usage rest e)
         go None false true known h own e =
-            with_flag (ap (is_among f.flags) (sym (all_name h)) ∙ own) (is_some (text_behind r before) || not (fits f r [])) refl
+            with_flag (ap (is_among f.flags) (sym (all_name h)) ∙ own)
             (subst (λ n. Led (kept f n [] before (between (before ++ (n, []) ∷ []) left))) (all_name h) e)
         go (Some label) false b known h own e =
             with_option label (ap (label_of f.options) (sym (all_name h)) ∙ known) (text_behind label before) refl e
-        go (Some label) true b known h own e = with_value label known (equals_split r h) (is_some (text_behind label before) || not
-            (fits f label behind_equals)) refl e
+        go (Some label) true b known h own e = with_value label known (equals_split r h) e
 
     hyphen_told : (before : Given) (left : List Text) (o : Option Text) → after_dashes word ≡ o
         → Led (after_part f before left word (option_map_or (named_part f) o unknown)) → Told (between before left) (word ∷ rest)
@@ -442,9 +428,7 @@ settled_asks (asks n ts) name texts e = go (writes_stream n ts) (takes_lines n &
     go true b e = not_usage no_form name texts e
     go false true e = not_usage no_form name texts e
     go false false e = e
-settled_asks help name texts e = e
-settled_asks version name texts e = e
-settled_asks usage name texts e = e
+settled_asks m name texts e = e
 
 pub line_of : (words : List Text) (name : Text) (texts : List (Option Text)) → meaning_of words ≡ asks name texts → SomeLine words name texts
 line_of [] name texts e = not_usage no_form name texts e
@@ -488,9 +472,7 @@ order_from_line words (reading.Order o) h = go (meaning_of words) refl h
     go help e h = absurd h
     go usage e h = absurd h
     go version e h = absurd h
-order_from_line words reading.Version h = tt
-order_from_line words (reading.Help s) h = tt
-order_from_line words (reading.Usage s) h = tt
+order_from_line words r h = tt
 
 -- and at each line it is read
 pub reading_at_line : (words : List Text) (f : Form) (texts : List (Option Text)) (r : Reading) → IsAmong f forms → IsCommandLine f words texts

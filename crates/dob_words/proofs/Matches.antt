@@ -1,16 +1,16 @@
 -- The texts of a subcommand, from its own matches, which form's matches they are, and the row of its name.
 use Rattle.dob_words.proofs.Common.{◌∙◌, ◌∷◌, ◌≡◌, Bool, List, None, Option, Some, [], ap, ap₂, arith, codes, false, inl, inr, length, map, refl, rules, subst}
 use Rattle.dob_words.proofs.Common.{suc, sym, true, true≢false, ℕ, Ok-from_Ok_iff, bytes_eq-Decides, Bor, list_any, option_map, unwrap_or, bytes_eq}
-use Rattle.dob_words.proofs.Common.{first_value-rows, first_of, subcommand_rows_of, IsReadFor, AreFit, Finds, HasFit, IsFit, IsMet, IsMetBySome, IsNamed}
+use Rattle.dob_words.proofs.Common.{first_value-rows, first_of, subcommand_rows_of, IsReadFor, AreFit, Finds, HasFit, IsMet, IsMetBySome, IsNamed}
 use Rattle.dob_words.proofs.Common.{ReadRow, texts_in, asks, cleared, is_number, number_in, settled, Order}
-use Rattle.std.proofs.Common.{◌<◌, zero, ◌||◌, is_some}
+use Rattle.std.proofs.Common.{◌<◌, zero, ◌||◌}
 use Rattle.std.specs.Prelude.{Err, get_or, is_err, Result}
 use Rattle.std.specs.Str.Parse.{ParsesUnsigned}
 use Rattle.clap.specs.Words.{Row, first_value, found_of, rows_of, subcommand_name_of}
 use Rattle.clap.specs.declared.parser.ArgMatches.{ArgMatches}
 use Rattle.clap.specs.declared.builder.value_parser.ValueParser.TheVariants.{Unsigned}
 use Rattle.clap.proofs.ValueTestLemmas.{accepts-Accepts}
-use Rattle.dob_words.specs.Forms.{Form, Text, form_named, forms, is_needed, labels}
+use Rattle.dob_words.specs.Forms.{Form, Text, form_named, forms, labels}
 use Rattle.dob_words.specs.Lines.{IsAmong}
 use Rattle.dob_words.specs.Readings.{AreNamed, IsFlaggedBy, IsOneOf, form_for, name_of, subcommand_asked, texts_asked}
 use Rattle.dob_words.specs.declared.command.orders.Asked.{Asked}
@@ -19,11 +19,6 @@ use Rattle.dob_words.specs.declared.command.orders.Order.TheVariants as order
 use Rattle.dob_words.proofs.Texts.{Each, taken_number}
 
 -- ---- texts that fit
-
--- what is needed is there
-pub there : (f : Form) (label : Text) (o : Option Text) → is_needed f label ≡ true → IsFit f label o → is_some o ≡ true
-there f label None needed fit = absurd (true≢false (sym needed ∙ fit))
-there f label (Some t) needed fit = refl
 
 -- a number is read from its text
 pub never_refused : {E : Type 0} (t : Text) (r : Result ℕ E) (e : E) → is_number t ≡ true → ParsesUnsigned 64 10 t r → r ≡ Err e → ⊥
@@ -130,19 +125,13 @@ asked_texts : (a : Asked) (m : ArgMatches)
     → texts_asked a (first_value (found_of m) (codes "FILE")) (first_value (found_of m) (codes "numbered")) (first_value (found_of m) (codes "each"))
     (first_value (found_of m) (codes "json")) (first_value (found_of m) (codes "POSITION")) ≡ texts_in (form_for (subcommand_asked a)) m
 asked_texts ask.Probe m = refl
-asked_texts (ask.Look j) m = refl
-asked_texts (ask.Moves j) m = refl
-asked_texts ask.Best m = refl
-asked_texts (ask.Line n j) m = refl
+asked_texts a m = refl
 
 -- by `--each` alone it is clear
 each_clear : (a : Asked) (x n y j z : Option Text) (file : Bor Text) (flag : Text) → x ≡ Some file.now → y ≡ Some flag → z ≡ None → IsFlaggedBy a n j
     → IsReadFor (cleared (asks (name_of (subcommand_asked a)) (texts_asked a x n y j z))) (Some (order.EachLine file a))
 each_clear ask.Probe x n y j z file flag f e p is = rw (f, e, p) (refl, (n, j, flag, refl, is))
-each_clear (ask.Look b) x n y j z file flag f e p is = rw (f, e, p) (refl, (n, j, flag, refl, is))
-each_clear (ask.Moves b) x n y j z file flag f e p is = rw (f, e, p) (refl, (n, j, flag, refl, is))
-each_clear ask.Best x n y j z file flag f e p is = rw (f, e, p) (refl, (n, j, flag, refl, is))
-each_clear (ask.Line a b) x n y j z file flag f e p is = rw (f, e, p) (refl, (n, j, flag, refl, is))
+each_clear a x n y j z file flag f e p is = rw (f, e, p) (refl, (n, j, flag, refl, is))
 
 pub each_read : (a : Asked) (m : ArgMatches) (file : Bor Text) → first_value (found_of m) (codes "FILE") ≡ Some file.now
     → IsOneOf (first_value (found_of m) (codes "each")) (first_value (found_of m) (codes "POSITION")) (Some None)

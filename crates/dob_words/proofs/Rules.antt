@@ -1,7 +1,7 @@
 -- Commands that are made from rows of the table, one row more at a time.
-use Rattle.std.proofs.Common.{◌≡◌, ◌∙◌, ◌<◌, ◌≤◌, ◌+◌, ℕ, Bool, List, [], ◌∷◌, ◌++◌, ◌||◌, ap, ap₂, sym, subst, refl, map, take, length, append_assoc}
+use Rattle.std.proofs.Common.{◌≡◌, ◌∙◌, ◌<◌, ◌≤◌, ◌+◌, ℕ, Bool, List, [], ◌∷◌, ◌++◌, ◌||◌, ap, ap₂, sym, subst, map, take, length, append_assoc}
 use Rattle.std.specs.Prelude.{get_or}
-use Rattle.std.proofs.lemmas.List.{take_more, take_all}
+use Rattle.std.proofs.lemmas.List.{append-nil, map-append, take_more, take_all}
 use Rattle.std.proofs.lemmas.List.Sums.{fold-append}
 use Rattle.clap.specs.Words.{AddsArg, AddsSubcommand, App, Rule, with_rule, with_subcommand}
 use Rattle.clap.specs.declared.builder.Arg.{Arg}
@@ -9,17 +9,9 @@ use Rattle.clap.specs.declared.builder.Command.{Command}
 use Rattle.dob_words.specs.Forms.{Row}
 use Rattle.dob_words.specs.Shapes.{HasCommandShape, IsRead, ProfileNames, row_app, with_rows, with_rules}
 
-map_more : {X Y : Type 0} (f : X → Y) (xs : List X) (x : X) → map f (xs ++ x ∷ []) ≡ map f xs ++ f x ∷ []
-map_more f [] x = refl
-map_more f (y ∷ ys) x = ap (λ zs. f y ∷ zs) (map_more f ys x)
-
 -- none so far
 pub no_rules : (app : App) → with_rules app [] ≡ app
-no_rules app = ap (λ (rs : List Rule). record app { top = record app.top { rules = rs } }) (nil app.top.rules)
-  where
-    nil : (rs : List Rule) → rs ++ [] ≡ rs
-    nil [] = refl
-    nil (r ∷ rs) = ap (λ ys. r ∷ ys) (nil rs)
+no_rules app = ap (λ (rs : List Rule). record app { top = record app.top { rules = rs } }) (append-nil app.top.rules)
 
 -- a command with one more subcommand
 pub subcommand_shape : (old sub new : Command) (a b : App) → HasCommandShape a old → HasCommandShape b sub → AddsSubcommand old sub new
@@ -43,7 +35,7 @@ rule_joins rule said xs i d app old new arg low shape read adds =
     more : map rule (map said (take (i + 1) xs)) ≡ map rule (map said (take i xs)) ++ rule (said (get_or xs i d)) ∷ []
     more =
         ap (λ ys. map rule (map said ys)) (take_more xs i d low)
-        ∙ (ap (map rule) (map_more said (take i xs) (get_or xs i d)) ∙ map_more rule (map said (take i xs)) (said (get_or xs i d)))
+        ∙ (ap (map rule) (map-append said (take i xs) (get_or xs i d ∷ [])) ∙ map-append rule (map said (take i xs)) (said (get_or xs i d) ∷ []))
 
     same : with_rule (with_rules app (map rule (map said (take i xs)))) (rule (said (get_or xs i d))) ≡ with_rules app (map rule (map said (take (i + 1) xs)))
     same =
@@ -69,7 +61,7 @@ row_joins profiles said xs i d app old new sub low first second adds =
     (subcommand_shape old sub new (with_rows profiles app (map said (take i xs))) (row_app profiles (said (get_or xs i d))) first second adds)
   where
     more : map said (take (i + 1) xs) ≡ map said (take i xs) ++ said (get_or xs i d) ∷ []
-    more = ap (map said) (take_more xs i d low) ∙ map_more said (take i xs) (get_or xs i d)
+    more = ap (map said) (take_more xs i d low) ∙ map-append said (take i xs) (get_or xs i d ∷ [])
 
     same : with_subcommand (with_rows profiles app (map said (take i xs))) (row_app profiles (said (get_or xs i d))).top
         ≡ with_rows profiles app (map said (take (i + 1) xs))

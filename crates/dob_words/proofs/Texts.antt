@@ -7,6 +7,7 @@ use Rattle.std.specs.Prelude.{length, nat_le, nat_lt, option_and_then, ◌^◌}
 use Rattle.std.specs.Char.{digit_value}
 use Rattle.std.specs.Str.Parse.{without_leading_plus}
 use Rattle.std.proofs.lemmas.List.{map-append}
+use Rattle.clap.proofs.WalkLemmas.{find-map}
 use Rattle.clap.specs.Facts.{explicit_source, parser_of_value}
 use Rattle.clap.specs.Values.{reading_of}
 use Rattle.clap.specs.ValueTests.{accepts}
@@ -45,14 +46,7 @@ rows_of = map row_of
 -- ---- what is found in them
 
 pub row_found : (label : Text) (given : Given) → find (λ r. bytes_eq r.id label) (rows_of given) ≡ option_map row_of (find (λ g. bytes_eq g.0 label) given)
-row_found label [] = refl
-row_found label (g ∷ given) = go (bytes_eq g.0 label) (row_found label given)
-  where
-    go : (b : Bool) → find (λ r. bytes_eq r.id label) (rows_of given) ≡ option_map row_of (find (λ x. bytes_eq x.0 label) given)
-        → cond b (Some (row_of g)) (find (λ r. bytes_eq r.id label) (rows_of given))
-        ≡ option_map row_of (cond b (Some g) (find (λ x. bytes_eq x.0 label) given))
-    go true rec = refl
-    go false rec = rec
+row_found label given = sym (find-map (λ (r : Row). bytes_eq r.id label) row_of given)
 
 first_found : (label : Text) (given : Given) → first_of label (rows_of given) ≡ text_behind label given
 first_found label given = ap (option_and_then (λ (r : Row). slice_get r.values 0)) (row_found label given) ∙ go (find (λ g. bytes_eq g.0 label) given)

@@ -7,8 +7,8 @@ use Rattle.std.proofs.Common.{◌==◌, ◌&&◌, zero}
 use Rattle.clap.specs.Walk.{Held, Row, Waiting, attached_value, plain, plain_word, arg_by_long, arg_by_short, bundle_met, long_or_other, takes_values}
 use Rattle.clap.specs.Faults.{flag_word_fault, flags_fault, long_fault, option_fault, react_fault, settle_fault, short_fault}
 use Rattle.clap.specs.declared.error.kind.ErrorKind.TheVariants as kind
-use Rattle.dob_words.proofs.Lexing.{help_letter, help_hyphen, help_dashes, help_long, help_short, View, empty, letter, hyphen, dashes, long, short}
-use Rattle.dob_words.proofs.Lexing.{hyphen_first, long_name, no_first, long_letter, short_letter, flag_letter, long_short, short_short, before_none}
+use Rattle.dob_words.proofs.Lexing.{flip, help_dashes, help_long, help_short, View, empty, letter, hyphen, dashes, long, short}
+use Rattle.dob_words.proofs.Lexing.{hyphen_first, long_name, no_first, before_none}
 
 -- the help flag, built
 abbrev pub help_flag : Rule
@@ -41,19 +41,19 @@ module _ (c : List Rule) (rows : List Row) (pending : Option (Text × List Text)
   -- a text is no flag
   pub text_plain : (waiting : Waiting) (w : Text) → View w → flag_of w ≡ None → Plain waiting w
   text_plain waiting _ empty e = refl
-  text_plain waiting _ (letter x rest t) e = rw (long_letter x rest t, short_letter x rest t) refl
+  text_plain waiting _ (letter x rest t) e = rw (t, t) refl
   text_plain waiting _ hyphen e = refl
   text_plain waiting _ dashes e = absurd (some≢none 45 (sym (hyphen_first []) ∙ e))
   text_plain waiting _ (long a cs) e = absurd (some≢none 45 (sym (hyphen_first (a ∷ cs)) ∙ e))
-  text_plain waiting _ (short y ys t) e = rw (long_short y ys t, short_short y ys t, bundle_plain (length (y ∷ ys)) (y ∷ ys) e) refl
+  text_plain waiting _ (short y ys t) e = rw (t, t, bundle_plain (length (y ∷ ys)) (y ∷ ys) e) refl
 
   pub text_passes : (w : Text) → View w → flag_of w ≡ None → flag_word_fault c false (long_of w) w h ≡ []
   text_passes _ empty e = refl
-  text_passes _ (letter x rest t) e = rw (long_letter x rest t, short_letter x rest t) refl
+  text_passes _ (letter x rest t) e = rw (t, t) refl
   text_passes _ hyphen e = refl
   text_passes _ dashes e = absurd (some≢none 45 (sym (hyphen_first []) ∙ e))
   text_passes _ (long a cs) e = absurd (some≢none 45 (sym (hyphen_first (a ∷ cs)) ∙ e))
-  text_passes _ (short y ys t) e = rw (long_short y ys t, short_short y ys t, bundle_passes (length (y ∷ ys)) (y ∷ ys) e) refl
+  text_passes _ (short y ys t) e = rw (t, t, bundle_passes (length (y ∷ ys)) (y ∷ ys) e) refl
 
 -- the command knows the help flag by its names, and no other flag but for options whose names pass
 -- the test; a use of the help flag, after what waits, asks for help
@@ -137,22 +137,22 @@ module _ (c : List Rule) (rows : List Row) (pending : Option (Text × List Text)
   -- a word that asks for help
   pub help_word : (w : Text) → View w → is_help_flag w ≡ true → fault w ≡ kind.DisplayHelp ∷ []
   help_word _ empty e = absurd (true≢false (sym e))
-  help_word _ (letter x rest t) e = absurd (true≢false (sym e ∙ help_letter x rest t))
-  help_word _ hyphen e = absurd (true≢false (sym e ∙ help_hyphen))
+  help_word _ (letter x rest t) e = absurd (true≢false (sym (rw (t, flip x 45 false t) at e)))
+  help_word _ hyphen e = absurd (true≢false (sym (rw no_first at e)))
   help_word _ dashes e = absurd (true≢false (sym e ∙ help_dashes))
   help_word _ (long a cs) e = long_help a cs (sym (help_long a cs) ∙ e)
   help_word _ (short y ys t) e = go (slice_get (chars (y ∷ ys)) 0) refl (sym (help_short y ys t) ∙ e)
     where
       go : (o : Option ℕ) → slice_get (chars (y ∷ ys)) 0 ≡ o → option_map_or (λ x. 104 == x) o false ≡ true → fault (45 ∷ y ∷ ys) ≡ kind.DisplayHelp ∷ []
       go None is h = absurd (true≢false (sym h))
-      go (Some x) is h = rw (long_short y ys t, short_short y ys t, bundle_help (length ys) (y ∷ ys) x is h) refl
+      go (Some x) is h = rw (t, t, bundle_help (length ys) (y ∷ ys) x is h) refl
 
   -- another word that begins with a hyphen is no flag of the command
   pub other_word : (w : Text) → View w → is_option (long_name w) ≡ false → is_text w ≡ false → is_help_flag w ≡ false → bytes_eq w (codes "--") ≡ false
       → is_usage (fault w) ≡ true
   other_word _ empty own text e d = absurd (true≢false text)
-  other_word _ (letter x rest t) own text e d = absurd (true≢false (sym (ap (λ (o : Option ℕ). not (is_some o)) (flag_letter x rest t)) ∙ text))
-  other_word _ hyphen own text e d = absurd (true≢false (sym (ap (λ (o : Option ℕ). not (is_some o)) no_first) ∙ text))
+  other_word _ (letter x rest t) own text e d = absurd (true≢false (rw t at text))
+  other_word _ hyphen own text e d = absurd (true≢false (rw no_first at text))
   other_word _ dashes own text e d = absurd (true≢false d)
   other_word _ (long a cs) own text e d = long_other a cs own (sym (help_long a cs) ∙ e)
   other_word _ (short y ys t) own text e d = go (slice_get (chars (y ∷ ys)) 0) refl (sym (help_short y ys t) ∙ e) text
@@ -160,7 +160,7 @@ module _ (c : List Rule) (rows : List Row) (pending : Option (Text × List Text)
       go : (o : Option ℕ) → slice_get (chars (y ∷ ys)) 0 ≡ o → option_map_or (λ x. 104 == x) o false ≡ false → not (is_some o) ≡ false
           → is_usage (fault (45 ∷ y ∷ ys)) ≡ true
       go None is h none = absurd (true≢false none)
-      go (Some x) is h none = rw (long_short y ys t, short_short y ys t, bundle_other (length ys) (y ∷ ys) x is h) refl
+      go (Some x) is h none = rw (t, t, bundle_other (length ys) (y ∷ ys) x is h) refl
 
 -- where what waits can't be used as it is, each word that begins with a hyphen is refused
 module _ (c : List Rule) (rows : List Row) (pending : Option (Text × List Text)) (fails : is_usage (settle_fault c false (held rows pending)) ≡ true) where
@@ -198,8 +198,8 @@ module _ (c : List Rule) (rows : List Row) (pending : Option (Text × List Text)
 
   pub word_fails : (w : Text) → View w → is_text w ≡ false → bytes_eq w (codes "--") ≡ false → is_usage (flag_word_fault c false (long_of w) w f) ≡ true
   word_fails _ empty text d = absurd (true≢false text)
-  word_fails _ (letter x rest t) text d = absurd (true≢false (sym (ap (λ (o : Option ℕ). not (is_some o)) (flag_letter x rest t)) ∙ text))
-  word_fails _ hyphen text d = absurd (true≢false (sym (ap (λ (o : Option ℕ). not (is_some o)) no_first) ∙ text))
+  word_fails _ (letter x rest t) text d = absurd (true≢false (rw t at text))
+  word_fails _ hyphen text d = absurd (true≢false (rw no_first at text))
   word_fails _ dashes text d = absurd (true≢false d)
   word_fails _ (long a cs) text d = long_fails (arg_by_long c (before_first (λ x. x == 61) (a ∷ cs))) (name_and_value (a ∷ cs)).1
   word_fails _ (short y ys t) text d = go (slice_get (chars (y ∷ ys)) 0) refl text
@@ -207,4 +207,4 @@ module _ (c : List Rule) (rows : List Row) (pending : Option (Text × List Text)
       go : (o : Option ℕ) → slice_get (chars (y ∷ ys)) 0 ≡ o → not (is_some o) ≡ false
           → is_usage (flag_word_fault c false (long_of (45 ∷ y ∷ ys)) (45 ∷ y ∷ ys) f) ≡ true
       go None is none = absurd (true≢false none)
-      go (Some x) is none = rw (long_short y ys t, short_short y ys t) (bundle_fails (length ys) (y ∷ ys) x is)
+      go (Some x) is none = rw (t, t) (bundle_fails (length ys) (y ∷ ys) x is)

@@ -54,15 +54,25 @@ pub fn read_words<'a>(alloc: Global, words: &'a [&'a str]) -> Result<Reading<'a>
     ensures complete { (form : Form) (texts : List (Option Text)) → IsAmong form forms
         → IsCommandLine form (map (λ w. w.now) words.now) texts → IfOk result (IsReadingOf (settled (asks form.name texts))) }
 {
+    read_meant(alloc, words)
+}
+
+// The same, by what the words mean.
+fn read_meant<'a>(alloc: Global, words: &'a [&'a str]) -> Result<Reading<'a>, AllocError>
+    ensures { IfOk result (IsReadingOf (meaning_of (map (λ w. w.now) words.now))) }
+{
     if asks_version(words) {
         return Ok(Reading::Version);
     }
-    if asks_topic(words) {
-        return read_topic(alloc, words);
-    }
     match dobutsu_command(alloc)?.try_get_matches_from(words) {
         Ok(matches) => read_order(alloc, order_of(&matches), &matches, first_word(words)),
-        Err(error) => read_error(alloc, &error),
+        Err(error) => {
+            if asks_topic(words) {
+                read_topic(alloc, words, &error)
+            } else {
+                read_error(alloc, &error)
+            }
+        }
     }
 }
 
@@ -86,18 +96,14 @@ fn asks_topic(words: &[&str]) -> bool
     }
 }
 
-// What the words from `help` on come to. Which of its two texts `clap` prints its contract leaves open, so the words say it.
-fn read_topic<'a>(alloc: Global, words: &'a [&'a str]) -> Result<Reading<'a>, AllocError>
-    requires { is_topic (map (λ w. w.now) words.now) ≡ true }
+// What the words from `help` on come to, for which `clap` has this error. Which of its two texts it prints its contract leaves open, so the words say it.
+fn read_topic<'a>(alloc: Global, words: &[&str], error: &Error) -> Result<Reading<'a>, AllocError>
     ensures { IfOk result (IsReadingOf (meaning_of_topic (map (λ w. w.now) words.now))) }
 {
-    match dobutsu_command(alloc)?.try_get_matches_from(words) {
-        Ok(_) => unreachable!(),
-        Err(error) => match (error.kind(), has_topic(words)) {
-            (ErrorKind::OutOfMemory, _) => Err(AllocError),
-            (_, true) => Ok(Reading::Help(format!(in alloc; "{error}")?)),
-            (_, false) => Ok(Reading::Usage(format!(in alloc; "{error}")?)),
-        },
+    match (error.kind(), has_topic(words)) {
+        (ErrorKind::OutOfMemory, _) => Err(AllocError),
+        (_, true) => Ok(Reading::Help(format!(in alloc; "{error}")?)),
+        (_, false) => Ok(Reading::Usage(format!(in alloc; "{error}")?)),
     }
 }
 
@@ -390,7 +396,7 @@ For more information, try '--help'.
     )
 }
 
-// What the words come to where `clap` has no matches for them.
+// What other words come to, for which `clap` has this error.
 fn read_error<'a>(alloc: Global, error: &Error) -> Result<Reading<'a>, AllocError>
     ensures { IfOk result (IsReadingOfKind (kind_of error.now)) }
 {

@@ -1,9 +1,9 @@
 -- The build is of the text's piece set, and what is kept is its table's file. Until then nothing has changed.
-use Rattle.dob_cli.proofs.Common.{Bool, subst, IsTrue, family_of, others_kept, unchanged, shelf_change}
+use Rattle.dob_cli.proofs.Common.{Bool, subst, sym, IsTrue, family_of, others_kept, unchanged, shelf_change}
 use Rattle.std.proofs.lemmas.Result.{err_from_is_err_and}
 use Rattle.dob_query.proofs.Kept.{answered_later, filled_answers, others_after, shelf_fails, shelf_keeps}
 use Rattle.dob_cli.proofs.Building.{build_lines, building_holds, unkept}
-use Rattle.dob_cli.proofs.Runs.{none_failed}
+use Rattle.std.proofs.Math.Bool.{or-false}
 use Rattle.dob_cli.proofs.builds.answer_build.Goals as goal
 
 pub returns-in_err-count : goal.returns-in_err-count
@@ -14,7 +14,7 @@ returns-in_err-count g c =
     rw (p.1, p.2) (
       (
         ((c.in_ok-set.set, c.in_ok-set.ensures.ok, refused.0, refused.1, refused.2), unchanged shelf.has),
-        none_failed shelf.has_failed,
+        sym (or-false shelf.has_failed),
       ),
       others_kept c.args.order.file.now _ _ (unchanged shelf.has),
     )

@@ -1,5 +1,4 @@
 -- What the sink takes is the file of the table that was built.
-use Rattle.std.proofs.Common.{◌∙◌}
 use Rattle.dob_cli.proofs.Building.{built_fills}
 use Rattle.dob_cli.proofs.builds.fill_built.Goals as goal
 

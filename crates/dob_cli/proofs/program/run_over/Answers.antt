@@ -5,27 +5,22 @@ use Rattle.dob_cli.proofs.Runs.{leaves, ran, ran_memory, ran_order}
 use Rattle.dob_cli.proofs.program.run_over.Goals as goal
 
 pub returns-in-Err : goal.returns-in-Err
-returns-in-Err g c =
-    let shelf = g.S.Shelf.state c.args.shelf.now in
-    ran_memory _ _ _ (c.tell_memory.ensures, refl) (leaves shelf)
+returns-in-Err g c = ran_memory _ _ _ (c.tell_memory.ensures, refl) (leaves (g.S.Shelf.state c.args.shelf.now))
 
 pub returns-in-Ok-Help : goal.returns-in-Ok-Help
 returns-in-Ok-Help g c =
-    let shelf = g.S.Shelf.state c.args.shelf.now in
     ran _ _ _ (reading.Help c.in-Ok-Help.text) (rw c.in-Ok-Help.field-0-is at c.in-Ok-Help.ensures.meaning)
-    (inl (_, c.tell.ensures), leaves shelf)
+    (inl (_, c.tell.ensures), leaves (g.S.Shelf.state c.args.shelf.now))
 
 pub returns-in-Ok-Version : goal.returns-in-Ok-Version
 returns-in-Ok-Version g c =
-    let shelf = g.S.Shelf.state c.args.shelf.now in
     ran _ _ _ reading.Version (rw c.in-Ok-Version.field-0-is at c.in-Ok-Version.ensures.meaning)
-    (inl c.tell-in-Ok-Version.ensures, leaves shelf)
+    (inl c.tell-in-Ok-Version.ensures, leaves (g.S.Shelf.state c.args.shelf.now))
 
 pub returns-in-Ok-Usage : goal.returns-in-Ok-Usage
 returns-in-Ok-Usage g c =
-    let shelf = g.S.Shelf.state c.args.shelf.now in
     ran _ _ _ (reading.Usage c.in-Ok-Usage.text) (rw c.in-Ok-Usage.field-0-is at c.in-Ok-Usage.ensures.meaning)
-    (inl (_, refl, c.say.ensures, refl), leaves shelf)
+    (inl (_, refl, c.say.ensures, refl), leaves (g.S.Shelf.state c.args.shelf.now))
 
 pub returns-in-Ok-Order : goal.returns-in-Ok-Order
 returns-in-Ok-Order g c =

@@ -1,5 +1,5 @@
 -- A file that the shelf has isn't opened, and isn't read, only for lack of memory.
-use Rattle.dob_query.proofs.Common.{rules, err_from_is_err_and}
+use Rattle.dob_query.proofs.Common.{err_from_is_err_and}
 use Rattle.dob_query.proofs.Proven.{shelf_bytes}
 use Rattle.dob_query.proofs.TableFaults.{shelf_fails}
 use Rattle.dob_query.proofs.certificates.bytes_named.Goals as goal

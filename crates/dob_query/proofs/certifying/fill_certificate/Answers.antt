@@ -1,5 +1,5 @@
 -- What the sink takes is the file of a certificate of what the table says.
-use Rattle.dob_query.proofs.Common.{◌∙◌, ap, err_from_is_err_and, content}
+use Rattle.dob_query.proofs.Common.{◌∙◌, err_from_is_err_and, content}
 use Rattle.dob_query.proofs.MadeFaults.{certificate_fills, making_fills, making_works, unfit_fills, unfit_works}
 use Rattle.dob_query.proofs.certifying.fill_certificate.Goals as goal
 

@@ -1,5 +1,5 @@
 -- The pieces in order.
-use Rattle.dob_query.proofs.Common.{◌++◌, ◌∷◌, ◌≡◌, List, [], codes, false, string_bytes, subst, ℕ, played_objects, valued_fields}
+use Rattle.dob_query.proofs.Common.{◌++◌, ◌∷◌, ◌≡◌, List, [], codes, false, string_bytes, subst, ℕ, played_objects}
 use Rattle.dob_pieces.specs.Bytes.{line_feed}
 use Rattle.dob_query.proofs.objects.line_object.Goals as goal
 

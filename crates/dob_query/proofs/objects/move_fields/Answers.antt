@@ -1,6 +1,5 @@
 -- A drop's fields are those of its text, on the square that is seen.
 use Rattle.dob_query.proofs.Common.{◌∙◌, ◌≡◌, List, string_bytes, subst, ℕ, IfOk, move_text, put_fields}
-use Rattle.dob_moves.specs.declared.game_move.Move.{Move}
 use Rattle.dob_moves.specs.declared.game_move.Move.TheVariants.{Put}
 use Rattle.dob_query.proofs.objects.move_fields.Goals as goal
 

@@ -1,5 +1,5 @@
 -- What the source told is what the file has.
-use Rattle.dob_query.proofs.Common.{List, rules, ℕ, String, Stream, whole, shelf_change, IsAnswerBy, IsAnswerOf, IsAskingFault, IsFaultOfAsking}
+use Rattle.dob_query.proofs.Common.{List, rules, ℕ, Stream, whole, shelf_change, IsAnswerBy, IsAnswerOf, IsAskingFault, IsFaultOfAsking}
 use Rattle.std.specs.Prelude.{string_bytes}
 use Rattle.dob_query.proofs.Asking.{ok_each, source_asks}
 use Rattle.dob_query.proofs.Endings.{answered_by}

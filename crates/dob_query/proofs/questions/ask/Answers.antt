@@ -13,7 +13,7 @@ returns-in_err-check_member-clause-fault g c =
 
 pub returns-clause-ok : goal.returns-clause-ok
 returns-clause-ok g c = λ stream gives shows.
-    IfOk-then c.answer_by_records.result _ _ (c.answer_by_records.ensures.ok stream (c.in_ok-format.ensures.shown stream shows)) (λ lines told. record {
+    IfOk-then c.answer_by_records.result _ _ (c.answer_by_records.ensures.told.ok stream (c.in_ok-format.ensures.shown stream shows)) (λ lines told. record {
       format = c.in_ok-format.format;
       family = c.in_ok-format.classes.family;
       by = record { named = c.in_ok-format.ensures.named stream gives; member = c.in_ok-check_member.ensures.member };

@@ -17,4 +17,4 @@ returns-in_err-check_member-clause-answer g c =
 pub returns-clause-answer : goal.returns-clause-answer
 returns-clause-answer g c =
     told_line c.args.question (g.R.Source.shows c.args.source.now) c.args.format c.args.classes.now.family c.args.line.now c.in_ok-position.position.setup
-    c.answer_by_records.result c.in_ok-position.ensures c.in_ok-check_member.ensures.member c.answer_by_records.ensures.ok c.answer_by_records.ensures.fault
+    c.answer_by_records.result c.in_ok-position.ensures c.in_ok-check_member.ensures.member c.answer_by_records.ensures.told.ok c.answer_by_records.ensures.fault

@@ -1,8 +1,9 @@
 -- The table is the file's, and the position one of its family.
-use Rattle.dob_query.proofs.Common.{refl, subst, sym, err_from_is_err_and, IsPositionOf, class_number, IsRefusal}
+use Rattle.dob_query.proofs.Common.{subst, sym, err_from_is_err_and, IsPositionOf, class_number, IsRefusal}
 use Rattle.dob_reach.specs.Reached.{AreReachedFrom}
 use Rattle.dob_query.proofs.TableFaults.{refusal_holds}
 use Rattle.dob_query.proofs.reaches.by_file.Goals as goal
+use Rattle.dob_query.proofs.reaches.by_file.Goals.{In_ok-check_member}
 
 pub returns-in_err-check_member : goal.returns-in_err-check_member
 returns-in_err-check_member g c =
@@ -17,11 +18,14 @@ returns-in_err-check_member g c =
       asked.1,
     )
 
+-- the position is one of the table's family
+member : (g : _) (c : In_ok-check_member g) → IsPositionOf c.in_ok-table.table.family c.in_ok-table.position.setup
+member g c = subst (λ f. IsPositionOf f c.in_ok-table.position.setup) c.family.ensures.family c.in_ok-check_member.ensures.member
+
 pub reached_from-requires-clause-member : goal.reached_from-requires-clause-member
 reached_from-requires-clause-member g c = λ κs lives.
-    let setup = c.in_ok-table.position.setup in
-    let member : IsPositionOf c.in_ok-table.table.family setup = subst (λ f. IsPositionOf f setup) c.family.ensures.family c.in_ok-check_member.ensures.member in
-    subst (λ f. IsPositionOf f setup) (sym c.classes.ensures.family) member
+    subst (λ f. IsPositionOf f c.in_ok-table.position.setup) (sym c.classes.ensures.family)
+    (member g (goal.at.reached_from-requires-clause-member g c).In_ok-check_member)
 
 pub by_value-counts-requires : goal.by_value-counts-requires
 by_value-counts-requires g c =
@@ -38,7 +42,6 @@ returns g c =
     let asked = c.in_ok-table.ensures in
     let family = c.in_ok-table.table.family in
     let setup = c.in_ok-table.position.setup in
-    let member : IsPositionOf family setup = subst (λ f. IsPositionOf f setup) c.family.ensures.family c.in_ok-check_member.ensures.member in
     let found : AreReachedFrom family (class_number family setup) c.in_ok-reached.reached
     = subst (λ f. AreReachedFrom f (class_number f setup) c.in_ok-reached.reached) c.classes.ensures.family c.in_ok-reached.ensures in (
       (
@@ -47,7 +50,7 @@ returns g c =
           is = asked.0.0.0;
           position = setup;
           named = asked.0.0.1;
-          member = member;
+          member = member g (goal.at.returns g c).In_ok-check_member;
           reached = c.in_ok-reached.reached;
           found = found;
           counts = c.by_value-counts.result;

@@ -1,5 +1,5 @@
 -- The position that was read is the text's, and where a picture is asked for it is kept.
-use Rattle.dob_query.proofs.Common.{◌≡◌, Bool, List, subst, sym, ℕ, IsTrue, shelf_change, AreDrawn}
+use Rattle.dob_query.proofs.Common.{Bool, List, subst, sym, ℕ, IsTrue, shelf_change, AreDrawn}
 use Rattle.dob_words.specs.Readings.{text_given}
 use Rattle.dob_query.proofs.Kept.{answered_later, others_after}
 use Rattle.dob_query.proofs.Showing.{picture_shows}

@@ -1,10 +1,11 @@
 -- A line more is heard each time; what is held is told at the end, whatever that is.
 use Rattle.dob_query.proofs.Common.{◌||◌, ◌∙◌, Bool, ap, false, inl, inr, refl, string_bytes, subst, sym, or-false, err_from_is_err_and, change, unchanged}
-use Rattle.dob_query.proofs.Common.{is_io, AreAllLines, HearsLine, PutsText, TellsOf, TellsSome, told_of}
-use Rattle.dob_query.proofs.EachLine.{ahead_told, all_told, ends_weaker, first_stopped, first_told, never_known, none_heard, one_heard, put_or_stopped}
-use Rattle.dob_query.proofs.EachLine.{same_heard, still_works}
+use Rattle.dob_query.proofs.Common.{is_io, AreAllLines, PutsText, TellsOf, TellsSome, told_of}
+use Rattle.dob_query.proofs.EachLine.{AreHeard, ahead_told, all_told, ends_weaker, first_stopped, first_told, never_known, none_heard, one_heard}
+use Rattle.dob_query.proofs.EachLine.{put_or_stopped, same_heard, still_works}
 use Rattle.dob_query.proofs.Kept.{same_chain}
 use Rattle.dob_query.proofs.talk.tell_each.Goals as goal
+use Rattle.dob_query.proofs.talk.tell_each.Goals.{In_ok-tell_ahead}
 
 pub loop-init : goal.loop-init
 loop-init g c = (
@@ -16,76 +17,66 @@ loop-init g c = (
   still_works (g.S.Shelf.state c.args.shelf.now).has_failed (g.T.Answerer.has_failed c.args.by.now) c.requires,
 )
 
+-- what is told ahead was held
+ahead : (g : _) (c : In_ok-tell_ahead g)
+    → AreHeard (g.T.Answerer.answers c.args.by.now) (g.S.Shelf.state c.args.shelf.now).input (g.S.Shelf.state c.loop.shelf).input
+    (g.O.Sink.state c.args.out.now) (g.O.Sink.state c.tell_ahead.new.out) c.tell_ahead.new.self.is_refused (string_bytes c.tell_ahead.new.self.lines)
+ahead g c =
+    let done = c.in_ok-tell_ahead.ensures.done in
+    ahead_told c.loop.invariant.0 (g.O.Sink.state c.tell_ahead.new.out) c.tell_ahead.new.self.is_refused done.0
+    (string_bytes c.tell_ahead.new.self.lines) c.tell_ahead.ensures.refused done.1 done.2
+
 pub returns-in_err-tell_ahead-clause-told : goal.returns-in_err-tell_ahead-clause-told
 returns-in_err-tell_ahead-clause-told g c =
     let p = err_from_is_err_and c.from_residual.result c.from_residual.ensures.1 in
-    let shelf = g.S.Shelf.state c.args.shelf.now in
     rw (p.1, p.2) (inr (
       c.in_err-tell_ahead.ensures.part.0,
-      (c.loop.held.is_refused, first_stopped _ _ _ _ _ _ _ c.loop.invariant.0 (g.O.Sink.state c.tell_ahead.new.out) c.in_err-tell_ahead.ensures.part.1),
-      c.loop.invariant.4 ∙ sym (or-false shelf.has_failed),
+      (c.loop.held.is_refused, first_stopped c.loop.invariant.0 (g.O.Sink.state c.tell_ahead.new.out) c.in_err-tell_ahead.ensures.part.1),
+      c.loop.invariant.4 ∙ sym (or-false (g.S.Shelf.state c.args.shelf.now).has_failed),
     ))
 
 pub returns-in_err-tell-in-Ok-false-clause-told : goal.returns-in_err-tell-in-Ok-false-clause-told
 returns-in_err-tell-in-Ok-false-clause-told g c =
     let p = err_from_is_err_and c.from_residual-in_err-tell-in-Ok-false.result c.from_residual-in_err-tell-in-Ok-false.ensures.1 in
-    let done = c.in_ok-tell_ahead.ensures.done in
-    let ahead = ahead_told _ _ _ _ _ _ _ c.loop.invariant.0 (g.O.Sink.state c.tell_ahead.new.out) c.tell_ahead.new.self.is_refused done.0
-    (string_bytes c.tell_ahead.new.self.lines) c.tell_ahead.ensures.refused done.1 done.2 in
-    let hears = subst (HearsLine (g.T.Answerer.answers c.loop.by) (g.S.Shelf.state c.loop.shelf).input (g.S.Shelf.state c.hear_next.new.shelf).input
-    (told_of c.tell_ahead.new.self) (told_of c.hear_next.new.held)) c.in-Ok-false.field-0-test c.in-Ok-false.ensures.heard in
-    let heard = same_heard _ _ _ _ _ (told_of c.tell_ahead.new.self) (told_of c.hear_next.new.held) hears.1 ahead in
+    let none = rw c.in-Ok-false.field-0-test at c.in-Ok-false.ensures.heard in
+    let heard = same_heard (told_of c.hear_next.new.held) none.1 (ahead g (goal.at.returns-in_err-tell-in-Ok-false-clause-told g c).In_ok-tell_ahead) in
+    let part = c.in_err-tell-in-Ok-false.ensures.part in
     rw (p.1, p.2) (inr (
-      c.in_err-tell-in-Ok-false.ensures.part.0,
-      (c.hear_next.new.held.is_refused, first_stopped _ _ _ _ _ _ _ heard (g.O.Sink.state c.tell.new.out) c.in_err-tell-in-Ok-false.ensures.part.1),
+      part.0,
+      (c.hear_next.new.held.is_refused, first_stopped heard (g.O.Sink.state c.tell.new.out) part.1),
       c.in-Ok-false.ensures.failed ∙ ap (λ (b : Bool). b || false) c.loop.invariant.4,
     ))
 
 pub returns-in-Ok-false-clause-told : goal.returns-in-Ok-false-clause-told
 returns-in-Ok-false-clause-told g c =
-    let done = c.in_ok-tell_ahead.ensures.done in
-    let ahead = ahead_told _ _ _ _ _ _ _ c.loop.invariant.0 (g.O.Sink.state c.tell_ahead.new.out) c.tell_ahead.new.self.is_refused done.0
-    (string_bytes c.tell_ahead.new.self.lines) c.tell_ahead.ensures.refused done.1 done.2 in
-    let hears = subst (HearsLine (g.T.Answerer.answers c.loop.by) (g.S.Shelf.state c.loop.shelf).input (g.S.Shelf.state c.hear_next.new.shelf).input
-    (told_of c.tell_ahead.new.self) (told_of c.hear_next.new.held)) c.in-Ok-false.field-0-test c.in-Ok-false.ensures.heard in
-    let heard = same_heard _ _ _ _ _ (told_of c.tell_ahead.new.self) (told_of c.hear_next.new.held) hears.1 ahead in
-    let all = all_told _ _ _ _ _ _ _ heard (g.O.Sink.state c.tell.new.out) hears.0 c.in_ok-tell-in-Ok-false.ensures.done in (
+    let none = rw c.in-Ok-false.field-0-test at c.in-Ok-false.ensures.heard in
+    let heard = same_heard (told_of c.hear_next.new.held) none.1 (ahead g (goal.at.returns-in-Ok-false-clause-told g c).In_ok-tell_ahead) in (
       subst (λ (b : Bool). TellsSome (AreAllLines (g.S.Shelf.state c.args.shelf.now).input) (TellsOf (g.T.Answerer.answers c.args.by.now)) b
-          (PutsText (change (g.O.Sink.state c.args.out.now) (g.O.Sink.state c.tell.new.out)))) (sym c.tell.ensures.refused) all,
+          (PutsText (change (g.O.Sink.state c.args.out.now) (g.O.Sink.state c.tell.new.out)))) (sym c.tell.ensures.refused)
+          (all_told heard (g.O.Sink.state c.tell.new.out) none.0 c.in_ok-tell-in-Ok-false.ensures.done),
       c.in-Ok-false.ensures.failed ∙ ap (λ (b : Bool). b || false) c.loop.invariant.4,
     )
 
 pub returns-in-Err-clause-told : goal.returns-in-Err-clause-told
 returns-in-Err-clause-told g c =
-    let done = c.in_ok-tell_ahead.ensures.done in
-    let ahead = ahead_told _ _ _ _ _ _ _ c.loop.invariant.0 (g.O.Sink.state c.tell_ahead.new.out) c.tell_ahead.new.self.is_refused done.0
-    (string_bytes c.tell_ahead.new.self.lines) c.tell_ahead.ensures.refused done.1 done.2 in
-    let heard = same_heard _ _ _ _ _ (told_of c.tell_ahead.new.self) (told_of c.hear_next.new.held) c.in-Err.ensures.held ahead in
-    let none = never_known _ _ _ _ _ _ _ c.loop.invariant.0 in
+    let heard = same_heard (told_of c.hear_next.new.held) c.in-Err.ensures.held (ahead g (goal.at.returns-in-Err-clause-told g c).In_ok-tell_ahead) in
     inl (
       (
         ends_weaker (g.T.Answerer.ends c.loop.by) (g.T.Answerer.ends c.args.by.now) (g.S.Shelf.state c.loop.shelf).input (g.S.Shelf.state c.args.shelf.now).input
-            c.in-Err.fault c.loop.invariant.2 none c.in-Err.ensures.ended,
+            c.in-Err.fault c.loop.invariant.2 (never_known c.loop.invariant.0) c.in-Err.ensures.ended,
         c.in-Err.ensures.failed ∙ ap (λ (b : Bool). b || is_io c.in-Err.fault) c.loop.invariant.4,
       ),
       inr (
         c.hear_next.new.held.is_refused,
-        first_told _ _ _ _ _ _ _ heard (g.O.Sink.state c.tell-told.new.out)
-            (put_or_stopped (change (g.O.Sink.state c.tell_ahead.new.out) (g.O.Sink.state c.tell-told.new.out)) (string_bytes c.hear_next.new.held.lines)
-            c.tell-told.result c.tell-told.ensures.done c.tell-told.ensures.part),
+        first_told heard (g.O.Sink.state c.tell-told.new.out) (put_or_stopped _ _ c.tell-told.result c.tell-told.ensures.done c.tell-told.ensures.part),
       ),
     )
 
 pub loop-preserved : goal.loop-preserved
 loop-preserved g c =
-    let done = c.in_ok-tell_ahead.ensures.done in
-    let ahead = ahead_told _ _ _ _ _ _ _ c.loop.invariant.0 (g.O.Sink.state c.tell_ahead.new.out) c.tell_ahead.new.self.is_refused done.0
-    (string_bytes c.tell_ahead.new.self.lines) c.tell_ahead.ensures.refused done.1 done.2 in
-    let hears = subst (HearsLine (g.T.Answerer.answers c.loop.by) (g.S.Shelf.state c.loop.shelf).input (g.S.Shelf.state c.hear_next.new.shelf).input
-    (told_of c.tell_ahead.new.self) (told_of c.hear_next.new.held)) c.in-Ok-true.field-0-test c.in-Ok-true.ensures.heard in
     let shelf = g.S.Shelf.state c.args.shelf.now in (
-      one_heard _ _ _ _ _ _ _ ahead (g.T.Answerer.answers c.loop.by) (g.S.Shelf.state c.hear_next.new.shelf).input (told_of c.hear_next.new.held)
-          c.loop.invariant.1 hears,
+      one_heard (ahead g (goal.at.loop-preserved g c).In_ok-tell_ahead) (g.T.Answerer.answers c.loop.by) (g.S.Shelf.state c.hear_next.new.shelf).input
+          (told_of c.hear_next.new.held) c.loop.invariant.1 (rw c.in-Ok-true.field-0-test at c.in-Ok-true.ensures.heard),
       λ line told is. c.loop.invariant.1 line told (c.hear_next.ensures.before line told is),
       λ fault ends. c.loop.invariant.2 fault (c.hear_next.ensures.ending fault ends),
       same_chain shelf.has (g.S.Shelf.state c.loop.shelf).has (g.S.Shelf.state c.hear_next.new.shelf).has c.loop.invariant.3 c.hear_next.ensures.files,
@@ -93,14 +84,11 @@ loop-preserved g c =
     )
 
 pub returns-clause-told : goal.returns-clause-told
-returns-clause-told g c =
-    let shelf = g.S.Shelf.state c.args.shelf.now in
-    inl (
-      (inr (inl refl), c.loop.invariant.4 ∙ sym (or-false shelf.has_failed)),
-      inr (
-        c.loop.held.is_refused,
-        first_told _ _ _ _ _ _ _ c.loop.invariant.0 (g.O.Sink.state c.tell-told-2.new.out)
-            (put_or_stopped (change (g.O.Sink.state c.loop.out) (g.O.Sink.state c.tell-told-2.new.out)) (string_bytes c.loop.held.lines)
-            c.tell-told-2.result c.tell-told-2.ensures.done c.tell-told-2.ensures.part),
-      ),
-    )
+returns-clause-told g c = inl (
+  (inr (inl refl), c.loop.invariant.4 ∙ sym (or-false (g.S.Shelf.state c.args.shelf.now).has_failed)),
+  inr (
+    c.loop.held.is_refused,
+    first_told c.loop.invariant.0 (g.O.Sink.state c.tell-told-2.new.out)
+        (put_or_stopped _ _ c.tell-told-2.result c.tell-told-2.ensures.done c.tell-told-2.ensures.part),
+  ),
+)

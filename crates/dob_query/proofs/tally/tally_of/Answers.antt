@@ -8,10 +8,9 @@ use Rattle.dob_query.proofs.tally.tally_of.Goals as goal
 
 pub reduce-requires-clause-ready : goal.reduce-requires-clause-ready
 reduce-requires-clause-ready g c = λ κs within.
-    let ends = c.into_par_iter.ensures in
-    let values = c.args.table.now.values in
-    let inside = nat_range-All (λ i. i < length values) 0 c.class_count.result (λ i low high. omega (arith, high, c.class_count.ensures.length)) in
-    rw (c.map.ensures.base, c.map.ensures.f, ends.0, ends.1) (λ k d lt. (inside k d lt, λ y p. tt))
+    let inside =
+    nat_range-All (λ i. i < length c.args.table.now.values) 0 c.class_count.result (λ i low high. omega (arith, high, c.class_count.ensures.length)) in
+    rw (c.map.ensures.base, c.map.ensures.f, c.into_par_iter.ensures.0, c.into_par_iter.ensures.1) (λ k d lt. (inside k d lt, λ y p. tt))
 
 pub returns : goal.returns
 returns g c =
