@@ -1,4 +1,4 @@
--- Each subcommand's answer is the order's.
+-- Each subcommand's answer is the order's; the prover finds that of `verify` by itself.
 use Rattle.dob_cli.proofs.Common.{rules, unchanged, shelf_change, answered_by}
 use Rattle.dob_cli.proofs.program.answer.Goals as goal
 
@@ -41,9 +41,6 @@ returns-in-Puzzles g c = rw c.in-Puzzles.is (rw c.search_of-search.ensures at c.
 
 pub returns-in-Certify : goal.returns-in-Certify
 returns-in-Certify g c = rw c.in-Certify.is c.answer_certify.ensures
-
-pub returns-in-Verify : goal.returns-in-Verify
-returns-in-Verify g c = rw c.in-Verify.is c.answer_verify.ensures
 
 pub returns-in-Reply : goal.returns-in-Reply
 returns-in-Reply g c = rw c.in-Reply.is c.answer_reply.ensures
