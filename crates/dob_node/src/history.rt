@@ -110,8 +110,13 @@ impl History {
         ensures was { IsEntry result.was }
         ensures now { IsEntry result.now }
     {
-        self.starts.reach(number);
-        self.get(number)
+        let first = self.starts.settled();
+        if number < first {
+            let start = self.starts.reach(number);
+            return start_settlement(number, start, self.nodes, self.id);
+        }
+        let stored = self.stored.get(number - first);
+        stored_settlement(number, stored, self.nodes, self.id)
     }
 
     /// The level of the settlement of that number: the distance of its value now, and 1 of each one of the start.
@@ -119,10 +124,12 @@ impl History {
         requires { number < length self.now.settlements }
         ensures { (s : Settled) → slice_get self.now.settlements number ≡ Some s → result ≡ level_of s }
     {
-        if number < self.starts.settled() {
+        let first = self.starts.settled();
+        if number < first {
             return 1;
         }
-        plies_of(self.get(number).now).max(1)
+        let stored = self.stored.get(number - first);
+        plies_of(value_of_code(stored.now)).max(1)
     }
 
     /// Makes room for that many settlements. `Memory`, which comes only if there was less, leaves the history as it was.

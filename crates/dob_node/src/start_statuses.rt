@@ -77,16 +77,19 @@ impl StartStatuses {
         }
     }
 
-    /// Finds the settled class before which that many stand, if there is one, so that it and those behind it are found quickly from then on.
-    pub(crate) fn reach(&mut self, number: u64)
-        ensures { self.new ≡ self.old }
+    /// The settled class before which that many stand, from which it and those behind it are found from then on.
+    pub(crate) fn reach(&mut self, number: u64) -> StartValue
+        requires { number < starts_count self.old }
+        ensures same { self.new ≡ self.old }
+        ensures place { result.place < self.old.places }
+        ensures number { settled_among (start_status self.old) result.place ≡ number }
+        ensures value { opening_value (start_status self.old result.place) ≡ Some result.now }
+        ensures bound { result.place < 2 ^ 32 }
     {
-        if number >= self.settled {
-            return;
-        }
         let found = self.find(number);
         self.passed = number;
         self.place = found.place;
+        found
     }
 }
 
