@@ -8,7 +8,7 @@ pub use Rattle.crossbeam_queue.specs.Fifo.{Forks, Held, Learns, Merges, Pops, Pu
 pub use Rattle.crossbeam_queue.specs.Passes.{IsPassOf, IsSamePass, Pass, ruled_capacity, view}
 pub use Rattle.dob_pieces.proofs.Elements.{at_end, middle, read_there, some_at}
 pub use Rattle.dob_update.specs.Batches.{BatchView}
-pub use Rattle.dob_chan.specs.Ends.{AreEndsOf, AreOpened, AreRejoined, AreStill, IsEndOpened, SendsToSame, TakesFromSame, place_of, sent_by, taken_by}
+pub use Rattle.dob_chan.specs.Ends.{AreEndsOf, AreOpened, AreRejoined, AreStill, IsEndOpened, TakesFromSame, place_of, sent_by, taken_by}
 pub use Rattle.dob_chan.specs.Inboxes.{AreLeft, IsLawfulInbox, batches_of, sent_by_ended, taking, untold}
 pub use Rattle.dob_chan.specs.Rooms.{AreFilled, AreRooms, AreRoomy, HasRoom}
 pub use Rattle.dob_chan.specs.declared.ends.SendEnd.{SendEnd}

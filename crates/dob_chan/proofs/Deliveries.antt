@@ -1,7 +1,7 @@
 -- Each step of a pass keeps the rule of an inbox.
-use Rattle.dob_chan.proofs.Common.{◌++◌, ◌<◌, ◌∙◌, ◌∷◌, ◌≡◌, ◌≢◌, ◌≤◌, List, [], ap, append_assoc, arith, cond, length, length-append, nat_eq, refl, set}
-use Rattle.dob_chan.proofs.Common.{subst, suc, sym, true, true≢false, zero, ℕ, ⊎_elim, eqb_tells, append-nil, All, Forks, Learns, Merges, Pops}
-use Rattle.dob_chan.proofs.Common.{Pushes, BatchView, AreLeft, IsLawfulInbox, batches_of, sent_by_ended, taking, untold, Note}
+use Rattle.dob_chan.proofs.Common.{◌++◌, ◌<◌, ◌∙◌, ◌∷◌, ◌≡◌, ◌≢◌, ◌≤◌, List, [], ap, append_assoc, arith, cond, length, length-append, nat_eq, refl, set, rules}
+use Rattle.dob_chan.proofs.Common.{subst, suc, sym, true, true≢false, zero, ℕ, ⊎_elim, eqb_tells, append-nil, All, Forks, Learns, Merges, Pops, Pushes}
+use Rattle.dob_chan.proofs.Common.{BatchView, AreLeft, IsLawfulInbox, batches_of, sent_by_ended, taking, untold, Note}
 use Rattle.std.proofs.lemmas.Bool.{cond-true, cond-false, eq-eqb, cases_lt}
 use Rattle.std.proofs.Math.Seq.{get_or-append_seam}
 use Rattle.std.proofs.lemmas.List.{get_or_append_left}
@@ -26,9 +26,7 @@ Each F views = (pass : ℕ) (v : Note) → get_elem? views pass ≡ some v → F
 
 each_set : (F : ℕ → Note → Type 0) (views : List Note) (pass : ℕ) (w : Note) → F pass w
     → ((j : ℕ) (u : Note) → j ≢ pass → get_elem? views j ≡ some u → F j u) → Each F (set views pass w)
-each_set F views pass w mine others j u e =
-    ⊎_elim (λ (x : (j ≡ pass) × (w ≡ u)). subst (λ (y : ℕ × Note). F y.0 y.1) (λ i. (sym x.0 i, x.1 i)) mine)
-    (λ (x : (j ≢ pass) × (get_elem? views j ≡ some u)). others j u x.0 x.1) (at_set views pass j w u e)
+each_set F views pass w mine others j u e = grind (arith, at_set)
 
 -- what holds of all holds of the last of them
 of_last : {X : Type 0} → (P : X → Type 0) (xs ys : List X) → All P (xs ++ ys) → All P ys
@@ -42,13 +40,10 @@ of_each from sent taken held is = ap (batches_of from) is ∙ filter-append (λ 
 
 -- one batch more is one of its sender's more, and none of another's
 pub own_more : (from : ℕ) (all : List BatchView) (x : BatchView) → x.from ≡ from → batches_of from (all ++ x ∷ []) ≡ batches_of from all ++ x ∷ []
-own_more from all x own = filter-append (λ (b : BatchView). nat_eq b.from from) all (x ∷ [])
-    ∙ ap (λ l. batches_of from all ++ l) (cond-true (nat_eq x.from from) (x ∷ []) [] (eq-eqb x.from from own))
+own_more from all x own = grind (arith, filter-append, cond-true)
 
 pub others_more : (from : ℕ) (all : List BatchView) (x : BatchView) → x.from ≢ from → batches_of from (all ++ x ∷ []) ≡ batches_of from all
-others_more from all x apart = ⊎_elim (λ same. absurd (apart same.1))
-    (λ other. filter-append (λ (b : BatchView). nat_eq b.from from) all (x ∷ [])
-    ∙ ap (λ l. batches_of from all ++ l) (cond-false (nat_eq x.from from) (x ∷ []) [] other.0) ∙ append-nil (batches_of from all)) (eqb_tells x.from from)
+others_more from all x apart = search (rules, filter-append, cond-false, eqb_tells)
 
 few_more : (all : List BatchView) (x : BatchView) (limit : ℕ) → length (batches_of x.from all) < limit
     → ((from : ℕ) → length (batches_of from all) ≤ limit) → (from : ℕ) → length (batches_of from (all ++ x ∷ [])) ≤ limit
@@ -243,7 +238,6 @@ pub takes : (port : ℕ) (v : Note) → v.takes ≡ true → Pops IsDelivered po
     × (length (batches_of x.from w.taken) ≤ most_batches) × HasReceived w.taken v.told w.told)
 takes port v may x items views h at =
     let mine = (h.each port v at).1 may in
-    let part = part_few x.from h.sent h.taken items x h.lawful in
     let same = ap (λ (l : List BatchView). length (batches_of x.from (l ++ x ∷ []))) mine.2 in
     let more = ap (λ (l : List BatchView). l ++ x ∷ []) mine.2 in (
       taking v.senders v.opened (v.taken ++ x ∷ []) v.ended (told_next h.sent h.taken x),
@@ -251,7 +245,7 @@ takes port v may x items views h at =
       (
         refl,
         of_sender port v x items views may h at,
-        (let most = h.few x.from in omega (arith, part, same, most)),
+        (let most = h.few x.from in omega (arith, part_few x.from h.sent h.taken items x h.lawful, same, most)),
         (
           sym more,
           (items, h.lawful ∙ sym (append_assoc h.taken (x ∷ []) items) ∙ ap (λ l. l ++ items) (sym more)),
@@ -274,14 +268,13 @@ pub takes_left : (port : ℕ) (v : Note) → v.takes ≡ true → Pops IsDeliver
     × (x.from < length v.ended → length (batches_of x.from w.taken) ≤ length (sent_by_ended v.ended x.from)))
 takes_left port v may x items views h at =
     let mine = (h.each port v at).1 may in
-    let part = part_few x.from h.sent h.taken items x h.lawful in
     let same = ap (λ (l : List BatchView). length (batches_of x.from (l ++ x ∷ []))) mine.2 in (
       taking v.senders v.opened (v.taken ++ x ∷ []) v.ended (told_next h.sent h.taken x),
       one_taken port v x items views may h at,
       (
         refl,
         of_sender port v x items views may h at,
-        λ below. (let all = ap length (mine.6 x.from below).1 in omega (arith, part, same, all)),
+        λ below. (let all = ap length (mine.6 x.from below).1 in omega (arith, part_few x.from h.sent h.taken items x h.lawful, same, all)),
       ),
     )
 

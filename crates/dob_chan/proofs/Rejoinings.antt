@@ -45,11 +45,6 @@ ending_goes_on all left after send old now new inv is same role = record {
       ∙ ap (λ l. taking (view old).senders (view old).opened (view old).taken l (view old).told) (sym (map-append sent_by inv.done (send ∷ [])));
 }
 
-pub all_ended : (all left : List SendEnd) (old new : Pass BatchView Note) (inv : IsEnding all left old new) → left ≡ []
-    → view new ≡ taking (view old).senders (view old).opened (view old).taken (map sent_by all) (view old).told
-all_ended all left old new inv is = inv.ended ∙ ap (λ l. taking (view old).senders (view old).opened (view old).taken (map sent_by l) (view old).told)
-    (sym (inv.split ∙ ap (λ l. inv.done ++ l) is ∙ append-nil inv.done))
-
 -- one room more
 pub one_room : (sends : List SendEnd) (taken : List ℕ) (rooms : List Rejoined) (room : Rejoined) (send : SendEnd) → slice_get sends (length rooms) ≡ Some send
     → HasRoom send.sent (slice_index taken (length rooms)) room → AreRooms sends taken rooms → AreRooms sends taken (rooms ++ room ∷ [])
@@ -77,7 +72,6 @@ has_room first now new olds news x room inv many roomy at role few =
     let same = inv.count in
     let old = some_at olds x.from (omega (arith, within, same)) in
     let this = inv.each x.from old.0 room old.1 at in
-    let wide = (roomy x.from old.0 old.1).1 in
     let most = subst (λ (l : List (List BatchView)). x.from < length l → length (batches_of x.from new.taken) ≤ length (sent_by_ended l x.from))
     (ap (λ (v : Note). v.ended) inv.role) few (omega (arith, within, same, many)) in
     let one : length (batches_of x.from new.taken) ≡ length (batches_of x.from now.taken) + 1 =
@@ -85,8 +79,7 @@ has_room first now new olds news x room inv many roomy at role few =
     ∙ length-append (batches_of x.from now.taken) (x ∷ []) in
     let sum : length (batches_of x.from now.taken) ≡ length (batches_of x.from first.taken) + length room.waiting.items =
     ap length this.2 ∙ length-append (batches_of x.from first.taken) room.waiting.items in
-    let kept = this.3 in
-    omega (arith, most, wide, one, sum, kept)
+    omega (arith, most, (roomy x.from old.0 old.1).1, one, sum, this.3)
 
 -- one batch more went into its sender's room
 pub filling_goes_on : (first now new : Note) (olds news more : List Rejoined) (x : BatchView) → IsFilling first now olds news
@@ -100,8 +93,7 @@ filling_goes_on first now new olds news more x inv role count here others = reco
   each = λ k old b was at. ⊎_elim
       (λ same.
       let k_is : k ≡ x.from = same.1 in
-      let within = slice_get_within olds k old was in
-      let a = some_at news k (let same = inv.count in omega (arith, within, same)) in
+      let a = some_at news k (let same = inv.count in omega (arith, slice_get_within olds k old was, same)) in
       let grown = here a.0 b (ap (slice_get news) (sym k_is) ∙ a.1) (ap (slice_get more) (sym k_is) ∙ at) in
       let was_so = inv.each k old a.0 was a.1 in (
         grown.0 ∙ was_so.0,
@@ -122,10 +114,9 @@ pub all_filled : (first now : Note) (olds news : List Rejoined) → IsFilling fi
 all_filled first now olds news inv many held = (
   inv.count,
   λ k old new was at.
-      let within = slice_get_within olds k old was in
       let so = inv.each k old new was at in
       let ended_is : now.ended ≡ first.ended = ap (λ (v : Note). v.ended) inv.role in
-      let left = held.2 k (subst (λ (l : List (List BatchView)). k < length l) (sym ended_is) (omega (arith, within, many))) in (
+      let left = held.2 k (subst (λ (l : List (List BatchView)). k < length l) (sym ended_is) (omega (arith, slice_get_within olds k old was, many))) in (
         so.0,
         so.1,
         ap (λ l. sent_by_ended l k) (sym ended_is) ∙ left ∙ ap (λ l. batches_of k now.taken ++ batches_of k l) (none_left held.0 held.1)
@@ -148,13 +139,11 @@ pub rooms_are_wide : (sends : List SendEnd) (take : TakeEnd) (rooms : List Rejoi
 rooms_are_wide sends take rooms has_rooms k room at =
     let within = slice_get_within rooms k room at in
     let many = has_rooms.many in
-    let count = has_rooms.count in
     let send = some_at sends k (omega (arith, within, many)) in
     let has = has_rooms.all k send.0 room send.1 at in
     let sent : length (sent_by_ended (map sent_by sends) k) ≡ send.0.sent = ap length (mapped sent_by sends k send.0 [] send.1) ∙ sym send.0.counted in
-    let received = take.counted k (omega (arith, within, many, count)) in
     let wide = has.3 in
-    (has.2, omega (arith, sent, received, wide))
+    (has.2, omega (arith, sent, take.counted k (omega (arith, within, many, has_rooms.count)), wide))
 
 -- for each sender, what it sent is what was received and then what is left
 pub all_rejoined : (sends : List SendEnd) (take : TakeEnd) (rooms joined : List Rejoined) → AreEndsOf take sends → HasRooms sends take rooms
@@ -163,16 +152,14 @@ all_rejoined sends take rooms joined ends has_rooms filled = (
   filled.0 ∙ has_rooms.many,
   λ k send this at there.
       let within = slice_get_within sends k send at in
-      let many = has_rooms.many in
-      let count = has_rooms.count in
-      let room = some_at rooms k (omega (arith, within, many)) in
+      let room = some_at rooms k (omega (arith, within, has_rooms.many)) in
       let has = has_rooms.all k send room.0 at room.1 in
       let so = filled.1 k room.0 this room.1 there in
       let place : place_of send ≡ k = (ends.1 k send at).1 in
       subst (λ (p : ℕ). (this.sent ≡ length (sent_by send)) × (this.received ≡ length (batches_of p (taken_by take)))
       × IsLawfulInbox (sent_by send) (batches_of p (taken_by take)) this.waiting.items) (sym place) (
         so.0 ∙ has.0 ∙ send.counted,
-        so.1 ∙ has.1 ∙ take.counted k (omega (arith, within, count)),
+        so.1 ∙ has.1 ∙ take.counted k (omega (arith, within, has_rooms.count)),
         sym (mapped sent_by sends k send [] at) ∙ so.2,
       ),
 )

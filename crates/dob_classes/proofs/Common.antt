@@ -1,22 +1,22 @@
 -- The names that the proofs here use most, from other crates and the definitions of this one.
-pub use Rattle.std.proofs.Common.{if◌then◌else◌, ◌%◌, ◌&&◌, ◌*◌, ◌++◌, ◌+◌, ◌-◌, ◌/◌, ◌<◌, ◌==◌, ◌^◌, ◌||◌, ◌↔◌, ◌∙◌, ◌∷◌, ◌≡◌, ◌≢◌, ◌≤◌, ◌⊎◌, Bool, List, None}
+pub use Rattle.std.proofs.Common.{◌%◌, ◌&&◌, ◌*◌, ◌++◌, ◌+◌, ◌-◌, ◌/◌, ◌<◌, ◌==◌, ◌^◌, ◌||◌, ◌↔◌, ◌∙◌, ◌∷◌, ◌≡◌, ◌≢◌, ◌≤◌, ◌⊎◌, Bool, List, None}
 pub use Rattle.std.proofs.Common.{Some, [], ap, arith, bit_and, bit_or, cond, drop, eqb, false, get_or, inl, inr, leb, length, map, min, nat_le, nat_lt, not}
-pub use Rattle.std.proofs.Common.{refl, replicate, set, slice_index, slice_index_or, slice_set, subst, suc, sym, take, true, vec_len, w16, zero, ℕ}
-pub use Rattle.std.proofs.Math.Nat.{add-mul, div-le_self, div-mul-le_self, min-eq_left, min-eq_right, min-le_left, min-le_right, min_comm, mul-le-mul}
-pub use Rattle.std.proofs.Math.Nat.{mul-le-mul_right, mul-pos, mul_assoc, mul_comm}
-pub use Rattle.std.proofs.lemmas.Bool.{both_ways, cases_Bool, cases_eq, cases_lt, cases_order, eq-eqb, le-leb, lt-leb, ne_eqb}
+pub use Rattle.std.proofs.Common.{refl, replicate, rules, set, slice_index, slice_index_or, slice_set, subst, suc, sym, take, true, vec_len, w16, zero, ℕ}
+pub use Rattle.std.proofs.Math.Nat.{div-le_self, mul-le-mul}
+pub use Rattle.std.proofs.Math.Nat.{mul-le-mul_right, mul-pos, mul_comm}
+pub use Rattle.std.proofs.lemmas.Bool.{both_ways, cases_Bool, cases_eq, cases_lt, eq-eqb, le-leb, lt-leb, ne_eqb}
 pub use Rattle.std.proofs.lemmas.List.{get_or-set_other, get_or-set_same, get_or_append_left, get_or_push, length-append, length-map, length-set, length-take}
 pub use Rattle.std.proofs.lemmas.List.{length_push, take-append-drop}
-pub use Rattle.std.proofs.lemmas.Nat.{and_le_l, div-add-mod', div-mul-add, div_below, le-div, mod-mul-add, mod_below, one_shl, or_lt, same_from_place}
+pub use Rattle.std.proofs.lemmas.Nat.{and_le_l, div-add-mod', div-mul-add, div_below, le-div, mod-mul-add, mod_below, or_lt, same_from_place}
 pub use Rattle.std.proofs.lemmas.Nat.Bits.{bit_at-suc, bit_at-zero, bit_at_above, bit_at_cat_high, bit_at_cat_low, bit_at_clear_other, bit_at_clear_same}
 pub use Rattle.std.proofs.lemmas.Nat.Bits.{bit_at_set_other, bit_at_set_same}
 pub use Rattle.std.specs.Int.{bit_at, bit_not}
 pub use Rattle.std.specs.List.{All, remove}
 pub use Rattle.dob_pieces.proofs.Allowed.{IsAllowed-mirrored}
 pub use Rattle.dob_pieces.proofs.Boards.{all_below, all_below-at, at-mirrored, at-turned, length-turned}
-pub use Rattle.dob_pieces.proofs.MaskBits.{IsMask-and, IsMask-or, IsMask-same, IsMask-without, bit_if}
+pub use Rattle.dob_pieces.proofs.MaskBits.{IsMask-and, IsMask-or, IsMask-same, bit_if}
 pub use Rattle.dob_pieces.proofs.Symmetries.{mirrored-mirrored}
-pub use Rattle.dob_pieces.specs.Masks.{AreMasks, AreSquares, IsMask, entry_of, is_empty, is_end, is_own, is_piece}
+pub use Rattle.dob_pieces.specs.Masks.{AreSquares, IsMask, entry_of, is_empty, is_end, is_own, is_piece}
 pub use Rattle.dob_pieces.specs.Profiles.{IsAllowed}
 pub use Rattle.dob_pieces.specs.Setups.{Cell, IsLegal, at, board_by, piece_of, setup_of, turned_cell}
 unfoldable pub use Rattle.dob_pieces.specs.Setups.{mirrored, turned}
@@ -41,7 +41,7 @@ pub use Rattle.dob_rank.proofs.Marked.Words.{marks_below-le, marks_below-upto, m
 pub use Rattle.dob_rank.proofs.OfFamilies.ClassBounds.{classes_of-below}
 pub use Rattle.dob_rank.proofs.OfFamilies.Present.{HasClass-marked, HasClasses-classes_of, HasRank-rank_of, present, represents, there}
 pub use Rattle.dob_rank.proofs.Positions.Blocks.{AreBases-by, AreChoices-digits, HasDigits-numbers, block_size-small, choose-positive, choose-small}
-pub use Rattle.dob_rank.proofs.Positions.Blocks.{few_in_block, four_small, most_choices, product-at_most, sum_below_more}
+pub use Rattle.dob_rank.proofs.Positions.Blocks.{few_in_block, four_small, product-at_most, sum_below_more}
 pub use Rattle.dob_rank.proofs.Positions.Digits.{HasDigits-digits, HasParts-from_position, hide_all}
 pub use Rattle.dob_rank.proofs.Positions.Found.{HasDigits-spot, IsPositionOfSet-mirrored, local_in_bases, made_by, made_in_block, run_in_bases}
 pub use Rattle.dob_rank.proofs.Positions.Loops.{HasDigits-drop, HasDigits-length, drop_back, product-positive, product_fits}
@@ -70,8 +70,8 @@ pub use Rattle.dob_classes.specs.BlockRows.{IsRow}
 pub use Rattle.dob_classes.specs.Changes.{IsWith, with_enemy, with_own}
 pub use Rattle.dob_classes.specs.FamilyRuns.{IsInRunOf, IsNumbered, classes_before, is_there, local_marks_in, place_of_number, run_size_in}
 pub use Rattle.dob_classes.specs.RunIndex.{AreEntries, IsAtMost}
-pub use Rattle.dob_classes.specs.RunTables.{AreRuns, HasTable, IsRun, IsTableOfRuns}
-pub use Rattle.dob_classes.specs.Stretches.{AreStretches, EndsWith, IsGrowing, IsStretch, IsWidth, local_marks}
+pub use Rattle.dob_classes.specs.RunTables.{AreRuns, HasTable, IsRun}
+pub use Rattle.dob_classes.specs.Stretches.{AreStretches, EndsWith, IsStretch, IsWidth, local_marks}
 pub use Rattle.dob_classes.specs.Views.{seen_by, seen_hands, seen_owner, seen_square}
 pub use Rattle.dob_classes.specs.Walks.{IsStretchIn, IsWalk, marks_before}
 pub use Rattle.dob_classes.specs.declared.bits.bitboards.Bitboards.{Bitboards}

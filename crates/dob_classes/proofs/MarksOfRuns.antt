@@ -1,5 +1,4 @@
 -- The marks of the runs of a block.
-pub mod ImageDigits  -- the digits of a mirror image, one after another
-pub mod MixedRuns  -- the marks of mixed runs
+pub mod MixedRuns  -- the digits of a mirror image, and the marks of mixed runs
 pub mod StretchLists  -- stretches of marks
 pub mod FamilyMarks  -- the marks of a run's positions of a family

@@ -4,5 +4,3 @@ pub mod BitSquares  -- layers and forms by sets of squares
 pub mod BitChanges  -- sets of squares when one square changes
 pub mod BitPlaced  -- sets of squares with a piece more, seen from either side
 pub mod ImageMasks  -- masks of mirror images
-pub mod BitMasks  -- the masks of a setup by its sets of squares
-pub mod BitNumbers  -- the digits of a position that sets of squares show

@@ -4,13 +4,13 @@ pub use Rattle.std.proofs.Common.{sym, zero, ℕ}
 pub use Rattle.std.proofs.lemmas.Bool.{cases_lt}
 pub use Rattle.std.proofs.lemmas.List.{get_or-set_other, get_or-set_same, length-set}
 pub use Rattle.dob_pieces.specs.declared.profile.Family.{Family}
-pub use Rattle.dob_rank.proofs.InRuns.RunMarks.{lions_run, marks_agree, run_start_next}
+pub use Rattle.dob_rank.proofs.InRuns.RunMarks.{run_start_next}
 pub use Rattle.dob_rank.proofs.InRuns.RunSums.{lions_same, lions_there, runs_by_hand}
 pub use Rattle.dob_rank.proofs.Marked.Words.{marks_below-upto, marks_below_none}
 pub use Rattle.dob_rank.proofs.Positions.Blocks.{blocks_small}
 pub use Rattle.dob_rank.specs.Families.{is_marked}
 pub use Rattle.dob_rank.specs.Marks.{marks_below}
-pub use Rattle.dob_rank.specs.Numbers.{block_bases, product, start_of, sum_below}
+pub use Rattle.dob_rank.specs.Numbers.{block_bases, product, sum_below}
 pub use Rattle.dob_rank.specs.Runs.{lion_pairs, run_kind, run_size, run_start, runs_in}
 pub use Rattle.dob_rank.specs.declared.runs.RunKind.{RunKind}
 pub use Rattle.dob_rank.specs.declared.runs.RunKind.TheVariants.{First, Later, Mixed}

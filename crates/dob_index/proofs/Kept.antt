@@ -9,9 +9,7 @@ use Rattle.dob_index.proofs.Common.{where_mixed}
 pub entries_stay : (family : Family) (block lions at : ℕ) (old new : List ℕ)
     → ((i : ℕ) → at ≤ i → i < at + entries_in family.set block → get_or new i 0 ≡ get_or old i 0)
     → AreEntriesFrom family block lions at old → AreEntriesFrom family block lions at new
-entries_stay family block lions at old new same are = λ entry low.
-    ap (λ n. classes_to_run family block lions + n) (same (at + entry) (omega arith) (omega (arith, low)))
-    ∙ are entry low
+entries_stay family block lions at old new same are = λ entry low. rw (same (at + entry) (omega arith) (omega (arith, low))) (are entry low)
 
 -- a run's numbers stay where those of its row and of its entries do
 pub run_stays : (family : Family) (block lions upto more : ℕ) (old new : List ℕ) → upto ≤ more
@@ -21,8 +19,7 @@ pub run_stays : (family : Family) (block lions upto more : ℕ) (old new : List 
     → IsKeptRun family block lions upto old → IsKeptRun family block lions more new
 run_stays family block lions upto more old new further next first same is = record {
   next = ap (λ n. classes_to_block family block + n) next ∙ is.next;
-  entries = λ kind. subst (λ (at : ℕ). AreEntriesFrom family block lions at new) (sym first)
-      (entries_stay family block lions (get_or old (row_at block + (101 + lions)) 0) old new
+  entries = λ kind. rw first (entries_stay family block lions (get_or old (row_at block + (101 + lions)) 0) old new
       (λ i from below. let low = is.behind kind in let high = is.within kind in same i (omega (arith, from, low)) (omega (arith, below, high)))
       (is.entries kind));
   behind = λ kind. (let low = is.behind kind in omega (arith, low, first));
@@ -54,19 +51,16 @@ pub entry_written : (family : Family) (block lions at entry entries value : ℕ)
 entry_written family block lions at entry entries value words room low are here k below = elim (cases_lt k entry) [
   | inl lt ↦ ap (λ (n : ℕ). classes_to_run family block lions + n)
       (get_or-set_other words (at + entry) (at + k) value 0 (λ same. omega (arith, lt, same))) ∙ are k lt
-  | inr ge ↦ let same : k ≡ entry = omega (arith, ge, below) in
-      ap (λ (n : ℕ). classes_to_run family block lions + n)
-      (ap (λ (j : ℕ). get_or (slice_set words (at + entry) value) (at + j) 0) same ∙ get_or-set_same words (at + entry) value 0 (omega (arith, room, low)))
-      ∙ here ∙ ap (λ (j : ℕ). classes_to_place family block lions (j * entry_places)) (sym same)
+  | inr ge ↦ rw (let same : k ≡ entry = omega (arith, ge, below) in same, get_or-set_same words (at + entry) value 0 (omega (arith, room, low))) here
 ]
 
 pub others_stay : (words old : List ℕ) (at entry entries value : ℕ) → entry < entries
     → ((i : ℕ) → (i < at) ⊎ (at + entries ≤ i) → get_or words i 0 ≡ get_or old i 0)
     → (i : ℕ) → (i < at) ⊎ (at + entries ≤ i) → get_or (slice_set words (at + entry) value) i 0 ≡ get_or old i 0
-others_stay words old at entry entries value low same i out = elim out [
-  | inl before ↦ get_or-set_other words (at + entry) i value 0 (λ is. omega (arith, before, is)) ∙ same i (inl before)
-  | inr behind ↦ get_or-set_other words (at + entry) i value 0 (λ is. omega (arith, behind, is, low)) ∙ same i (inr behind)
-]
+others_stay words old at entry entries value low same i (inl before) =
+    get_or-set_other words (at + entry) i value 0 (λ is. omega (arith, before, is)) ∙ same i (inl before)
+others_stay words old at entry entries value low same i (inr behind) =
+    get_or-set_other words (at + entry) i value 0 (λ is. omega (arith, behind, is, low)) ∙ same i (inr behind)
 
 -- ---- one run more of a block
 
@@ -88,8 +82,7 @@ one_run family block lions at next count row words written within low row_is beh
     next = ap (λ (n : ℕ). classes_to_block family block + n)
         (ap (λ (i : ℕ). get_or new i 0) (let e : row_at block + (lions + 1) ≡ row + 1 + lions = omega (arith, row_is) in e)
         ∙ get_or-set_same written (row + 1 + lions) count 0 (omega (arith, size, room, row_is, within, low))) ∙ count_is;
-    entries = λ kind. subst (λ (n : ℕ). AreEntriesFrom family block lions n new) (sym first)
-        (entries_stay family block lions at written new
+    entries = λ kind. rw first (entries_stay family block lions at written new
         (λ i from below. get_or-set_other written (row + 1 + lions) i count 0 (λ is. omega (arith, is, from, behind, row_is, within, low)))
         (entries kind));
     behind = λ kind. (let is = first in omega (arith, is, behind));
@@ -114,10 +107,7 @@ one_run family block lions at next count row words written within low row_is beh
     agree : (i : ℕ) → i ≢ row_at block + (101 + lions) → i ≢ row_at block + (lions + 1) → (i < at) ⊎ (next ≤ i) → get_or new i 0 ≡ get_or words i 0
     agree i not_first not_next out =
         get_or-set_other written (row + 1 + lions) i count 0 (λ is. not_next (omega (arith, is, row_is)))
-        ∙ others i (elim out [
-          | inl before ↦ inl before
-          | inr after ↦ inr (omega (arith, after, next_is))
-        ])
+        ∙ others i (elim out [ inl before ↦ inl before | inr after ↦ inr (omega (arith, after, next_is)) ])
         ∙ get_or-set_other words (row + 101 + lions) i at 0 (λ is. not_first (omega (arith, is, row_is)))
 
 -- the runs before it stay
@@ -143,24 +133,20 @@ pub record AreAllRuns (family : Family) (block before count runs : ℕ) : Type 0
 pub all_runs : (family : Family) (block before count runs : ℕ) → block < product (block_bases family.set) → runs ≡ runs_in family.set block
     → before ≡ classes_to_block family block → classes_to_block family block + count ≡ classes_to_run family block lion_pairs
     → AreAllRuns family block before count runs
-all_runs family block before count runs within runs_are before_is count_is = record {
-  sum_is = sum;
-  few = (let few = classes_few family (block + 1) (omega (arith, within)) in let is = sum in omega (arith, is, few));
-}
-  where
-    none : runs % lion_pairs ≡ 0
-    none = (let hands = runs_by_hand family.set block in omega (arith, runs_are, hands))
-
-    part : classes_to_block family block + 0 ≡ classes_to_run family block (runs % lion_pairs)
-    part = none_before family block ∙ ap (λ (r : ℕ). classes_to_run family block r) (sym none)
-
-    all : classes_to_block family block + (runs / lion_pairs * count + 0) ≡ classes_to_run family block runs
-    all = (by_hands family block runs (runs / lion_pairs) (runs % lion_pairs) count 0 within (omega (arith, runs_are)) refl refl count_is part).sum_is
-
-    sum : before + runs / lion_pairs * count ≡ classes_to_block family (block + 1)
-    sum = (let more = one_block_more family block runs before (runs / lion_pairs * count + 0) runs_are before_is all in omega (arith, more))
+all_runs family block before count runs within runs_are before_is count_is =
+    let none : runs % lion_pairs ≡ 0 = omega (arith, runs_are, runs_by_hand family.set block) in
+    let part : classes_to_block family block + 0 ≡ classes_to_run family block (runs % lion_pairs) = rw none (none_before family block) in
+    let all = (by_hands family block runs (runs / lion_pairs) (runs % lion_pairs) count 0 within (omega (arith, runs_are)) refl refl count_is part).sum_is in
+    let more = one_block_more family block runs before (runs / lion_pairs * count + 0) runs_are before_is all in
+    let sum : before + runs / lion_pairs * count ≡ classes_to_block family (block + 1) = omega (arith, more) in
+    record { sum_is = sum; few = omega (arith, sum, classes_few family (block + 1) (omega (arith, within))) }
 
 -- ---- a block before its first run
+
+-- outside of a block's row
+pub outside : (block i k : ℕ) → (i < row_at block) ⊎ (row_at (block + 1) ≤ i) → k < 200 → i ≡ row_at block + k → ⊥
+outside block i k (inl before) low is = omega (arith, before, is)
+outside block i k (inr behind) low is = omega (arith, behind, is, low)
 
 pub record IsOpenedRow (block before : ℕ) (old new : List ℕ) : Type 0 where
   pub size : length new ≡ length old
@@ -176,27 +162,15 @@ row_opened block before row words row_is room = record {
       ∙ ap (λ (i : ℕ). get_or (slice_set words row 0) i 0) (sym row_is) ∙ get_or-set_same words row 0 0 (omega (arith, room, row_is));
   before_is = ap (λ (i : ℕ). get_or (slice_set (slice_set words row 0) (row + 100) before) i 0) (let e : row_at block + 100 ≡ row + 100 = omega (arith, row_is) in e)
       ∙ get_or-set_same (slice_set words row 0) (row + 100) before 0 (let long = length-set words row 0 in omega (arith, long, room, row_is));
-  others = λ i out. elim out [
-    | inl low ↦ get_or-set_other (slice_set words row 0) (row + 100) i before 0 (λ is. omega (arith, is, row_is, low))
-        ∙ get_or-set_other words row i 0 0 (λ is. omega (arith, is, row_is, low))
-    | inr high ↦ get_or-set_other (slice_set words row 0) (row + 100) i before 0 (λ is. omega (arith, is, row_is, high))
-        ∙ get_or-set_other words row i 0 0 (λ is. omega (arith, is, row_is, high))
-  ];
+  others = λ i out. get_or-set_other (slice_set words row 0) (row + 100) i before 0 (λ is. outside block i 100 out (omega arith) (omega (arith, is, row_is)))
+      ∙ get_or-set_other words row i 0 0 (λ is. outside block i 0 out (omega arith) (omega (arith, is, row_is)));
 }
 
 -- ---- what a block's writing leaves
 
-pub outside : (block i k : ℕ) → (i < row_at block) ⊎ (row_at (block + 1) ≤ i) → k < 200 → i ≡ row_at block + k → ⊥
-outside block i k out low is = elim out [
-  | inl before ↦ omega (arith, before, is)
-  | inr behind ↦ omega (arith, behind, is, low)
-]
-
 pub both_sides : (i first at next : ℕ) → first ≤ at → at ≤ next → (i < first) ⊎ (next ≤ i) → ((i < at) ⊎ (next ≤ i)) × ((i < first) ⊎ (at ≤ i))
-both_sides i first at next further more out = elim out [
-  | inl before ↦ (inl (omega (arith, before, further)), inl before)
-  | inr behind ↦ (inr behind, inr (omega (arith, behind, more)))
-]
+both_sides i first at next further more (inl before) = (inl (omega (arith, before, further)), inl before)
+both_sides i first at next further more (inr behind) = (inr behind, inr (omega (arith, behind, more)))
 
 -- ---- the first three numbers
 

@@ -21,14 +21,10 @@ nine_mixed set block = nine_times (entries_in set block)
 -- ---- one run and one block more
 
 pub run_more : (set : PieceSet) (block lions : ℕ) → entries_at set block (lions + 1) ≡ entries_at set block lions + run_words set block lions
-run_more set block lions =
-    let more = sum_below_more (run_words set block) lions in
-    omega (arith, more)
+run_more set block lions = omega (arith, sum_below_more (run_words set block) lions)
 
 pub block_more : (set : PieceSet) (block : ℕ) → entries_at set block lion_pairs ≡ entries_at set (block + 1) 0
-block_more set block =
-    let more = sum_below_more (block_words set) block in
-    omega (arith, more)
+block_more set block = omega (arith, sum_below_more (block_words set) block)
 
 -- ---- within the whole
 
@@ -40,17 +36,12 @@ below_end f a b upto = elim (cases_lt a b) [
 
 pub run_within : (set : PieceSet) (block lions : ℕ) → block < product (block_bases set) → lions ≤ lion_pairs → entries_at set block lions ≤ words_of set
 run_within set block lions within upto =
-    let runs = below_end (run_words set block) lions lion_pairs upto in
-    let blocks = sum_below-rises (block_words set) block (product (block_bases set)) within in
-    omega (arith, runs, blocks)
+    omega (arith, below_end (run_words set block) lions lion_pairs upto, sum_below-rises (block_words set) block (product (block_bases set)) within)
 
 -- so a run's entries end among them
 pub run_fits : (set : PieceSet) (block lions at : ℕ) → block < product (block_bases set) → lions < lion_pairs → at ≡ entries_at set block lions
     → at + run_words set block lions ≤ words_of set
-run_fits set block lions at within low is =
-    let more = run_more set block lions in
-    let upto = run_within set block (lions + 1) within (omega (arith, low)) in
-    omega (arith, is, more, upto)
+run_fits set block lions at within low is = omega (arith, is, run_more set block lions, run_within set block (lions + 1) within (omega (arith, low)))
 
 pub behind_rows : (set : PieceSet) (block lions : ℕ) → row_at (product (block_bases set)) ≤ entries_at set block lions
 behind_rows set block lions = omega arith
@@ -60,10 +51,8 @@ behind_rows set block lions = omega arith
 sum_few : (f : ℕ → ℕ) (bound n : ℕ) → ((k : ℕ) → k < n → f k ≤ bound) → sum_below f n ≤ n * bound
 sum_few f bound zero few = omega arith
 sum_few f bound (suc n) few =
-    let rest = sum_few f bound n (λ k low. few k (omega (arith, low))) in
-    let here = few n (omega arith) in
     let more : (n + 1) * bound ≡ n * bound + 1 * bound = add-mul n 1 bound in
-    omega (arith, rest, here, more)
+    omega (arith, sum_few f bound n (λ k low. few k (omega (arith, low))), few n (omega arith), more)
 
 kind_few : (kind : RunKind) (entries : ℕ) → where_mixed kind entries ≤ entries
 kind_few Mixed entries = omega arith
@@ -71,24 +60,19 @@ kind_few First entries = omega arith
 kind_few Later entries = omega arith
 
 pub run_few : (set : PieceSet) (block lions : ℕ) → block < product (block_bases set) → run_words set block lions ≤ 2 ^ 29
-run_few set block lions within =
-    let few = kind_few (run_kind lions) (entries_in set block) in
-    let small = run_size-small set block within in
-    omega (arith, few, small)
+run_few set block lions within = omega (arith, kind_few (run_kind lions) (entries_in set block), run_size-small set block within)
 
 pub block_few : (set : PieceSet) (block lions : ℕ) → block < product (block_bases set) → lions ≤ lion_pairs → sum_below (run_words set block) lions ≤ 2 ^ 36
-block_few set block lions within upto =
-    let few = sum_few (run_words set block) (2 ^ 29) lions (λ k low. run_few set block k within) in
-    omega (arith, few, upto)
+block_few set block lions within upto = omega (arith, sum_few (run_words set block) (2 ^ 29) lions (λ k low. run_few set block k within), upto)
 
 pub blocks_few : (set : PieceSet) (block : ℕ) → block ≤ product (block_bases set) → sum_below (block_words set) block ≤ 2 ^ 41
 blocks_few set block upto =
-    let few = sum_few (block_words set) (2 ^ 36) block (λ k low. block_few set k lion_pairs (omega (arith, low, upto)) (omega arith)) in
-    let small = blocks_small set in
-    omega (arith, few, small, upto)
+    omega (
+      arith,
+      sum_few (block_words set) (2 ^ 36) block (λ k low. block_few set k lion_pairs (omega (arith, low, upto)) (omega arith)),
+      blocks_small set,
+      upto,
+    )
 
 pub words_few : (set : PieceSet) → words_of set ≤ 2 ^ 42
-words_few set =
-    let few = blocks_few set (product (block_bases set)) (omega arith) in
-    let small = blocks_small set in
-    omega (arith, few, small)
+words_few set = omega (arith, blocks_few set (product (block_bases set)) (omega arith), blocks_small set)

@@ -20,10 +20,8 @@ row_read family block (suc lions) words is within upto =
 pub row_small : (family : Family) (block lions : ℕ) (words : List ℕ) → IsIndex family words → block < product (block_bases family.set) → lions ≤ lion_pairs
     → get_or words (row_at block + lions) 0 ≤ 2 ^ 42
 row_small family block lions words is within upto =
-    let read = row_read family block lions words is within upto in
     let all = all_lions family block within in
-    let few = marks_small family block lions within (omega (arith, upto, all)) in
-    omega (arith, read, few)
+    omega (arith, row_read family block lions words is within upto, marks_small family block lions within (omega (arith, upto, all)))
 
 -- an entry of the first hand's run is what a walk from the run's start to its place counts
 pub entry_read : (run : MixedRun) (words : List ℕ) (first entry : ℕ) (walk : Walk) → IsIndex run.family words → run.run < lion_pairs
@@ -35,8 +33,7 @@ entry_read run words first entry walk is low first_is stands place =
     let there = is.entries run.block run.run run.within low (sym kind ∙ run.kind) entry (omega (arith, upto, place)) in
     let here = subst (λ (f : ℕ). classes_to_run run.family run.block run.run + get_or words (f + entry) 0
     ≡ classes_to_place run.family run.block run.run (entry * entry_places)) (sym first_is) there in
-    let passed = walked run walk (entry * entry_places) stands place in
-    omega (arith, here, passed)
+    omega (arith, here, walked run walk (entry * entry_places) stands place)
 
 -- where the entries of a run begin
 pub first_small : (run : MixedRun) (words : List ℕ) → IsIndex run.family words → run.run < lion_pairs

@@ -1,17 +1,21 @@
 -- What is looked for at a place of the move order is the move there.
-use Rattle.dob_moves.proofs.Common.{◌&&◌, ◌*◌, ◌+◌, ◌<◌, ◌≡◌, ◌≤◌, Bool, MatchOption, None, Option, Some, arith, length, nat_lt, refl, subst, sym}
-use Rattle.dob_moves.proofs.Common.{true, ℕ, and_parts, lt-ltb, ltb-true, leads-to_board, within-from_piece, own_kind, at, held, piece_of}
-use Rattle.dob_moves.proofs.Common.{HandKind, Kind, Mover, Profile, Setup, CanGo, first_drop, hand_place, may_put, place, put_if, Aim, AtLion}
-use Rattle.dob_moves.proofs.Common.{Elsewhere, Move, Put, Step}
+use Rattle.dob_moves.proofs.Common.{◌∙◌, ◌&&◌, ◌*◌, ◌+◌, ◌<◌, ◌≡◌, ◌≤◌, Bool, MatchOption, None, Option, Some, arith, length, nat_lt, refl, sym, ℕ, and_parts}
+use Rattle.dob_moves.proofs.Common.{ltb-true, leads-to_board, within-from_piece, at, held, HandKind, Kind, Profile, Setup, CanGo, first_drop, hand_place}
+use Rattle.dob_moves.proofs.Common.{may_put, place, put_if, Aim, AtLion, Elsewhere, Move, Put, Step}
 use Rattle.dob_pieces.specs.declared.kind.HandKind.TheVariants as hand
-use Rattle.dob_moves.specs.AtPlaces.{step_of, step_between, drop_on}
+use Rattle.dob_moves.specs.AtPlaces.{step_between, drop_on}
 use Rattle.dob_pieces.proofs.OwnKinds.{own_cell}
-use Rattle.dob_moves.proofs.ByProfile.{goes, may, can_go, can_go_in}
+use Rattle.dob_moves.proofs.ByProfile.{goes, can_go, can_go_in}
 use Rattle.dob_moves.proofs.Reach.{step_to_is, put_sound, IsFound, Meets, go_found, lion_found, step_may}
 use Rattle.dob_moves.proofs.Runs.{cond_some}
+use Rattle.std.proofs.Common.{rules}
+
+-- what was looked for at that place of the move order is such a move, or there is none
+abbrev pub IsFoundAt : (Move → Type 0) → Option Move → ℕ → Type 0
+IsFoundAt P o there = MatchOption o ((m : Move) → P m → place m ≡ there → ⊥) (λ m. P m × (place m ≡ there))
 
 -- the same as one fact of a move
-pub as_pairs : (P : Move → Type 0) (there : ℕ) (o : Option Move) → MatchOption o ((m : Move) → P m → place m ≡ there → ⊥) (λ m. P m × (place m ≡ there))
+pub as_pairs : (P : Move → Type 0) (there : ℕ) (o : Option Move) → IsFoundAt P o there
     → MatchOption o ((m : Move) → ¬ (P m × (place m ≡ there))) (λ m. P m × (place m ≡ there))
 as_pairs P there None none = λ m h. none m h.0 h.1
 as_pairs P there (Some m) is = is
@@ -20,10 +24,7 @@ as_pairs P there (Some m) is = is
 
 -- what is found is such a step, and stands there
 step_is : (aim : Aim) (p : Setup) (from to : ℕ) (m : Move) → step_between aim p from to ≡ Some m → Meets aim p m × (place m ≡ 12 * from + to)
-step_is aim p from to m e = by_own (own_kind (at p from)) refl e where
-  by_own : (o : Option Kind) → own_kind (at p from) ≡ o → step_of aim p o from to ≡ Some m → Meets aim p m × (place m ≡ 12 * from + to)
-  by_own None own e = cc
-  by_own (Some kind) own e = step_to_is aim p kind from to m (own_cell (at p from) kind own) e
+step_is aim p from to m e = search (rules, step_to_is, own_cell)
 
 -- each such step is found at its place
 pub found_there : (aim : Aim) (p : Setup) (kind : Kind) (from to : ℕ) (m : Move) → IsFound aim p kind from to m → step_between aim p from to ≡ Some m
@@ -47,26 +48,24 @@ step_there aim p from to (Step kind f t catch grows) low high h e =
     let near = leads-to_board kind f t found.step.leads in
     let is : f ≡ from = one_place f t from to near high e in
     let also : t ≡ to = omega (arith, is, e) in
-    subst (λ (k : ℕ). step_between aim p k to ≡ Some (Step kind f t catch grows)) is
-    (subst (λ (k : ℕ). step_between aim p f k ≡ Some (Step kind f t catch grows)) also
-    (found_there aim p kind f t (Step kind f t catch grows) found))
+    sym (λ i. step_between aim p (is i) (also i)) ∙ found_there aim p kind f t (Step kind f t catch grows) found
 step_there aim p from to (Put kind t) low high h e = absurd (put_behind aim p kind t from to low high e)
 
 -- a step that is aimed so, or there is none
 pub step_answer : (aim : Aim) (p : Setup) (from to : ℕ) (o : Option Move) → from < 12 → to < 12 → o ≡ step_between aim p from to
-    → MatchOption o ((m : Move) → Meets aim p m → place m ≡ 12 * from + to → ⊥) (λ m. Meets aim p m × (place m ≡ 12 * from + to))
+    → IsFoundAt (Meets aim p) o (12 * from + to)
 step_answer aim p from to None low high e = λ m h there. let found = step_there aim p from to m low high h there in cc
 step_answer aim p from to (Some m) low high e = step_is aim p from to m (sym e)
 
 -- no profile forbids a step
 pub step_goes : (profile : Profile) (p : Setup) (from to : ℕ) (o : Option Move) → from < 12 → to < 12 → o ≡ step_between Elsewhere p from to
-    → MatchOption o ((m : Move) → CanGo profile p m → place m ≡ 12 * from + to → ⊥) (λ m. CanGo profile p m × (place m ≡ 12 * from + to))
+    → IsFoundAt (CanGo profile p) o (12 * from + to)
 step_goes profile p from to None low high e =
     let none = step_answer Elsewhere p from to None low high e in
     λ m can there. none m (can_go profile p m can) there
 step_goes profile p from to (Some m) low high e =
     let is = step_answer Elsewhere p from to (Some m) low high e in
-    (can_go_in profile p m is.0 (step_may profile m (let there = is.1 in omega (arith, there, low, high))), is.1)
+    (can_go_in profile p m is.0 (step_may profile m (omega (arith, is.1, low, high))), is.1)
 
 -- ---- drops
 
@@ -78,11 +77,7 @@ drop_is profile p kind to m lt e =
     put_sound profile p kind to m lt (ltb-true 0 (held p.hands.mover kind) parts.0) parts.1 on.1
 
 drop_found : (profile : Profile) (p : Setup) (kind : HandKind) (to : ℕ) → CanGo profile p (Put kind to) → drop_on profile p kind to ≡ Some (Put kind to)
-drop_found profile p kind to (q, g) =
-    let d = goes profile p (Put kind to) q g in
-    let here : may_put profile kind to ≡ true = may profile p (Put kind to) q g in
-    let some : nat_lt 0 (held p.hands.mover kind) ≡ true = lt-ltb 0 (held p.hands.mover kind) d.in_hand in
-    rw (some, here, d.free) refl
+drop_found profile p kind to (q, g) = grind arith
 
 drop_square : (profile : Profile) (p : Setup) (kind : HandKind) (to : ℕ) → CanGo profile p (Put kind to) → to < 12
 drop_square profile p kind to (q, g) = (goes profile p (Put kind to) q g).on_board
@@ -96,29 +91,22 @@ one_kind _ _ e = absurd (omega (arith, e))
 -- a step's place is before those of drops
 pub step_before : (profile : Profile) (p : Setup) (kind : Kind) (from to : ℕ) (catch grows : Bool) → length p.board ≡ 12 → CanGo profile p (Step kind from to catch grows)
     → 12 * from + to < first_drop
-step_before profile p kind from to catch grows len can =
-    let found = go_found p kind from to catch grows (can_go profile p (Step kind from to catch grows) can) in
-    let within = within-from_piece p from (piece_of Mover kind) found.step.own in
-    let near = leads-to_board kind from to found.step.leads in
-    omega (arith, within, near, len)
+step_before profile p kind from to catch grows len can = grind (arith, go_found, within-from_piece, leads-to_board)
 
 drop_there : (profile : Profile) (p : Setup) (kind : HandKind) (to : ℕ) (m : Move) → length p.board ≡ 12 → to < 12 → CanGo profile p m
     → place m ≡ first_drop + 12 * hand_place kind + to → drop_on profile p kind to ≡ Some m
 drop_there profile p kind to (Step k f t catch grows) len lt can e =
-    let before = step_before profile p k f t catch grows len can in
-    absurd (omega (arith, before, e))
+    absurd (omega (arith, step_before profile p k f t catch grows len can, e))
 drop_there profile p kind to (Put k t) len lt can e =
     let near = drop_square profile p k t can in
     let number : hand_place k ≡ hand_place kind = omega (arith, near, lt, e) in
     let is : k ≡ kind = one_kind k kind number in
     let also : t ≡ to = omega (arith, number, e) in
-    subst (λ (x : HandKind). drop_on profile p x to ≡ Some (Put k t)) is
-    (subst (λ (x : ℕ). drop_on profile p k x ≡ Some (Put k t)) also (drop_found profile p k t can))
+    sym (λ i. drop_on profile p (is i) (also i)) ∙ drop_found profile p k t can
 
 -- a drop, or there is none at that place
 pub drop_goes : (profile : Profile) (p : Setup) (kind : HandKind) (to : ℕ) (o : Option Move) → length p.board ≡ 12 → to < 12 → o ≡ drop_on profile p kind to
-    → MatchOption o ((m : Move) → CanGo profile p m → place m ≡ first_drop + 12 * hand_place kind + to → ⊥)
-    (λ m. CanGo profile p m × (place m ≡ first_drop + 12 * hand_place kind + to))
+    → IsFoundAt (CanGo profile p) o (first_drop + 12 * hand_place kind + to)
 drop_goes profile p kind to None len lt e = λ m can there. let found = drop_there profile p kind to m len lt can there in cc
 drop_goes profile p kind to (Some m) len lt e = drop_is profile p kind to m lt (sym e)
 
@@ -129,6 +117,6 @@ few_kinds _ = omega arith
 
 pub none_behind : (profile : Profile) (p : Setup) (there : ℕ) → length p.board ≡ 12 → first_drop + 36 ≤ there → (m : Move) → CanGo profile p m → place m ≡ there → ⊥
 none_behind profile p there len far (Step k f t catch grows) can e =
-    let before = step_before profile p k f t catch grows len can in omega (arith, before, far, e)
+    omega (arith, step_before profile p k f t catch grows len can, far, e)
 none_behind profile p there len far (Put k t) can e =
-    let near = drop_square profile p k t can in let few = few_kinds k in omega (arith, near, few, far, e)
+    omega (arith, drop_square profile p k t can, few_kinds k, far, e)

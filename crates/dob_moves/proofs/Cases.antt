@@ -1,8 +1,8 @@
 -- The cases of the rules exclude each other.
-use Rattle.dob_moves.proofs.Common.{◌∙◌, ◌≡◌, Bool, None, Some, ap, false, refl, sym, true, ℕ, kind_in_hand, at, piece_of, HandKind, Kind, Lion, Enemy}
-use Rattle.dob_moves.proofs.Common.{Profile, A, Setup, CanGo, CanTake, CatchesLion, grows_at, HasStatus, Move, Put, Step, Status, Caught, Open, Stuck, Tried}
-use Rattle.dob_moves.proofs.Turns.{kind_of}
-use Rattle.dob_moves.proofs.Outcomes.{Met, step_parts}
+use Rattle.dob_moves.proofs.Common.{◌∙◌, ◌≡◌, Bool, None, Some, false, refl, sym, true, ℕ, at, piece_of, HandKind, Kind, Lion, Enemy, Profile, A, Setup, CanGo}
+use Rattle.dob_moves.proofs.Common.{CanTake, CatchesLion, HasStatus, Move, Put, Step, Status, Caught, Open, Stuck, Tried}
+use Rattle.dob_moves.proofs.Outcomes.{Met}
+use Rattle.std.proofs.Common.{rules}
 
 -- a setup has one status by the rules of a profile
 pub one_status : (profile : Profile) (p : Setup) (s t : Status) → HasStatus profile p s → HasStatus profile p t → s ≡ t
@@ -32,22 +32,14 @@ one_meeting p to true true h k = refl
 pub one_step : (p : Setup) (kind other : Kind) (from to : ℕ) (catch catches grows grow : Bool)
     → CanGo A p (Step kind from to catch grows) → CanGo A p (Step other from to catches grow)
     → (kind ≡ other) × (catch ≡ catches) × (grows ≡ grow)
-one_step p kind other from to catch catches grows grow h k =
-    let s = step_parts p kind from to h.0 catch grows h.1 in
-    let t = step_parts p other from to k.0 catches grow k.1 in
-    let same = ap kind_of (sym s.steps.own ∙ t.steps.own) in
-    (same, one_meeting p to catch catches s.met t.met, sym s.grows_is ∙ ap (λ x. grows_at x to) same ∙ t.grows_is)
+one_step p kind other from to catch catches grows grow h k = search (rules, one_meeting)
 
 -- no lion has a kind in hand
 no_lion_taken : (p : Setup) (to : ℕ) (taken : HandKind) → CanTake p to taken → ¬ (at p to ≡ Some (piece_of Enemy Lion))
-no_lion_taken p to taken t lion =
-    let same : t.0 ≡ Lion = ap kind_of (sym t.1 ∙ lion) in
-    let e : None ≡ Some taken = sym (ap kind_in_hand same) ∙ t.2 in
-    cc
+no_lion_taken p to taken t lion = search rules
 
 -- a step that catches a lion isn't a move
 pub lion_not_moved : (p : Setup) (move : Move) → CatchesLion p move → ¬ CanGo A p move
-lion_not_moved p (Step kind from to true grows) c can =
-    let met = (step_parts p kind from to can.0 true grows can.1).met in no_lion_taken p to met.0 met.1 c.2
+lion_not_moved p (Step kind from to true grows) c can = search (rules, no_lion_taken)
 lion_not_moved p (Step kind from to false grows) c can = c
 lion_not_moved p (Put kind to) c can = c

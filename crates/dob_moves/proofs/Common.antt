@@ -1,28 +1,28 @@
 -- The names that the proofs here use most, from other crates and the definitions of this one.
-pub use Rattle.std.proofs.Common.{if◌then◌else◌, ◌&&◌, ◌*◌, ◌++◌, ◌+◌, ◌-◌, ◌/◌, ◌<◌, ◌==◌, ◌||◌, ◌↔◌, ◌∙◌, ◌∷◌, ◌≡◌, ◌≢◌, ◌≤◌, Bool, Contains, List}
+pub use Rattle.std.proofs.Common.{if◌then◌else◌, ◌&&◌, ◌*◌, ◌++◌, ◌+◌, ◌/◌, ◌<◌, ◌==◌, ◌||◌, ◌↔◌, ◌∙◌, ◌∷◌, ◌≡◌, ◌≢◌, ◌≤◌, Bool, Contains, List}
 pub use Rattle.std.proofs.Common.{MatchOption, None, Option, Some, [], add-one, ap, append_assoc, arith, bit_and, cond, count_ones, drop, drop-cons, eqb, false}
 pub use Rattle.std.proofs.Common.{get_or, inl, inr, length, nat_lt, not, option_to_list, refl, rules, set, slice_index_or, subst, suc, sym, take, true}
 pub use Rattle.std.proofs.Common.{true≢false, zero, ℕ, ⊎_elim}
-pub use Rattle.std.proofs.lemmas.Bool.{and_parts, cases_eq, cases_lt, eqb-false, eqb-true, lt-ltb, ltb-true, not-true}
+pub use Rattle.std.proofs.lemmas.Bool.{and_parts, cases_eq, cases_lt, eqb-false, lt-ltb, ltb-true, not-true}
 pub use Rattle.std.proofs.lemmas.List.{append-nil, get_or-set_other, get_or-set_same, get_or_past, length-append, length-set}
 pub use Rattle.std.proofs.lemmas.List.Elements.{Contains-append_cases, Contains-append_left, Contains-append_right, filter-append, filter_map-append}
 pub use Rattle.std.specs.List.{cons_option, count_by, filter, filter_map}
 pub use Rattle.std.specs.Option.{is_some}
 pub use Rattle.dob_pieces.proofs.Attacks.{attacks_piece, lion_at, lion_mask, own_attacks}
 pub use Rattle.dob_pieces.proofs.Boards.{HasFewPieces-turned, HasLions-turned, IsLegal-mirrored, all_below, all_below-at, at-board_by, at-turned}
-pub use Rattle.dob_pieces.proofs.Boards.{board_by-from_cells, count-moved, count-set, leads-apart, leads-to_board, length-board_by, length-mirrored}
-pub use Rattle.dob_pieces.proofs.Boards.{length-turned, lions-turned, one_if, one_lion, total-turned, within-from_piece}
+pub use Rattle.dob_pieces.proofs.Boards.{board_by-from_cells, count-moved, count-set, leads-apart, leads-to_board, length-mirrored, length-turned, lions-turned}
+pub use Rattle.dob_pieces.proofs.Boards.{one_if, one_lion, total-turned, within-from_piece}
 pub use Rattle.dob_pieces.proofs.Lists.{Rising, cond_sound, cond_whole, cons_cases, each_sound, each_whole, head_in, none_in_empty, rising-after, rising-append}
 pub use Rattle.dob_pieces.proofs.Lists.{rising-cond, rising-each, rising-lower, rising-pairs}
 pub use Rattle.dob_pieces.proofs.MaskBits.{IsLowest, IsMask-and, bit_if, lowest_is, next_left, none_passes, without}
 pub use Rattle.dob_pieces.proofs.MaskWalks.{IsCounted, IsCounting, IsQuiet, IsWalked, counted_ones, walk_end, walk_less, walk_next, walk_next_at, walk_start}
 pub use Rattle.dob_pieces.specs.Lists.{each_below}
-pub use Rattle.dob_pieces.specs.Masks.{AreMasks, IsMask, attacks, is_empty, is_end, is_own, is_prey, own_kind}
+pub use Rattle.dob_pieces.specs.Masks.{AreMasks, IsMask, attacks, is_empty, is_end, is_own, own_kind}
 pub use Rattle.dob_pieces.specs.Pieces.{kind_in_hand, kind_on_board, other_side}
 unfoldable pub use Rattle.dob_pieces.specs.Pieces.{leads}
 pub use Rattle.dob_pieces.specs.Profiles.{IsAllowed, is_far, may_stand}
 pub use Rattle.dob_pieces.specs.Setups.{Cell, HasFewPieces, HasLionOffFarRow, HasLions, IsLegal, at, board_by, held, holds_kind, holds_lion, piece_of, turned}
-pub use Rattle.dob_pieces.specs.Setups.{turned_cell, with_one_less, with_one_more}
+pub use Rattle.dob_pieces.specs.Setups.{turned_cell, with_one_less}
 unfoldable pub use Rattle.dob_pieces.specs.Setups.{mirrored, total}
 pub use Rattle.dob_pieces.specs.Squares.{mirrored_square, row}
 pub use Rattle.dob_pieces.specs.declared.hand.Hand.{Hand}

@@ -1,11 +1,11 @@
 -- What a move by the rules of a profile leads to is allowed by it: no chick is dropped on its far row, and one that steps there grows.
-use Rattle.dob_moves.proofs.Common.{◌<◌, ◌∙◌, ◌≡◌, Bool, List, None, Some, ap, arith, false, get_or, inl, inr, length, not, refl, set, slice_index_or, subst}
-use Rattle.dob_moves.proofs.Common.{sym, true, ℕ, cases_eq, get_or-set_other, get_or-set_same, length-set, leads-to_board, within-from_piece, kind_on_board}
-use Rattle.dob_moves.proofs.Common.{IsAllowed, may_stand, Cell, piece_of, HandKind, Kind, Chick, Mover, Profile, A, B, Setup}
-use Rattle.dob_moves.proofs.Common.{Goes, HasOutcome, grows_at, may_put, arrives_as, dropped, stepped, Move, Put, Step}
+use Rattle.dob_moves.proofs.Common.{◌<◌, ◌∙◌, ◌≡◌, Bool, List, None, Some, ap, arith, false, length, not, refl, set, slice_index_or, subst, sym, true, ℕ}
+use Rattle.dob_moves.proofs.Common.{length-set, leads-to_board, within-from_piece, IsAllowed, may_stand, Cell, piece_of, HandKind, Kind, Chick, Mover, Profile}
+use Rattle.dob_moves.proofs.Common.{A, B, Setup, Goes, HasOutcome, grows_at, may_put, arrives_as, dropped, stepped, Move, Put, Step}
 use Rattle.dob_pieces.proofs.Allowed.{stands-from_allowed, allowed-from_stands, IsAllowed-turned}
 use Rattle.dob_moves.proofs.ByProfile.{goes, may}
 use Rattle.dob_moves.proofs.Outcomes.{step_parts, HasOutcome-is, length-stepped, length-dropped, IsStep-from}
+use Rattle.std.proofs.Common.{rules}
 
 -- ---- boards by a profile
 
@@ -15,13 +15,7 @@ Stand profile board = (k : ℕ) → k < 12 → may_stand profile k (slice_index_
 
 pub stand-set : (profile : Profile) (board : List Cell) (i : ℕ) (cell : Cell) → i < length board → may_stand profile i cell ≡ true
     → Stand profile board → Stand profile (set board i cell)
-stand-set profile board i cell within here stand k lt =
-    elim (cases_eq k i) [
-      | inl same ↦
-          ap (λ (j : ℕ). may_stand profile j (get_or (set board i cell) j None)) same
-          ∙ ap (may_stand profile i) (get_or-set_same board i cell None within) ∙ here
-      | inr other ↦ ap (may_stand profile k) (get_or-set_other board i k cell None other) ∙ stand k lt
-    ]
+stand-set profile board i cell within here stand k lt = search rules
 
 pub none_stands : (profile : Profile) (k : ℕ) → may_stand profile k None ≡ true
 none_stands A k = refl
@@ -55,10 +49,7 @@ allowed-stepped profile p kind from to catch grows q twelve allowed g =
 allowed-dropped : (profile : Profile) (p : Setup) (put : HandKind) (to : ℕ) → length p.board ≡ 12 → IsAllowed profile p → to < 12
     → may_put profile put to ≡ true → IsAllowed profile (dropped p put to)
 unfolding dropped
-allowed-dropped profile p put to twelve allowed on here =
-    allowed-from_stands profile (dropped p put to) (length-set p.board to (Some (piece_of Mover (kind_on_board put))) ∙ twelve)
-    (stand-set profile p.board to (Some (piece_of Mover (kind_on_board put))) (omega (arith, on, twelve)) here
-    (λ k lt. stands-from_allowed profile p k twelve allowed lt))
+allowed-dropped profile p put to twelve allowed on here = search (rules, allowed-from_stands, stands-from_allowed)
 
 -- ---- the outcome of a move
 

@@ -1,10 +1,11 @@
 -- The steps and drops that masks give are those of the walk over all squares.
-use Rattle.dob_moves.proofs.Common.{◌&&◌, ◌<◌, ◌∙◌, ◌∷◌, ◌≡◌, Bool, List, None, Some, [], ap, bit_and, cond, false, length, nat_lt, option_to_list, refl, sym}
-use Rattle.dob_moves.proofs.Common.{true, ℕ, lt-ltb, is_some, IsMask-and, bit_if, IsCounting, IsQuiet, each_below, IsMask, is_empty, is_end, is_own, own_kind}
-use Rattle.dob_moves.proofs.Common.{leads, Cell, at, held, HandKind, Kind, Side, Enemy, Mover, Profile, Setup, grows_at, may_put, drops_of, may_end, put_if}
-use Rattle.dob_moves.proofs.Common.{put_on, steps_from, steps_if, Elsewhere, Move, Put, Step}
+use Rattle.dob_moves.proofs.Common.{◌&&◌, ◌<◌, ◌∙◌, ◌∷◌, ◌≡◌, Bool, List, None, Some, [], ap, bit_and, cond, false, length, nat_lt, option_to_list, refl, true}
+use Rattle.dob_moves.proofs.Common.{ℕ, lt-ltb, is_some, IsMask-and, bit_if, IsCounting, IsQuiet, each_below, IsMask, is_empty, is_end, is_own, own_kind, leads}
+use Rattle.dob_moves.proofs.Common.{Cell, at, held, HandKind, Kind, Profile, Setup, grows_at, may_put, drops_of, put_if, put_on, steps_from, steps_if}
+use Rattle.dob_moves.proofs.Common.{Elsewhere, Move, Put, Step}
 use Rattle.dob_moves.proofs.Masked.{end_is}
 use Rattle.dob_moves.proofs.Tables.{step_to}
+use Rattle.std.proofs.Common.{rules}
 
 -- ---- the steps of a piece
 
@@ -26,9 +27,7 @@ step_by_tests false b move = refl
 
 -- there is one just on those
 pub steps_to-is : (p : Setup) (kind : Kind) (from to : ℕ) → steps_to p kind from to ≡ cond (may_step p kind from to) (the_step p kind from to ∷ []) []
-steps_to-is p kind from to =
-    step_by_tests (leads kind from to) (may_end Elsewhere (at p to)) (the_step p kind from to)
-    ∙ ap (λ (b : Bool). cond (leads kind from to && b) (the_step p kind from to ∷ []) []) (sym (end_is (at p to)))
+steps_to-is p kind from to = search (rules, step_by_tests, end_is)
 
 pub steps_quiet : (p : Setup) (kind : Kind) (from : ℕ) → IsQuiet (may_step p kind from) (steps_to p kind from)
 steps_quiet p kind from to isnt = steps_to-is p kind from to ∙ ap (λ (b : Bool). cond b (the_step p kind from to ∷ []) []) isnt
@@ -51,11 +50,7 @@ may_step_mask p kind from targets ends are may = IsMask-and (leads kind from) (�
 
 no_own : (cell : Cell) → is_own cell ≡ false → own_kind cell ≡ None
 no_own None h = refl
-no_own (Some piece) h = by_side piece.side piece.kind h where
-  by_side : (side : Side) (kind : Kind) → is_own (Some (record { side = side; kind = kind })) ≡ false
-      → own_kind (Some (record { side = side; kind = kind })) ≡ None
-  by_side Mover kind h = cc
-  by_side Enemy kind h = refl
+no_own (Some piece) h = search rules
 
 -- the mover's piece stands there
 abbrev pub own_at : Setup → ℕ → Bool

@@ -1,9 +1,9 @@
 -- What the masks of a position say of its status.
-use Rattle.dob_moves.proofs.Common.{◌&&◌, ◌/◌, ◌<◌, ◌∙◌, ◌≡◌, ◌≢◌, ◌≤◌, Bool, None, Some, ap, arith, bit_and, false, inl, inr, length, refl, sym, true, subst}
+use Rattle.dob_moves.proofs.Common.{◌&&◌, ◌/◌, ◌<◌, ◌∙◌, ◌≡◌, ◌≢◌, ◌≤◌, Bool, None, Some, arith, bit_and, false, inl, inr, length, refl, sym, true, subst}
 use Rattle.dob_moves.proofs.Common.{true≢false, ℕ, and_parts, cases_lt, is_some, attacks_piece, own_attacks, one_lion, within-from_piece, IsLowest, IsMask-and}
-use Rattle.dob_moves.proofs.Common.{lowest_is, none_passes, IsMask, attacks, is_end, is_prey, leads, Cell, HasLions, at, piece_of, Kind}
-use Rattle.dob_moves.proofs.Common.{Lion, Side, Enemy, Mover, A, Setup, CanGo, CatchesLion, grows_at, place, CanCatch, HasTried, IsFirstCatch}
-use Rattle.dob_moves.proofs.Common.{may_end, step_onto, Elsewhere, Move, Put, Step, Option, MatchOption, AtLion}
+use Rattle.dob_moves.proofs.Common.{lowest_is, none_passes, IsMask, attacks, is_end, leads, Cell, HasLions, at, piece_of, Kind, Lion, Enemy, Mover, A, Setup}
+use Rattle.dob_moves.proofs.Common.{CanGo, CatchesLion, grows_at, place, CanCatch, HasTried, IsFirstCatch, may_end, step_onto, Elsewhere, Move, Put, Step}
+use Rattle.dob_moves.proofs.Common.{Option, MatchOption, AtLion}
 use Rattle.std.specs.Int.{trailing_zeros, w16}
 use Rattle.dob_moves.specs.AtPlaces.{step_between}
 use Rattle.dob_moves.proofs.Reach.{IsStep, step_sound}
@@ -25,14 +25,7 @@ record IsAttack (p : Setup) (lion from to : ℕ) : Type 0 where
 
 attack_of : (p : Setup) (lion : ℕ) (kind : Kind) (from to : ℕ) (grows : Bool) → length p.board ≡ 12 → HasLions p
     → at p lion ≡ Some (piece_of Enemy Lion) → CatchesLion p (Step kind from to true grows) → IsAttack p lion from to
-attack_of p lion kind from to grows twelve lions stands h =
-    let here = one_lion Enemy p to lion lions h.2 stands in
-    let within = within-from_piece p from (piece_of Mover kind) h.0 in
-    record {
-      on_board = omega (arith, within, twelve);
-      at_lion = here;
-      attacks_it = ap (λ (x : ℕ). attacks p from x) (sym here) ∙ own_attacks (at p from) kind from to h.0 ∙ h.1;
-    }
+attack_of p lion kind from to grows twelve lions stands h = grind (arith, one_lion, within-from_piece, own_attacks)
 
 pub no_attack : (p : Setup) (lion mask : ℕ) → length p.board ≡ 12 → HasLions p → at p lion ≡ Some (piece_of Enemy Lion)
     → IsMask (λ from. attacks p from lion) mask → mask ≡ 0 → ¬ CanCatch p
@@ -74,20 +67,13 @@ first_attack p lion mask from o twelve lions stands are some e looked_for =
 -- ---- a try
 
 pub tried_by : (p : Setup) (lion : ℕ) → HasLions p → at p lion ≡ Some (piece_of Enemy Lion) → HasTried p → lion / 3 ≡ 0
-tried_by p lion lions stands t =
-    let here = one_lion Enemy p t.0 lion lions t.2 stands in
-    let low = t.1 in
-    omega (arith, here, low)
+tried_by p lion lions stands t = grind (arith, one_lion)
 
 -- ---- where steps may end
 
 pub end_is : (cell : Cell) → is_end cell ≡ may_end Elsewhere cell
 end_is None = refl
-end_is (Some piece) = by_piece piece.side piece.kind where
-  by_piece : (side : Side) (kind : Kind) → is_prey side kind ≡ may_end Elsewhere (Some (piece_of side kind))
-  by_piece Mover kind = refl
-  by_piece Enemy Lion = refl
-  by_piece Enemy _ = refl
+end_is (Some piece) = grind arith
 
 ends_step : (p : Setup) (kind : Kind) (from to : ℕ) → IsStep p kind from to → is_end (at p to) ≡ true → (move : Move) × CanGo A p move
 ends_step p kind from to step is =

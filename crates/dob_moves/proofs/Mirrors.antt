@@ -1,10 +1,11 @@
 -- The mirror image of a move is a move of the mirror image, and leads to the mirror image of its outcome.
 use Rattle.dob_moves.proofs.Common.{◌<◌, ◌==◌, ◌∙◌, ◌≡◌, ◌≢◌, List, None, Some, ap, arith, false, get_or, length, refl, set, subst, sym, true, ℕ, ⊎_elim}
-use Rattle.dob_moves.proofs.Common.{cases_eq, get_or-set_other, get_or-set_same, length-set, at-board_by, board_by-from_cells, leads-to_board, length-board_by}
-use Rattle.dob_moves.proofs.Common.{length-mirrored, within-from_piece, kind_on_board, Cell, at, board_by, mirrored, piece_of, turned, with_one_less}
-use Rattle.dob_moves.proofs.Common.{mirrored_square, row, Hands, HandKind, Kind, Chick, Mover, A, Setup, mirrored_move, CanGo}
-use Rattle.dob_moves.proofs.Common.{CatchesLion, Drops, HasOutcome, Steps, grows_at, CanCatch, HasStatus, HasTried, Move, Put, Step}
-use Rattle.dob_moves.proofs.Common.{Status, Caught, Open, Stuck, Tried, Bool, arrives_as, with_caught}
+use Rattle.dob_moves.proofs.Common.{cases_eq, get_or-set_other, get_or-set_same, length-set, at-board_by, board_by-from_cells, leads-to_board, length-mirrored}
+use Rattle.dob_moves.proofs.Common.{within-from_piece, kind_on_board, Cell, at, board_by, mirrored, piece_of, turned, with_one_less, mirrored_square, row}
+use Rattle.dob_moves.proofs.Common.{Hands, HandKind, Kind, Chick, Mover, A, Setup, mirrored_move, CanGo, CatchesLion, Drops, HasOutcome, Steps, grows_at}
+use Rattle.dob_moves.proofs.Common.{CanCatch, HasStatus, HasTried, Move, Put, Step, Status, Caught, Open, Stuck, Tried, Bool, arrives_as}
+use Rattle.std.proofs.Common.{rules}
+use Rattle.dob_pieces.specs.Setups.{setup_of}
 use Rattle.dob_pieces.proofs.Symmetries.{mirrored_square_bound, mirrored_square_twice, at-image, mirrored-mirrored, turned-mirrored, leads-mirrored}
 use Rattle.dob_moves.proofs.Outcomes.{Met, hands_stepped, step_parts, HasOutcome-parts}
 
@@ -39,14 +40,10 @@ mirrored_put board i c twelve h =
     let image = mirrored_board board in
     let j = mirrored_square i in
     let f = λ (k : ℕ). get_or (set board i c) (mirrored_square k) None in
-    let wide : length image ≡ 12 = length-board_by (λ k. get_or board (mirrored_square k) None) in
-    let wide_set : length (set image j c) ≡ 12 = length-set image j c ∙ wide in
-    let low : j < length image = omega (arith, mirrored_square_bound i h) in
-    let within : i < length board = omega arith in
     let here : get_or (set image j c) j None ≡ f j =
-    get_or-set_same image j c None low ∙ sym (ap (λ k. get_or (set board i c) k None) (mirrored_square_twice i h) ∙ get_or-set_same board i c None within)
-    in
-    sym (board_by-from_cells f (set image j c) wide_set (λ k small.
+    get_or-set_same image j c None (mirrored_square_bound i h)
+    ∙ sym (ap (λ k. get_or (set board i c) k None) (mirrored_square_twice i h) ∙ get_or-set_same board i c None (rw twelve h)) in
+    sym (board_by-from_cells f (set image j c) (length-set image j c) (λ k small.
     ⊎_elim (λ (e : k ≡ j). subst (λ k. get_or (set image j c) k None ≡ f k) (sym e) here)
     (λ (e : k ≡ j → ⊥).
     get_or-set_other image j k c None e ∙ at-board_by (λ k. get_or board (mirrored_square k) None) k small
@@ -64,10 +61,7 @@ stepped_image : (p : Setup) (from to : ℕ) (c : Cell) (hands : Hands) → lengt
     → mirrored (record { board = set (set p.board from None) to c; hands = hands })
     ≡ record { board = set (set (mirrored p).board (mirrored_square from) None) (mirrored_square to) c; hands = hands }
 unfolding mirrored
-stepped_image p from to c hands twelve h k =
-    ap (λ (b : List Cell). record { board = b; hands = hands })
-    (mirrored_put (set p.board from None) to c (length-set p.board from None ∙ twelve) k
-    ∙ ap (λ (b : List Cell). set b (mirrored_square to) c) (mirrored_put p.board from None twelve h))
+stepped_image p from to c hands twelve h k = search (rules, mirrored_put)
 
 -- the mirror image of what stands after a drop
 dropped_image : (p : Setup) (to : ℕ) (c : Cell) (hands : Hands) → length p.board ≡ 12 → to < 12
@@ -75,7 +69,7 @@ dropped_image : (p : Setup) (to : ℕ) (c : Cell) (hands : Hands) → length p.b
     ≡ record { board = set (mirrored p).board (mirrored_square to) c; hands = hands }
 unfolding mirrored
 dropped_image p to c hands twelve k =
-    ap (λ (b : List Cell). record { board = b; hands = hands }) (mirrored_put p.board to c twelve k)
+    ap (λ (b : List Cell). setup_of b hands) (mirrored_put p.board to c twelve k)
 
 -- a step in the mirror
 Steps-mirrored : (p : Setup) (kind : Kind) (from to : ℕ) (arrives : Kind) (hands : Hands) (q : Setup) → length p.board ≡ 12
@@ -121,9 +115,7 @@ HasOutcome-mirrored p (Step kind from to catch grows) q twelve g =
     HasOutcome-parts (mirrored p) kind (mirrored_square from) (mirrored_square to) (mirrored q) catch grows (record {
       grows_is = grows_at-mirrored kind to ∙ s.grows_is;
       met = Met-mirrored p to catch k s.met;
-      steps = subst (λ (cell : Cell). Steps (mirrored p) kind (mirrored_square from) (mirrored_square to) (arrives_as kind grows)
-          (record p.hands { mover = with_caught p.hands.mover cell }) (mirrored q)) (sym (at-image p to k))
-          (Steps-mirrored p kind from to (arrives_as kind grows) (hands_stepped p to) q twelve s.steps);
+      steps = rw (at-image p to k) (Steps-mirrored p kind from to (arrives_as kind grows) (hands_stepped p to) q twelve s.steps);
     })
 HasOutcome-mirrored p (Put kind to) q twelve g = Drops-mirrored p kind to q twelve g
 
@@ -135,15 +127,8 @@ CanGo-mirrored p move twelve can = (mirrored can.0, HasOutcome-mirrored p move c
 CatchesLion-mirrored : (p : Setup) (move : Move) → length p.board ≡ 12
     → CatchesLion p move → CatchesLion (mirrored p) (mirrored_move move)
 CatchesLion-mirrored p (Step kind from to true grows) twelve c =
-    let h = mover_on_board p from kind twelve c.0 in
-    let k = leads-to_board kind from to c.1 in (
-      at-image p from h ∙ c.0,
-      leads-mirrored kind from to h k ∙ c.1,
-      at-image p to k ∙ c.2,
-      c.3 ∙ sym (grows_at-mirrored kind to),
-    )
-CatchesLion-mirrored p (Step kind from to false grows) twelve c = c
-CatchesLion-mirrored p (Put kind to) twelve c = c
+    search (rules, mover_on_board, leads-to_board, at-image, leads-mirrored, grows_at-mirrored)
+CatchesLion-mirrored p _ twelve c = c
 
 -- ---- statuses
 
@@ -156,24 +141,19 @@ HasTried-mirrored p t = (mirrored_square t.0, mirrored_low t.0 t.1, at-image p t
 
 -- what the mirror image of a setup has, the setup has
 no_catch : (p : Setup) → length p.board ≡ 12 → ¬ CanCatch p → ¬ CanCatch (mirrored p)
-no_catch p twelve not c =
-    not (subst (λ s. CanCatch s) (mirrored-mirrored p twelve) (CanCatch-mirrored (mirrored p) (length-mirrored p) c))
+no_catch p twelve not c = not (rw mirrored-mirrored at (CanCatch-mirrored (mirrored p) (length-mirrored p) c))
 
 no_try : (p : Setup) → length p.board ≡ 12 → ¬ HasTried p → ¬ HasTried (mirrored p)
-no_try p twelve not t = not (subst (λ s. HasTried s) (mirrored-mirrored p twelve) (HasTried-mirrored (mirrored p) t))
+no_try p twelve not t = not (rw mirrored-mirrored at (HasTried-mirrored (mirrored p) t))
 
 no_move : (p : Setup) → length p.board ≡ 12 → ((move : Move) → ¬ CanGo A p move) → (move : Move) → ¬ CanGo A (mirrored p) move
-no_move p twelve not move can =
-    not (mirrored_move move)
-    (subst (λ s. CanGo A s (mirrored_move move)) (mirrored-mirrored p twelve)
-    (CanGo-mirrored (mirrored p) move (length-mirrored p) can))
+no_move p twelve not move can = not (mirrored_move move) (rw mirrored-mirrored at (CanGo-mirrored (mirrored p) move (length-mirrored p) can))
 
 -- the mirror image has the same status
 pub HasStatus-mirrored_in_A : (p : Setup) (status : Status) → length p.board ≡ 12 → HasStatus A p status → HasStatus A (mirrored p) status
 HasStatus-mirrored_in_A p Caught twelve h = CanCatch-mirrored p twelve h
 HasStatus-mirrored_in_A p Tried twelve h = (no_catch p twelve h.0, HasTried-mirrored p h.1)
 HasStatus-mirrored_in_A p Stuck twelve h = (no_catch p twelve h.0, no_try p twelve h.1, no_move p twelve h.2)
-HasStatus-mirrored_in_A p Open twelve h =
-    (no_catch p twelve h.0, no_try p twelve h.1, (mirrored_move h.2.0, CanGo-mirrored p h.2.0 twelve h.2.1))
+HasStatus-mirrored_in_A p Open twelve h = (no_catch p twelve h.0, no_try p twelve h.1, (mirrored_move h.2.0, CanGo-mirrored p h.2.0 twelve h.2.1))
 
 pub ruleset images = (HasOutcome-mirrored)

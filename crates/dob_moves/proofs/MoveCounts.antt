@@ -31,10 +31,7 @@ unfolding moves_of
 open_count profile p steps drops twelve is_open first_is then_is =
     let all : moves_of profile p ≡ all_steps Elsewhere p ++ all_drops profile p =
     by_tests profile p twelve is_open (first (all_steps AtLion p)) (has_tried p) refl refl (all_steps Elsewhere p ++ all_drops profile p) in
-    let same : length (moves_of profile p) ≡ length (all_steps Elsewhere p ++ all_drops profile p) = ap length all in
-    let sum : length (all_steps Elsewhere p ++ all_drops profile p) ≡ length (all_steps Elsewhere p) + length (all_drops profile p) =
-    length-append (all_steps Elsewhere p) (all_drops profile p) in
-    omega arith
+    omega (arith, ap length all, length-append (all_steps Elsewhere p) (all_drops profile p))
 
 nothing_there : (P : Type 0) (moves : List Move) → ((m : Move) → Contains moves m → P) → ¬ P → 0 ≡ length moves
 nothing_there P [] sound isnt = refl
@@ -52,9 +49,9 @@ pub counted_steps : (p : Setup) (kind : Kind) (from targets ends : ℕ) → from
     → IsMask (leads kind from) targets → IsMask (λ square. is_end (at p square)) ends
     → IsCounted (length (steps_by Elsewhere p kind from)) (count_ones (bit_and targets ends))
 counted_steps p kind from targets ends lt are may =
-    let each = counted_ones (may_step p kind from) (steps_to p kind from) (bit_and targets ends)
-    (steps_counting p kind from) (may_step_mask p kind from targets ends are may) in
-    rw (steps_by-squares Elsewhere p kind from lt) each
+    rw (steps_by-squares Elsewhere p kind from lt)
+    (counted_ones (may_step p kind from) (steps_to p kind from) (bit_and targets ends) (steps_counting p kind from)
+    (may_step_mask p kind from targets ends are may))
 
 pub counted_drops : (profile : Profile) (p : Setup) (kind : HandKind) (empty squares : ℕ) → 0 < held p.hands.mover kind
     → IsMask (λ square. is_empty (at p square)) empty → IsMask (may_put profile kind) squares
@@ -85,25 +82,18 @@ pub count_next : (p : Setup) (left place after count steps : ℕ) → AreCounted
     → steps ≡ length (steps_from Elsewhere p place) → steps ≤ 12 → CountsOn p left after count (count + steps)
 count_next p left place after count steps w some e gone is few =
     let it = next_left (own_at p) w.walk.upto left place w.walk.left_are some e in
-    let sum = length-append w.items (steps_from Elsewhere p place) in
-    let lt = it.on_board in let le = it.not_before in let low = w.few in let number = w.number in
     let next = walk_next_at w.walk some e gone {new = w.items ++ steps_from Elsewhere p place} (from_quiet p) (λ passes. refl) in
-    let upto = next.1 in
-    let less = it.less in
     record {
-      small = omega (arith, lt, le, low, few);
-      less = omega (arith, gone, less);
+      small = omega (arith, it.on_board, it.not_before, w.few, few);
+      less = omega (arith, gone, it.less);
       next = record {
         items = w.items ++ steps_from Elsewhere p place;
         walk = next.0;
-        number = omega (arith, sum, is, number);
-        few = omega (arith, upto, le, low, few);
+        number = omega (arith, length-append w.items (steps_from Elsewhere p place), is, w.number);
+        few = omega (arith, next.1, it.not_before, w.few, few);
       };
     }
 
 pub count_end : (p : Setup) (left count : ℕ) → AreCounted p left count → left ≡ 0 → (count ≡ length (all_steps Elsewhere p)) × (count ≤ 12 * 12)
 unfolding all_steps
-count_end p left count w none = (
-  w.number ∙ ap length (walk_end w.walk (from_quiet p) none),
-  (let few = w.few in let bound = w.walk.bound in omega (arith, few, bound)),
-)
+count_end p left count w none = (w.number ∙ ap length (walk_end w.walk (from_quiet p) none), omega (arith, w.few, w.walk.bound))

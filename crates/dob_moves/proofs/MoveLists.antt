@@ -1,7 +1,6 @@
 -- The list of a position's moves has just its moves.
 use Rattle.dob_moves.proofs.Common.{if◌then◌else◌, ◌++◌, ◌<◌, ◌||◌, ◌≡◌, Bool, None, Option, Some, [], ap, arith, false, length, refl, suc, true, zero, ℕ}
-use Rattle.dob_moves.proofs.Common.{is_some, at, holds_lion, piece_of, Lion}
-use Rattle.dob_moves.proofs.Common.{Enemy, Profile, Setup, AreMoves, HasTried, all_drops, all_steps, first, AtLion}
+use Rattle.dob_moves.proofs.Common.{is_some, at, holds_lion, piece_of, Lion, Enemy, Profile, Setup, AreMoves, HasTried, all_drops, all_steps, first, AtLion}
 use Rattle.dob_moves.proofs.Common.{Elsewhere, Move, Caught, Tried}
 use Rattle.dob_moves.specs.MoveLists.{has_tried, moves_of}
 use Rattle.dob_moves.proofs.Verdicts.{catch_answer, other_answer, going_on}

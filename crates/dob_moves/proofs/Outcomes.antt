@@ -1,11 +1,12 @@
 -- Every outcome of a move is the turned form of `moved`, and legal where the position was legal and open.
 use Rattle.dob_moves.proofs.Common.{◌&&◌, ◌+◌, ◌<◌, ◌∙◌, ◌≡◌, ◌≢◌, ◌≤◌, Bool, List, None, Some, ap, arith, cond, false, get_or, length, refl, set, subst, sym}
-use Rattle.dob_moves.proofs.Common.{true, ℕ, ⊎_elim, cases_eq, get_or-set_other, get_or-set_same, length-set, count_by, count-moved, count-set, leads-apart}
-use Rattle.dob_moves.proofs.Common.{leads-to_board, lions-turned, one_if, total-turned, within-from_piece, kind_in_hand, kind_on_board, leads, other_side, Cell}
-use Rattle.dob_moves.proofs.Common.{IsLegal, at, held, holds_kind, holds_lion, piece_of, total, turned, with_one_less, with_one_more, Hand, Hands, HandKind}
-use Rattle.dob_moves.proofs.Common.{Kind, Chick, Elephant, Giraffe, Hen, Lion, Side, Enemy, Mover, A, Setup, CanGo, CanTake, HasOutcome, Steps, grows_at}
-use Rattle.dob_moves.proofs.Common.{hands_after_catch, arrives_as, dropped, moved, stepped, with_caught, HasTried, Move, Put, Step}
-use Rattle.std.proofs.lemmas.Bool.{and_right, false≢true}
+use Rattle.dob_moves.proofs.Common.{true, ℕ, length-set, count_by, count-moved, count-set, leads-apart, leads-to_board, lions-turned, one_if, total-turned}
+use Rattle.dob_moves.proofs.Common.{within-from_piece, kind_on_board, leads, other_side, Cell, IsLegal, at, held, holds_kind, holds_lion, piece_of, total}
+use Rattle.dob_moves.proofs.Common.{turned, with_one_less, Hand, Hands, HandKind, Kind, Hen, Lion, Side, Enemy, Mover, A, Setup}
+use Rattle.dob_moves.proofs.Common.{CanGo, CanTake, HasOutcome, Steps, grows_at, hands_after_catch, arrives_as, dropped, moved, stepped, with_caught, HasTried}
+use Rattle.dob_moves.proofs.Common.{Move, Put, Step}
+use Rattle.std.proofs.lemmas.Bool.{and_right}
+use Rattle.std.proofs.Common.{rules}
 use Rattle.dob_pieces.specs.declared.kind.HandKind.TheVariants as hand
 use Rattle.dob_pieces.specs.Pieces.{is_lion, is_side, counts_as}
 use Rattle.dob_moves.proofs.Turns.{sides_apart, IsFreeOfTry, IsLegal-turned}
@@ -73,40 +74,6 @@ pub record IsStep (p : Setup) (kind : Kind) (from to : ℕ) (grows : Bool) : Typ
   yields : Yields (at p to)
   keeps : Keeps kind (arrives_as kind grows)
 
--- an empty square yields nothing
-Yields-none : Yields None
-Yields-none = record {
-  no_lion = λ side. refl;
-  catch = λ h k. omega arith;
-}
-
--- no lion is taken
-lion_not_taken : (caught : Kind) (taken : HandKind) → kind_in_hand caught ≡ Some taken → is_lion caught ≡ false
-lion_not_taken Lion taken e = cc
-lion_not_taken _ taken e = refl
-
--- a hen counts as a chick
-hen_counts : (k : HandKind) → counts_as k Hen ≡ counts_as k Chick
-hen_counts hand.Chick = refl
-hen_counts _ = refl
-
--- the kind that a caught piece has in hand is the one that it counts as
-counts_as-taken : (caught : Kind) (taken : HandKind) → kind_in_hand caught ≡ Some taken
-    → (k : HandKind) → counts_as k caught ≡ counts_as k (kind_on_board taken)
-counts_as-taken Lion taken e k = cc
-counts_as-taken Giraffe taken e k = let t : hand.Giraffe ≡ taken = cc in ap (λ x. counts_as k (kind_on_board x)) t
-counts_as-taken Elephant taken e k = let t : hand.Elephant ≡ taken = cc in ap (λ x. counts_as k (kind_on_board x)) t
-counts_as-taken Chick taken e k = let t : hand.Chick ≡ taken = cc in ap (λ x. counts_as k (kind_on_board x)) t
-counts_as-taken Hen taken e k = let t : hand.Chick ≡ taken = cc in hen_counts k ∙ ap (λ x. counts_as k (kind_on_board x)) t
-
--- what a hand with one more holds
-held-one_more : (h : Hand) (taken k : HandKind)
-    → held (with_one_more h taken) k ≡ held h k + cond (counts_as k (kind_on_board taken)) 1 0
-held-one_more h hand.Chick hand.Chick = refl
-held-one_more h hand.Elephant hand.Elephant = refl
-held-one_more h hand.Giraffe hand.Giraffe = refl
-held-one_more h _ _ = omega arith
-
 -- what a hand with one less holds
 held-one_less : (h : Hand) (put k : HandKind) → 0 < held h put
     → held (with_one_less h put) k + cond (counts_as k (kind_on_board put)) 1 0 ≡ held h k
@@ -115,38 +82,15 @@ held-one_less h hand.Elephant hand.Chick some = omega arith
 held-one_less h hand.Giraffe hand.Chick some = omega arith
 held-one_less h _ _ some = omega arith
 
--- a piece with a kind in hand yields it
-Yields-taken : (caught : Kind) (taken : HandKind) → kind_in_hand caught ≡ Some taken → Yields (Some (piece_of Enemy caught))
-Yields-taken caught taken e = record {
-  no_lion = λ side. and_right (is_side side Enemy) (is_lion caught) (lion_not_taken caught taken e);
-  catch = λ h k. rw (e, counts_as-taken caught taken e k) (held-one_more h taken k);
-}
-
--- a kind counts as what it arrives as: only a chick grows, into a hen
-Keeps-arrives : (kind : Kind) (to : ℕ) (grows : Bool) → grows_at kind to ≡ grows → Keeps kind (arrives_as kind grows)
-Keeps-arrives kind to false e = record { lion = refl; counts = λ k. refl }
-Keeps-arrives Chick to true e = record { lion = refl; counts = hen_counts }
-Keeps-arrives _ to true e = absurd (false≢true e)
-
--- so the last square of a step yields what stands there
-Yields-met : (p : Setup) (to : ℕ) (catch : Bool) → Met p to catch → Yields (at p to)
-Yields-met p to false free = subst (λ c. Yields c) (sym free) Yields-none
-Yields-met p to true t = subst (λ c. Yields c) (sym t.1.1) (Yields-taken t.1.0 t.0 t.1.2)
-
 -- every step that can go is one
 pub IsStep-from : (p : Setup) (kind : Kind) (from to : ℕ) (catch grows : Bool) (q : Setup)
     → HasOutcome p (Step kind from to catch grows) q → IsStep p kind from to grows
-IsStep-from p kind from to catch grows q g =
-    let s = step_parts p kind from to q catch grows g in
-    record { own = s.steps.own; leads = s.steps.leads; yields = Yields-met p to catch s.met; keeps = Keeps-arrives kind to grows s.grows_is }
+IsStep-from p kind from to catch grows q g = search rules
 
 -- where a cell without the enemy lion is put there is none
 free-set : (xs : List Cell) (i : ℕ) (cell : Cell) (k : ℕ) → cell ≢ Some (piece_of Enemy Lion) → get_or xs k None ≢ Some (piece_of Enemy Lion)
     → i < length xs → get_or (set xs i cell) k None ≢ Some (piece_of Enemy Lion)
-free-set xs i cell k other free h e =
-    ⊎_elim
-    (λ (same : k ≡ i). other (sym (ap (λ j. get_or (set xs i cell) j None) same ∙ get_or-set_same xs i cell None h) ∙ e))
-    (λ (apart : k ≡ i → ⊥). free (sym (get_or-set_other xs i k cell None apart) ∙ e)) (cases_eq k i)
+free-set xs i cell k other free h e = search rules
 
 -- a piece of the mover is no enemy lion
 own_piece : (kind : Kind) → Some (piece_of Mover kind) ≢ Some (piece_of Enemy Lion)
@@ -188,10 +132,7 @@ module _ (p : Setup) (kind : Kind) (from to : ℕ) (grows : Bool) (twelve : leng
 
   free-stepped : IsFreeOfTry p → IsFreeOfTry (stepped p kind from to grows)
   unfolding stepped
-  free-stepped free k low e =
-      free-set (set p.board from None) to _ k (own_piece (arrives_as kind grows))
-      (free-set p.board from None k (λ none. cc) (free k low) (within-from_piece p from (piece_of Mover kind) s.own))
-      (rw length-set (omega (arith, on_board))) e
+  free-stepped free k low e = search (rules, free-set, own_piece, within-from_piece)
 
   -- a step keeps a position legal
   legal-stepped : IsLegal p → IsFreeOfTry p → IsLegal (turned (stepped p kind from to grows))
@@ -216,10 +157,7 @@ module _ (p : Setup) (put : HandKind) (to : ℕ) (twelve : length p.board ≡ 12
   count_by-dropped : (f : Cell → Bool) → f None ≡ false
       → count_by f (dropped p put to).board ≡ count_by f p.board + one_if (f (Some (piece_of Mover (kind_on_board put))))
   unfolding dropped
-  count_by-dropped f none =
-      let counts = count-set f p.board to (Some (piece_of Mover (kind_on_board put))) (omega arith) in
-      let nothing = ap (λ c. one_if (f c)) free_to ∙ ap one_if none in
-      omega (arith, counts, nothing)
+  count_by-dropped f none = grind (arith, count-set)
 
   total-dropped : (k : HandKind) → total k (dropped p put to) ≡ total k p
   unfolding total dropped

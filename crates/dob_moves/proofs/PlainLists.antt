@@ -1,6 +1,6 @@
 -- Moves appended piece by piece, as the plain program does.
 use Rattle.dob_moves.proofs.Common.{◌++◌, ◌+◌, ◌<◌, ◌∙◌, ◌∷◌, ◌≡◌, List, None, Option, Some, [], add-one, ap, append_assoc, get_or, length, option_to_list}
-use Rattle.dob_moves.proofs.Common.{refl, sym, take, ℕ, append-nil, filter_map-append, cons_option, filter_map, each_below, Move}
+use Rattle.dob_moves.proofs.Common.{refl, take, ℕ, append-nil, filter_map-append, cons_option, filter_map, each_below, Move}
 use Rattle.std.proofs.Math.Seq.{take-suc}
 
 single : (o : Option Move) → option_to_list o ≡ cons_option o []
@@ -12,17 +12,13 @@ pub taken_more : (f : ℕ × ℕ → Option Move) (xs : List (ℕ × ℕ)) (x : 
     → items ≡ old ++ filter_map f (take i xs) → new ≡ items ++ option_to_list (f (get_or xs i x)) → new ≡ old ++ filter_map f (take (i + 1) xs)
 taken_more f xs x i old items new h before e =
     let one : take (i + 1) xs ≡ take i xs ++ get_or xs i x ∷ [] = rw add-one (take-suc xs i x h) in
-    let parts = filter_map-append f (take i xs) (get_or xs i x ∷ []) in
-    let joined : new ≡ (old ++ filter_map f (take i xs)) ++ cons_option (f (get_or xs i x)) [] =
-    e ∙ ap (λ (ms : List Move). ms ++ option_to_list (f (get_or xs i x))) before
-    ∙ ap (λ (ms : List Move). (old ++ filter_map f (take i xs)) ++ ms) (single (f (get_or xs i x))) in
-    joined ∙ append_assoc old (filter_map f (take i xs)) (cons_option (f (get_or xs i x)) [])
-    ∙ ap (λ (ms : List Move). old ++ ms) (sym (ap (filter_map f) one ∙ parts))
+    rw (one, filter_map-append f (take i xs) (get_or xs i x ∷ []), ← append_assoc, ← single (f (get_or xs i x)))
+    (e ∙ ap (λ (ms : List Move). ms ++ option_to_list (f (get_or xs i x))) before)
 
 -- what one more number gives
 pub below_more_moves : (g : ℕ → List Move) (i : ℕ) (old items new : List Move) → items ≡ old ++ each_below g i
     → new ≡ items ++ g i → new ≡ old ++ each_below g (i + 1)
 below_more_moves g i old items new before e =
-    rw add-one (e ∙ ap (λ (ms : List Move). ms ++ g i) before ∙ append_assoc old (each_below g i) (g i))
+    rw (add-one, ← append_assoc) (e ∙ ap (λ (ms : List Move). ms ++ g i) before)
 
 pub ruleset appends = (taken_more, below_more_moves, append_assoc, append-nil)

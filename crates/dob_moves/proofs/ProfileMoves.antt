@@ -63,14 +63,10 @@ may_go-mirrored profile (Put kind to) = may_put-mirrored profile kind to
 
 pub Goes-mirrored : (profile : Profile) (p : Setup) (m : Move) (q : Setup) → length p.board ≡ 12 → Goes profile p m q →
     Goes profile (mirrored p) (mirrored_move m) (mirrored q)
-Goes-mirrored profile p m q twelve g =
-    goes_in profile (mirrored p) (mirrored_move m) (mirrored q) (HasOutcome-mirrored p m q twelve (goes profile p m q g))
-    (may_go-mirrored profile m ∙ may profile p m q g)
+Goes-mirrored profile p m q twelve g = grind (arith, HasOutcome-mirrored, may_go-mirrored)
 
 pub HasStatus-mirrored : (profile : Profile) (p : Setup) (status : Status) → IsLegal p → HasStatus profile p status →
     HasStatus profile (mirrored p) status
-HasStatus-mirrored profile p status legal has =
-    (share_status profile (mirrored p) status (IsLegal-mirrored p legal)).0
-    (HasStatus-mirrored_in_A p status legal.squares ((share_status profile p status legal).1 has))
+HasStatus-mirrored profile p status legal has = grind (arith, share_status, IsLegal-mirrored, HasStatus-mirrored_in_A)
 
 pub ruleset images = (HasStatus-mirrored)

@@ -6,10 +6,11 @@ use Rattle.dob_moves.proofs.Common.{none_in_empty, rising-append, rising-cond, r
 use Rattle.dob_moves.proofs.Common.{held, piece_of, HandKind, Kind, Chick, Elephant, Giraffe, Hen, Lion, Side, Enemy, Mover, Profile, A, Setup, CanGo}
 use Rattle.dob_moves.proofs.Common.{CatchesLion, first_drop, grows_at, hand_place, may_go, may_put, place, IsFirstCatch, all_drops, all_steps, drops_of, first}
 use Rattle.dob_moves.proofs.Common.{may_end, put_if, put_on, step_onto, steps_by, steps_from, steps_if, Aim, AtLion, Elsewhere, Move, Put, Step}
+use Rattle.std.proofs.Common.{rules}
 use Rattle.dob_pieces.specs.declared.kind.HandKind.TheVariants as hand
 use Rattle.dob_pieces.proofs.OwnKinds.{own_cell}
 use Rattle.dob_moves.proofs.ByProfile.{goes, may, can_go_in}
-use Rattle.dob_moves.proofs.Outcomes.{Met, step_parts, HasOutcome-parts}
+use Rattle.dob_moves.proofs.Outcomes.{Met, HasOutcome-parts}
 use Rattle.dob_moves.proofs.Runs.{cond_some, rising-below, option_sound, option_whole, rising-option, first_none, first_some, first_least}
 use Rattle.dob_moves.proofs.Tables.{step_to, steps_by-squares}
 use Rattle.dob_moves.specs.Walks.{may_take}
@@ -57,10 +58,7 @@ step_sound aim p kind from to cell m s here e =
 
 -- its place
 pub step_place : (aim : Aim) (kind : Kind) (from to : ℕ) (cell : Cell) (m : Move) → step_onto aim cell kind from to ≡ Some m → place m ≡ 12 * from + to
-step_place aim kind from to cell m e =
-    let on = cond_some (may_end aim cell) (Some (Step kind from to (is_some cell) (grows_at kind to))) m e in
-    let same : Step kind from to (is_some cell) (grows_at kind to) ≡ m = cc on.1 in
-    sym (ap place same)
+step_place aim kind from to cell m e = grind (arith, cond_some)
 
 -- the same of the step of a piece that stands there
 pub step_to_is : (aim : Aim) (p : Setup) (kind : Kind) (from to : ℕ) (m : Move) → at p from ≡ Some (piece_of Mover kind)
@@ -87,9 +85,7 @@ pub record IsFound (aim : Aim) (p : Setup) (kind : Kind) (from to : ℕ) (m : Mo
 
 pub go_found : (p : Setup) (kind : Kind) (from to : ℕ) (catch grows : Bool) → CanGo A p (Step kind from to catch grows)
     → IsFound Elsewhere p kind from to (Step kind from to catch grows)
-go_found p kind from to catch grows can =
-    let s = step_parts p kind from to can.0 catch grows can.1 in
-    record { step = record { own = s.steps.own; leads = s.steps.leads }; found = met_found p kind from to catch grows s.met s.grows_is }
+go_found p kind from to catch grows can = grind (arith, met_found)
 
 pub lion_found : (p : Setup) (kind : Kind) (from to : ℕ) (catch grows : Bool) → CatchesLion p (Step kind from to catch grows)
     → IsFound AtLion p kind from to (Step kind from to catch grows)
@@ -108,15 +104,12 @@ steps_by_sound aim p kind from m lt own h =
 steps_by_rising : (aim : Aim) (p : Setup) (kind : Kind) (from : ℕ) → from < 12 → Rising place (12 * from) (12 * suc from) (steps_by aim p kind from)
 steps_by_rising aim p kind from lt =
     let g : ℕ → List Move = λ to. option_to_list (step_to aim p kind from to) in
-    let r : Rising place (12 * from + 0) (12 * from + 12) (each_below g 12) = rising-each place g (λ to. 12 * from + to) 12 (λ to h. at_square to) in
+    let one : (to : ℕ) → to < 12 → Rising place (12 * from + to) (12 * from + suc to) (g to) = λ to h.
+    rising-option (12 * from + to) (12 * from + suc to) (step_to aim p kind from to) (omega arith)
+    (λ m e. step_place aim kind from to (at p to) m (cond_some (leads kind from to) (step_onto aim (at p to) kind from to) m e).1) in
     let low : 12 * from ≡ 12 * from + 0 = omega arith in
     let high : 12 * suc from ≡ 12 * from + 12 = omega arith in
-    rw (low, high, steps_by-squares aim p kind from lt) r where
-      at_square : (to : ℕ) → Rising place (12 * from + to) (12 * from + suc to) (option_to_list (step_to aim p kind from to))
-      at_square to = subst (λ (high : ℕ). Rising place (12 * from + to) high (option_to_list (step_to aim p kind from to)))
-          (let e : suc (12 * from + to) ≡ 12 * from + suc to = omega arith in e)
-          (rising-option (12 * from + to) (step_to aim p kind from to)
-          (λ m e. step_place aim kind from to (at p to) m (cond_some (leads kind from to) (step_onto aim (at p to) kind from to) m e).1))
+    rw (low, high, steps_by-squares aim p kind from lt) (rising-each place g (λ to. 12 * from + to) 12 one)
 
 found_in_steps_by : (aim : Aim) (p : Setup) (kind : Kind) (from to : ℕ) (m : Move) → from < 12
     → IsFound aim p kind from to m → Contains (steps_by aim p kind from) m
@@ -164,8 +157,7 @@ pub found_in_steps : (aim : Aim) (p : Setup) (kind : Kind) (from to : ℕ) (m : 
     → IsFound aim p kind from to m → Contains (all_steps aim p) m
 unfolding all_steps
 found_in_steps aim p kind from to m len h =
-    let within = within-from_piece p from (piece_of Mover kind) h.step.own in
-    let lt : from < 12 = omega (arith, within, len) in
+    let lt : from < 12 = rw len at (within-from_piece p from (piece_of Mover kind) h.step.own) in
     each_whole (steps_from aim p) 12 from m lt (found_in_steps_from aim p kind from to m lt h)
 
 -- ---- drops
@@ -192,8 +184,7 @@ put_sound profile p kind to m lt some may e =
 
 put_place : (profile : Profile) (p : Setup) (kind : HandKind) (to : ℕ) (m : Move) → put_on profile p kind to ≡ Some m
     → place m ≡ first_drop + 12 * hand_place kind + to
-put_place profile p kind to m e =
-    sym (ap place (put_if_some (at p to) kind to m (cond_some (may_put profile kind to) (put_if (at p to) kind to) m e).1).1)
+put_place profile p kind to m e = search (rules, put_if_some, cond_some)
 
 drops_of_sound : (profile : Profile) (p : Setup) (kind : HandKind) (m : Move) → Contains (drops_of profile p kind) m → CanGo profile p m
 unfolding drops_of
@@ -208,13 +199,10 @@ unfolding drops_of
 drops_of_rising profile p kind =
     let low = first_drop + 12 * hand_place kind in
     let g : ℕ → List Move = λ to. option_to_list (put_on profile p kind to) in
+    let one : (to : ℕ) → to < 12 → Rising place (low + to) (low + suc to) (g to) = λ to h.
+    rising-option (low + to) (low + suc to) (put_on profile p kind to) (omega arith) (λ m e. put_place profile p kind to m e) in
     rising-cond place _ low (low + 12) (each_below g 12) (omega arith)
-    (rising-lower place low (low + 0) (low + 12) _ (omega arith) (rising-each place g (λ to. low + to) 12 (λ to lt. at_square to))) where
-      at_square : (to : ℕ) → Rising place (first_drop + 12 * hand_place kind + to) (first_drop + 12 * hand_place kind + suc to)
-          (option_to_list (put_on profile p kind to))
-      at_square to = subst (λ (high : ℕ). Rising place (first_drop + 12 * hand_place kind + to) high (option_to_list (put_on profile p kind to)))
-          (let e : suc (first_drop + 12 * hand_place kind + to) ≡ first_drop + 12 * hand_place kind + suc to = omega arith in e)
-          (rising-option (first_drop + 12 * hand_place kind + to) (put_on profile p kind to) (λ m e. put_place profile p kind to m e))
+    (rising-lower place low (low + 0) (low + 12) _ (omega arith) (rising-each place g (λ to. low + to) 12 one))
 
 drops_of_whole : (profile : Profile) (p : Setup) (kind : HandKind) (to : ℕ) → CanGo profile p (Put kind to) → Contains (drops_of profile p kind) (Put kind to)
 unfolding drops_of
@@ -245,9 +233,8 @@ drops_rising profile p =
 
 pub drops_whole : (profile : Profile) (p : Setup) (kind : HandKind) (to : ℕ) → CanGo profile p (Put kind to) → Contains (all_drops profile p) (Put kind to)
 unfolding all_drops
-drops_whole profile p hand.Chick to h = let there = drops_of_whole profile p hand.Chick to h in search (Contains-append_left, Contains-append_right)
-drops_whole profile p hand.Elephant to h = let there = drops_of_whole profile p hand.Elephant to h in search (Contains-append_left, Contains-append_right)
-drops_whole profile p hand.Giraffe to h = let there = drops_of_whole profile p hand.Giraffe to h in search (Contains-append_left, Contains-append_right)
+drops_whole profile p hand.Chick to h = search (drops_of_whole, Contains-append_left, Contains-append_right)
+drops_whole profile p _ to h = search (drops_of_whole, Contains-append_left, Contains-append_right)
 
 -- ---- what is found says of the position
 

@@ -16,22 +16,22 @@ option_sound (Some x) m h = elim (cons_cases x [] m h) [ inl e ↦ ap Some e | i
 pub option_whole : (o : Option Move) (m : Move) → o ≡ Some m → Contains (option_to_list o) m
 option_whole o m e = subst (λ (v : Option Move). Contains (option_to_list v) m) (sym e) (head_in m [])
 
-pub rising-option : (low : ℕ) (o : Option Move) → ((m : Move) → o ≡ Some m → place m ≡ low) → Rising place low (suc low) (option_to_list o)
-rising-option low None h = omega arith
-rising-option low (Some x) h = let e = h x refl in (omega (arith, e), omega (arith, e))
+pub rising-option : (low high : ℕ) (o : Option Move) → low < high → ((m : Move) → o ≡ Some m → place m ≡ low) → Rising place low high (option_to_list o)
+rising-option low high None lt h = omega arith
+rising-option low high (Some x) lt h = (omega (arith, h x refl), omega (arith, lt, h x refl))
 
 -- ---- ascending lists
 
 rising-ends : (low high : ℕ) (ms : List Move) → Rising place low high ms → low ≤ high
 rising-ends low high [] r = r
-rising-ends low high (x ∷ ms) r = let end = rising-ends (suc (place x)) high ms r.1 in omega (arith, r.0, end)
+rising-ends low high (x ∷ ms) r = omega (arith, r.0, rising-ends (suc (place x)) high ms r.1)
 
 -- each stands below the end
 pub rising-below : (low high : ℕ) (ms : List Move) (m : Move) → Rising place low high ms → Contains ms m → place m < high
 rising-below low high [] m r h = absurd (none_in_empty m h)
 rising-below low high (x ∷ ms) m r h =
     elim (cons_cases x ms m h) [
-      | inl it ↦ let p = ap place it in let end = rising-ends (suc (place x)) high ms r.1 in omega (arith, p, end)
+      | inl it ↦ omega (arith, ap place it, rising-ends (suc (place x)) high ms r.1)
       | inr later ↦ rising-below (suc (place x)) high ms m r.1 later
     ]
 
@@ -47,13 +47,4 @@ first_some (x ∷ ms) m e = let same : x ≡ m = cc in subst (Contains (x ∷ ms
 
 pub first_least : (low high : ℕ) (ms : List Move) (m other : Move) → Rising place low high ms → first ms ≡ Some m → Contains ms other → place m ≤ place other
 first_least low high [] m other r e h = absurd (none_in_empty other h)
-first_least low high (x ∷ ms) m other r e h =
-    let same : x ≡ m = cc in
-    let p = ap place same in
-    elim (cons_cases x ms other h) [
-      | inl it ↦ let q = ap place it in omega (arith, p, q)
-      | inr later ↦
-          let q = rising-after place (suc (place x)) high ms r.1 later.0 other later.1 in
-          let s = ap place later.2 in
-          omega (arith, p, q, s)
-    ]
+first_least low high (x ∷ ms) m other r e h = grind (arith, cons_cases, rising-after)

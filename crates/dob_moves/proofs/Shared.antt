@@ -1,8 +1,8 @@
 -- A position has the same status by the rules of each profile: where a chick lies in hand, a square below row 4 is empty.
 use Rattle.dob_moves.proofs.Common.{◌+◌, ◌<◌, ◌↔◌, ◌∷◌, ◌≡◌, ◌≤◌, Bool, List, None, Some, [], arith, false, length, refl, slice_index_or, suc, true, zero, ℕ}
-use Rattle.dob_moves.proofs.Common.{count_by, all_below-at, one_if, Cell, IsLegal, at, held, holds_kind, holds_lion, piece_of, total, Kind}
-use Rattle.dob_moves.proofs.Common.{Lion, Side, Enemy, Mover, Profile, A, B, Setup, CanGo, may_put, HasStatus, Move, Put, Step, Status, Caught}
-use Rattle.dob_moves.proofs.Common.{Open, Stuck, Tried}
+use Rattle.dob_moves.proofs.Common.{count_by, all_below-at, one_if, Cell, IsLegal, at, held, holds_kind, holds_lion, total, Enemy, Mover, Profile, A, B, Setup}
+use Rattle.dob_moves.proofs.Common.{CanGo, may_put, HasStatus, Move, Put, Step, Status, Caught, Open, Stuck, Tried}
+use Rattle.std.proofs.Common.{rules}
 use Rattle.std.proofs.lemmas.List.Sums.{sum_by-cons}
 use Rattle.dob_pieces.specs.declared.kind.HandKind.TheVariants as hand
 use Rattle.dob_moves.proofs.ByProfile.{can_go}
@@ -21,31 +21,13 @@ one_each : (cell : Cell) → one_if (is_taken cell)
     ≡ one_if (holds_lion Mover cell) + one_if (holds_lion Enemy cell)
     + one_if (holds_kind hand.Chick cell) + one_if (holds_kind hand.Elephant cell) + one_if (holds_kind hand.Giraffe cell)
 one_each None = refl
-one_each (Some piece) = by_piece piece.side piece.kind where
-  by_piece : (side : Side) (kind : Kind) → 1
-      ≡ one_if (holds_lion Mover (Some (piece_of side kind))) + one_if (holds_lion Enemy (Some (piece_of side kind)))
-      + one_if (holds_kind hand.Chick (Some (piece_of side kind))) + one_if (holds_kind hand.Elephant (Some (piece_of side kind)))
-      + one_if (holds_kind hand.Giraffe (Some (piece_of side kind)))
-  by_piece Mover Lion = refl
-  by_piece Enemy Lion = refl
-  by_piece _ _ = refl
+one_each (Some piece) = grind arith
 
 pieces_counted : (cells : List Cell) → count_by is_taken cells
     ≡ count_by (holds_lion Mover) cells + count_by (holds_lion Enemy) cells
     + count_by (holds_kind hand.Chick) cells + count_by (holds_kind hand.Elephant) cells + count_by (holds_kind hand.Giraffe) cells
 pieces_counted [] = refl
-pieces_counted (cell ∷ cells) =
-    omega (
-      arith,
-      pieces_counted cells,
-      one_each cell,
-      one_more is_taken cell cells,
-      one_more (holds_lion Mover) cell cells,
-      one_more (holds_lion Enemy) cell cells,
-      one_more (holds_kind hand.Chick) cell cells,
-      one_more (holds_kind hand.Elephant) cell cells,
-      one_more (holds_kind hand.Giraffe) cell cells,
-    )
+pieces_counted (cell ∷ cells) = omega (arith, pieces_counted cells, one_each cell, one_more)
 
 -- of more squares than there are pieces one is empty
 empty_below : (n : ℕ) (cells : List Cell) → count_by is_taken cells < n → n ≤ length cells → (k : ℕ) × (k < n) × (slice_index_or cells k None ≡ None)
@@ -53,18 +35,13 @@ empty_below zero cells few enough = absurd (omega (arith, few))
 empty_below (suc n) [] few enough = absurd (omega (arith, enough))
 empty_below (suc n) (None ∷ cells) few enough = (0, omega arith, refl)
 empty_below (suc n) (Some piece ∷ cells) few enough =
-    let more = one_more is_taken (Some piece) cells in
-    let later = empty_below n cells (omega (arith, few, more)) (omega (arith, enough)) in
+    let later = empty_below n cells (omega (arith, few, one_more is_taken (Some piece) cells)) (omega (arith, enough)) in
     (suc later.0, omega (arith, later.1), later.2)
 
 -- at most seven pieces stand on the board beside a chick in hand
 few_stand : (p : Setup) → IsLegal p → 0 < held p.hands.mover hand.Chick → count_by is_taken p.board < 9
 unfolding total
-few_stand p legal some =
-    let sum = pieces_counted p.board in
-    let own = legal.lions Mover in let enemy = legal.lions Enemy in
-    let chicks = legal.few hand.Chick in let elephants = legal.few hand.Elephant in let giraffes = legal.few hand.Giraffe in
-    omega (arith, sum, own, enemy, chicks, elephants, giraffes, some)
+few_stand p legal some = search (rules, pieces_counted)
 
 pub room : (p : Setup) → IsLegal p → 0 < held p.hands.mover hand.Chick → (to : ℕ) × (to < 9) × (at p to ≡ None)
 room p legal some = let twelve = legal.squares in empty_below 9 p.board (few_stand p legal some) (omega (arith, twelve))

@@ -1,8 +1,9 @@
 -- The steps of each kind lead, in their order, to exactly the squares to which a step of the kind leads, ascending.
-use Rattle.dob_moves.proofs.Common.{◌&&◌, ◌++◌, ◌<◌, ◌∙◌, ◌∷◌, ◌≡◌, Bool, List, None, Option, Some, [], ap, cond, eqb, false, option_to_list, refl, suc, true}
-use Rattle.dob_moves.proofs.Common.{zero, ℕ, and_parts, eqb-true, filter-append, filter_map-append, cons_option, filter, filter_map, all_below, all_below-at}
-use Rattle.dob_moves.proofs.Common.{each_below, leads, at, Kind, Lion, Setup, step_by, step_if, step_onto, steps_by, Aim, Move}
+use Rattle.dob_moves.proofs.Common.{◌&&◌, ◌++◌, ◌<◌, ◌∷◌, ◌≡◌, Bool, List, None, Option, Some, [], cond, eqb, false, option_to_list, refl, suc, true, zero, ℕ}
+use Rattle.dob_moves.proofs.Common.{filter-append, filter_map-append, cons_option, filter, filter_map, all_below, all_below-at, each_below, leads, at, Kind}
+use Rattle.dob_moves.proofs.Common.{Lion, Setup, step_by, step_if, step_onto, steps_by, Aim, Move}
 use Rattle.dob_pieces.specs.Pieces.{steps_of, square_after}
+use Rattle.std.proofs.Common.{rules}
 
 abbrev same_numbers : List ℕ → List ℕ → Bool
 same_numbers [] [] = true
@@ -14,11 +15,7 @@ same_numbers-true : (xs ys : List ℕ) → same_numbers xs ys ≡ true → xs �
 same_numbers-true [] [] h = refl
 same_numbers-true [] (y ∷ ys) h = cc
 same_numbers-true (x ∷ xs) [] h = cc
-same_numbers-true (x ∷ xs) (y ∷ ys) h =
-    let parts = and_parts (eqb x y) (same_numbers xs ys) h in
-    let head = eqb-true x y parts.0 in
-    let tail = same_numbers-true xs ys parts.1 in
-    cc
+same_numbers-true (x ∷ xs) (y ∷ ys) h = search (rules, (same_numbers-true xs ys))
 
 -- the numbers below n
 abbrev numbers : ℕ → List ℕ
@@ -55,31 +52,19 @@ onto_one aim p kind from (Some to) ds = refl
 by_targets : (aim : Aim) (p : Setup) (kind : Kind) (from : ℕ) (ds : List (ℕ × ℕ))
     → filter_map (step_by aim p kind from) ds ≡ filter_map (λ to. step_onto aim (at p to) kind from to) (filter_map (square_after from) ds)
 by_targets aim p kind from [] = refl
-by_targets aim p kind from (d ∷ ds) =
-    ap (λ (ms : List Move). cons_option (step_by aim p kind from d) ms) (by_targets aim p kind from ds)
-    ∙ onto_one aim p kind from (square_after from d) (filter_map (square_after from) ds)
+by_targets aim p kind from (d ∷ ds) = search (rules, onto_one, (by_targets aim p kind from ds))
 
 last_one : (test : ℕ → Bool) (f : ℕ → Option Move) (k : ℕ) (b : Bool) → filter_map f (cond b (k ∷ []) []) ≡ option_to_list (cond b (f k) None)
 last_one test f k false = refl
-last_one test f k true = only (f k) where
-  only : (o : Option Move) → cons_option o [] ≡ option_to_list o
-  only None = refl
-  only (Some m) = refl
+last_one test f k true = search rules
 
 by_squares : (test : ℕ → Bool) (f : ℕ → Option Move) (n : ℕ)
     → filter_map f (filter test (numbers n)) ≡ each_below (λ k. option_to_list (cond (test k) (f k) None)) n
 by_squares test f zero = refl
-by_squares test f (suc n) =
-    ap (filter_map f) (filter-append test (numbers n) (n ∷ []))
-    ∙ filter_map-append f (filter test (numbers n)) (filter test (n ∷ []))
-    ∙ ap (λ (ms : List Move). ms ++ filter_map f (filter test (n ∷ []))) (by_squares test f n)
-    ∙ ap (λ (ms : List Move). each_below (λ k. option_to_list (cond (test k) (f k) None)) n ++ ms) (last_one test f n (test n))
+by_squares test f (suc n) = search (rules, filter-append, filter_map-append, last_one, (by_squares test f n))
 
 -- the steps of a piece are those to each square in turn
 pub steps_by-squares : (aim : Aim) (p : Setup) (kind : Kind) (from : ℕ) → from < 12
     → steps_by aim p kind from ≡ each_below (λ to. option_to_list (step_to aim p kind from to)) 12
 unfolding steps_by
-steps_by-squares aim p kind from h =
-    by_targets aim p kind from (steps_of kind)
-    ∙ ap (filter_map (λ to. step_onto aim (at p to) kind from to)) (targets_are kind from h)
-    ∙ by_squares (leads kind from) (λ to. step_onto aim (at p to) kind from to) 12
+steps_by-squares aim p kind from h = search (rules, by_targets, targets_are, by_squares)

@@ -1,8 +1,9 @@
 -- When a turned setup is a position.
-use Rattle.dob_moves.proofs.Common.{◌-◌, ◌<◌, ◌∙◌, ◌≡◌, ◌≢◌, ◌≤◌, None, Some, ap, arith, length, sym, ℕ, ⊎_elim, cases_lt, get_or_past, HasFewPieces-turned}
-use Rattle.dob_moves.proofs.Common.{HasLions-turned, at-turned, length-turned, other_side, Cell, HasFewPieces, HasLionOffFarRow, HasLions, IsLegal, at}
-use Rattle.dob_moves.proofs.Common.{piece_of, turned, turned_cell, Kind, Lion, Side, Enemy, Mover, Setup}
+use Rattle.dob_moves.proofs.Common.{◌<◌, ◌∙◌, ◌≡◌, ◌≢◌, ◌≤◌, None, Some, ap, arith, length, sym, ℕ, get_or_past, HasFewPieces-turned, HasLions-turned}
+use Rattle.dob_moves.proofs.Common.{at-turned, length-turned, other_side, Cell, HasFewPieces, HasLionOffFarRow, HasLions, IsLegal, at, piece_of, turned}
+use Rattle.dob_moves.proofs.Common.{turned_cell, Kind, Lion, Side, Enemy, Mover, Setup}
 use Rattle.dob_pieces.proofs.Symmetries.{turned_cell_twice}
+use Rattle.std.proofs.Common.{rules}
 
 -- the side and the kind of what stands on a square
 abbrev pub side_of : Cell → Side
@@ -31,15 +32,8 @@ at-turned_past p k h = get_or_past (turned p).board k None (omega (arith, length
 
 -- with no enemy lion on row 1, the turned mover's lion isn't on row 4
 HasLionOffFarRow-turned : (p : Setup) → IsFreeOfTry p → HasLionOffFarRow (turned p)
-HasLionOffFarRow-turned p free k far is =
-    ⊎_elim (λ (h : k < 12). free (11 - k) (omega arith) (turned_lion Mover _ (sym (at-turned p k h) ∙ is)))
-    (λ (h : 12 ≤ k). let past = at-turned_past p k h in cc) (cases_lt k 12)
+HasLionOffFarRow-turned p free k far is = grind (arith, turned_lion, at-turned, at-turned_past)
 
 -- a turned setup is a position
 pub IsLegal-turned : (p : Setup) → length p.board ≡ 12 → HasLions p → HasFewPieces p → IsFreeOfTry p → IsLegal (turned p)
-IsLegal-turned p twelve lions few free = record {
-  squares = length-turned p;
-  lions = HasLions-turned p twelve lions;
-  few = HasFewPieces-turned p twelve few;
-  home = HasLionOffFarRow-turned p free;
-}
+IsLegal-turned p twelve lions few free = search (rules, length-turned, HasLions-turned, HasFewPieces-turned, HasLionOffFarRow-turned)

@@ -1,14 +1,13 @@
 -- What the searches say of a position.
 use Rattle.dob_moves.proofs.Common.{◌++◌, ◌+◌, ◌∙◌, ◌∷◌, ◌≡◌, ◌≢◌, Bool, Contains, List, MatchOption, None, Option, Some, [], arith, false, inl, inr, length}
-use Rattle.dob_moves.proofs.Common.{refl, subst, sym, true, ℕ, cases_eq, Contains-append_cases, Contains-append_left, Contains-append_right, is_some}
-use Rattle.dob_moves.proofs.Common.{none_in_empty, rising-append, rising-pairs, Profile, A, Setup, CanGo, first_drop, place, AreMoves, CanCatch, HasStatus}
-use Rattle.dob_moves.proofs.Common.{IsFirstCatch, all_drops, all_steps, first, AtLion, Elsewhere, Move, Put, Step, Status, Open}
+use Rattle.dob_moves.proofs.Common.{refl, subst, sym, true, ℕ, Contains-append_cases, Contains-append_left, Contains-append_right, is_some, none_in_empty}
+use Rattle.dob_moves.proofs.Common.{rising-append, rising-pairs, Profile, A, Setup, CanGo, first_drop, place, AreMoves, CanCatch, HasStatus, IsFirstCatch}
+use Rattle.dob_moves.proofs.Common.{all_drops, all_steps, first, AtLion, Elsewhere, Move, Put, Step, Status, Open, HasTried}
 use Rattle.std.specs.Bool.{IsTrue}
 use Rattle.dob_moves.proofs.ByProfile.{can_go}
 use Rattle.dob_moves.proofs.Firsts.{none_from}
 use Rattle.dob_moves.proofs.Reach.{steps_go, steps_rising, found_in_steps, drops_sound, drops_rising, drops_whole, go_found, no_catch, is_first_catch, no_move}
 use Rattle.dob_moves.proofs.Reach.{step_goes, drop_goes}
-use Rattle.dob_moves.proofs.Common.{HasTried}
 use Rattle.dob_moves.proofs.Cases.{one_status}
 
 pub catch_answer : (p : Setup) (o : Option Move) → length p.board ≡ 12 → o ≡ first (all_steps AtLion p) → MatchOption o (¬ CanCatch p) (λ m. IsFirstCatch p m)
@@ -37,10 +36,7 @@ first_of_some (m ∷ moves) h = (m, refl)
 
 pub some_move : (p : Setup) (steps drops : ℕ) → steps ≡ length (all_steps Elsewhere p) → drops ≡ length (all_drops A p) → (steps + drops ≡ 0 → ⊥)
     → (move : Move) × CanGo A p move
-some_move p steps drops e d some = elim (cases_eq steps 0) [
-  | inl none ↦ (let found = first_of_some (all_drops A p) (λ h. some (omega (arith, none, d, h))) in (found.0, drop_goes p found.0 found.1))
-  | inr are ↦ (let found = first_of_some (all_steps Elsewhere p) (λ h. are (omega (arith, e, h))) in (found.0, step_goes p found.0 found.1))
-]
+some_move p steps drops e d some = grind (arith, first_of_some, drop_goes, step_goes)
 
 pub no_moves : (p : Setup) (steps drops : ℕ) → length p.board ≡ 12 → steps ≡ length (all_steps Elsewhere p) → drops ≡ length (all_drops A p)
     → steps + drops ≡ 0 → ((move : Move) × CanGo A p move) → ⊥
@@ -84,10 +80,4 @@ not_open profile p s h n is_open = n (one_status profile p s Open h is_open)
 
 -- no other position has moves
 pub other_answer : (profile : Profile) (p : Setup) (s : Status) → HasStatus profile p s → s ≢ Open → (none : List Move) → none ≡ [] → AreMoves profile p none
-other_answer profile p s h n none e =
-    subst (λ (ms : List Move). AreMoves profile p ms) (sym e)
-    (record {
-      sound = λ m here. absurd (none_in_empty m here);
-      whole = λ m is_open goes. absurd (not_open profile p s h n is_open);
-      ordered = rising-pairs place 0 0 [] (omega arith);
-    })
+other_answer profile p s h n none e = grind (arith, none_in_empty, not_open, rising-pairs)

@@ -1,8 +1,7 @@
 -- A setup is allowed by a profile where each of its squares is, and so is its mirror image.
-use Rattle.dob_pieces.proofs.Common.{◌+◌, ◌<◌, ◌==◌, ◌∙◌, ◌∷◌, ◌≡◌, Bool, List, None, Some, [], ap, arith, eqb, length, not, refl}
-use Rattle.dob_pieces.proofs.Common.{slice_index_or, suc, sym, true, zero, ℕ, and_from, and_parts, eqb-true, beq, other_side, IsAllowed, is_allowed, is_far}
-use Rattle.dob_pieces.proofs.Common.{may_all_stand, may_stand, Cell, at, mirrored, turned, turned_cell, mirrored_square, row, turned_square, Kind, Chick}
-use Rattle.dob_pieces.proofs.Common.{Side, Enemy, Mover, Setup}
+use Rattle.dob_pieces.proofs.Common.{◌+◌, ◌<◌, ◌==◌, ◌∙◌, ◌∷◌, ◌≡◌, Bool, List, None, Some, [], ap, arith, length, not, refl, slice_index_or, suc, sym, true}
+use Rattle.dob_pieces.proofs.Common.{zero, ℕ, and_from, and_parts, beq, other_side, IsAllowed, is_allowed, is_far, may_all_stand, may_stand, Cell, at, mirrored}
+use Rattle.dob_pieces.proofs.Common.{turned, turned_cell, mirrored_square, row, turned_square, Kind, Chick, Side, Enemy, Mover, Setup}
 use Rattle.dob_pieces.specs.declared.profile.Profile.{Profile}
 use Rattle.dob_pieces.specs.declared.profile.Profile.TheVariants.{A, B}
 use Rattle.dob_pieces.proofs.Boards.{length-turned, at-turned, length-mirrored, at-mirrored, all_below, all_below-at}
@@ -46,9 +45,7 @@ stands-from_allowed profile s k e h lt =
 
 pub allowed-from_stands : (profile : Profile) (s : Setup) → length s.board ≡ 12 → ((k : ℕ) → k < 12 → may_stand profile k (at s k) ≡ true)
     → IsAllowed profile s
-allowed-from_stands profile s e each =
-    is_allowed-stand profile s
-    ∙ all_stand profile 0 s.board (λ k lt. ap (λ (square : ℕ). may_stand profile square (at s k)) (omega arith) ∙ each k (omega arith))
+allowed-from_stands profile s e each = grind (arith, is_allowed-stand, all_stand)
 
 -- ---- tests of squares
 
@@ -62,16 +59,11 @@ same_test f g k all lt = beq-true (f k) (g k) (all_below-at (λ n. beq (f n) (g 
 may_stand-mirrored : (profile : Profile) (k : ℕ) (cell : Cell) → k < 12 → may_stand profile k cell ≡ may_stand profile (mirrored_square k) cell
 may_stand-mirrored A k cell lt = refl
 may_stand-mirrored B k None lt = refl
-may_stand-mirrored B k (Some piece) lt = ap (λ (r : ℕ). not (is_far piece.side piece.kind r))
-    (eqb-true (row k) (row (mirrored_square k)) (all_below-at (λ n. eqb (row n) (row (mirrored_square n))) 12 k refl lt))
+may_stand-mirrored B k (Some piece) lt = grind (arith, all_below-at)
 
 pub IsAllowed-mirrored : (profile : Profile) (s : Setup) → length s.board ≡ 12 → IsAllowed profile s → IsAllowed profile (mirrored s)
 IsAllowed-mirrored profile s e h =
-    allowed-from_stands profile (mirrored s) (length-mirrored s)
-    (λ k lt.
-    ap (may_stand profile k) (at-mirrored s k lt)
-    ∙ may_stand-mirrored profile k (at s (mirrored_square k)) lt
-    ∙ stands-from_allowed profile s (mirrored_square k) e h (mirrored_square_bound k lt))
+    grind (arith, allowed-from_stands, length-mirrored, at-mirrored, may_stand-mirrored, stands-from_allowed, mirrored_square_bound)
 
 -- ---- the other side's view
 

@@ -1,8 +1,8 @@
 -- Who attacks a square, and where the lions stand, by masks.
-use Rattle.dob_pieces.proofs.Common.{◌&&◌, ◌+◌, ◌<◌, ◌||◌, ◌∙◌, ◌∷◌, ◌≡◌, Bool, List, None, Some, [], ap, arith, bit_and, bit_or, cond, false, get_or, inl, inr}
-use Rattle.dob_pieces.proofs.Common.{length, refl, suc, sym, true, ℕ, and_parts, cases_Bool, sum_by-cons, trailing_zeros, w16, count_by, AreMasks, AreSquares}
-use Rattle.dob_pieces.proofs.Common.{IsMask, attacks, attacks_by, is_piece, is_lion, is_side, leads, Cell, HasLions, at, holds_lion, piece_of, Kind, Chick}
-use Rattle.dob_pieces.proofs.Common.{Elephant, Giraffe, Hen, Lion, Piece, Side, Enemy, Mover, Setup}
+use Rattle.dob_pieces.proofs.Common.{◌&&◌, ◌<◌, ◌||◌, ◌∙◌, ◌∷◌, ◌≡◌, Bool, List, None, Some, [], ap, arith, bit_and, bit_or, cond, get_or, inl, inr, length}
+use Rattle.dob_pieces.proofs.Common.{refl, suc, sym, true, ℕ, cases_Bool, sum_by-cons, trailing_zeros, w16, count_by, AreMasks, AreSquares, IsMask, attacks}
+use Rattle.dob_pieces.proofs.Common.{attacks_by, is_piece, is_lion, is_side, leads, Cell, HasLions, at, holds_lion, piece_of, Kind, Chick, Elephant, Giraffe}
+use Rattle.dob_pieces.proofs.Common.{Hen, Lion, Piece, Side, Enemy, Mover, Setup}
 use Rattle.std.proofs.Math.Bool.{or-false}
 use Rattle.dob_pieces.specs.declared.masks.Masks.{Masks}
 use Rattle.dob_pieces.proofs.MaskBits.{IsMask-and, IsMask-or, IsMask-same, lowest_is, some_passes}
@@ -30,23 +30,19 @@ cell_lion side (Some piece) = piece_lion side piece.side piece.kind
 counted : (test : Cell → Bool) (cells : List Cell) → 0 < count_by test cells → (k : ℕ) × (k < length cells) × (test (get_or cells k None) ≡ true)
 counted test [] h = absurd (omega arith)
 counted test (c ∷ cs) h =
-    let sum : count_by test (c ∷ cs) ≡ cond (test c) 1 0 + count_by test cs = sum_by-cons (λ x. cond (test x) 1 0) c cs in
     elim (cases_Bool (test c)) [
       | inl is ↦ (0, omega arith, is)
       | inr isnt ↦
           let first : cond {A = ℕ} (test c) 1 0 ≡ 0 = ap (λ b. cond b 1 0) isnt in
-          let w = counted test cs (omega (arith, sum, first, h)) in
-          let lt = w.1 in
-          (suc w.0, omega (arith, lt), w.2)
+          let w = counted test cs (omega (arith, sum_by-cons (λ x. cond (test x) 1 0) c cs, first, h)) in
+          (suc w.0, omega (arith, w.1), w.2)
     ]
 
 -- a side's lion has a mask with a bit
 pub lion_mask : (p : Setup) (side : Side) (mask : ℕ) → length p.board ≡ 12 → HasLions p → AreSquares p (is_piece side Lion) mask → 0 < mask
 lion_mask p side mask twelve lions are =
-    let one = lions side in
-    let w = counted (holds_lion side) p.board (omega (arith, one)) in
-    let lt = w.1 in
-    some_passes (λ square. is_piece side Lion (at p square)) mask w.0 are (omega (arith, lt, twelve)) (cell_lion side (at p w.0) ∙ w.2)
+    let w = counted (holds_lion side) p.board (omega (arith, lions side)) in
+    some_passes (λ square. is_piece side Lion (at p square)) mask w.0 are (rw twelve at w.1) (cell_lion side (at p w.0) ∙ w.2)
 
 -- which says where it stands
 pub lion_at : (p : Setup) (side : Side) (mask place : ℕ) → length p.board ≡ 12 → HasLions p → AreSquares p (is_piece side Lion) mask
@@ -61,18 +57,6 @@ lion_at p side mask place twelve lions are e =
 abbrev of_kind : Cell → Kind → Bool → Bool
 of_kind cell kind steps = is_piece Mover kind cell && steps
 
-alone : (b : Bool) → ((((b || false) || false) || false) || false) ≡ b
-alone true = refl
-alone false = refl
-
-alone_3 : (b : Bool) → (((b || false) || false) || false) ≡ b
-alone_3 true = refl
-alone_3 false = refl
-
-alone_2 : (b : Bool) → ((b || false) || false) ≡ b
-alone_2 true = refl
-alone_2 false = refl
-
 abbrev any_kind : Cell → (Kind → Bool) → Bool
 any_kind cell steps =
     of_kind cell Lion (steps Lion) || of_kind cell Giraffe (steps Giraffe) || of_kind cell Elephant (steps Elephant)
@@ -80,11 +64,8 @@ any_kind cell steps =
 
 any_piece : (side : Side) (kind : Kind) (steps : Kind → Bool) → any_kind (Some (piece_of side kind)) steps ≡ (is_side Mover side && steps kind)
 any_piece Enemy kind steps = refl
-any_piece Mover Lion steps = alone (steps Lion)
-any_piece Mover Giraffe steps = alone_3 (steps Giraffe)
-any_piece Mover Elephant steps = alone_2 (steps Elephant)
-any_piece Mover Chick steps = or-false (steps Chick)
 any_piece Mover Hen steps = refl
+any_piece Mover _ steps = simp or-false
 
 any_attacks : (cell : Cell) (from to : ℕ) → any_kind cell (λ kind. leads kind from to) ≡ attacks_by cell from to
 any_attacks None from to = refl
@@ -100,10 +81,7 @@ pub attackers_are : (p : Setup) (masks : Masks) (target lion giraffe elephant ch
     (bit_and masks.chicks chick)) (bit_and masks.hens hen))
 attackers_are p masks target lion giraffe elephant chick hen are to_lion to_giraffe to_elephant to_chick to_hen =
     IsMask-same _ (λ from. attacks p from target) _ (λ from lt. any_attacks (at p from) from target)
-    (IsMask-or _ _ _ _
-    (IsMask-or _ _ _ _
-    (IsMask-or _ _ _ _
-    (IsMask-or _ _ _ _
+    (IsMask-or _ _ _ _ (IsMask-or _ _ _ _ (IsMask-or _ _ _ _ (IsMask-or _ _ _ _
     (IsMask-and _ _ _ _ are.lion_is to_lion)
     (IsMask-and _ _ _ _ are.giraffes_are to_giraffe))
     (IsMask-and _ _ _ _ are.elephants_are to_elephant))
@@ -114,16 +92,12 @@ attackers_are p masks target lion giraffe elephant chick hen are to_lion to_gira
 
 by_side : (piece : Piece) (from to : ℕ) → (is_side Mover piece.side && leads piece.kind from to) ≡ true
     → (piece.side ≡ Mover) × (leads piece.kind from to ≡ true)
-by_side piece from to h = let parts = and_parts (is_side Mover piece.side) (leads piece.kind from to) h in (movers piece.side parts.0, parts.1) where
-  movers : (side : Side) → is_side Mover side ≡ true → side ≡ Mover
-  movers Mover e = refl
-  movers Enemy e = cc
+by_side piece from to h = grind arith
 
 pub attacks_piece : (cell : Cell) (from to : ℕ) → attacks_by cell from to ≡ true
     → (kind : Kind) × (cell ≡ Some (piece_of Mover kind)) × (leads kind from to ≡ true)
 attacks_piece None from to h = cc
-attacks_piece (Some piece) from to h =
-    let parts = by_side piece from to h in (piece.kind, (λ i. Some (piece_of (parts.0 i) piece.kind)), parts.1)
+attacks_piece (Some piece) from to h = let parts = by_side piece from to h in (piece.kind, (λ i. Some (piece_of (parts.0 i) piece.kind)), parts.1)
 
 pub own_attacks : (cell : Cell) (kind : Kind) (from to : ℕ) → cell ≡ Some (piece_of Mover kind) → attacks_by cell from to ≡ leads kind from to
 own_attacks cell kind from to e = ap (λ (c : Cell). attacks_by c from to) e

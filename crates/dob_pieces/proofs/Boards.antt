@@ -1,17 +1,15 @@
 -- Boards read, turned, mirrored and written.
 use Rattle.dob_pieces.proofs.Common.{◌&&◌, ◌+◌, ◌-◌, ◌<◌, ◌∙◌, ◌∷◌, ◌≡◌, ◌≢◌, ◌≤◌, Bool, List, None, Some, [], ap, arith, cond, length, ltb, not, refl, set}
-use Rattle.dob_pieces.proofs.Common.{slice_index_or, subst, suc, sym, true, zero, ℕ, ⊎_elim, and_parts, both_ways, cases_eq, cases_lt, ltb-true, not-true}
+use Rattle.dob_pieces.proofs.Common.{slice_index_or, subst, suc, sym, true, zero, ℕ, ⊎_elim, and_parts, both_ways, cases_eq, ltb-true, not-true}
 use Rattle.dob_pieces.proofs.Common.{get_or-set_other, get_or_past, length-set, fill_by_all, get_or-map-range_with_len, get_or-le-sum_by, sum_by-set, count_by}
 use Rattle.dob_pieces.proofs.Common.{sum_by, is_lion, is_side, leads, other_side, Cell, HasLions, IsLegal, at, board_by, holds_lion, mirrored, piece_of, turned}
 use Rattle.dob_pieces.proofs.Common.{turned_cell, mirrored_square, turned_square, Kind, Lion, Piece, Side, Enemy, Mover, Setup}
+use Rattle.std.proofs.Common.{rules}
 use Rattle.std.proofs.lemmas.List.Edits.{fill_by_more}
 use Rattle.dob_pieces.specs.declared.kind.HandKind.{HandKind}
 use Rattle.dob_pieces.specs.Setups.{holds_kind, total, HasFewPieces, HasLionOffFarRow}
 
 -- ---- boards made square by square
-
-pub length-board_by : (f : ℕ → Cell) → length (board_by f) ≡ 12
-length-board_by f = refl
 
 pub at-board_by : (f : ℕ → Cell) (k : ℕ) → k < 12 → slice_index_or (board_by f) k None ≡ f k
 at-board_by f k h = get_or-map-range_with_len f 0 12 k k None h (omega arith)
@@ -75,8 +73,7 @@ all_below-at f (suc n) k h lt =
 -- what a half turn of the board does to a sum over its cells
 pub sum-turned : (f g : Cell → ℕ) → ((cell : Cell) → f (turned_cell cell) ≡ g cell) → (board : List Cell) → length board ≡ 12
     → sum_by f (board_by (λ k. turned_cell (slice_index_or board (turned_square k) None))) ≡ sum_by g board
-sum-turned f g h (a ∷ b ∷ c ∷ d ∷ e ∷ i ∷ j ∷ k ∷ l ∷ m ∷ n ∷ o ∷ []) eq =
-    omega (arith, h a, h b, h c, h d, h e, h i, h j, h k, h l, h m, h n, h o)
+sum-turned f g h (a ∷ b ∷ c ∷ d ∷ e ∷ i ∷ j ∷ k ∷ l ∷ m ∷ n ∷ o ∷ []) eq = omega (arith, h a, h b, h c, h d, h e, h i, h j, h k, h l, h m, h n, h o)
 sum-turned f g h board eq = absurd (omega arith)
 
 -- what exchanging the columns a and c does to it: nothing
@@ -106,26 +103,18 @@ turned-holds_lion side (Some piece) = ap (λ b. b && is_lion piece.kind) (turned
 -- turning changes no total
 pub total-turned : (kind : HandKind) (s : Setup) → length s.board ≡ 12 → total kind (turned s) ≡ total kind s
 unfolding total turned
-total-turned kind s e =
-    let f : Cell → ℕ = λ cell. one_if (holds_kind kind cell) in
-    let board : sum_by f (turned s).board ≡ sum_by f s.board = sum-turned f f (λ cell. ap one_if (turned-holds_kind kind cell)) s.board e in
-    omega (arith, board)
+total-turned kind s e = grind (arith, sum-turned, turned-holds_kind)
 
 -- nor does the mirror
 pub total-mirrored : (kind : HandKind) (s : Setup) → length s.board ≡ 12 → total kind (mirrored s) ≡ total kind s
 unfolding total mirrored
-total-mirrored kind s e =
-    let f : Cell → ℕ = λ cell. one_if (holds_kind kind cell) in
-    let board : sum_by f (mirrored s).board ≡ sum_by f s.board = sum-mirrored f s.board e in
-    omega (arith, board)
+total-mirrored kind s e = grind (arith, sum-mirrored)
 
 -- a side's lions are the other side's after turning
 pub lions-turned : (side : Side) (s : Setup) → length s.board ≡ 12
     → count_by (holds_lion side) (turned s).board ≡ count_by (holds_lion (other_side side)) s.board
 unfolding turned
-lions-turned side s e =
-    sum-turned (λ cell. one_if (holds_lion side cell)) (λ cell. one_if (holds_lion (other_side side) cell))
-    (λ cell. ap one_if (turned-holds_lion side cell)) s.board e
+lions-turned side s e = search (rules, sum-turned, turned-holds_lion)
 
 pub lions-mirrored : (side : Side) (s : Setup) → length s.board ≡ 12 → count_by (holds_lion side) (mirrored s).board ≡ count_by (holds_lion side) s.board
 unfolding mirrored
@@ -144,30 +133,17 @@ mirrored_far : (k : ℕ) → 9 ≤ k → k < 12 → 9 ≤ mirrored_square k
 mirrored_far k low high = omega arith
 
 HasLionOffFarRow-mirrored : (s : Setup) → HasLionOffFarRow s → HasLionOffFarRow (mirrored s)
-HasLionOffFarRow-mirrored s h k low e =
-    ⊎_elim
-    (λ (lt : k < 12). h (mirrored_square k) (mirrored_far k low lt) (sym (at-mirrored s k lt) ∙ e))
-    (λ (le : 12 ≤ k). let past : at (mirrored s) k ≡ None = get_or_past (mirrored s).board k None (rw length-mirrored le) in cc)
-    (cases_lt k 12)
+HasLionOffFarRow-mirrored s h k low e = grind (arith, mirrored_far, at-mirrored, get_or_past, length-mirrored)
 
 -- the mirror image of a legal setup is legal
 pub IsLegal-mirrored : (s : Setup) → IsLegal s → IsLegal (mirrored s)
-IsLegal-mirrored s h = record {
-  squares = length-mirrored s;
-  lions = λ side. lions-mirrored side s h.squares ∙ h.lions side;
-  few = λ kind. subst (λ (n : ℕ). n ≤ 2) (sym (total-mirrored kind s h.squares)) (h.few kind);
-  home = HasLionOffFarRow-mirrored s h.home;
-}
+IsLegal-mirrored s h = search (rules, length-mirrored, lions-mirrored, total-mirrored, HasLionOffFarRow-mirrored)
 
 -- ---- cells read and written
 
 -- what stands somewhere stands on the board
 pub within-from_piece : (s : Setup) (k : ℕ) (piece : Piece) → at s k ≡ Some piece → k < length s.board
-within-from_piece s k piece e =
-    ⊎_elim
-    (λ (lt : k < length s.board). lt)
-    (λ (le : length s.board ≤ k). let past : at s k ≡ None = get_or_past s.board k None le in cc)
-    (cases_lt k (length s.board))
+within-from_piece s k piece e = grind (arith, get_or_past)
 
 -- a count after one write: the old cell is counted no more, the new one is
 pub count-set : (p : Cell → Bool) (board : List Cell) (i : ℕ) (cell : Cell) → i < length board
@@ -178,12 +154,7 @@ count-set p board i cell lt = sum_by-set (λ c. one_if (p c)) board i cell None 
 pub count-moved : (p : Cell → Bool) (board : List Cell) (from to : ℕ) (x : Cell) → from < length board → to < length board → from ≢ to
     → count_by p (set (set board from None) to x) + one_if (p (slice_index_or board from None))
     + one_if (p (slice_index_or board to None)) ≡ count_by p board + one_if (p None) + one_if (p x)
-count-moved p board from to x f t ne =
-    let within : to < length (set board from None) = rw length-set t in
-    let apart : to ≢ from = λ e. ne (sym e) in
-    let second : count_by p (set (set board from None) to x) + one_if (p (slice_index_or board to None)) ≡ count_by p (set board from None) + one_if (p x)
-    = rw get_or-set_other at (count-set p (set board from None) to x within) in
-    omega (arith, second, count-set p board from None f)
+count-moved p board from to x f t ne = search (rules, count-set)
 
 -- a side's lion passes as it
 pub own_lion : (side : Side) → holds_lion side (Some (piece_of side Lion)) ≡ true

@@ -1,7 +1,7 @@
 -- What stands where in a list, also after more things and after one was exchanged.
-use Rattle.dob_pieces.proofs.Common.{◌++◌, ◌+◌, ◌<◌, ◌∙◌, ◌∷◌, ◌≡◌, ◌≢◌, ◌⊎◌, Contains, List, Some, [], ap, arith, get_or, inl, inr, length, refl, set, subst}
-use Rattle.dob_pieces.proofs.Common.{suc, sym, zero, ℕ, ⊎_elim, cases_lt, slice_get}
-use Rattle.std.proofs.lemmas.Option.{slice_get-get_or, same_Some}
+use Rattle.dob_pieces.proofs.Common.{◌++◌, ◌+◌, ◌<◌, ◌∙◌, ◌∷◌, ◌≡◌, ◌≢◌, ◌⊎◌, Contains, List, Some, [], ap, arith, get_or, inl, inr, length, refl, set, suc}
+use Rattle.dob_pieces.proofs.Common.{sym, zero, ℕ, ⊎_elim, slice_get}
+use Rattle.std.proofs.lemmas.Option.{slice_get-get_or}
 
 -- something stands at each place
 pub some_at : {A : Type 0} → (xs : List A) (k : ℕ) → k < length xs → (x : A) × (slice_get xs k ≡ Some x)
@@ -20,12 +20,7 @@ standing xs x there = (there.0, there.1, slice_get-get_or xs there.0 x there.1 �
 -- what stands at a place up to this one stands before it, or is what stands here
 pub before_or_here : {A : Type 0} → (xs : List A) (upto k : ℕ) (here x : A) → slice_get xs upto ≡ Some here → slice_get xs k ≡ Some x → k < upto + 1 →
     (k < upto) ⊎ (x ≡ here)
-before_or_here xs upto k here x at_upto at_k below = elim (cases_lt k upto) [
-  | inl earlier ↦ inl earlier
-  | inr later ↦
-      let same : upto ≡ k = omega (arith, later, below) in
-      inr (same_Some x here (sym at_k ∙ subst (λ n. slice_get xs n ≡ Some here) same at_upto))
-]
+before_or_here xs upto k here x at_upto at_k below = grind arith
 
 -- what stands in a list with one thing more stood there before, or is that thing
 pub at_end : {A : Type 0} → (l : List A) (a b : A) (j : ℕ) → slice_get (l ++ a ∷ []) j ≡ Some b → (slice_get l j ≡ Some b) ⊎ ((j ≡ length l) × (a ≡ b))

@@ -1,7 +1,6 @@
 -- What the tests of a position show.
-use Rattle.dob_pieces.proofs.Common.{◌+◌, ◌-◌, ◌<◌, ◌∙◌, ◌≡◌, List, None, ap, arith, drop, false, length, slice_index_or, sym, true, both_ways}
-use Rattle.dob_pieces.proofs.Common.{false_from_ne_true, get_or-drop, get_or_default, take_all, Any, list_any, Cell, HasLions, at, holds_lion}
-use Rattle.dob_pieces.proofs.Common.{Enemy, Mover, Setup}
+use Rattle.dob_pieces.proofs.Common.{◌+◌, ◌-◌, ◌∙◌, ◌≡◌, List, None, arith, drop, false, length, sym, true, false_from_ne_true, get_or-drop, get_or_default}
+use Rattle.dob_pieces.proofs.Common.{take_all, Any, list_any, Cell, HasLions, holds_lion, Enemy, Mover, Setup}
 use Rattle.std.proofs.Common.{take, count_by, length-drop}
 use Rattle.std.proofs.lemmas.List.Folds.{Any-from_list_any, list_any_at}
 use Rattle.dob_pieces.specs.Setups.{HasLionOffFarRow}
@@ -15,13 +14,7 @@ HasLions-from_counts s m e Enemy = e
 
 -- no square of row 4 has the mover's lion
 pub HasLionOffFarRow-from_test : (s : Setup) → list_any (holds_lion Mover) (drop 9 s.board) ≡ false → HasLionOffFarRow s
-HasLionOffFarRow-from_test s h k low e =
-    let within : k < length s.board = within-from_piece s k _ e in
-    let far : slice_index_or (drop 9 s.board) (k - 9) None ≡ at s (9 + (k - 9)) = get_or-drop 9 s.board (k - 9) None in
-    let same : 9 + (k - 9) ≡ k = omega arith in
-    let there : k - 9 < length (drop 9 s.board) = omega (arith, length-drop 9 s.board) in
-    let found : holds_lion Mover (slice_index_or (drop 9 s.board) (k - 9) None) ≡ true = ap (holds_lion Mover) (far ∙ ap (at s) same ∙ e) in
-    both_ways (list_any (holds_lion Mover) (drop 9 s.board)) h (list_any_at (holds_lion Mover) (drop 9 s.board) (k - 9) None there found)
+HasLionOffFarRow-from_test s h k low e = grind (arith, within-from_piece, list_any_at)
 
 -- so the test fails where a square of row 4 has it
 pub test-from_HasLionOffFarRow : (s : Setup) → HasLionOffFarRow s → list_any (holds_lion Mover) (drop 9 s.board) ≡ false

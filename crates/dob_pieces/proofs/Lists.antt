@@ -1,6 +1,6 @@
 -- Lists made piece by piece: what they contain, their parts, and their order.
-use Rattle.dob_pieces.proofs.Common.{◌++◌, ◌<◌, ◌∙◌, ◌∷◌, ◌≡◌, ◌≤◌, ◌⊎◌, Bool, Contains, List, [], ap, arith, cond, drop, false, get_or, inl, inr, length, refl}
-use Rattle.dob_pieces.proofs.Common.{subst, suc, sym, true, zero, ℕ, cases_eq, cases_lt, drop_at, take_at, each_below}
+use Rattle.dob_pieces.proofs.Common.{◌++◌, ◌<◌, ◌∙◌, ◌∷◌, ◌≡◌, ◌≤◌, ◌⊎◌, Bool, Contains, List, [], ap, arith, cond, drop, false, inl, inr, length, refl, subst}
+use Rattle.dob_pieces.proofs.Common.{suc, sym, true, zero, ℕ, cases_eq, cases_lt, drop_at, take_at, each_below}
 use Rattle.std.proofs.Common.{take, All, AllPairs}
 use Rattle.std.proofs.lemmas.List.Elements.{Contains-append_left, Contains-append_right, Contains-append_cases, All-nil, All-cons}
 use Rattle.std.proofs.lemmas.List.Kept.{AllPairs-cons}
@@ -16,10 +16,7 @@ module _ {X : Type 0} where
 
   -- an element of a longer list is its first one or stands in the rest
   pub cons_cases : (x : X) (xs : List X) (y : X) → Contains (x ∷ xs) y → (x ≡ y) ⊎ Contains xs y
-  cons_cases x xs y h = cases h.0 h.1 h.2 where
-    cases : (k : ℕ) → k < suc (length xs) → get_or (x ∷ xs) k y ≡ y → (x ≡ y) ⊎ Contains xs y
-    cases zero lt e = inl e
-    cases (suc k) lt e = inr (k, omega arith, e)
+  cons_cases x xs y h = grind arith
 
   pub rest_in : (x y : X) (xs : List X) → Contains xs y → Contains (x ∷ xs) y
   rest_in x y xs there = Contains-append_right (x ∷ []) xs y there

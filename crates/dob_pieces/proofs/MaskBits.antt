@@ -1,11 +1,10 @@
 -- Sets of squares as masks: what the operations on bits make of them.
-use Rattle.dob_pieces.proofs.Common.{◌%◌, ◌&&◌, ◌-◌, ◌<◌, ◌^◌, ◌||◌, ◌∙◌, ◌≡◌, ◌≢◌, ◌≤◌, Bool, ap, arith, bit_and, bit_or, cond, false, inl, inr, not}
-use Rattle.dob_pieces.proofs.Common.{refl, suc, sym, true, true≢false, ℕ, and_parts, cases_eq, cases_lt, le-leb, leb-true, lt-leb, bit_at, bit_not}
-use Rattle.dob_pieces.proofs.Common.{trailing_zeros, IsMask}
-use Rattle.std.proofs.Common.{◌*◌, min, max, nat_le, w16}
+use Rattle.dob_pieces.proofs.Common.{◌%◌, ◌&&◌, ◌-◌, ◌<◌, ◌^◌, ◌||◌, ◌∙◌, ◌≡◌, ◌≢◌, ◌≤◌, Bool, ap, arith, bit_and, bit_or, cond, false, inl, inr, not, refl}
+use Rattle.dob_pieces.proofs.Common.{suc, sym, true, ℕ, and_parts, cases_eq, cases_lt, le-leb, leb-true, lt-leb, bit_at, bit_not, trailing_zeros, IsMask}
+use Rattle.std.proofs.Common.{◌*◌, min, max, nat_le, rules, w16}
 use Rattle.std.proofs.lemmas.Nat.{and_le_l, or_lt}
-use Rattle.std.proofs.lemmas.Nat.Bits.{bit_at_and, bit_at_or, bit_at_not, bit_at-trailing_zeros, bit_at_clear_same, bit_at_clear_other}
-use Rattle.std.proofs.lemmas.Nat.Bits.{bit_at_above, bit_at-zero}
+use Rattle.std.proofs.lemmas.Nat.Bits.{bit_at_and, bit_at_or, bit_at_not, bit_at-trailing_zeros, bit_at_clear_same, bit_at_clear_other, bit_at_above}
+use Rattle.std.proofs.lemmas.Nat.Bits.{bit_at-zero}
 
 abbrev pub bit_if : Bool → ℕ
 bit_if b = cond b 1 0
@@ -22,20 +21,13 @@ max-bits _ _ = refl
 
 -- the squares of both
 pub IsMask-and : (f g : ℕ → Bool) (a b : ℕ) → IsMask f a → IsMask g b → IsMask (λ square. f square && g square) (bit_and a b)
-IsMask-and f g a b is are = record {
-  within = let le = and_le_l a b in let lt = is.within in omega (arith, le, lt);
-  bits = λ square lt.
-      bit_at_and a b square ∙ ap (λ (n : ℕ). min n (bit_at b square)) (is.bits square lt)
-      ∙ ap (λ (n : ℕ). min (bit_if (f square)) n) (are.bits square lt) ∙ min-bits (f square) (g square);
-}
+IsMask-and f g a b is are = search (rules, bit_at_and, min-bits)
 
 -- the squares of either
 pub IsMask-or : (f g : ℕ → Bool) (a b : ℕ) → IsMask f a → IsMask g b → IsMask (λ square. f square || g square) (bit_or a b)
 IsMask-or f g a b is are = record {
   within = or_lt 12 a b is.within are.within;
-  bits = λ square lt.
-      bit_at_or a b square ∙ ap (λ (n : ℕ). max n (bit_at b square)) (is.bits square lt)
-      ∙ ap (λ (n : ℕ). max (bit_if (f square)) n) (are.bits square lt) ∙ max-bits (f square) (g square);
+  bits = λ square lt. rw (bit_at_or a b square, is.bits square lt, are.bits square lt) (max-bits (f square) (g square));
 }
 
 without-bits : (a b : Bool) → min (bit_if a) (1 - bit_if b) ≡ bit_if (a && not b)
@@ -46,21 +38,15 @@ without-bits _ _ = refl
 -- the squares of the first that the second doesn't have
 pub IsMask-without : (f g : ℕ → Bool) (a b : ℕ) → IsMask f a → IsMask g b → IsMask (λ square. f square && not (g square)) (bit_and a (bit_not w16 b))
 IsMask-without f g a b is are = record {
-  within = let le = and_le_l a (bit_not w16 b) in let lt = is.within in omega (arith, le, lt);
+  within = omega (arith, and_le_l a (bit_not w16 b), is.within);
   bits = λ square lt.
-      let small = are.within in
-      bit_at_and a (bit_not w16 b) square
-      ∙ ap (λ (n : ℕ). min (bit_at a square) n) (bit_at_not w16 b square (omega (arith, small)) (omega (arith, lt)))
-      ∙ ap (λ (n : ℕ). min (bit_at a square) (1 - n)) (are.bits square lt)
-      ∙ ap (λ (n : ℕ). min n (1 - bit_if (g square))) (is.bits square lt) ∙ without-bits (f square) (g square);
+      let off = bit_at_not w16 b square (omega (arith, are.within)) (omega (arith, lt)) in
+      rw (bit_at_and a (bit_not w16 b) square, off, are.bits square lt, is.bits square lt) (without-bits (f square) (g square));
 }
 
 -- a mask by a test that says the same
 pub IsMask-same : (f g : ℕ → Bool) (a : ℕ) → ((square : ℕ) → square < 12 → f square ≡ g square) → IsMask f a → IsMask g a
-IsMask-same f g a same is = record {
-  within = is.within;
-  bits = λ square lt. is.bits square lt ∙ ap bit_if (same square lt);
-}
+IsMask-same f g a same is = grind arith
 
 from_bit : (b : Bool) → bit_if b ≡ 1 → b ≡ true
 from_bit true e = refl
@@ -72,8 +58,7 @@ from_no_bit false e = refl
 
 -- no square of an empty mask passes the test
 pub none_passes : (test : ℕ → Bool) (mask : ℕ) → IsMask test mask → mask ≡ 0 → (square : ℕ) → square < 12 → test square ≡ false
-none_passes test mask is e square lt =
-    from_no_bit (test square) (sym (is.bits square lt) ∙ ap (λ (n : ℕ). bit_at n square) e ∙ bit_at-zero square)
+none_passes test mask is e square lt = grind (arith, from_no_bit, bit_at-zero)
 
 -- the lowest square of a mask that has one
 pub record IsLowest (test : ℕ → Bool) (mask place : ℕ) : Type 0 where
@@ -104,11 +89,7 @@ lowest_is test mask place is some e =
 
 -- a mask with a square that passes isn't empty
 pub some_passes : (test : ℕ → Bool) (mask square : ℕ) → IsMask test mask → square < 12 → test square ≡ true → 0 < mask
-some_passes test mask square is lt passes =
-    elim (cases_lt 0 mask) [
-      | inl some ↦ some
-      | inr none ↦ absurd (true≢false (sym passes ∙ none_passes test mask is (omega arith) square lt))
-    ]
+some_passes test mask square is lt passes = grind (arith, none_passes)
 
 -- without a square
 abbrev pub without : ℕ → ℕ → ℕ
@@ -135,25 +116,11 @@ all_left test mask is = IsMask-same test (λ square. nat_le 0 square && test squ
 
 -- nothing passes from there on where no square is left
 pub none_left : (test : ℕ → Bool) (from mask : ℕ) → IsLeft test from mask → mask ≡ 0 → (square : ℕ) → from ≤ square → square < 12 → test square ≡ false
-none_left test from mask is e square le lt =
-    ap (λ (b : Bool). b && test square) (sym (le-leb from square le))
-    ∙ none_passes (λ square. nat_le from square && test square) mask is e square lt
+none_left test from mask is e square le lt = grind (arith, none_passes)
 
 cleared : (test : ℕ → Bool) (from place square : ℕ) → from ≤ place → square ≢ place
     → ((s : ℕ) → from ≤ s → s < place → test s ≡ false) → (nat_le from square && test square) ≡ (nat_le (suc place) square && test square)
-cleared test from place square le apart between =
-    let gate : (b c : Bool) → b ≡ c → (b && test square) ≡ (c && test square) = λ b c e. ap (λ (x : Bool). x && test square) e in
-    elim (cases_lt square place) [
-      | inl below ↦
-          let after : nat_le (suc place) square ≡ false = lt-leb (suc place) square (omega arith) in
-          elim (cases_lt square from) [
-            | inl out ↦ gate _ false (lt-leb from square out) ∙ sym (gate _ false after)
-            | inr in_range ↦ gate _ true (le-leb from square in_range) ∙ between square in_range below ∙ sym (gate _ false after)
-          ]
-      | inr above ↦
-          let more : suc place ≤ square = omega arith in
-          gate _ true (le-leb from square (omega arith)) ∙ sym (gate _ true (le-leb (suc place) square more))
-    ]
+cleared test from place square le apart between = grind arith
 
 pub next_left : (test : ℕ → Bool) (from mask place : ℕ) → IsLeft test from mask → 0 < mask → place ≡ trailing_zeros w16 mask → IsNext test from mask place
 next_left test from mask place is some e =

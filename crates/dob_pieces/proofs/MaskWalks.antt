@@ -1,7 +1,7 @@
 -- Walks over the squares of a mask, from the lowest on, and counts of them.
-use Rattle.dob_pieces.proofs.Common.{◌++◌, ◌<◌, ◌^◌, ◌∙◌, ◌≡◌, ◌≤◌, Bool, List, [], ap, append-nil, append_assoc, arith, cond, count_ones, false, inl, inr}
-use Rattle.dob_pieces.proofs.Common.{length, map, refl, suc, sym, true, zero, ℕ, cases_lt, length-append, get_or-map-range_with_len, bit_mask_l, mask_l-lt}
-use Rattle.dob_pieces.proofs.Common.{ones-mask_l, trailing_zeros, w16, count_by, range_with_len, each_below, sum_below, IsMask}
+use Rattle.dob_pieces.proofs.Common.{◌++◌, ◌<◌, ◌∙◌, ◌≡◌, ◌≤◌, Bool, List, [], ap, append-nil, append_assoc, arith, count_ones, false, inl, inr, length, map}
+use Rattle.dob_pieces.proofs.Common.{refl, suc, sym, true, zero, ℕ, cases_lt, length-append, get_or-map-range_with_len, bit_mask_l, mask_l-lt, ones-mask_l}
+use Rattle.dob_pieces.proofs.Common.{trailing_zeros, w16, count_by, range_with_len, each_below, sum_below, IsMask}
 use Rattle.std.specs.Simd.Lanes.{mask_l}
 use Rattle.std.proofs.lemmas.List.Sums.{count_by-le-length}
 use Rattle.std.proofs.lemmas.Nat.Bits.{same_from_bits_below}
@@ -83,16 +83,11 @@ module _ {X : Type 0} where
   -- the lists of each number are as long as the sum of their lengths
   pub length-each : (g : ℕ → List X) (n : ℕ) → length (each_below g n) ≡ sum_below (λ k. length (g k)) n
   length-each g zero = refl
-  length-each g (suc n) = let sum = length-append (each_below g n) (g n) in let more = length-each g n in omega (arith, sum, more)
+  length-each g (suc n) = omega (arith, length-append (each_below g n) (g n), length-each g n)
 
 -- a mask by its bits
 pub mask_by_bits : (test : ℕ → Bool) (mask : ℕ) → IsMask test mask → mask ≡ mask_l (map test (range_with_len 0 12))
-mask_by_bits test mask is =
-    let bound : mask_l (map test (range_with_len 0 12)) < 2 ^ 12 = mask_l-lt (map test (range_with_len 0 12)) in
-    same_from_bits_below 12 mask (mask_l (map test (range_with_len 0 12))) is.within bound
-    (λ k lt. is.bits k lt
-    ∙ sym (bit_mask_l (map test (range_with_len 0 12)) k
-    ∙ ap (λ (b : Bool). cond b 1 0) (get_or-map-range_with_len test 0 12 k k false lt (omega arith))))
+mask_by_bits test mask is = grind (arith, mask_l-lt, same_from_bits_below, bit_mask_l, get_or-map-range_with_len)
 
 pub ones_of_mask : (test : ℕ → Bool) (mask : ℕ) → IsMask test mask → count_ones mask ≡ count_by test (range_with_len 0 12)
 ones_of_mask test mask is = ap count_ones (mask_by_bits test mask is) ∙ ones-mask_l test (range_with_len 0 12)

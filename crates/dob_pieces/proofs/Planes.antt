@@ -1,8 +1,8 @@
 -- Masks made in one pass over the board: several in one word, twelve bits each, which no sum carries over.
-use Rattle.dob_pieces.proofs.Common.{◌%◌, ◌&&◌, ◌+◌, ◌-◌, ◌/◌, ◌<◌, ◌^◌, ◌||◌, ◌∙◌, ◌∷◌, ◌≡◌, ◌≤◌, Bool, List, None, Some, [], ap, arith, bit_and, cond, drop}
-use Rattle.dob_pieces.proofs.Common.{false, length, map, not, refl, slice_index_or, suc, sym, true, ℕ, get_or-map, length-drop, length-map}
-use Rattle.dob_pieces.proofs.Common.{bit_mask_l, mask_l-lt, bit_not, AreSquares, IsMask, entry_of, is_empty, is_own, is_piece, kind_place, side_place}
-use Rattle.dob_pieces.proofs.Common.{Cell, at, piece_of, Kind, Chick, Elephant, Giraffe, Hen, Lion, Side, Enemy, Mover, ALL_SQUARES, PLANES, Setup}
+use Rattle.dob_pieces.proofs.Common.{◌%◌, ◌&&◌, ◌+◌, ◌-◌, ◌/◌, ◌<◌, ◌^◌, ◌||◌, ◌∙◌, ◌∷◌, ◌≡◌, ◌≤◌, Bool, List, None, Some, [], ap, arith, bit_and, drop, false}
+use Rattle.dob_pieces.proofs.Common.{length, map, not, refl, slice_index_or, suc, sym, true, ℕ, get_or-map, length-drop, length-map, bit_mask_l, mask_l-lt}
+use Rattle.dob_pieces.proofs.Common.{bit_not, AreSquares, IsMask, entry_of, is_empty, is_own, is_piece, kind_place, side_place, Cell, at, piece_of, Kind, Chick}
+use Rattle.dob_pieces.proofs.Common.{Elephant, Giraffe, Hen, Lion, Side, Enemy, Mover, ALL_SQUARES, PLANES, Setup}
 use Rattle.std.proofs.Common.{◌*◌, w16}
 use Rattle.std.specs.Simd.Lanes.{mask_l}
 use Rattle.std.proofs.Math.Pow.{pow_mono}
@@ -21,12 +21,7 @@ mask_of-lt test cells = rw length-map at (mask_l-lt (map test cells))
 
 pub are_squares : (setup : Setup) (test : Cell → Bool) (mask : ℕ) → length setup.board ≡ 12 → mask ≡ mask_of test setup.board
     → AreSquares setup test mask
-are_squares setup test mask twelve e = rw e (record {
-  within = rw twelve at (mask_of-lt test setup.board);
-  bits = λ square lt.
-      bit_mask_l (map test setup.board) square
-      ∙ ap (λ (b : Bool). cond b 1 0) (get_or-map test setup.board square None false (omega arith));
-})
+are_squares setup test mask twelve e = grind (arith, mask_of-lt, bit_mask_l, get_or-map)
 
 -- ---- five planes in one word
 
@@ -65,10 +60,7 @@ word_cell (Some piece) cells = word_piece piece.side piece.kind cells
 
 word_more : (board : List Cell) (i word read : ℕ) → i < length board → word ≡ word_of (drop (suc i) board)
     → read ≡ entry_of PLANES (slice_index_or board i None) → 2 * word + read ≡ word_of (drop i board)
-word_more board i word read lt w r =
-    let cons = drop-cons board i None lt in
-    let more = word_cell (slice_index_or board i None) (drop (suc i) board) in
-    rw cons (omega (arith, more, r, w))
+word_more board i word read lt w r = grind (arith, drop-cons, word_cell)
 
 -- ---- the masks in a word
 
@@ -91,24 +83,16 @@ pub record AreIn (word a b c d e : ℕ) : Type 0 where
   pub fifth : word / 281474976710656 % 4096 ≡ e
 
 pub word_by-parts : (a b c d e : ℕ) → a < 4096 → b < 4096 → c < 4096 → d < 4096 → e < 4096 → AreIn (word_by a b c d e) a b c d e
-word_by-parts a b c d e small-a small-b small-c small-d small-e = record {
-  first = omega arith;
-  second = omega arith;
-  third = omega arith;
-  fourth = omega arith;
-  fifth = omega arith;
-}
+word_by-parts a b c d e small-a small-b small-c small-d small-e = grind arith
 
 word_small : (cells : List Cell) → length cells ≤ 12 → word_of cells < 2 ^ 60
 unfolding word_of
-word_small cells le = word_by-small _ _ _ _ _ (mask_of-small is_own cells le) (mask_of-small is_lion cells le) (mask_of-small is_straight cells le)
-    (mask_of-small is_aslant cells le) (mask_of-small is_chick_or_empty cells le)
+word_small cells le = grind (arith, word_by-small, mask_of-small)
 
 pub word_planes : (cells : List Cell) → length cells ≤ 12 → AreIn (word_of cells) (mask_of is_own cells) (mask_of is_lion cells)
     (mask_of is_straight cells) (mask_of is_aslant cells) (mask_of is_chick_or_empty cells)
 unfolding word_of
-word_planes cells le = word_by-parts _ _ _ _ _ (mask_of-small is_own cells le) (mask_of-small is_lion cells le) (mask_of-small is_straight cells le)
-    (mask_of-small is_aslant cells le) (mask_of-small is_chick_or_empty cells le)
+word_planes cells le = grind (arith, word_by-parts, mask_of-small)
 
 -- ---- the pass over the board
 
@@ -165,8 +149,7 @@ told_cell test (Some piece) = told_piece test piece.side piece.kind
 
 -- two tests that say the same of each kind of cell are one
 same_test : (f g : Cell → Bool) → map f all_cells ≡ map g all_cells → (cell : Cell) → f cell ≡ g cell
-same_test f g e cell =
-    told_cell f cell ∙ ap (λ (bits : List Bool). slice_index_or bits (place_of cell) false) e ∙ sym (told_cell g cell)
+same_test f g e cell = grind (arith, told_cell)
 
 -- every square of the board
 pub everywhere : (test : ℕ → Bool) → ((square : ℕ) → test square ≡ true) → IsMask test ALL_SQUARES

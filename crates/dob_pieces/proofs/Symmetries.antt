@@ -1,7 +1,7 @@
 -- Turning and mirroring, done twice and one after the other.
 use Rattle.dob_pieces.proofs.Common.{◌-◌, ◌<◌, ◌∙◌, ◌≡◌, Bool, List, None, Some, ap, arith, eqb, false, length, refl, sym, true, ℕ, eqb-true, beq, leads}
-use Rattle.dob_pieces.proofs.Common.{other_side, Cell, at, board_by, mirrored, piece_of, setup_of, turned, turned_cell, mirrored_square, turned_square, Hands}
-use Rattle.dob_pieces.proofs.Common.{Kind, Lion, Side, Enemy, Mover, Setup}
+use Rattle.dob_pieces.proofs.Common.{other_side, Cell, at, board_by, mirrored, piece_of, setup_of, turned, turned_cell, mirrored_square, turned_square, Kind}
+use Rattle.dob_pieces.proofs.Common.{Lion, Side, Enemy, Mover, Setup}
 use Rattle.dob_pieces.proofs.Boards.{at-board_by, board_by-from_cells, at-turned, at-mirrored, all_below, all_below-at, total-turned, total-mirrored}
 use Rattle.dob_pieces.proofs.Boards.{IsLegal-mirrored}
 
@@ -18,9 +18,7 @@ mirrored_square_twice k lt =
     eqb-true (mirrored_square (mirrored_square k)) k (all_below-at (λ n. eqb (mirrored_square (mirrored_square n)) n) 12 k refl lt)
 
 pub mirrored-turned_square : (k : ℕ) → k < 12 → mirrored_square (turned_square k) ≡ turned_square (mirrored_square k)
-mirrored-turned_square k lt =
-    eqb-true (mirrored_square (turned_square k)) (turned_square (mirrored_square k))
-    (all_below-at (λ n. eqb (mirrored_square (turned_square n)) (turned_square (mirrored_square n))) 12 k refl lt)
+mirrored-turned_square k lt = grind (arith, all_below-at)
 
 -- ---- pieces
 
@@ -60,14 +58,7 @@ mirrored-mirrored s e =
 -- turning and mirroring commute
 pub turned-mirrored : (s : Setup) → turned (mirrored s) ≡ mirrored (turned s)
 unfolding turned mirrored
-turned-mirrored s =
-    let cells : (k : ℕ) → k < 12 → turned_cell (at (mirrored s) (turned_square k)) ≡ at (turned s) (mirrored_square k)
-    = λ k lt.
-    ap turned_cell (at-mirrored s (11 - k) (omega arith) ∙ ap (at s) (mirrored-turned_square k lt))
-    ∙ sym (at-turned s (mirrored_square k) (mirrored_square_bound k lt)) in
-    let hands : Hands = record { mover = s.hands.enemy; enemy = s.hands.mover } in
-    ap (λ (board : List Cell). setup_of board hands)
-    (board_by-same (λ k. turned_cell (at (mirrored s) (turned_square k))) (λ k. at (turned s) (mirrored_square k)) cells)
+turned-mirrored s = grind (arith, at-mirrored, mirrored-turned_square, at-turned, mirrored_square_bound, board_by-same)
 
 -- ---- steps
 

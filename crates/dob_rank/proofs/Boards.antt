@@ -4,8 +4,7 @@ pub mod Settled  -- a choice settles its layer again
 pub mod EachCell  -- what holds of each side's piece of each kind
 pub mod FormDigits  -- forms as digits
 pub mod EmptySquares  -- pieces placed on the squares that are left
-pub mod LayerCounts  -- what the layers of a position count
-pub mod Stages  -- layers settled up to one of them
+pub mod LayerCounts  -- what the layers of a position count, and layers settled up to one of them
 pub mod KeyParts  -- squares and forms, layer by layer
 pub mod Placed  -- a piece more on the board
 pub mod Planes  -- masks of layers and what their bits count

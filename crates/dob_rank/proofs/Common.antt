@@ -1,9 +1,10 @@
 -- The names that the proofs here use most, from other crates and the definitions of this one.
-pub use Rattle.std.proofs.Common.{if◌then◌else◌, ◌%◌, ◌&&◌, ◌*◌, ◌++◌, ◌+◌, ◌-◌, ◌/◌, ◌<◌, ◌^◌, ◌||◌, ◌∙◌, ◌∷◌, ◌≡◌, ◌≢◌, ◌≤◌, ◌⊎◌, Bool, List, None, Some, []}
+pub use Rattle.std.proofs.Common.{◌%◌, ◌&&◌, ◌*◌, ◌++◌, ◌+◌, ◌-◌, ◌/◌, ◌<◌, ◌^◌, ◌||◌, ◌∙◌, ◌∷◌, ◌≡◌, ◌≢◌, ◌≤◌, ◌⊎◌, Bool, List, None, Some, []}
 pub use Rattle.std.proofs.Common.{ap, arith, bit_and, cond, drop, eqb, false, get_or, inl, inr, leb, length, ltb, map, nat_eq, nat_lt, not, refl, replicate}
 pub use Rattle.std.proofs.Common.{append-nil, set, slice_index, slice_index_or, subst, suc, sym, take, true, zero, ℕ}
 pub use Rattle.std.proofs.Math.Arith.{mod-mul}
 pub use Rattle.std.proofs.Math.Nat.{add-mul, mod-eq_of_lt, mod-one, mul-le-mul, mul-pos, mul_assoc, mul_comm, pow-le-pow_right, pow-suc, pow-succ', pow-zero}
+pub use Rattle.std.proofs.lemmas.Bool.Decides.{nat_tests}
 pub use Rattle.std.proofs.lemmas.Bool.{and_parts, cases_Bool, cases_eq, cases_lt, cases_order, eq-eqb, eqb-true, le-ltb, leb-true, lt-ltb, ltb-true, ne_eqb}
 pub use Rattle.std.proofs.lemmas.List.{drop_more, length-drop, length-map, length_push}
 pub use Rattle.std.proofs.lemmas.Nat.{div-add-mod', div-mul-add, div_below, mod-mul-add, mod_below, mul-add-lt, mul-le, one_shl, same_from_place}
@@ -30,12 +31,12 @@ unfoldable pub use Rattle.dob_rank.specs.Families.{classes_of, is_marked, is_pre
 pub use Rattle.dob_rank.specs.Marks.{is_first, one_if}
 unfoldable pub use Rattle.dob_rank.specs.Marks.{marked, marks_below}
 pub use Rattle.dob_rank.specs.Masks.{all_squares, first_bit, from_mask, layer_mask, plane, plane_len, planes}
-pub use Rattle.dob_rank.specs.Numbers.{HasBlock, HasDigits, base_of, bases, bases_by, block_bases, block_of, board_of, cell_of, choice, choose, count}
-pub use Rattle.dob_rank.specs.Numbers.{count_from, digits, digits_of, empty_layers, enemy_squares, find, forms_number, free_squares, layer, layer_of, layers_by}
+pub use Rattle.dob_rank.specs.Numbers.{HasBlock, HasDigits, base_of, bases_by, block_bases, block_of, board_of, cell_of, choice, choose, count}
+pub use Rattle.dob_rank.specs.Numbers.{count_from, digits, digits_of, empty_layers, enemy_squares, find, forms_number, free_squares, layer, layers_by}
 pub use Rattle.dob_rank.specs.Numbers.{number_of, numbers_by, on_board, order, own_squares, product, settle, setup_by, setup_in, start_of, sum_below}
 pub use Rattle.dob_rank.specs.Numbers.{with_first}
 unfoldable pub use Rattle.dob_rank.specs.Numbers.{block_size, nth, rank_of_set, size_of_set}
-pub use Rattle.dob_rank.specs.Order.{HasCount, IsEither, IsFirstOfTwo, IsPositionOfSet, IsRepresentativeOfSet, Precedes, RepresentativeOf, form, form_of, forms}
+pub use Rattle.dob_rank.specs.Order.{HasCount, IsEither, IsFirstOfTwo, IsPositionOfSet, IsRepresentativeOfSet, Precedes, RepresentativeOf, form, forms}
 pub use Rattle.dob_rank.specs.Order.{pieces_of, squares_from}
 unfoldable pub use Rattle.dob_rank.specs.Order.{Before, key}
 pub use Rattle.dob_rank.specs.Places.{AreChickParts, IsPlaceFor, IsPresentAt, IsPresentIn, IsSpotFor, stands}

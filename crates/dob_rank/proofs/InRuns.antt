@@ -3,5 +3,4 @@ pub mod Lions  -- what the lions' columns say
 pub mod RunPlaces  -- a place is a run and a place in it
 pub mod RunMarks  -- the marks of runs
 pub mod RunSums  -- the marks of a block as a sum over runs
-pub mod DigitParts  -- the digits of a place, part by part
-pub mod KeptDigits  -- the digits that the positions of a run have in common
+pub mod DigitParts  -- the digits of a place, part by part, and those that the positions of a run have in common

@@ -178,6 +178,7 @@ pub fn digits_with(
 }
 
 /// The number of the choice of all squares at a place of a run of those numbers on the board.
+#[tactic(auto, using(crate::proofs::InRuns::DigitParts::quotient_is))]
 pub fn squares_at(on_board: &EachKind, local: u64) -> u64
     requires { AreFewOnBoard on_board.now }
     ensures { result ≡ local / product (form_bases on_board.now) }
@@ -245,6 +246,7 @@ fn size_of_runs(on_board: &EachKind, choices: &EachKind) -> u64
 }
 
 // How many forms the pieces of those numbers on the board have.
+#[tactic(auto, using(std::proofs::lemmas::Nat::one_shl))]
 fn forms_in(on_board: &EachKind) -> u64
     requires { AreFewOnBoard on_board.now }
     ensures { result ≡ product (form_bases on_board.now) }
@@ -253,6 +255,7 @@ fn forms_in(on_board: &EachKind) -> u64
 }
 
 // How many bits hold the forms of the pieces of those numbers on the board.
+#[tactic(auto, using(crate::proofs::InRuns::DigitParts::form_bits_are))]
 fn form_bits(on_board: &EachKind) -> u64
     requires { AreFewOnBoard on_board.now }
     ensures value { 2 ^ result ≡ product (form_bases on_board.now) }
@@ -262,6 +265,7 @@ fn form_bits(on_board: &EachKind) -> u64
 }
 
 // The digits of the forms for those numbers on the board.
+#[tactic(auto, using(crate::proofs::InRuns::DigitParts::form_digits_are))]
 fn form_digits(on_board: &EachKind, number: u64) -> EachKind
     requires few { AreFewOnBoard on_board.now }
     requires number { number < product (form_bases on_board.now) }
@@ -284,6 +288,7 @@ fn form_number(on_board: &EachKind, forms: &EachKind) -> u64
 }
 
 /// In how many ways at most two squares are chosen from `squares`.
+#[tactic(auto, using(crate::proofs::Positions::Loops::choose_at_one, crate::proofs::Positions::Loops::choose_at_two))]
 pub(crate) fn choose(squares: u64, pieces: u64) -> u64
     requires few { pieces ≤ 2 }
     requires small { squares ≤ 12 }

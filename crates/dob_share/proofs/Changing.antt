@@ -1,7 +1,7 @@
 -- One item at one cell: when it is refused, and what its slot becomes.
-use Rattle.dob_share.proofs.Common.{◌+◌, ◌-◌, ◌<◌, ◌↔◌, ◌≡◌, ◌≤◌, Err, Ok, Option, Result, Some, ap, arith, nat_tests, refl, subst, suc}
-use Rattle.dob_share.proofs.Common.{zero, ℕ, greater_of, lesser_of, Value, Draw, Loss, Win, Cell, CellCanTake, CellValue, IsGreatestIn}
-use Rattle.dob_share.proofs.Common.{changed, more_at, IsShortCell, cell_of, least_of, IsTooDeep, Slot, Fault, Contradiction, TooDeep}
+use Rattle.dob_share.proofs.Common.{◌+◌, ◌-◌, ◌<◌, ◌↔◌, ◌≡◌, ◌≤◌, Cell, CellCanTake, CellValue, Contradiction, Draw, Err, Fault, IsGreatestIn, IsShortCell}
+use Rattle.dob_share.proofs.Common.{IsTooDeep, Loss, Ok, Option, Result, Slot, Some, TooDeep, Value, Win, ap, arith, cell_of, changed, greater_of, least_of}
+use Rattle.dob_share.proofs.Common.{lesser_of, more_at, nat_tests, refl, suc, zero, ℕ}
 use Rattle.dob_value.specs.Codes.{IsShort}
 use Rattle.dob_share.specs.Cells.{IsGreatest}
 
@@ -39,15 +39,7 @@ goes_deep to was now cell slot takes deep = grind arith
 pub stepped : (to : ℕ) (was now : Value) (cell : Cell) (slot next : Slot) → CellCanTake was now cell → IsShortCell (changed was now cell) →
     next.start ≡ slot.start → next.left ≡ (changed was now cell).left →
     least_of next.win ≡ (changed was now cell).least → IsStep to was now cell slot (Ok next)
-stepped to was now cell slot next takes short start left least = record {
-  misfit = (λ e. absurd (cc), λ misfit. absurd (misfit takes));
-  deep = (λ e. absurd (cc), λ both. absurd (not_too_deep (changed was now cell) short both.1));
-  named = λ class e. absurd (cc);
-  fits = λ other e. (takes, short);
-  made = λ other e. (let same : next ≡ other = cc in
-      subst (λ s. (s.start ≡ slot.start) × (s.left ≡ (changed was now cell).left) × (least_of s.win ≡ (changed was now cell).least))
-      same (start, left, least));
-}
+stepped to was now cell slot next takes short start left least = grind (arith, not_too_deep (changed was now cell) short)
 
 -- ---- wins after one more
 
@@ -118,9 +110,3 @@ pub better_loss_step : (to was now : ℕ) (slot next : Slot) (wins : ℕ → ℕ
 better_loss_step to was now slot next wins short better some most start left win =
     stepped to (Loss was) (Loss now) (cell_of slot wins) slot next (better, grind arith)
     (loss_short now slot wins short (λ e. absurd (omega arith)) slot.left) start left win
-
-pub better_loss_misfits : (to was now : ℕ) (slot : Slot) (wins : ℕ → ℕ) → (now < was → 0 < slot.win → slot.win - 1 ≤ was → ⊥) →
-    IsStep to (Loss was) (Loss now) (cell_of slot wins) slot (Err (Contradiction to))
-better_loss_misfits to was now slot wins misfit =
-    misfits to (Loss was) (Loss now) (cell_of slot wins) slot
-    (λ takes. let known = takes.1 in misfit takes.0 (grind arith) (grind arith))

@@ -1,10 +1,10 @@
 -- The names that the proofs here use most, from other crates and the definitions of this one.
-pub use Rattle.std.proofs.Common.{if◌then◌else◌, ◌%◌, ◌*◌, ◌++◌, ◌+◌, ◌-◌, ◌/◌, ◌<◌, ◌^◌, ◌↔◌, ◌∙◌, ◌∷◌, ◌≡◌, ◌≢◌, ◌≤◌, ◌⊎◌, Bool, Contains, Err, List}
-pub use Rattle.std.proofs.Common.{MatchOption, None, Ok, Option, Result, Some, [], add-one, ap, arith, bit_and, bit_or, cond, eqb, get_or, inl, inr, length}
-pub use Rattle.std.proofs.Common.{max, min, refl, replicate, slice_get, subst, suc, sym, true, zero, ℕ}
+pub use Rattle.std.proofs.Common.{◌%◌, ◌*◌, ◌++◌, ◌+◌, ◌-◌, ◌/◌, ◌<◌, ◌^◌, ◌↔◌, ◌∙◌, ◌∷◌, ◌≡◌, ◌≤◌, ◌⊎◌, Bool, Contains, Err, List}
+pub use Rattle.std.proofs.Common.{MatchOption, None, Ok, Option, Result, Some, [], add-one, ap, arith, bit_and, bit_or, cond, get_or, inl, inr, length}
+pub use Rattle.std.proofs.Common.{min, refl, replicate, slice_get, subst, suc, sym, true, zero, ℕ}
 pub use Rattle.std.proofs.Math.ListN.{length-set, set}
 pub use Rattle.std.proofs.Math.Nat.{add-mul-div_right, mod-eq_of_lt, mod-lt, mul-le-mul_right}
-pub use Rattle.std.proofs.lemmas.Bool.{cases_Bool, cases_eq, cases_lt, cases_order, cond_below, eq-eqb, ne_eqb}
+pub use Rattle.std.proofs.lemmas.Bool.{cases_Bool, cases_eq, cases_lt, cond_below, eq-eqb}
 pub use Rattle.std.proofs.lemmas.Bool.Decides.{nat_tests}
 pub use Rattle.std.proofs.lemmas.List.{append-nil, get_or-set_other, get_or-set_same, get_or_append_left, get_or_default, get_or_past, get_or_push}
 pub use Rattle.std.proofs.lemmas.List.{length-replicate, length_push, set-get_or}
@@ -16,7 +16,7 @@ unfoldable pub use Rattle.std.specs.Int.Count.{ones}
 pub use Rattle.std.specs.List.{count_by}
 pub use Rattle.dob_pieces.proofs.Lists.{cons_cases, head_in, none_in_empty}
 pub use Rattle.dob_moves.specs.declared.position_status.Status.{Status}
-pub use Rattle.dob_moves.specs.declared.position_status.Status.TheVariants.{Caught, Open, Stuck, Tried}
+pub use Rattle.dob_moves.specs.declared.position_status.Status.TheVariants.{Open, Stuck}
 pub use Rattle.dob_value.specs.Distances.{IsLeastLoss, greater_of, lesser_of}
 pub use Rattle.dob_value.specs.Entries.{is_draw}
 pub use Rattle.dob_value.specs.declared.value.Value.{Value}

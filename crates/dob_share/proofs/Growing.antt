@@ -1,5 +1,5 @@
 -- Laws of cells: an item that fits never makes the cell's value worse.
-use Rattle.dob_share.proofs.Common.{◌≡◌, arith, inl, inr, nat_tests, ℕ, Value, Draw, Loss, Win, Cell, CellCanTake, CellValue, changed, NoWorse}
+use Rattle.dob_share.proofs.Common.{◌≡◌, Cell, CellCanTake, CellValue, Draw, Loss, NoWorse, Value, Win, arith, changed, inl, inr, nat_tests, ℕ}
 
 -- no loss becomes a draw
 not_drawn : (was now plies : ℕ) (cell : Cell) → CellValue cell (Loss plies) → CellValue (changed (Win was) (Win now) cell) Draw → ⊥

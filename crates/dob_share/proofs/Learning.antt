@@ -1,7 +1,7 @@
 -- What a cell that sums up what is known takes next.
-use Rattle.dob_share.proofs.Common.{◌++◌, ◌<◌, ◌∷◌, ◌≡◌, Bool, Contains, List, None, Option, Some, [], arith, cond, inl, inr, refl, subst, sym}
-use Rattle.dob_share.proofs.Common.{true, ℕ, cases_Bool, eq-eqb, Contains-append_right, sum_by-cons, count_by, cons_cases, head_in, none_in_empty, IsLeastLoss}
-use Rattle.dob_share.proofs.Common.{is_draw, Value, Draw, Loss, Win, Cell, CellCanTake, Changes, KnowsLossWithin, SumsUp, Better, is_win_in}
+use Rattle.dob_share.proofs.Common.{◌++◌, ◌<◌, ◌∷◌, ◌≡◌, Better, Bool, Cell, CellCanTake, Changes, Contains, Contains-append_right, Draw, IsLeastLoss}
+use Rattle.dob_share.proofs.Common.{KnowsLossWithin, List, Loss, None, Option, Some, SumsUp, Value, Win, [], arith, cases_Bool, cond, cons_cases, count_by}
+use Rattle.dob_share.proofs.Common.{eq-eqb, head_in, inl, inr, is_draw, is_win_in, none_in_empty, refl, subst, sum_by-cons, sym, true, ℕ}
 
 -- ---- what is counted is there, and what is there is counted
 
@@ -18,7 +18,7 @@ counts p (y ∷ xs) x there is =
     let sum = sum_by-cons (λ v. cond {A = ℕ} (p v) 1 0) y xs in
     elim (cons_cases y xs x there) [ inl same ↦ grind (arith, sum) | inr later ↦ grind (arith, sum, counts p xs x later is) ]
 
-in_middle : (xs ys : List Value) (x : Value) → Contains (xs ++ x ∷ ys) x
+pub in_middle : (xs ys : List Value) (x : Value) → Contains (xs ++ x ∷ ys) x
 in_middle xs ys x = Contains-append_right xs (x ∷ ys) x (head_in x ys)
 
 -- what changes was known

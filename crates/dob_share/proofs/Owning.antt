@@ -1,13 +1,13 @@
 -- What an item at one place is for the share's classes.
-use Rattle.dob_share.proofs.Common.{◌%◌, ◌+◌, ◌/◌, ◌<◌, ◌↔◌, ◌∙◌, ◌≡◌, Err, List, None, Ok, Option, Result, Some, ap, arith, get_or, inl, inr, length}
-use Rattle.dob_share.proofs.Common.{refl, subst, suc, sym, zero, ℕ, Value, Cell, CellCanTake, CellValue, SameCell, changed, fresh, IsOwn}
-use Rattle.dob_share.proofs.Common.{IsOwnOpen, cell_at, cell_where, open_number, places_of, status_at, ArePooled, IsShortCell, cell_in, start_at, StatusesView}
-use Rattle.dob_share.proofs.Common.{open_at, opens_below, status_in, IsApplied, IsChange, IsTooDeep, Better, Slot, Fault, Contradiction, TooDeep, Share}
+use Rattle.dob_share.proofs.Common.{◌%◌, ◌+◌, ◌/◌, ◌<◌, ◌↔◌, ◌∙◌, ◌≡◌, ArePooled, Better, Cell, CellCanTake, CellValue, Contradiction, Err, Fault, IsApplied}
+use Rattle.dob_share.proofs.Common.{IsChange, IsOwn, IsOwnOpen, IsShortCell, IsTooDeep, List, None, Ok, Option, Result, SameCell, Share, Slot, Some}
+use Rattle.dob_share.proofs.Common.{StatusesView, TooDeep, Value, ap, arith, cell_at, cell_in, cell_where, changed, fresh, get_or, inl, inr, length, open_at}
+use Rattle.dob_share.proofs.Common.{open_number, opens_below, places_of, refl, start_at, status_at, subst, suc, sym, zero, ℕ}
 use Rattle.std.proofs.Props.{props}
 use Rattle.dob_share.specs.declared.news.Item.{Item}
 use Rattle.dob_share.specs.declared.news.Settlement.{Settlement}
 use Rattle.dob_share.specs.declared.share.Seen.{Seen}
-use Rattle.dob_share.specs.Shares.{IsSeen, IsValue, HasValueNow, Fits, GoesTooDeep, SameClasses, HasSettled, IsApplication}
+use Rattle.dob_share.specs.Shares.{IsSeen, HasValueNow, Fits, GoesTooDeep, SameClasses, HasSettled, IsApplication}
 use Rattle.dob_share.proofs.Applied.{CellValue-same, read, same_itself}
 use Rattle.dob_share.proofs.Words.{open_at_open, rank_less, rank_same}
 use Rattle.dob_share.proofs.Growing.{no_worse}
@@ -28,8 +28,7 @@ is_open share class open_here = open_at_open share.statuses.words (class / share
 -- a place that is open has a cell
 pub cell_within : (share : Share) (place number : ℕ) → place < share.statuses.places → open_at share.statuses.words place ≡ 1 →
     number ≡ opens_below share.statuses.words place → number < length share.slots
-cell_within share place number low one is = subst (λ (k : ℕ). k < length share.slots) (sym is)
-    (subst (λ (k : ℕ). opens_below share.statuses.words place < k) (sym share.opens) (rank_less share.statuses.words place share.statuses.places low one))
+cell_within share place number low one is = rw (is, share.opens) (rank_less share.statuses.words place share.statuses.places low one)
 
 pub number_within : (share : Share) (class number : ℕ) → IsOwnOpen share class → number ≡ open_number share class → number < length share.slots
 unfolding IsOwnOpen IsOwn open_number
@@ -39,7 +38,7 @@ number_within share class number open_here is = cell_within share (class / share
 seen_here : (share : Share) (class : ℕ) (look : Option Seen) (seen : Seen) → look ≡ Some seen → IsSeen share class look →
     IsOwnOpen share class × (seen.place ≡ open_number share class) × (seen.start ≡ start_at share.slots (length share.pool) seen.place)
 unfolding IsSeen
-seen_here share class look seen e is = subst (λ o. IsSeen share class o) e is
+seen_here share class look seen e is = rw e at is
 
 -- the cell of a class that was seen is there, and its run begins where it was seen to
 pub place_within : (share : Share) (class : ℕ) (look : Option Seen) (seen : Seen) → look ≡ Some seen → IsSeen share class look →
@@ -61,11 +60,8 @@ classes_same old new id_same n_same same = record {
   id = id_same;
   nodes = n_same;
   places = ap (λ (s : StatusesView). s.places) same;
-  owned = λ class own. (
-    ap (λ (k : ℕ). class % k) n_same ∙ own.0 ∙ sym id_same,
-    subst (λ (s : StatusesView). class / new.nodes < s.places) (sym same) (subst (λ (k : ℕ). class / k < old.statuses.places) (sym n_same) own.1),
-  );
-  statuses = λ class. ap (λ (k : ℕ). status_in new.statuses.words (class / k)) n_same ∙ ap (λ (s : StatusesView). status_in s.words (class / old.nodes)) same;
+  owned = λ class own. rw (n_same, id_same, same) own;
+  statuses = λ class. rw (n_same, same) refl;
 }
 
 open_back : (old new : Share) → new.id ≡ old.id → new.nodes ≡ old.nodes → new.statuses ≡ old.statuses → (class : ℕ) → IsOwnOpen old class → IsOwnOpen new class
@@ -76,8 +72,7 @@ open_back old new id_same n_same same class own =
 
 number_same : (old new : Share) → new.nodes ≡ old.nodes → new.statuses ≡ old.statuses → (class : ℕ) → open_number new class ≡ open_number old class
 unfolding open_number
-number_same old new n_same same class = ap (λ (k : ℕ). opens_below new.statuses.words (class / k)) n_same
-    ∙ ap (λ (s : StatusesView). opens_below s.words (class / old.nodes)) same
+number_same old new n_same same class = rw (n_same, same) refl
 
 pub seen_not : (share : Share) (class : ℕ) → (IsOwnOpen share class → ⊥) → IsSeen share class None
 unfolding IsSeen
@@ -102,8 +97,7 @@ where_same (suc (suc b)) x y low same = absurd (omega arith)
 pub value_there : (share : Share) (class place : ℕ) (value : Value) → IsOwnOpen share class → place ≡ open_number share class →
     CellValue (cell_in share.slots share.pool place) value → HasValueNow share class value
 unfolding IsOwnOpen
-value_there share class place value open_here is has = subst (λ s. IsValue s (cell_at share class) value) (sym open_here.1)
-    (subst (λ c. CellValue c value) (cell_there share class place open_here is) has)
+value_there share class place value open_here is has = rw (open_here.1, ← cell_there share class place open_here is) has
 
 apart : (n id a b : ℕ) → a % n ≡ id → b % n ≡ id → a / n ≡ b / n → a ≡ b
 apart n id a b x y z = grind arith
@@ -156,7 +150,7 @@ module _ (old : Share) (item : Item) (look : Option Seen) (seen : Seen) (seen_is
       ((r ≡ Err (Contradiction item.to)) ↔ (Fits old item → ⊥))
   unfolding IsOwnOpen Fits
   misfit_here r h =
-      let there = subst (λ c. (r ≡ Err (Contradiction item.to)) ↔ (CellCanTake item.was item.now c → ⊥)) cell_is h in
+      let there = rw cell_is at h in
       (λ e fits. there.0 e fits.2, λ not. there.1 (λ takes. not (open_here.0, open_here.1, takes)))
 
   deep_here : {A : Type 0} (r : Result A Fault) →
@@ -164,7 +158,7 @@ module _ (old : Share) (item : Item) (look : Option Seen) (seen : Seen) (seen_is
       ((r ≡ Err TooDeep) ↔ (Fits old item × GoesTooDeep old item))
   unfolding IsOwnOpen Fits GoesTooDeep
   deep_here r h =
-      let there = subst (λ c. (r ≡ Err TooDeep) ↔ (CellCanTake item.was item.now c × IsTooDeep (changed item.was item.now c))) cell_is h in
+      let there = rw cell_is at h in
       (λ e. let both = there.0 e in ((open_here.0, open_here.1, both.0), both.1), λ both. there.1 (both.0.2, both.1))
 
   module _ (new : Share) (id_same : new.id ≡ old.id) (n_same : new.nodes ≡ old.nodes) (same : new.statuses ≡ old.statuses) where
@@ -176,8 +170,7 @@ module _ (old : Share) (item : Item) (look : Option Seen) (seen : Seen) (seen_is
 
     cell_changed : SameCell (cell_in new.slots new.pool seen.place) (changed item.was item.now (cell_in old.slots old.pool seen.place)) →
         SameCell (cell_at new item.to) (changed item.was item.now (cell_at old item.to))
-    cell_changed alike = subst (λ c. SameCell c (changed item.was item.now (cell_at old item.to))) (cell_there new item.to seen.place open_new place_new)
-        (subst (λ c. SameCell (cell_in new.slots new.pool seen.place) (changed item.was item.now c)) cell_is alike)
+    cell_changed alike = rw (← cell_there new item.to seen.place open_new place_new, ← cell_is) alike
 
     -- an own class that is open has another cell
     other_number : (class : ℕ) → IsOwn old class → (class ≡ item.to → ⊥) → open_at old.statuses.words (class / old.nodes) ≡ 1 → open_number old class ≡ seen.place → ⊥
@@ -186,19 +179,13 @@ module _ (old : Share) (item : Item) (look : Option Seen) (seen : Seen) (seen_is
         (rank_same old.statuses.words (class / old.nodes) (item.to / old.nodes) one (is_open old item.to open_here) (e ∙ is)))
 
     cell_then : (class : ℕ) → cell_at new class ≡ cell_where (open_at old.statuses.words (class / old.nodes)) (cell_in new.slots new.pool (open_number old class))
-    cell_then class = cell_form new class
-        ∙ ap (λ (k : ℕ). cell_where (open_at new.statuses.words (class / k)) (cell_in new.slots new.pool (open_number new class))) n_same
-        ∙ ap (λ (s : StatusesView). cell_where (open_at s.words (class / old.nodes)) (cell_in new.slots new.pool (open_number new class))) same
-        ∙ ap (λ (k : ℕ). cell_where (open_at old.statuses.words (class / old.nodes)) (cell_in new.slots new.pool k)) (number_same old new n_same same class)
+    cell_then class = rw (cell_form new class, number_same old new n_same same class, n_same, same) refl
 
     others_kept : ((other : ℕ) → (other ≡ seen.place → ⊥) → SameCell (cell_in new.slots new.pool other) (cell_in old.slots old.pool other)) →
         (class : ℕ) → IsOwn old class → (class ≡ item.to → ⊥) → SameCell (cell_at new class) (cell_at old class)
-    others_kept others class own n =
-        subst (λ c. SameCell c (cell_at old class)) (sym (cell_then class))
-        (subst (λ c. SameCell (cell_where (open_at old.statuses.words (class / old.nodes)) (cell_in new.slots new.pool (open_number old class))) c) (sym (cell_form old class))
+    others_kept others class own n = rw (cell_then class, cell_form old class)
         (where_same (open_at old.statuses.words (class / old.nodes)) (cell_in new.slots new.pool (open_number old class)) (cell_in old.slots old.pool (open_number old class))
-        (let low : open_at old.statuses.words (class / old.nodes) < 2 = omega arith in low)
-        (λ one. others (open_number old class) (other_number class own n one))))
+        (omega arith) (λ one. others (open_number old class) (other_number class own n one)))
 
     -- what the item gives where it is taken, by what it makes of the cell
     module _ (made : Result (Option (Value × Value)) Fault) (change : Option (Value × Value)) (is_made : made ≡ Ok change)
@@ -216,7 +203,7 @@ module _ (old : Share) (item : Item) (look : Option Seen) (seen : Seen) (seen_is
       }
 
       told : (values : Option (Value × Value)) → change ≡ values → IsChange (cell_in old.slots old.pool seen.place) (cell_in new.slots new.pool seen.place) values
-      told values is_change = subst (λ x. IsChange (cell_in old.slots old.pool seen.place) (cell_in new.slots new.pool seen.place) x) is_change (applied.values change is_made)
+      told values is_change = rw is_change at (applied.values change is_made)
 
       pub no_settlement : change ≡ None → new.settled ≡ old.settled → IsApplication old item (Ok None) new
       no_settlement none count =
@@ -259,7 +246,7 @@ pub unseen : (share : Share) (item : Item) (look : Option Seen) → look ≡ Non
     IsApplication share item (Err (Contradiction item.to)) share
 unfolding IsSeen IsOwnOpen Fits
 unseen share item look e is =
-    let not_open : IsOwnOpen share item.to → ⊥ = subst (λ o. IsSeen share item.to o) e is in
+    let not_open : IsOwnOpen share item.to → ⊥ = rw e at is in
     let misfit : Fits share item → ⊥ = λ fits. not_open (fits.0, fits.1) in
     record {
       contradiction = (λ _. misfit, λ _. refl);

@@ -1,8 +1,9 @@
 -- A cell that sums up what is known sums up what is known after a change, once it is changed likewise.
-use Rattle.dob_share.proofs.Common.{◌++◌, ◌+◌, ◌<◌, ◌∙◌, ◌∷◌, ◌≡◌, ◌≤◌, ◌⊎◌, Bool, Contains, List, None, Option, Some, [], ap, arith}
-use Rattle.dob_share.proofs.Common.{cond, inl, inr, min, nat_tests, subst, sym, ℕ, cases_lt, Contains-append_cases}
-use Rattle.dob_share.proofs.Common.{Contains-append_left, Contains-append_right, sum_by-append, sum_by-cons, count_by, cons_cases, head_in, IsLeastLoss}
-use Rattle.dob_share.proofs.Common.{lesser_of, is_draw, Value, Draw, Loss, Win, Cell, Changes, SumsUp, changed, Better, is_win_in}
+use Rattle.dob_share.proofs.Learning.{in_middle}
+use Rattle.dob_share.proofs.Common.{◌++◌, ◌+◌, ◌<◌, ◌∙◌, ◌∷◌, ◌≡◌, ◌⊎◌, Better, Bool, Cell, Changes, Contains, Contains-append_cases, Contains-append_left}
+use Rattle.dob_share.proofs.Common.{Contains-append_right, Draw, IsLeastLoss, List, Loss, None, Option, Some, SumsUp, Value, Win, [], ap, arith, cases_lt}
+use Rattle.dob_share.proofs.Common.{changed, cond, cons_cases, count_by, inl, inr, is_draw, is_win_in, lesser_of, min, nat_tests, subst, sum_by-append}
+use Rattle.dob_share.proofs.Common.{sum_by-cons, sym, ℕ}
 
 -- ---- counts and members before and after
 
@@ -32,7 +33,7 @@ module _ (known after : List Value) (was now : Value) (change : Changes known af
   before_cases : (v : Value) → Contains known v → (was ≡ v) ⊎ Contains after v
   before_cases v there = elim (middle_cases change.before change.behind was now v (subst (λ xs. Contains xs v) change.known_is there)) [
     | inl same ↦ inl same
-    | inr left ↦ inr (subst (λ xs. Contains xs v) (sym change.after_is) left)
+    | inr left ↦ inr (rw change.after_is left)
   ]
 
   after_cases : (v : Value) → Contains after v → (now ≡ v) ⊎ Contains known v
@@ -42,26 +43,15 @@ module _ (known after : List Value) (was now : Value) (change : Changes known af
   ]
 
   now_there : Contains after now
-  now_there = subst (λ xs. Contains xs now) (sym change.after_is)
-      (Contains-append_right change.before (now ∷ change.behind) now (head_in now change.behind))
-
-  was_there : Contains known was
-  was_there = subst (λ xs. Contains xs was) (sym change.known_is)
-      (Contains-append_right change.before (was ∷ change.behind) was (head_in was change.behind))
+  now_there = rw change.after_is (in_middle change.before change.behind now)
 
   -- where neither is a loss, the least loss stays
   least_stays : (least : Option ℕ) → ((plies : ℕ) → was ≡ Loss plies → ⊥) → ((plies : ℕ) → now ≡ Loss plies → ⊥) → IsLeastLoss known least →
       IsLeastLoss after least
-  least_stays None was_not now_not is = λ plies there. elim (after_cases (Loss plies) there) [
-    | inl same ↦ now_not plies same
-    | inr left ↦ is plies left
-  ]
+  least_stays None was_not now_not is = λ plies there. grind (arith, after_cases (Loss plies) there, now_not plies, is plies)
   least_stays (Some least) was_not now_not is = (
-    elim (before_cases (Loss least) is.0) [ inl same ↦ absurd (was_not least same) | inr left ↦ left ],
-    λ plies there. elim (after_cases (Loss plies) there) [
-      | inl same ↦ absurd (now_not plies same)
-      | inr left ↦ is.1 plies left
-    ],
+    grind (arith, before_cases (Loss least) is.0, was_not least),
+    λ plies there. grind (arith, after_cases (Loss plies) there, now_not plies, is.1 plies),
   )
 
 -- a loss more, or a lesser one for a greater
@@ -69,25 +59,16 @@ least_more : (known after : List Value) (was : Value) (plies : ℕ) → Changes 
     ((other : ℕ) → was ≡ Loss other → plies < other) → IsLeastLoss known least → IsLeastLoss after (Some (lesser_of least plies))
 least_more known after was plies change None greater is = (
   now_there known after was (Loss plies) change,
-  λ other there. elim (after_cases known after was (Loss plies) change (Loss other) there) [
-    | inl same ↦ (let e : plies ≡ other = cc in omega arith)
-    | inr left ↦ absurd (is other left)
-  ],
+  λ other there. grind (arith, after_cases known after was (Loss plies) change (Loss other) there, is other),
 )
 least_more known after was plies change (Some least) greater is = (
   elim (cases_lt plies least) [
     | inl less ↦ (let e : plies ≡ min least plies = omega arith in
         subst (λ k. Contains after (Loss k)) e (now_there known after was (Loss plies) change))
     | inr upto ↦ (let e : least ≡ min least plies = omega arith in
-        subst (λ k. Contains after (Loss k)) e (elim (before_cases known after was (Loss plies) change (Loss least) is.0) [
-          | inl same ↦ (let more : plies < least = greater least same in absurd (omega arith))
-          | inr left ↦ left
-        ]))
+        subst (λ k. Contains after (Loss k)) e (grind (arith, before_cases known after was (Loss plies) change (Loss least) is.0, greater least)))
   ],
-  λ other there. elim (after_cases known after was (Loss plies) change (Loss other) there) [
-    | inl same ↦ (let e : plies ≡ other = cc in omega arith)
-    | inr left ↦ (let e : least ≤ other = is.1 other left in omega arith)
-  ],
+  λ other there. grind (arith, after_cases known after was (Loss plies) change (Loss other) there, is.1 other),
 )
 
 -- what the cell says of losses

@@ -1,17 +1,74 @@
--- Words of statuses: the number of a cell, which is how many classes are open before its place, and the status of a place.
-use Rattle.dob_share.proofs.Common.{◌%◌, ◌*◌, ◌++◌, ◌+◌, ◌/◌, ◌<◌, ◌^◌, ◌∙◌, ◌∷◌, ◌≡◌, ◌≤◌, List, Some, [], ap, arith, get_or, inl, inr, length, refl}
-use Rattle.dob_share.proofs.Common.{slice_get, subst, suc, sym, zero, ℕ, mod-eq_of_lt, cases_eq, cases_lt, cond_below, get_or_append_left}
-use Rattle.dob_share.proofs.Common.{length_push, ones, Status, Open, Stuck, opening_of, class_of_place, AreCounted, IsStatusOf, bit, bits_below}
-use Rattle.dob_share.proofs.Common.{catches, open_at, opens, opens_below, status_in, status_listed, tries, word_of, Opening, StatusWord}
+-- Words of statuses: how many bits of a word are set before a place; the number of a cell, which is how many classes are open before its place; and the
+-- status of a place.
+use Rattle.dob_share.proofs.Common.{◌%◌, ◌*◌, ◌++◌, ◌+◌, ◌-◌, ◌/◌, ◌<◌, ◌^◌, ◌∙◌, ◌∷◌, ◌≡◌, ◌≤◌, AreCounted, IsStatusOf, List, Open, Opening, Some, Status}
+use Rattle.dob_share.proofs.Common.{StatusWord, Stuck, [], add-mul-div_right, ap, arith, bit, bit_or, bits_below, cases_eq, cases_lt, catches, class_of_place}
+use Rattle.dob_share.proofs.Common.{cond_below, div-mul-add, get_or, get_or_append_left, inl, inr, length, length_push, mod-eq_of_lt, mod-lt, mod-pow-add}
+use Rattle.dob_share.proofs.Common.{one_shl, ones, ones_cat, open_at, opening_of, opens, opens_below, pow-add, pow_pos, refl, slice_get, status_in}
+use Rattle.dob_share.proofs.Common.{status_listed, subst, suc, sym, tries, word_of, zero, ℕ}
+use Rattle.std.proofs.lemmas.Grind.{common_steps}
+use Rattle.std.specs.Int.Bits.{or_shifted_r}
 use Rattle.std.proofs.lemmas.Option.{slice_get_within, get_or_from_slice_get}
 use Rattle.std.proofs.Math.Seq.{get_or-append_seam}
 use Rattle.dob_share.specs.Statuses.{status_of_bits, no_word}
-use Rattle.dob_share.proofs.Bits.{ones_below}
+
+-- ---- bits
+
+ones_small : (b : ℕ) → b < 2 → ones b ≡ b
+unfolding ones
+ones_small zero low = refl
+ones_small (suc zero) low = refl
+ones_small (suc (suc b)) low = absurd (omega arith)
+
+pub ones_below : (word place : ℕ) → ones (word % 2 ^ place) ≡ bits_below word place
+ones_below word zero = (let e : word % 2 ^ 0 ≡ 0 = omega arith in ap ones e ∙ ones_small 0 (omega arith))
+ones_below word (suc place) =
+    let split : word % 2 ^ suc place ≡ bit word place * 2 ^ place + word % 2 ^ place
+    = ap (λ (k : ℕ). word % 2 ^ k) (let e : suc place ≡ 1 + place = omega arith in e) ∙ mod-pow-add word 1 place in
+    let digit : ones (bit word place) ≡ bit word place = ones_small (bit word place) (omega arith) in
+    let rest : ones (word % 2 ^ place) ≡ bits_below word place = ones_below word place in
+    let joined : ones (bit word place * 2 ^ place + word % 2 ^ place) ≡ ones (bit word place) + ones (word % 2 ^ place)
+    = ones_cat place (bit word place) (word % 2 ^ place) (mod-lt word (pow_pos place)) in
+    let all : ones (word % 2 ^ suc place) ≡ ones (bit word place) + ones (word % 2 ^ place) = ap ones split ∙ joined in
+    omega arith
+
+-- ---- a digit written above a word
+
+one_place : (place : ℕ) → 1 * 2 ^ place ≡ 2 ^ place
+one_place place = omega arith
+
+pub digit_is : (word place digit : ℕ) → place < 64 → digit < 2 → word < 2 ^ place → bit_or word (digit * 2 ^ place % 2 ^ 64) ≡ digit * 2 ^ place + word
+digit_is word place digit few small low = ap (λ (m : ℕ). bit_or word m) (shifted digit small) ∙ or_shifted_r digit place word low
+  where
+    shifted : (d : ℕ) → d < 2 → d * 2 ^ place % 2 ^ 64 ≡ d * 2 ^ place
+    shifted zero two = let none : 0 * 2 ^ place ≡ 0 = omega arith in ap (λ (m : ℕ). m % 2 ^ 64) none ∙ (let e : 0 % 2 ^ 64 ≡ 0 * 2 ^ place = omega (arith, none) in e)
+    shifted (suc zero) two = one_shl place 64 few ∙ sym (one_place place)
+    shifted (suc (suc d)) two = absurd (omega arith)
+
+pub digit_there : (word place digit : ℕ) → digit < 2 → word < 2 ^ place → bit (digit * 2 ^ place + word) place ≡ digit
+digit_there word place digit small low = ap (λ (m : ℕ). m % 2) (div-mul-add digit (2 ^ place) word low) ∙ (let e : digit % 2 ≡ digit = omega arith in e)
+
+one_before : (word place other : ℕ) → other < place → bit (1 * 2 ^ place + word) other ≡ bit word other
+one_before word place other below =
+    let gap : ℕ = place - other - 1 in
+    let power : 2 ^ place ≡ 2 ^ gap * 2 * 2 ^ other
+    = ap (λ (k : ℕ). 2 ^ k) (let e : place ≡ (gap + 1) + other = omega arith in e) ∙ pow-add 2 (gap + 1) other
+    ∙ ap (λ (m : ℕ). m * 2 ^ other) (pow-add 2 gap 1) in
+    let sum : 1 * 2 ^ place + word ≡ word + 2 ^ gap * 2 * 2 ^ other = omega (arith, power) in
+    let split : (word + 2 ^ gap * 2 * 2 ^ other) / 2 ^ other ≡ word / 2 ^ other + 2 ^ gap * 2 = add-mul-div_right word (2 ^ gap * 2) (pow_pos other) in
+    ap (λ (m : ℕ). m / 2 ^ other % 2) sum ∙ ap (λ (m : ℕ). m % 2) split ∙ (let e : (word / 2 ^ other + 2 ^ gap * 2) % 2 ≡ word / 2 ^ other % 2 = omega arith in e)
+
+pub digit_before : (word place digit other : ℕ) → digit < 2 → other < place → bit (digit * 2 ^ place + word) other ≡ bit word other
+digit_before word place zero other small below = ap (λ (m : ℕ). bit m other) (let e : 0 * 2 ^ place + word ≡ word = omega arith in e)
+digit_before word place (suc zero) other small below = one_before word place other below
+digit_before word place (suc (suc digit)) other small below = absurd (omega arith)
+
+pub digit_low : (word place digit : ℕ) → digit < 2 → word < 2 ^ place → digit * 2 ^ place + word < 2 ^ (place + 1)
+digit_low word place digit small low = grind (arith, common_steps)
 
 -- ---- the status by three bits
 
 pub by_bits : (a b c x y z : ℕ) → a ≡ x → b ≡ y → c ≡ z → status_of_bits a b c ≡ status_of_bits x y z
-by_bits a b c x y z p q r = ap (λ (k : ℕ). status_of_bits k b c) p ∙ ap (λ (k : ℕ). status_of_bits x k c) q ∙ ap (λ (k : ℕ). status_of_bits x y k) r
+by_bits a b c x y z p q r = rw (p, q, r) refl
 
 bits_back : (status : Status) → status_of_bits (opens status) (catches status) (tries status) ≡ status
 bits_back status = grind arith
@@ -51,9 +108,7 @@ pub rank_read : (words : List StatusWord) (place before : ℕ) (word : StatusWor
     before ≡ bits_below word.opens (place % 64) → word.before + before ≡ opens_below words place
 rank_read words place before word counted there is =
     let read : get_or words (place / 64) no_word ≡ word = get_or_from_slice_get words (place / 64) word no_word there in
-    subst (λ (x : StatusWord). x.before + before ≡ opens_below words place) read
-    (rank_is words place before counted (slice_get_within words (place / 64) word there)
-    (is ∙ ap (λ (x : StatusWord). bits_below x.opens (place % 64)) (sym read)))
+    rw read at (rank_is words place before counted (slice_get_within words (place / 64) word there) (rw read is))
 
 pub opens_few : (words : List StatusWord) (k : ℕ) → opens_below words k ≤ k
 opens_few words zero = omega arith
@@ -90,10 +145,8 @@ module _ (status : ℕ → Status) (number count : ℕ) (last : StatusWord) (wor
     | inl before ↦ ap (λ (x : StatusWord). x.before) (get_or_append_left words (last ∷ []) no_word w (omega arith)) ∙ counted w (omega arith)
         ∙ sym (same_below (w * 64) (omega arith))
     | inr after ↦
-        let long : length longer ≡ length words + 1 = length_push words last in
-        let same : number ≡ w = omega arith in
-        subst (λ (k : ℕ). (get_or longer k no_word).before ≡ opens_below longer (k * 64)) same
-        (ap (λ (x : StatusWord). x.before) last_is ∙ told ∙ is ∙ sym (same_below (number * 64) (omega arith)))
+        let same : number ≡ w = omega (arith, length_push words last) in
+        rw (← same, last_is) (told ∙ is ∙ sym (same_below (number * 64) (omega arith)))
   ]
 
   count_more : last.opens < 2 ^ 64 → count + ones last.opens ≡ opens_below longer ((number + 1) * 64)
@@ -106,13 +159,11 @@ module _ (status : ℕ → Status) (number count : ℕ) (last : StatusWord) (wor
       ((place : ℕ) → place < number * 64 → IsStatusOf (word_of words place) (place % 64) (status place)) →
       (place : ℕ) → place < (number + 1) * 64 → IsStatusOf (word_of longer place) (place % 64) (status place)
   each_more new old place low = elim (cases_lt place (number * 64)) [
-    | inl before ↦ subst (λ (w : StatusWord). IsStatusOf w (place % 64) (status place)) (sym (word_before place before)) (old place before)
+    | inl before ↦ rw (word_before place before) (old place before)
     | inr after ↦
         let there : place / 64 ≡ number = omega arith in
         let back : number * 64 + place % 64 ≡ place = omega arith in
-        let word : word_of longer place ≡ last = ap (λ (k : ℕ). get_or longer k no_word) there ∙ last_is in
-        subst (λ (w : StatusWord). IsStatusOf w (place % 64) (status place)) (sym word)
-        (subst (λ (k : ℕ). IsStatusOf last (place % 64) (status k)) back (new (place % 64) (omega arith)))
+        rw (there, last_is) (subst (λ (k : ℕ). IsStatusOf last (place % 64) (status k)) back (new (place % 64) (omega arith)))
   ]
 
 -- all that a word more makes
@@ -148,12 +199,12 @@ pub record AreDigits (digit : Status → ℕ) (status : ℕ → Status) (upto wo
   pub low : word < 2 ^ upto
   pub each : (k : ℕ) → k < upto → bit word k ≡ digit (status k)
 
-pub digits_none : (digit : Status → ℕ) (status : ℕ → Status) → AreDigits digit status 0 0
-digits_none digit status = record { low = omega arith; each = λ k low. absurd (omega arith) }
+pub digits_none : {digit : Status → ℕ} {status : ℕ → Status} → AreDigits digit status 0 0
+digits_none = record { low = omega arith; each = λ k low. absurd (omega arith) }
 
-pub digits_more : (digit : Status → ℕ) (status : ℕ → Status) (k word new : ℕ) → AreDigits digit status k word → bit new k ≡ digit (status k) →
+pub digits_more : {digit : Status → ℕ} {status : ℕ → Status} {k word new : ℕ} → AreDigits digit status k word → bit new k ≡ digit (status k) →
     ((other : ℕ) → other < k → bit new other ≡ bit word other) → new < 2 ^ (k + 1) → AreDigits digit status (k + 1) new
-digits_more digit status k word new old here before low = record {
+digits_more {k = k} old here before low = record {
   low = low;
   each = λ j less. elim (cases_eq j k) [ inl same ↦ rw same here | inr other ↦ before j (omega arith) ∙ old.each j (omega arith) ];
 }

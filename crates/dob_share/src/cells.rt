@@ -19,7 +19,7 @@ pub(crate) struct Slot {
 }
 
 /// The place of an entry of the slot's run that counts a win in that distance.
-#[tactic(auto, using(crate::proofs::Tallies::wins_none, crate::proofs::Tallies::wins_some))]
+#[tactic(auto, using(crate::proofs::Keeping::wins_none, crate::proofs::Keeping::wins_some))]
 pub(crate) fn counted_place(pool: &Segments<u16>, slot: Slot, plies: u16) -> Option<usize>
     requires { slot.start + slot.used ≤ length pool.now }
     ensures wins { MatchOption result (wins_in pool.now slot.start slot.used plies ≡ 0) (λ _. 0 < wins_in pool.now slot.start slot.used plies) }

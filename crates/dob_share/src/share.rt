@@ -268,7 +268,7 @@ impl Share {
 }
 
 /// How many of that many classes an owner has: those with the numbers k * nodes + id.
-#[tactic(auto, using(crate::proofs::OwnOpened::places_count))]
+#[tactic(auto, using(crate::proofs::Opened::places_count))]
 pub fn places_among(count: u64, id: u64, nodes: NodeCount) -> u64
     requires { id < nodes }
     ensures { (place : ℕ) → (place < result) ↔ (place * nodes + id < count) }

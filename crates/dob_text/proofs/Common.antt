@@ -2,7 +2,7 @@
 pub use Rattle.std.proofs.Common.{if◌then◌else◌, ◌%◌, ◌*◌, ◌++◌, ◌+◌, ◌-◌, ◌<◌, ◌==◌, ◌↔◌, ◌∙◌, ◌∷◌, ◌≡◌, ◌≢◌, ◌≤◌, ◌⊎◌, All, Err, List, None, Ok, Result, Some}
 pub use Rattle.std.proofs.Common.{[], ap, append_assoc, arith, drop, false, get_or, inl, inr, length, length-append, map, nat_lt, refl, replicate}
 pub use Rattle.std.proofs.Common.{slice_index_or, subst, suc, sym, take, true, zero, ℕ}
-pub use Rattle.std.proofs.lemmas.Bool.{both_ways, cases_lt}
+pub use Rattle.std.proofs.lemmas.Bool.{both_ways}
 pub use Rattle.std.proofs.lemmas.List.{append-nil, get_or_append_left, take-append-drop, take_rest}
 pub use Rattle.std.proofs.lemmas.List.Elements.{All-append, All-cons, All-from_get_or, All-replicate, All-weaker}
 pub use Rattle.std.specs.List.{after_first, before_first, concat, position, position_or_len, prefix_len, range_with_len}

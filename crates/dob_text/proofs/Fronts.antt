@@ -1,10 +1,11 @@
 -- The letters of a hand: three runs, one after another.
-use Rattle.dob_text.proofs.Common.{◌++◌, ◌+◌, ◌-◌, ◌<◌, ◌==◌, ◌∙◌, ◌∷◌, ◌≡◌, ◌≢◌, ◌≤◌, ◌⊎◌, List, [], ap, append_assoc, arith, drop, get_or, inl, inr, length}
-use Rattle.dob_text.proofs.Common.{length-append, refl, replicate, subst, suc, sym, take, true, zero, ℕ, append-nil, get_or_append_left, take-append-drop}
-use Rattle.dob_text.proofs.Common.{prefix_len, Hand, Side, Enemy, Mover, cased, hand_letters, hand_text, or_dash}
+use Rattle.dob_text.proofs.Common.{◌++◌, ◌+◌, ◌<◌, ◌==◌, ◌∙◌, ◌∷◌, ◌≡◌, ◌≢◌, ◌≤◌, ◌⊎◌, List, [], ap, append_assoc, arith, drop, get_or, inl, inr, length}
+use Rattle.dob_text.proofs.Common.{length-append, refl, replicate, sym, take, true, ℕ, append-nil, take-append-drop, prefix_len, Hand, Side, cased}
+use Rattle.dob_text.proofs.Common.{hand_letters, hand_text, or_dash}
 use Rattle.std.proofs.lemmas.List.{drop_at, get_or-take, get_or-replicate, length-replicate, length-take-le, get_or-append_right, ext_get_or, take_all}
 use Rattle.std.proofs.lemmas.List.Sums.{prefix_len_is, prefix_len_passes, prefix_len-le-length}
 use Rattle.std.proofs.lemmas.Bool.Decides.{nat_tests}
+use Rattle.std.proofs.lemmas.Grind.{common_steps}
 
 -- how many times a list begins with a letter
 abbrev pub front : ℕ → List ℕ → ℕ
@@ -21,34 +22,21 @@ front_is letter xs =
     ext_get_or 0 (take n xs) (replicate n letter) (size ∙ sym (length-replicate n letter))
     (λ i h.
     let lt : i < n = omega arith in
-    get_or-take n xs i 0 lt ∙ is_letter _ letter (prefix_len_passes (λ byte. byte == letter) xs i 0 lt) ∙ sym (get_or-replicate n i letter 0 lt))
+    rw (get_or-take n xs i 0 lt, is_letter _ letter (prefix_len_passes (λ byte. byte == letter) xs i 0 lt), get_or-replicate n i letter 0 lt) refl)
 
 -- a run, and then no more of its letter
 run_front : (letter n : ℕ) (rest : List ℕ) → (0 < length rest → get_or rest 0 0 ≢ letter) → front letter (replicate n letter ++ rest) ≡ n
 run_front letter n rest ends =
-    let run : length (replicate n letter) ≡ n = length-replicate n letter in
-    let size : length (replicate n letter ++ rest) ≡ n + length rest = length-append (replicate n letter) rest ∙ ap (λ m. m + length rest) run in
-    prefix_len_is (λ byte. byte == letter) (replicate n letter ++ rest) n 0 (omega arith)
-    (λ k h.
-    let read : get_or (replicate n letter ++ rest) k 0 ≡ letter = get_or_append_left (replicate n letter) rest 0 k (omega arith)
-    ∙ get_or-replicate n k letter 0 h in
-    grind (arith, nat_tests))
-    (λ h.
-    let other : get_or rest 0 0 ≢ letter = ends (omega arith) in
-    let none : n - n ≡ 0 = omega arith in
-    let read : get_or (replicate n letter ++ rest) n 0 ≡ get_or rest 0 0 = get_or-append_right (replicate n letter) rest n n 0 run (omega arith)
-    ∙ ap (λ m. get_or rest m 0) none in
-    grind (arith, nat_tests))
+    prefix_len_is (λ byte. byte == letter) (replicate n letter ++ rest) n 0 (omega (arith, length-append (replicate n letter) rest, length-replicate n letter))
+    (λ k h. grind (arith, nat_tests, common_steps, get_or-replicate n k letter 0))
+    (λ h. grind (arith, nat_tests, common_steps, get_or-append_right (replicate n letter) rest n n 0))
 
 -- two runs begin with neither's letter
 begins : (letter b d y z : ℕ) → b ≢ letter → d ≢ letter → 0 < length (replicate y b ++ replicate z d) → get_or (replicate y b ++ replicate z d) 0 0 ≢ letter
-begins letter b d zero zero not_b not_d some = absurd (omega arith)
-begins letter b d zero (suc z) not_b not_d some = not_d
-begins letter b d (suc y) z not_b not_d some = not_b
+begins letter b d y z not_b not_d some = grind arith
 
 begins_one : (letter d z : ℕ) → d ≢ letter → 0 < length (replicate z d) → get_or (replicate z d) 0 0 ≢ letter
-begins_one letter d zero not_d some = absurd (omega arith)
-begins_one letter d (suc z) not_d some = not_d
+begins_one letter d z not_d some = grind arith
 
 -- three letters that differ
 pub record Differ (a b d : ℕ) : Type 0 where
@@ -65,20 +53,18 @@ pub record Runs (a b d x y z : ℕ) (word : List ℕ) : Type 0 where
 
 pub runs : (a b d x y z : ℕ) → Differ a b d → Runs a b d x y z (replicate x a ++ replicate y b ++ replicate z d)
 runs a b d x y z differ =
-    let word : List ℕ = replicate x a ++ replicate y b ++ replicate z d in
-    let grouped : word ≡ replicate x a ++ (replicate y b ++ replicate z d) = append_assoc (replicate x a) (replicate y b) (replicate z d) in
-    let rest : drop x word ≡ replicate y b ++ replicate z d = ap (drop x) grouped ∙ drop_at (replicate x a) _ x (length-replicate x a) in
-    let end : drop y (drop x word) ≡ replicate z d = ap (drop y) rest ∙ drop_at (replicate y b) (replicate z d) y (length-replicate y b) in
+    let grouped = append_assoc (replicate x a) (replicate y b) (replicate z d) in
+    let rest = ap (drop x) grouped ∙ drop_at (replicate x a) _ x (length-replicate x a) in
+    let end = ap (drop y) rest ∙ drop_at (replicate y b) (replicate z d) y (length-replicate y b) in
     record {
-      first = ap (front a) grouped ∙ run_front a x _ (begins a b d y z differ.first differ.third);
-      second = ap (front b) rest ∙ run_front b y _ (begins_one b d z differ.second);
-      third = ap (front d) (end ∙ sym (append-nil (replicate z d))) ∙ run_front d z [] (λ some. absurd (omega arith));
-      last = ap length end ∙ length-replicate z d;
+      first = rw grouped (run_front a x _ (begins a b d y z differ.first differ.third));
+      second = rw rest (run_front b y _ (begins_one b d z differ.second));
+      third = rw (end, ← append-nil (replicate z d)) (run_front d z [] (λ some. absurd (omega arith)));
+      last = rw end (length-replicate z d);
     }
 
 pub letters_differ : (side : Side) → Differ (cased side 67) (cased side 69) (cased side 71)
-letters_differ Mover = record { first = omega arith; third = omega arith; second = omega arith }
-letters_differ Enemy = record { first = omega arith; third = omega arith; second = omega arith }
+letters_differ side = grind arith
 
 -- what the letters of a hand are read as
 hand_runs : (side : Side) (hand : Hand) → Runs (cased side 67) (cased side 69) (cased side 71) hand.chicks hand.elephants hand.giraffes (hand_letters side hand)
@@ -97,17 +83,10 @@ same_hand h k chicks elephants giraffes = λ i. record { chicks = chicks i; elep
 
 runs_hand : (side : Side) (hand : Hand) (word : List ℕ)
     → Runs (cased side 67) (cased side 69) (cased side 71) hand.chicks hand.elephants hand.giraffes word → hand_in side word ≡ hand
-runs_hand side hand word r =
-    let second : front (cased side 69) (drop (front (cased side 67) word) word) ≡ hand.elephants
-    = ap (λ n. front (cased side 69) (drop n word)) r.first ∙ r.second in
-    let third : (hand_in side word).giraffes ≡ hand.giraffes =
-    ap (λ n. front (cased side 71) (drop (front (cased side 69) (drop n word)) (drop n word))) r.first
-    ∙ ap (λ n. front (cased side 71) (drop n (drop hand.chicks word))) r.second ∙ r.third in
-    same_hand (hand_in side word) hand r.first second third
+runs_hand side hand word r = rw (r.first, r.second, r.third) refl
 
 dash_hand : (side : Side) → (hand_in side (45 ∷ [])) ≡ record { chicks = 0; elephants = 0; giraffes = 0 }
-dash_hand Mover = refl
-dash_hand Enemy = refl
+dash_hand side = grind arith
 
 hand_size : (side : Side) (hand : Hand) → length (hand_letters side hand) ≡ hand.chicks + hand.elephants + hand.giraffes
 hand_size side hand = simp (length-append, length-replicate)
@@ -123,12 +102,10 @@ pub same_hand_text : (side : Side) (h k : Hand) → hand_text side h ≡ hand_te
 same_hand_text side h k same = sym (back_from side h (hand_letters side h) refl) ∙ ap (hand_in side) same ∙ back_from side k (hand_letters side k) refl
 
 no_dash : (letters : List ℕ) → 0 < length letters → or_dash letters ≡ letters
-no_dash [] some = absurd (omega arith)
-no_dash (letter ∷ letters) some = refl
+no_dash letters some = grind arith
 
 dash_cases : (letters : List ℕ) → (or_dash letters ≡ letters) ⊎ (or_dash letters ≡ 45 ∷ [])
-dash_cases [] = inr refl
-dash_cases (letter ∷ letters) = inl refl
+dash_cases letters = grind arith
 
 -- a word that is three runs is the text of their counts
 pub hand_spelled : (side : Side) (word : List ℕ) (c e g : ℕ) → 0 < length word → c ≡ front (cased side 67) word
@@ -142,32 +119,24 @@ hand_spelled side word c e g some is_c is_e is_g whole =
     let elephants : take e (drop c word) ≡ replicate e b = rw is_e (front_is b (drop c word)) in
     let giraffes : take g (drop e (drop c word)) ≡ replicate g d = rw is_g (front_is d (drop e (drop c word))) in
     let last : drop e (drop c word) ≡ replicate g d = sym (take_all g (drop e (drop c word)) whole) ∙ giraffes in
-    let middle : drop c word ≡ replicate e b ++ replicate g d = sym (take-append-drop e (drop c word))
-    ∙ ap (λ x. x ++ drop e (drop c word)) elephants ∙ ap (λ x. replicate e b ++ x) last in
-    let all : word ≡ replicate c a ++ replicate e b ++ replicate g d = sym (take-append-drop c word) ∙ ap (λ x. x ++ drop c word) chicks
-    ∙ ap (λ x. replicate c a ++ x) middle ∙ sym (append_assoc (replicate c a) (replicate e b) (replicate g d)) in
-    let filled : 0 < length (replicate c a ++ replicate e b ++ replicate g d) = subst (λ (x : List ℕ). 0 < length x) all some in
-    all ∙ sym (no_dash (replicate c a ++ replicate e b ++ replicate g d) filled)
+    let middle : drop c word ≡ replicate e b ++ replicate g d = rw (elephants, last) at (sym (take-append-drop e (drop c word))) in
+    let all : word ≡ replicate c a ++ (replicate e b ++ replicate g d) = rw (chicks, middle) at (sym (take-append-drop c word)) in
+    let grouped = all ∙ sym (append_assoc (replicate c a) (replicate e b) (replicate g d)) in
+    grouped ∙ sym (no_dash (replicate c a ++ replicate e b ++ replicate g d) (rw grouped at some))
 
 -- a word that is neither a dash nor three runs is no hand's
 pub hand_fault : (side : Side) (word : List ℕ) (c e g : ℕ) → word ≢ 45 ∷ [] → c ≡ front (cased side 67) word → e ≡ front (cased side 69) (drop c word)
     → g ≡ front (cased side 71) (drop e (drop c word)) → g < length (drop e (drop c word)) → (hand : Hand) → word ≢ hand_text side hand
-hand_fault side word c e g other is_c is_e is_g more hand is =
-    elim (dash_cases (hand_letters side hand)) [
-      | inl plain ↦
-          let spelled : word ≡ hand_letters side hand = is ∙ plain in
-          let r : Runs (cased side 67) (cased side 69) (cased side 71) hand.chicks hand.elephants hand.giraffes word
-          = subst (λ (x : List ℕ). Runs (cased side 67) (cased side 69) (cased side 71) hand.chicks hand.elephants hand.giraffes x)
-          (sym spelled) (hand_runs side hand) in
-          let same_c : c ≡ hand.chicks = is_c ∙ r.first in
-          let same_e : e ≡ hand.elephants = is_e ∙ ap (λ n. front (cased side 69) (drop n word)) same_c ∙ r.second in
-          let same_drop : drop e (drop c word) ≡ drop hand.elephants (drop hand.chicks word) = ap (λ n. drop n (drop c word)) same_e
-          ∙ ap (λ n. drop hand.elephants (drop n word)) same_c in
-          let same_g : g ≡ hand.giraffes = is_g ∙ ap (front (cased side 71)) same_drop ∙ r.third in
-          let size : length (drop e (drop c word)) ≡ hand.giraffes = ap length same_drop ∙ r.last in
-          absurd (omega arith)
-      | inr dash ↦ absurd (other (is ∙ dash))
-    ]
+hand_fault side word c e g other is_c is_e is_g more hand is = elim (dash_cases (hand_letters side hand)) [
+  | inl plain ↦
+      let r : Runs (cased side 67) (cased side 69) (cased side 71) hand.chicks hand.elephants hand.giraffes word = rw (is ∙ plain) (hand_runs side hand) in
+      let same_c : c ≡ hand.chicks = is_c ∙ r.first in
+      let same_e : e ≡ hand.elephants = is_e ∙ (rw same_c r.second) in
+      let same_g : g ≡ hand.giraffes = is_g ∙ (rw (same_e, same_c) r.third) in
+      let size : length (drop e (drop c word)) ≡ hand.giraffes = rw (same_e, same_c) r.last in
+      absurd (omega arith)
+  | inr dash ↦ absurd (other (is ∙ dash))
+]
 
 pub one_byte : (xs : List ℕ) (byte : ℕ) → length xs ≡ 1 → get_or xs 0 0 ≡ byte → xs ≡ byte ∷ []
 one_byte (x ∷ []) byte size is = ap (λ n. n ∷ []) is
@@ -177,9 +146,7 @@ one_byte xs byte size is = absurd (omega arith)
 pub front_stops : (letter : ℕ) (xs : List ℕ) (n : ℕ) → n ≤ length xs → ((k : ℕ) → k < n → get_or xs k 0 ≡ letter)
     → (n < length xs → get_or xs n 0 ≢ letter) → n ≡ front letter xs
 front_stops letter xs n size each ends =
-    sym (prefix_len_is (λ byte. byte == letter) xs n 0 size
-    (λ k h. let is : get_or xs k 0 ≡ letter = each k h in grind (arith, nat_tests))
-    (λ h. let other : get_or xs n 0 ≢ letter = ends h in grind (arith, nat_tests)))
+    sym (prefix_len_is (λ byte. byte == letter) xs n 0 size (λ k h. grind (arith, nat_tests, each k h)) (λ h. grind (arith, nat_tests, ends h)))
 
 -- the three counts of a word, each of what the one before left
 pub record Counts (side : Side) (word : List ℕ) (c e g : ℕ) : Type 0 where
@@ -189,8 +156,4 @@ pub record Counts (side : Side) (word : List ℕ) (c e g : ℕ) : Type 0 where
 
 pub counts : (side : Side) (word rest last : List ℕ) (a b d c e g : ℕ) → a ≡ cased side 67 → b ≡ cased side 69 → d ≡ cased side 71
     → rest ≡ drop c word → last ≡ drop e rest → c ≡ front a word → e ≡ front b rest → g ≡ front d last → Counts side word c e g
-counts side word rest last a b d c e g is_a is_b is_d is_rest is_last is_c is_e is_g = record {
-  chicks = is_c ∙ ap (λ n. front n word) is_a;
-  elephants = is_e ∙ ap (λ n. front n rest) is_b ∙ ap (front (cased side 69)) is_rest;
-  giraffes = is_g ∙ ap (λ n. front n last) is_d ∙ ap (front (cased side 71)) (is_last ∙ ap (drop e) is_rest);
-}
+counts side word rest last a b d c e g is_a is_b is_d is_rest is_last is_c is_e is_g = record { chicks = cc; elephants = cc; giraffes = cc }

@@ -1,10 +1,10 @@
 -- The text of a board stands for one board.
-use Rattle.dob_text.proofs.Common.{◌+◌, if◌then◌else◌, ◌%◌, ◌-◌, ◌<◌, ◌==◌, ◌↔◌, ◌∙◌, ◌∷◌, ◌≡◌, ◌≢◌, All, List, None, Some, [], ap, arith, get_or, length, nat_lt}
-use Rattle.dob_text.proofs.Common.{refl, suc, sym, zero, ℕ, All-from_get_or, Cell, Chick, Elephant, Giraffe, Hen, Lion, Side, Enemy, Mover, cased, letter_of}
-use Rattle.dob_text.proofs.Common.{letter_of_kind, HasLetters, IsBoardLetter, IsGrid, board_text, letter_place}
+use Rattle.dob_text.proofs.Common.{◌+◌, if◌then◌else◌, ◌%◌, ◌-◌, ◌<◌, ◌==◌, ◌↔◌, ◌∙◌, ◌∷◌, ◌≡◌, ◌≢◌, All, List, None, Some, [], ap, arith, get_or, length}
+use Rattle.dob_text.proofs.Common.{nat_lt, refl, suc, sym, zero, ℕ, All-from_get_or, Cell, Chick, Elephant, Giraffe, Hen, Lion, Side, Enemy, Mover, cased}
+use Rattle.dob_text.proofs.Common.{letter_of, letter_of_kind, HasLetters, IsBoardLetter, IsGrid, board_text, letter_place}
 use Rattle.std.proofs.Common.{◌*◌, ◌/◌}
 use Rattle.dob_pieces.specs.declared.kind.Kind.{Kind}
-use Rattle.dob_text.proofs.Plain.{IsPlain, letter_plain, letter_known}
+use Rattle.dob_text.proofs.Plain.{letter_plain, letter_known}
 
 -- what a byte of a board's text is
 abbrev IsPlaced : ℕ → ℕ → Type 0
@@ -12,8 +12,7 @@ IsPlaced byte i = (byte ≢ 32) × ((byte ≡ 47) ↔ (i % 4 ≡ 3)) × (i % 4 �
 
 letter_placed : (cell : Cell) (i : ℕ) → i % 4 ≢ 3 → IsPlaced (letter_of cell) i
 letter_placed cell i other =
-    let plain : IsPlain (letter_of cell) = letter_plain cell in
-    (plain.space, (λ e. absurd (plain.slash e), λ e. absurd (other e)), λ _. letter_known cell, plain.ascii)
+    let plain = letter_plain cell in (plain.space, (λ e. absurd (plain.slash e), λ e. absurd (other e)), λ _. letter_known cell, plain.ascii)
 
 slash_placed : (i : ℕ) → i % 4 ≡ 3 → IsPlaced 47 i
 slash_placed i here = (omega arith, (λ _. here, λ _. refl), λ other. absurd (other here), omega arith)

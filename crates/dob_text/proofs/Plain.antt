@@ -34,8 +34,7 @@ pub hand_plain : (side : Side) (hand : Hand) → All IsPlain (hand_text side han
 hand_plain side hand = dash_plain (hand_letters side hand) (letters_plain side hand)
 
 dash_filled : (letters : List ℕ) → 0 < length (or_dash letters)
-dash_filled [] = omega arith
-dash_filled (letter ∷ letters) = omega arith
+dash_filled letters = grind arith
 
 pub hand_filled : (side : Side) (hand : Hand) → 0 < length (hand_text side hand)
 hand_filled side hand = dash_filled (hand_letters side hand)
@@ -47,5 +46,4 @@ piece_letter_known Enemy Hen = refl
 piece_letter_known side kind = refl
 
 pub letter_known : (cell : Cell) → IsBoardLetter (letter_of cell)
-letter_known None = refl
-letter_known (Some piece) = piece_letter_known piece.side piece.kind
+letter_known cell = grind (arith, piece_letter_known)

@@ -1,6 +1,6 @@
 -- A text has one fault at most, and none where a position's text is.
-use Rattle.dob_text.proofs.Common.{◌<◌, ◌↔◌, ◌∙◌, ◌≡◌, ◌≤◌, Err, List, Ok, Result, ap, arith, inl, inr, refl, subst, sym, ℕ, cases_lt, IsAllowed, Setup, Spells}
-use Rattle.dob_text.proofs.Common.{text_of, capped_setup}
+use Rattle.dob_text.proofs.Common.{◌<◌, ◌↔◌, ◌∙◌, ◌≡◌, ◌≤◌, Err, List, Ok, Result, ap, arith, refl, subst, sym, ℕ, IsAllowed, Setup, Spells, text_of}
+use Rattle.dob_text.proofs.Common.{capped_setup}
 use Rattle.std.specs.Result.{MatchResult, IsErrOf, IfOk, IsOkAnd}
 use Rattle.dob_pieces.specs.declared.kind.HandKind.TheVariants as kind
 use Rattle.dob_pieces.specs.declared.profile.Profile.{Profile}
@@ -11,6 +11,7 @@ use Rattle.dob_text.specs.declared.fault.TextFault.TheVariants as fault
 use Rattle.dob_text.specs.Faults.{HasTextFault, HasSetupFault}
 use Rattle.dob_text.proofs.Fronts.{same_hand}
 use Rattle.dob_text.proofs.Whole.{spelled_shape, spelled_letters, spelled_hands, same_spelled, same_setup}
+use Rattle.std.proofs.lemmas.Bool.{cases_order}
 
 -- the order of the faults
 abbrev place : TextFault → ℕ
@@ -23,18 +24,10 @@ place fault.FarLion = 5
 place fault.FarChick = 6
 
 place_small : (f : TextFault) → place f ≤ 6
-place_small fault.FarChick = omega arith
-place_small f = omega arith
+place_small f = grind arith
 
 same_place : (f g : TextFault) → place f ≡ place g → f ≡ g
-same_place fault.Shape fault.Shape e = refl
-same_place fault.Letter fault.Letter e = refl
-same_place fault.Hand fault.Hand e = refl
-same_place fault.Lions fault.Lions e = refl
-same_place fault.Count fault.Count e = refl
-same_place fault.FarLion fault.FarLion e = refl
-same_place fault.FarChick fault.FarChick e = refl
-same_place _ _ e = absurd (omega arith)
+same_place f g e = grind arith
 
 -- a later fault speaks against an earlier one
 ordered : (profile : Profile) (text : List ℕ) (f g : TextFault) → place f < place g → HasTextFault profile text f → HasTextFault profile text g → ⊥
@@ -64,14 +57,7 @@ ordered profile text _ g lt x y = absurd (omega (arith, place_small g))
 
 -- a text has one fault
 pub one_fault : (profile : Profile) (text : List ℕ) (f g : TextFault) → HasTextFault profile text f → HasTextFault profile text g → f ≡ g
-one_fault profile text f g x y =
-    elim (cases_lt (place f) (place g)) [
-      | inl lt ↦ absurd (ordered profile text f g lt x y)
-      | inr ge ↦ elim (cases_lt (place g) (place f)) [
-        | inl lt ↦ absurd (ordered profile text g f lt y x)
-        | inr le ↦ same_place f g (omega arith)
-      ]
-    ]
+one_fault profile text f g x y = grind (arith, cases_order (place f) (place g), same_place f g, ordered profile text f g, ordered profile text g f)
 
 -- the text of a position of the profile has none
 pub no_fault : (profile : Profile) (text : List ℕ) (setup : Setup) (f : TextFault) → IsLegal setup → IsAllowed profile setup → Spells text setup
@@ -79,11 +65,10 @@ pub no_fault : (profile : Profile) (text : List ℕ) (setup : Setup) (f : TextFa
 no_fault profile text setup fault.Shape legal allowed spells x = x (spelled_shape text setup spells)
 no_fault profile text setup fault.Letter legal allowed spells x = x.1 (spelled_letters text setup spells)
 no_fault profile text setup fault.Hand legal allowed spells x = x.2 (spelled_hands text setup spells)
-no_fault profile text setup fault.Lions legal allowed spells x = x.2 (subst (λ (s : Setup). HasLions s) (same_spelled text setup x.0 spells x.1) legal.lions)
-no_fault profile text setup fault.Count legal allowed spells x = x.3 (subst (λ (s : Setup). HasFewPieces s) (same_spelled text setup x.0 spells x.1) legal.few)
-no_fault profile text setup fault.FarLion legal allowed spells x = x.4 (subst (λ (s : Setup). HasLionOffFarRow s) (same_spelled text setup x.0 spells x.1) legal.home)
-no_fault profile text setup fault.FarChick legal allowed spells x =
-    x.3 (subst (λ (s : Setup). IsAllowed profile s) (same_spelled text setup x.0 spells x.1) allowed)
+no_fault profile text setup fault.Lions legal allowed spells x = x.2 (rw (same_spelled text setup x.0 spells x.1) at legal.lions)
+no_fault profile text setup fault.Count legal allowed spells x = x.3 (rw (same_spelled text setup x.0 spells x.1) at legal.few)
+no_fault profile text setup fault.FarLion legal allowed spells x = x.4 (rw (same_spelled text setup x.0 spells x.1) at legal.home)
+no_fault profile text setup fault.FarChick legal allowed spells x = x.3 (rw (same_spelled text setup x.0 spells x.1) at allowed)
 
 -- what reading gives: the position that the text spells, or its fault
 abbrev pub Reads : Profile → List ℕ → Result Position TextFault → Type 0
@@ -92,20 +77,16 @@ Reads profile text r = MatchResult r
     (λ f. HasTextFault profile text f)
 
 pub read_as : (profile : Profile) (text : List ℕ) (r : Result Position TextFault) → Reads profile text r → IfOk r (λ position. text ≡ text_of position.setup)
-read_as profile text (Ok position) reads = reads.2.spelled
-read_as profile text (Err f) reads = tt
+read_as profile text r reads = grind arith
 
 pub allowed_as : (profile : Profile) (text : List ℕ) (r : Result Position TextFault) → Reads profile text r → IfOk r (λ position. IsAllowed profile position.setup)
-allowed_as profile text (Ok position) reads = reads.1
-allowed_as profile text (Err f) reads = tt
+allowed_as profile text r reads = grind arith
 
 pub fault_as : (profile : Profile) (text : List ℕ) (r : Result Position TextFault) → Reads profile text r
     → (f : TextFault) → IsErrOf r f ↔ HasTextFault profile text f
 fault_as profile text (Ok position) reads f = (λ same. cc, λ x. absurd (no_fault profile text position.setup f reads.0 reads.1 reads.2 x))
-fault_as profile text (Err e) reads f = (
-  λ same. let is : e ≡ f = cc in subst (λ (g : TextFault). HasTextFault profile text g) is reads,
-  λ x. ap (λ (g : TextFault). Err g) (one_fault profile text e f reads x),
-)
+fault_as profile text (Err e) reads f =
+    (λ same. let is : e ≡ f = cc in rw is at reads, λ x. ap (λ (g : TextFault). Err g) (one_fault profile text e f reads x))
 
 pub whole_as : (profile : Profile) (text : List ℕ) (r : Result Position TextFault) → Reads profile text r → (setup : Setup) → IsLegal setup
     → IsAllowed profile setup → text ≡ text_of setup → IsOkAnd r (λ position. position.setup ≡ setup)
@@ -117,8 +98,7 @@ whole_as profile text (Err f) reads setup legal allowed is =
 -- counts above 255 are above 2
 few_up : (setup : Setup) → HasFewPieces (capped_setup setup) → HasFewPieces setup
 unfolding total
-few_up setup few kind.Chick = let h : total kind.Chick (capped_setup setup) ≤ 2 = few kind.Chick in omega arith
-few_up setup few of_kind = let h : total of_kind (capped_setup setup) ≤ 2 = few of_kind in omega arith
+few_up setup few of_kind = let h = few of_kind in grind arith
 
 few_down : (setup : Setup) → HasFewPieces setup → HasFewPieces (capped_setup setup)
 unfolding total
@@ -129,12 +109,10 @@ few_down setup few of_kind = let h : total of_kind setup ≤ 2 = few of_kind in 
 uncapped : (setup : Setup) → HasFewPieces setup → capped_setup setup ≡ setup
 unfolding total
 uncapped setup few =
-    let chicks : total kind.Chick setup ≤ 2 = few kind.Chick in
-    let elephants : total kind.Elephant setup ≤ 2 = few kind.Elephant in
-    let giraffes : total kind.Giraffe setup ≤ 2 = few kind.Giraffe in
-    same_setup _ _ refl
-    (same_hand _ _ (omega arith) (omega arith) (omega arith))
-    (same_hand _ _ (omega arith) (omega arith) (omega arith))
+    let chicks = few kind.Chick in
+    let elephants = few kind.Elephant in
+    let giraffes = few kind.Giraffe in
+    same_setup _ _ refl (same_hand _ _ (omega arith) (omega arith) (omega arith)) (same_hand _ _ (omega arith) (omega arith) (omega arith))
 
 -- the setup that was read is capped, and its fault is the text's
 fault_up : (profile : Profile) (text : List ℕ) (setup : Setup) (f : TextFault) → Spells text setup
@@ -151,11 +129,7 @@ fault_up profile text setup f spells x = absurd x
 pub reads_by : (profile : Profile) (text : List ℕ) (full setup : Setup) (r : Result Position TextFault) → Spells text full → setup ≡ capped_setup full
     → MatchResult r (λ position. IsLegal setup × IsAllowed profile setup × (position.setup ≡ setup)) (λ f. HasSetupFault profile setup f) → Reads profile text r
 reads_by profile text full setup (Ok position) spells is found =
-    let legal : IsLegal (capped_setup full) = subst (λ (s : Setup). IsLegal s) is found.0 in
-    let same : full ≡ position.setup = sym (found.2 ∙ is ∙ uncapped full (few_up full legal.few)) in (
-      subst (λ (s : Setup). IsLegal s) (sym found.2) found.0,
-      subst (λ (s : Setup). IsAllowed profile s) (sym found.2) found.1,
-      subst (λ (s : Setup). Spells text s) same spells,
-    )
-reads_by profile text full setup (Err f) spells is fault =
-    fault_up profile text full f spells (subst (λ (s : Setup). HasSetupFault profile s f) is fault)
+    let legal = rw is at found.0 in
+    let same : full ≡ position.setup = sym (found.2 ∙ is ∙ uncapped full (few_up full legal.few)) in
+    (rw found.2 found.0, rw found.2 found.1, rw same at spells)
+reads_by profile text full setup (Err f) spells is fault = fault_up profile text full f spells (rw is at fault)

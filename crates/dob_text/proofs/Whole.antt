@@ -1,7 +1,7 @@
 -- What a text spells: it has the form, and is the text of one setup.
-use Rattle.dob_text.proofs.Common.{◌++◌, ◌<◌, ◌∙◌, ◌∷◌, ◌≡◌, ◌≢◌, All, List, ap, append_assoc, arith, get_or, length, refl, subst, sym, ℕ, get_or_append_left}
-use Rattle.dob_text.proofs.Common.{All-append, All-cons, All-weaker, Cell, Hand, Side, Enemy, Mover, Setup, AreParts, HasHands, HasLetters, HasShape}
-use Rattle.dob_text.proofs.Common.{IsBoardLetter, IsWord, Spells, board_text, hand_text, text_of}
+use Rattle.dob_text.proofs.Common.{◌++◌, ◌<◌, ◌∙◌, ◌∷◌, ◌≡◌, ◌≢◌, All, List, append_assoc, arith, get_or, length, refl, subst, sym, ℕ, get_or_append_left}
+use Rattle.dob_text.proofs.Common.{All-append, All-cons, All-weaker, Cell, Hand, Side, Enemy, Mover, Setup, AreParts, HasHands, HasLetters, HasShape, IsWord}
+use Rattle.dob_text.proofs.Common.{Spells, board_text, hand_text, text_of}
 use Rattle.std.specs.Str.{IsAscii}
 use Rattle.std.proofs.lemmas.Str.Ascii.{IsAscii-from_all}
 use Rattle.dob_text.proofs.Plain.{IsPlain, hand_plain, hand_filled}
@@ -31,13 +31,11 @@ text_parts text setup is = record {
 -- the bytes before the first space are those of the grid
 pub grid_reads : (text grid mover enemy : List ℕ) → AreParts text grid mover enemy → (i : ℕ) → i < 15 → get_or text i 0 ≡ get_or grid i 0
 grid_reads text grid mover enemy parts i lt =
-    let size : length grid ≡ 15 = parts.board.size in
-    ap (λ x. get_or x i 0) (parts.joined ∙ append_assoc grid (32 ∷ mover) (32 ∷ enemy)) ∙ get_or_append_left grid _ 0 i (omega arith)
+    rw (parts.joined, append_assoc grid (32 ∷ mover) (32 ∷ enemy)) (get_or_append_left grid _ 0 i (omega (arith, parts.board.size)))
 
 -- the letters of the text are those of its grid
 pub letters_up : (text grid mover enemy : List ℕ) → AreParts text grid mover enemy → HasLetters grid → HasLetters text
-letters_up text grid mover enemy parts letters = λ i lt other.
-    subst (λ (byte : ℕ). IsBoardLetter byte) (sym (grid_reads text grid mover enemy parts i lt)) (letters i lt other)
+letters_up text grid mover enemy parts letters = λ i lt other. rw (grid_reads text grid mover enemy parts i lt) (letters i lt other)
 
 pub spelled_shape : (text : List ℕ) (setup : Setup) → Spells text setup → HasShape text
 spelled_shape text setup spells =
@@ -68,10 +66,7 @@ same_setup s t board mover enemy = λ i. record { board = board i; hands = recor
 -- a text spells one setup
 pub same_spelled : (text : List ℕ) (s t : Setup) → Spells text s → Spells text t → s ≡ t
 same_spelled text s t spells_s spells_t =
-    let parts : (board_text s.board ≡ board_text t.board) × (hand_text Mover s.hands.mover ≡ hand_text Mover t.hands.mover)
-    × (hand_text Enemy s.hands.enemy ≡ hand_text Enemy t.hands.enemy) =
-    same_parts (board_text s.board) (board_text t.board) _ _ _ _ refl
-    (hand_word Mover s.hands.mover).whole (hand_word Mover t.hands.mover).whole
+    let parts = same_parts (board_text s.board) (board_text t.board) _ _ _ _ refl (hand_word Mover s.hands.mover).whole (hand_word Mover t.hands.mover).whole
     (sym spells_s.spelled ∙ spells_t.spelled) in
     same_setup s t
     (same_board s.board t.board spells_s.squares spells_t.squares parts.0)
@@ -82,11 +77,8 @@ same_spelled text s t spells_s spells_t =
 pub spelled_by : (text grid mover enemy : List ℕ) (board : List Cell) (first second : Hand) → AreParts text grid mover enemy → length board ≡ 12
     → grid ≡ board_text board → mover ≡ hand_text Mover first → enemy ≡ hand_text Enemy second
     → Spells text (record { board = board; hands = record { mover = first; enemy = second } })
-spelled_by text grid mover enemy board first second parts size is_grid is_mover is_enemy = record {
-  squares = size;
-  spelled = parts.joined ∙ ap (λ x. x ++ 32 ∷ mover ++ 32 ∷ enemy) is_grid ∙ ap (λ x. board_text board ++ 32 ∷ x ++ 32 ∷ enemy) is_mover
-      ∙ ap (λ x. board_text board ++ 32 ∷ hand_text Mover first ++ 32 ∷ x) is_enemy;
-}
+spelled_by text grid mover enemy board first second parts size is_grid is_mover is_enemy =
+    record { squares = size; spelled = rw (is_grid, is_mover, is_enemy) at parts.joined }
 
 -- the words of a text with hands are the hands
 hands_are : (text grid mover enemy : List ℕ) → AreParts text grid mover enemy → (hands : HasHands text)
@@ -108,5 +100,4 @@ pub shape_by : (text grid mover enemy : List ℕ) → IsAscii text → AreParts 
 shape_by text grid mover enemy ascii parts = (ascii, grid, mover, enemy, parts)
 
 pub letters_by : (text grid mover enemy : List ℕ) (board : List Cell) → AreParts text grid mover enemy → grid ≡ board_text board → HasLetters text
-letters_by text grid mover enemy board parts is =
-    letters_up text grid mover enemy parts (subst (λ (x : List ℕ). HasLetters x) (sym is) (board_letters board))
+letters_by text grid mover enemy board parts is = letters_up text grid mover enemy parts (rw is (board_letters board))

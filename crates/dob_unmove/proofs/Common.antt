@@ -4,8 +4,8 @@ pub use Rattle.std.proofs.Common.{Contains, IsTrue, List, None, Option, Some, []
 pub use Rattle.std.proofs.Common.{inr, length, length-append, nat_lt, not, option_to_list, refl, rules, set, subst, suc, sym, true, true≢false, zero, ℕ}
 pub use Rattle.std.proofs.lemmas.Bool.{and_parts, cases_Bool, cases_eq, cases_lt, cases_order, eq-eqb, eqb-true, lt-ltb, ltb-true, ne_eqb, not-true}
 pub use Rattle.std.proofs.lemmas.List.{get_or-set_other, get_or-set_same, get_or_past, length-set, set-get_or, set-set, set_comm}
-pub use Rattle.std.proofs.lemmas.List.Elements.{All-append, All-cons, All-contains, All-contains_itself, All-filter, All-head, All-nil, All-push, All-replicate}
-pub use Rattle.std.proofs.lemmas.List.Elements.{All-tail, All-weaker, Contains-append_cases, Contains-append_left, Contains-append_right, filter_passes}
+pub use Rattle.std.proofs.lemmas.List.Elements.{All-append, All-cons, All-contains, All-filter, All-head, All-nil, All-push, All-replicate, All-tail}
+pub use Rattle.std.proofs.lemmas.List.Elements.{Contains-append_cases, Contains-append_left, Contains-append_right, filter_passes}
 pub use Rattle.std.proofs.lemmas.List.Kept.{AllPairs-cons, AllPairs-filter}
 pub use Rattle.std.proofs.lemmas.List.Sorted.{IsNonDecreasingBy-from_sort}
 pub use Rattle.std.proofs.lemmas.List.Sums.{length-filter, sum_by-append, sum_by-cons, sum_by_push}
@@ -23,11 +23,11 @@ pub use Rattle.dob_pieces.proofs.Symmetries.{at-image, turned-mirrored, turned-t
 pub use Rattle.dob_pieces.proofs.Targets.{has_bits, is_mask}
 pub use Rattle.dob_pieces.specs.Lists.{each_below}
 pub use Rattle.dob_pieces.specs.Masks.{AreMasks, IsMask, attacks, attacks_by, is_empty, is_kind, is_own, is_piece, kind_place}
-pub use Rattle.dob_pieces.specs.Pieces.{is_side, kind_in_hand, kind_on_board, other_side}
+pub use Rattle.dob_pieces.specs.Pieces.{kind_in_hand, kind_on_board}
 unfoldable pub use Rattle.dob_pieces.specs.Pieces.{leads}
 pub use Rattle.dob_pieces.specs.Profiles.{IsAllowed, is_far, may_stand}
 pub use Rattle.dob_pieces.specs.Setups.{Cell, HasFewPieces, HasLionOffFarRow, HasLions, IsLegal, at, held, holds_kind, holds_lion, piece_of, turned}
-pub use Rattle.dob_pieces.specs.Setups.{turned_cell, with_one_less, with_one_more}
+pub use Rattle.dob_pieces.specs.Setups.{with_one_less, with_one_more}
 unfoldable pub use Rattle.dob_pieces.specs.Setups.{mirrored, total}
 pub use Rattle.dob_pieces.specs.Squares.{column, mirrored_square, row}
 pub use Rattle.dob_pieces.specs.declared.hand.Hand.{Hand}
@@ -42,10 +42,10 @@ pub use Rattle.dob_pieces.specs.declared.profile.Family.{Family}
 pub use Rattle.dob_pieces.specs.declared.profile.Profile.{Profile}
 pub use Rattle.dob_pieces.specs.declared.profile.Profile.TheVariants.{A, B}
 pub use Rattle.dob_pieces.specs.declared.setup.Setup.{Setup}
-pub use Rattle.dob_moves.proofs.Kept.{IsAllowed-Goes, Stand, none_stands, stand-set}
+pub use Rattle.dob_moves.proofs.Kept.{IsAllowed-Goes, none_stands}
 pub use Rattle.dob_moves.proofs.Outcomes.{HasOutcome-is, lions-HasOutcome, total-HasOutcome}
 pub use Rattle.dob_moves.proofs.Turns.{kind_of, side_of, sides_apart, turned_lion}
-pub use Rattle.dob_moves.specs.Moves.{CanGo, CanTake, Drops, Goes, HasOutcome, Steps, grows_at, hands_after_catch, place}
+pub use Rattle.dob_moves.specs.Moves.{CanGo, Goes, HasOutcome, grows_at, place}
 pub use Rattle.dob_moves.specs.Statuses.{AreMoves, CanCatch, HasStatus, HasTried}
 pub use Rattle.dob_moves.specs.declared.game_move.Move.{Move}
 pub use Rattle.dob_moves.specs.declared.game_move.Move.TheVariants.{Put, Step}
@@ -60,7 +60,6 @@ pub use Rattle.dob_classes.proofs.SquareSets.BitChanges.{nothing_added, piece_ad
 pub use Rattle.dob_classes.specs.Bitboards.{AreBitboards, IsShown}
 pub use Rattle.dob_classes.specs.Changes.{IsWith}
 pub use Rattle.dob_classes.specs.declared.bits.bitboards.Bitboards.{Bitboards}
-pub use Rattle.dob_classes.specs.declared.classes.Classes.{Classes}
 pub use Rattle.dob_unmove.specs.Classes.{IsSeenTurned, RepresentsClass}
 pub use Rattle.dob_unmove.specs.Ends.{CanWalk}
 pub use Rattle.dob_unmove.specs.Gathers.{Adds, Finds, Gathers, IsOpenRepresentative}

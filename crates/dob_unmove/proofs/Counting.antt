@@ -1,11 +1,12 @@
 -- The numbers gathered from all ways count the moves that lead into a class.
-use Rattle.dob_unmove.proofs.Common.{◌++◌, ◌+◌, ◌-◌, ◌<◌, ◌==◌, ◌∙◌, ◌∷◌, ◌≡◌, ◌≢◌, ◌≤◌, All, AllPairs, Bool, Contains, List, None, Option, Some, [], ap, arith}
-use Rattle.dob_unmove.proofs.Common.{cond, get_or, inl, inr, length, length-append, option_to_list, refl, subst, sym, ℕ, cases_eq, cases_lt, eq-eqb, ne_eqb}
-use Rattle.dob_unmove.proofs.Common.{All-contains, All-head, All-nil, All-push, All-tail, Contains-append_cases, Contains-append_left, Contains-append_right}
-use Rattle.dob_unmove.proofs.Common.{AllPairs-cons, sum_by_push, count_by, length-mirrored, length-turned, cons_cases, mirrored, turned, A, Setup}
-use Rattle.dob_unmove.proofs.Common.{HasOutcome-is, HasOutcome, HasStatus, Move, Open, Finds, Gathers, IsOpenRepresentative, CanUndo, choice, earlier}
-use Rattle.dob_unmove.proofs.Common.{CountEdges, HasEdges, IsNumbering, undoes, Undo}
-use Rattle.std.proofs.lemmas.List.{append-nil, get_or_append_left, get_or-append_right, get_or_default}
+use Rattle.dob_unmove.proofs.Common.{◌++◌, ◌+◌, ◌-◌, ◌==◌, ◌∙◌, ◌∷◌, ◌≡◌, ◌≢◌, All, AllPairs, Bool, Contains, List, None, Option, Some, [], ap, arith, cond}
+use Rattle.dob_unmove.proofs.Common.{get_or, inl, inr, length, length-append, option_to_list, refl, subst, sym, ℕ, cases_eq, eq-eqb, ne_eqb, All-contains}
+use Rattle.dob_unmove.proofs.Common.{All-head, All-nil, All-push, All-tail, Contains-append_cases, Contains-append_left, Contains-append_right, AllPairs-cons}
+use Rattle.dob_unmove.proofs.Common.{sum_by_push, count_by, length-mirrored, length-turned, cons_cases, mirrored, turned, A, Setup, HasOutcome-is, HasOutcome}
+use Rattle.dob_unmove.proofs.Common.{HasStatus, Move, Open, Finds, Gathers, IsOpenRepresentative, CanUndo, choice, earlier, CountEdges, HasEdges, IsNumbering}
+use Rattle.dob_unmove.proofs.Common.{undoes, Undo, All-append, head_in, append-nil}
+use Rattle.std.proofs.lemmas.List.Elements.{Contains-get_or}
+use Rattle.dob_pieces.proofs.Lists.{rest_in}
 pub use Rattle.dob_classes.proofs.OfFamilies.Counted.{pairs-head, pairs-tail}
 use Rattle.dob_unmove.proofs.Undone.{HasOutcome-from_undo, undo_from_HasOutcome, same_undo}
 use Rattle.dob_unmove.proofs.Listed.{undoes_sound, undoes_whole}
@@ -18,22 +19,9 @@ pub pairs-append : {X : Type 0} (R : X → X → Type 0) (xs ys : List X) → Al
     → ((x y : X) → Contains xs x → Contains ys y → R x y) → AllPairs R (xs ++ ys)
 pairs-append R [] ys p q across = q
 pairs-append {X} R (x ∷ xs) ys p q across =
-    AllPairs-cons R x (xs ++ ys) related
-    (pairs-append R xs ys (pairs-tail R x xs p) q (λ a b in_xs in_ys. across a b (Contains-append_right (x ∷ []) xs a in_xs) in_ys))
-  where
-    related : All (R x) (xs ++ ys)
-    related k d lt =
-        elim (cases_lt k (length xs)) [
-          | inl low ↦ subst (R x) (sym (get_or_append_left xs ys d k low)) (pairs-head R x xs p k d low)
-          | inr high ↦
-              let there : k + 0 < length xs + length ys = omega (arith, length-append xs ys) in
-              subst (R x) (sym (get_or-append_right xs ys (length xs) k d refl high))
-              (across x _ (0, omega arith, refl) (k - length xs, omega arith, default_free k d high there))
-        ]
-      where
-        default_free : (k : ℕ) (d : X) → length xs ≤ k → k + 0 < length xs + length ys
-            → get_or ys (k - length xs) (get_or ys (k - length xs) d) ≡ get_or ys (k - length xs) d
-        default_free k d high there = get_or_default ys (k - length xs) _ d (omega arith)
+    AllPairs-cons R x (xs ++ ys)
+    (All-append (R x) xs ys (pairs-head R x xs p) (λ k d lt. across x _ (head_in x xs) (Contains-get_or ys k d lt)))
+    (pairs-append R xs ys (pairs-tail R x xs p) q (λ a b in_xs in_ys. across a b (rest_in x a xs in_xs) in_ys))
 
 -- ---- what the walk gathered
 
@@ -54,20 +42,6 @@ module _ (Represents : Setup → ℕ → Type 0) (n : IsNumbering Represents) wh
 
     abbrev one_if : Bool → ℕ
     one_if b = cond b 1 0
-
-    count_none : (old : List ℕ) → number_of (old ++ []) ≡ number_of old
-    count_none old = ap number_of (append-nil old)
-
-    count_same : (old : List ℕ) (found : ℕ) → found ≡ class → number_of (old ++ found ∷ []) ≡ number_of old + 1
-    count_same old found e =
-        let one : one_if (found == class) ≡ 1 = ap one_if (eq-eqb found class e) in
-        sum_by_push (λ x. one_if (x == class)) old found ∙ ap (λ k. number_of old + k) one
-
-    count_other : (old : List ℕ) (found : ℕ) → (found ≡ class → ⊥) → number_of (old ++ found ∷ []) ≡ number_of old
-    count_other old found ne =
-        let none : one_if (found == class) ≡ 0 = ap one_if (ne_eqb found class ne) in
-        let pushed = sum_by_push (λ x. one_if (x == class)) old found in
-        omega (arith, pushed, none)
 
     module _ (q : Setup) (twelve : length q.board ≡ 12) where
       -- the moves of the ways that lead back to the class's representative
@@ -111,9 +85,9 @@ module _ (Represents : Setup → ℕ → Type 0) (n : IsNumbering Represents) wh
             ];
         once = AllPairs-cons (λ (a b : Move). a ≢ b) (choice u) ms
             (λ k d lt e.
-            let w = s.sound (get_or ms k d) (k, lt, get_or_default ms k _ d lt) in
+            let w = s.sound (get_or ms k d) (Contains-get_or ms k d lt) in
             let same : u ≡ w.0 =
-            same_undo q u w.0 twelve can (All-contains (CanUndo (turned q)) us w.0 all_can w.1) (e ∙ sym w.2) (n.one_represents _ _ class represents.0 w.3.0) in
+            same_undo (turned q) u w.0 (length-turned q) can (All-contains (CanUndo (turned q)) us w.0 all_can w.1) (e ∙ sym w.2) (n.one_represents _ _ class represents.0 w.3.0) in
             All-contains (λ (v : Undo). u ≢ v) us w.0 apart w.1 same)
             s.once;
       }
@@ -126,16 +100,17 @@ module _ (Represents : Setup → ℕ → Type 0) (n : IsNumbering Represents) wh
           → All (λ (v : Undo). u ≢ v) us
           → Finds Represents (earlier (turned q) u) found → Counted us (old ++ option_to_list found) new → Counted (u ∷ us) old new
       select_step u us old new None can all_can apart none c =
-          (c.0, selects_passed u us c.0 (λ represents. none (class, represents)) c.1, c.2 ∙ ap (λ k. k + length c.0) (count_none old))
+          (c.0, selects_passed u us c.0 (λ represents. none (class, represents)) c.1, rw append-nil at c.2)
       select_step u us old new (Some found) can all_can apart is c =
+          let pushed = sum_by_push (λ x. one_if (x == class)) old found in
           elim (cases_eq found class) [
             | inl same ↦
                 let represents : IsOpenRepresentative Represents (earlier (turned q) u) class = subst (IsOpenRepresentative Represents (earlier (turned q) u)) same is in
-                (choice u ∷ c.0, selects_taken u us c.0 can all_can apart represents c.1, omega (arith, c.2, count_same old found same))
+                (choice u ∷ c.0, selects_taken u us c.0 can all_can apart represents c.1, omega (arith, c.2, pushed, ap one_if (eq-eqb found class same)))
             | inr other ↦ (
               c.0,
               selects_passed u us c.0 (λ represents. other (n.one_number _ _ found class is.0 represents.0 (inl refl))) c.1,
-              c.2 ∙ ap (λ k. k + length c.0) (count_other old found other),
+              omega (arith, c.2, pushed, ap one_if (ne_eqb found class other)),
             )
           ]
 
@@ -158,7 +133,7 @@ module _ (Represents : Setup → ℕ → Type 0) (n : IsNumbering Represents) wh
         sound = λ m h.
             let w = s.sound m h in
             let back = n.one_represents _ p class w.3.0 stands in
-            let goes = HasOutcome-from_undo q w.0 twelve (undoes_sound (turned q) w.0 w.1) in (
+            let goes = HasOutcome-from_undo q (turned q) w.0 twelve refl (undoes_sound (turned q) w.0 w.1) in (
               subst (λ (x : Setup). HasStatus A x Open) back w.3.1,
               subst (λ (x : Setup). HasOutcome x m q) back (subst (λ (x : Move). HasOutcome (earlier (turned q) w.0) x q) w.2 goes),
             );
@@ -173,7 +148,7 @@ module _ (Represents : Setup → ℕ → Type 0) (n : IsNumbering Represents) wh
       }
 
       can_all : All (CanUndo (turned q)) (undoes (turned q))
-      can_all k d lt = undoes_sound (turned q) (get_or (undoes (turned q)) k d) (k, lt, get_or_default (undoes (turned q)) k _ d lt)
+      can_all k d lt = undoes_sound (turned q) (get_or (undoes (turned q)) k d) (Contains-get_or (undoes (turned q)) k d lt)
 
       counted_leading : (old new : List ℕ) → Gathers Represents (turned q) (undoes (turned q)) old new
           → (ms : List Move) × Leading ms × (number_of new ≡ number_of old + length ms)

@@ -1,9 +1,12 @@
 -- The predecessors of a class are the one ascending list that counts the moves into it.
-use Rattle.dob_unmove.proofs.Common.{◌<◌, ◌∙◌, ◌∷◌, ◌≡◌, ◌≤◌, ◌⊎◌, All, AllPairs, Bool, Contains, List, [], ap, arith, cond, false, inl, inr, refl, subst, sym}
-use Rattle.dob_unmove.proofs.Common.{true, ℕ, cases_lt, eq-eqb, eqb-true, All-contains, All-contains_itself, All-filter, All-weaker, Contains-append_right}
-use Rattle.dob_unmove.proofs.Common.{filter_passes, AllPairs-filter, length-filter, count_by, filter, cons_cases, head_in, none_in_empty, turned, Family}
-use Rattle.dob_unmove.proofs.Common.{Profile, A, Setup, IsAllowed-Goes, Goes, place, AreMoves, HasStatus, Move, Open, HasClass-marked, HasClasses-classes_of}
-use Rattle.dob_unmove.proofs.Common.{IsPositionOf, classes_of, IsEither, no_longer, IsPositionOf-mirrored, ArePredecessors, CountEdges, HasEdges, LeadsInto}
+use Rattle.dob_unmove.proofs.Common.{rules, ◌<◌, ◌∙◌, ◌∷◌, ◌≡◌, ◌≤◌, All, AllPairs, Bool, Contains, List, [], ap, arith, inl, inr, subst, sym, true, ℕ}
+use Rattle.dob_unmove.proofs.Common.{cases_lt, eq-eqb, eqb-true, All-contains, All-filter, filter_passes, AllPairs-filter, length-filter, count_by, filter}
+use Rattle.dob_unmove.proofs.Common.{cons_cases, head_in, none_in_empty, turned, Family, Profile, A, Setup, CanGo, IsAllowed-Goes, Goes, place, AreMoves}
+use Rattle.dob_unmove.proofs.Common.{HasStatus, Move, Open, HasClass-marked, HasClasses-classes_of, IsPositionOf, classes_of, IsEither, no_longer}
+use Rattle.dob_unmove.proofs.Common.{IsPositionOf-mirrored, ArePredecessors, CountEdges, HasEdges, LeadsInto}
+use Rattle.std.proofs.lemmas.Bool.{cond_both}
+use Rattle.std.proofs.lemmas.List.Elements.{Contains-get_or}
+use Rattle.dob_pieces.proofs.Lists.{rest_in}
 use Rattle.std.specs.List.Sorted.{IsPermutation, IsNonDecreasingBy}
 use Rattle.dob_moves.specs.MoveLists.{moves_of}
 use Rattle.dob_moves.specs.Outcomes.{moved}
@@ -26,8 +29,7 @@ RepresentsClass-class_setup family class below = class_setup_is family class (cl
 
 -- the representative's number is that of its class
 number_of_representative : (family : Family) (q : Setup) (class : ℕ) → RepresentsClass family q class → class_number family q ≡ class
-number_of_representative family q class is =
-    class_number-representative family q is.0.0 is.0.1 ∙ one_number family q q _ class (HasClass-marked family q is.0.0) is.1 refl
+number_of_representative family q class is = search (rules, class_number-representative, one_number, HasClass-marked)
 
 pub representative_below : (family : Family) (q : Setup) (class : ℕ) → RepresentsClass family q class → class < classes_of family
 representative_below family q class is = subst (λ n. n < classes_of family) (number_of_representative family q class is) (class_number-below family q is.0.0)
@@ -36,42 +38,29 @@ representative_below family q class is = subst (λ n. n < classes_of family) (nu
 
 contains_filter : {X : Type 0} (test : X → Bool) (xs : List X) (x : X) → Contains xs x → test x ≡ true → Contains (filter test xs) x
 contains_filter test [] x h is = absurd (none_in_empty x h)
-contains_filter {X} test (y ∷ ys) x h is = at (cons_cases y ys x h) (λ later. contains_filter test ys x later is) (test y) refl where
-  at : (y ≡ x) ⊎ Contains ys x → (Contains ys x → Contains (filter test ys) x) → (b : Bool) → test y ≡ b
-      → Contains (cond b (y ∷ filter test ys) (filter test ys)) x
-  at (inl same) kept true e = subst (Contains (y ∷ filter test ys)) same (head_in y (filter test ys))
-  at (inl same) kept false e = let on : test x ≡ false = ap test (sym same) ∙ e in cc
-  at (inr later) kept true e = Contains-append_right (y ∷ []) (filter test ys) x (kept later)
-  at (inr later) kept false e = kept later
+contains_filter {X} test (y ∷ ys) x h is = elim (cons_cases y ys x h) [
+  | inl same ↦ rw (same, is) (head_in x (filter test ys))
+  | inr later ↦
+      let kept = contains_filter test ys x later is in
+      cond_both (test y) (y ∷ filter test ys) (filter test ys) (λ (l : List X). Contains l x) (λ e. rest_in y x (filter test ys) kept) (λ e. kept)
+]
 
 position_after : (family : Family) (p : Setup) (m : Move) (q : Setup) → IsPositionOf family p → HasStatus family.profile p Open →
     Goes family.profile p m q → IsPositionOf family q
-position_after family p m q is open_to_move goes = record {
-  of_set = record {
-    legal = IsLegal-Goes family.profile p m q goes is.of_set.legal open_to_move.1;
-    pieces = λ kind. total-Goes family.profile p m q goes is.of_set.legal.squares kind ∙ is.of_set.pieces kind;
-  };
-  allowed = IsAllowed-Goes family.profile p m q is.of_set.legal.squares is.allowed goes;
-}
+position_after family p m q is open_to_move goes = grind (arith, IsLegal-Goes, total-Goes, IsAllowed-Goes)
 
 -- ---- between positions of a family the moves are those by its profile
 
 module _ (family : Family) (p q : Setup) (is_p : IsPositionOf family p) (is_q : IsPositionOf family q) where
-  either_is : (s : Setup) → IsEither q s → IsPositionOf family s
-  either_is s either = elim either [
-    | inl same ↦ subst (IsPositionOf family) (sym same) is_q
-    | inr image ↦ subst (IsPositionOf family) (sym image) (IsPositionOf-mirrored family q is_q)
-  ]
-
   leads_by : (m : Move) → LeadsInto A p q m → LeadsInto family.profile p q m
   leads_by m leads =
-      let outcome = leads.1 in (
+      let outcome = leads.1.0 in
+      let is : IsPositionOf family outcome = elim leads.1.2 [
+        | inl same ↦ subst (IsPositionOf family) (sym same) is_q
+        | inr image ↦ subst (IsPositionOf family) (sym image) (IsPositionOf-mirrored family q is_q)
+      ] in (
         (share_status family.profile p Open is_p.of_set.legal).0 leads.0,
-        (
-          outcome.0,
-          goes_to_allowed family.profile p m outcome.0 is_p.of_set.legal.squares outcome.1 (either_is outcome.0 outcome.2).allowed,
-          outcome.2,
-        ),
+        (outcome, goes_to_allowed family.profile p m outcome is_p.of_set.legal.squares leads.1.1 is.allowed, leads.1.2),
       )
 
   led_by : (m : Move) → LeadsInto family.profile p q m → LeadsInto A p q m
@@ -114,21 +103,20 @@ module _ (family : Family) (p q : Setup) (from class : ℕ) (is_p : RepresentsCl
   abbrev leading : List Move
   leading = filter (leads_into family p class) (moves_of family.profile p)
 
-  leading_listed : All (Contains (moves_of family.profile p)) leading
-  leading_listed = All-filter (leads_into family p class) (Contains (moves_of family.profile p)) (moves_of family.profile p) (All-contains_itself (moves_of family.profile p))
-
   leading_sound : (m : Move) → Contains leading m → LeadsInto family.profile p q m
   leading_sound m here =
-      let is = are.sound m (All-contains (Contains (moves_of family.profile p)) leading m leading_listed here) in
+      let Made = λ (x : Move). HasStatus family.profile p Open × CanGo family.profile p x in
+      let all : All Made (moves_of family.profile p) = λ k d lt. are.sound _ (Contains-get_or (moves_of family.profile p) k d lt) in
+      let is = All-contains Made leading m (All-filter (leads_into family p class) Made (moves_of family.profile p) all) here in
       let goes = Goes-moved family.profile p m is.1 in
-      let passes : leads_into family p class m ≡ true =
-      All-contains (λ (x : Move). leads_into family p class x ≡ true) leading m (filter_passes (leads_into family p class) (moves_of family.profile p)) here in (
+      let after = turned (moved p m) in
+      let passes : leads_into family p class m ≡ true = All-contains (λ (x : Move). leads_into family p class x ≡ true) leading m
+      (filter_passes (leads_into family p class) (moves_of family.profile p)) here in (
         is.0,
         (
-          turned (moved p m),
+          after,
           goes,
-          same_class family (turned (moved p m)) q class (position_after family p m (turned (moved p m)) is_p.0.0 is.0 goes) is_q
-              (eqb-true (class_number family (turned (moved p m))) class passes),
+          same_class family after q class (position_after family p m after is_p.0.0 is.0 goes) is_q (eqb-true (class_number family after) class passes),
         ),
       )
 
@@ -142,8 +130,7 @@ module _ (family : Family) (p q : Setup) (from class : ℕ) (is_p : RepresentsCl
   leading_once : AllPairs (λ (a b : Move). ¬ (a ≡ b)) leading
   leading_once i j d before within same =
       let less = AllPairs-filter (λ (a b : Move). place a < place b) (leads_into family p class) (moves_of family.profile p) are.ordered i j d before within in
-      let places = ap place same in
-      omega (arith, less, places)
+      omega (arith, less, ap place same)
 
   pub HasEdges-edges : HasEdges family.profile p q (edges family from class)
   unfolding edges
@@ -186,17 +173,11 @@ module _ (family : Family) (q : Setup) (class : ℕ) (is_q : RepresentsClass fam
   pub ArePredecessors-predecessors : ArePredecessors family.profile (RepresentsClass family) q (predecessors family class)
   ArePredecessors-predecessors = record {
     counts = record {
-      known = All-weaker (λ (x : ℕ). x < classes_of family) (λ (from : ℕ). (p : Setup) × RepresentsClass family p from)
-          (λ from below. (class_setup family from, RepresentsClass-class_setup family from below)) (predecessors family class) predecessors-below;
+      known = λ k d lt. (class_setup family _, RepresentsClass-class_setup family _ (predecessors-below k d lt));
       edges = λ p from is_p. subst (HasEdges family.profile p q) (sym (times-predecessors from (representative_below family p from is_p))) (HasEdges-edges family p q from class is_p is_q);
     };
     ascending = predecessors-ascends;
   }
-
-  known_below : (xs : List ℕ) → CountEdges family.profile (RepresentsClass family) q xs → All (λ (x : ℕ). x < classes_of family) xs
-  known_below xs counts =
-      All-weaker (λ (from : ℕ). (p : Setup) × RepresentsClass family p from) (λ (x : ℕ). x < classes_of family)
-      (λ from is. representative_below family is.0 from is.1) xs counts.known
 
   same_times : (xs : List ℕ) → CountEdges family.profile (RepresentsClass family) q xs → (from : ℕ) → times from xs ≡ times from (predecessors family class)
   same_times xs counts from = elim (cases_lt from (classes_of family)) [
@@ -206,7 +187,8 @@ module _ (family : Family) (q : Setup) (class : ℕ) (is_q : RepresentsClass fam
         same_edges family.profile p q (times from xs) (times from (predecessors family class)) (counts.edges p from is_p)
         (ArePredecessors-predecessors.counts.edges p from is_p)
     | inr above ↦
-        times-absent from (classes_of family) xs above (known_below xs counts)
+        times-absent from (classes_of family) xs above
+        (λ k d lt. let is = counts.known k d lt in representative_below family is.0 _ is.1)
         ∙ sym (times-absent from (classes_of family) (predecessors family class) above predecessors-below)
   ]
 

@@ -25,8 +25,7 @@ pub gathers_taken : (Represents : Setup → ℕ → Type 0) (after : Setup) (us 
     → TakesAll (λ old undo new. Adds Represents after undo old new) xs us ys
     → Gathers Represents after us xs ys
 gathers_taken Represents after [] xs ys h = h
-gathers_taken Represents after (u ∷ us) xs ys h =
-    (h.1.0, h.1.1, subst (λ (l : List ℕ). Gathers Represents after us l ys) h.1.2 (gathers_taken Represents after us h.0 ys h.2))
+gathers_taken Represents after (u ∷ us) xs ys h = grind (arith, (gathers_taken Represents after us h.0 ys h.2))
 
 -- the way leads back to no open representative
 abbrev pub IsDead : (Setup → ℕ → Type 0) → Setup → Undo → Type 0

@@ -1,7 +1,7 @@
 -- What the functions that gather classes need, over plain values.
-use Rattle.dob_unmove.proofs.Common.{◌∙◌, ◌≡◌, ◌≢◌, List, None, Option, Some, [], arith, false, inr, subst, sym, true, ℕ, MatchOption, is_some}
-use Rattle.dob_unmove.proofs.Common.{turned-mirrored, IsLegal, mirrored, turned, A, Setup, HasStatus, Open, Finds, Gathers, ArePredecessors}
-use Rattle.dob_unmove.proofs.Common.{CountEdges, HasEdges, IsNumbering, IsOpenPosition, undoes}
+use Rattle.dob_unmove.proofs.Common.{◌∙◌, ◌≡◌, ◌≢◌, List, None, Option, Some, [], arith, false, subst, sym, true, ℕ, MatchOption, is_some, turned-mirrored}
+use Rattle.dob_unmove.proofs.Common.{IsLegal, mirrored, turned, A, Setup, HasStatus, Open, Finds, Gathers, ArePredecessors, CountEdges, HasEdges, IsNumbering}
+use Rattle.dob_unmove.proofs.Common.{IsOpenPosition, undoes}
 use Rattle.std.specs.List.Sorted.{IsPermutation, IsNonDecreasingBy}
 use Rattle.std.proofs.lemmas.List.Sorted.{sum_by-IsPermutation, All-permutation}
 use Rattle.dob_unmove.proofs.Counting.{counts_alone, counts_both}
@@ -21,9 +21,7 @@ pub own_image : (Represents : Setup → ℕ → Type 0) (q image : Setup) (o : O
     → ((class : ℕ) × Represents q class) → image ≡ mirrored q
     → MatchOption o (¬ ((class : ℕ) × Represents image class)) (Represents image) → is_some o ≡ true → mirrored q ≡ q
 own_image Represents q image None n w e h some = cc
-own_image Represents q image (Some class) n w e h some =
-    let same : w.0 ≡ class = n.one_number q image w.0 class w.1 h (inr e) in
-    sym e ∙ sym (n.one_represents q image class (subst (Represents q) same w.1) h)
+own_image Represents q image (Some class) n w e h some = grind arith
 
 pub other_image : (Represents : Setup → ℕ → Type 0) (q image : Setup) (o : Option ℕ)
     → ((class : ℕ) × Represents q class) → image ≡ mirrored q
@@ -47,13 +45,10 @@ sorted_counts Represents q xs ys c moved rises = record {
 pub alone_found : (Represents : Setup → ℕ → Type 0) → IsNumbering Represents → (q t : Setup) (old new : List ℕ) → IsLegal q → mirrored q ≡ q
     → t ≡ turned q → old ≡ [] → Gathers Represents t (undoes t) old new → CountEdges A Represents q new
 alone_found Represents n q t old new legal own e none g =
-    counts_alone Represents n q new legal.squares own
-    (subst (λ (x : Setup). Gathers Represents x (undoes x) [] new) e (subst (λ (xs : List ℕ). Gathers Represents t (undoes t) xs new) none g))
+    counts_alone Represents n q new legal.squares own (rw (e, none) at g)
 
 pub both_found : (Represents : Setup → ℕ → Type 0) → IsNumbering Represents → (q t s : Setup) (old mid new : List ℕ) → IsLegal q → mirrored q ≢ q
     → t ≡ turned q → s ≡ mirrored (turned q) → old ≡ [] → Gathers Represents t (undoes t) old mid → Gathers Represents s (undoes s) mid new
     → CountEdges A Represents q new
 both_found Represents n q t s old mid new legal other e f none g h =
-    counts_both Represents n q mid new legal.squares other
-    (subst (λ (x : Setup). Gathers Represents x (undoes x) [] mid) e (subst (λ (xs : List ℕ). Gathers Represents t (undoes t) xs mid) none g))
-    (subst (λ (x : Setup). Gathers Represents x (undoes x) mid new) (f ∙ sym (turned-mirrored q)) h)
+    counts_both Represents n q mid new legal.squares other (rw (e, none) at g) (rw (f ∙ sym (turned-mirrored q)) at h)

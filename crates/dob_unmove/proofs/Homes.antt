@@ -1,61 +1,42 @@
 -- Where the mover's lion of a representative stands.
-use Rattle.dob_unmove.proofs.Common.{◌&&◌, ◌++◌, ◌+◌, ◌<◌, ◌==◌, ◌||◌, ◌∙◌, ◌∷◌, ◌≡◌, ◌⊎◌, Bool, List, None, Some, [], ap, arith, cond, false, get_or, inl, inr}
-use Rattle.dob_unmove.proofs.Common.{length, nat_lt, refl, subst, suc, sym, true, zero, ℕ, and_parts, cases_Bool, eqb-true, ltb-true, sum_by-cons, count_by}
-use Rattle.dob_unmove.proofs.Common.{all_below, all_below-at, own_lion, total-mirrored, within-from_piece, at-image, Cell, at, held, holds_kind, holds_lion}
-use Rattle.dob_unmove.proofs.Common.{mirrored, piece_of, total, mirrored_square, Hands, HandKind, Lion, Side, Enemy, Mover, Family, Setup, IsPositionOf, Before}
-use Rattle.dob_unmove.proofs.Common.{Precedes, each_kind, forms, key, squares, squares_from, IsPositionOf-mirrored, is_home}
+use Rattle.dob_unmove.proofs.Common.{rules, ◌&&◌, ◌++◌, ◌+◌, ◌<◌, ◌==◌, ◌||◌, ◌∙◌, ◌∷◌, ◌≡◌, ◌⊎◌, Bool, List, None, Some, [], ap, arith, cond, get_or, inl, inr}
+use Rattle.dob_unmove.proofs.Common.{length, nat_lt, refl, suc, true, zero, ℕ, cases_Bool, sum_by-cons, count_by, all_below, all_below-at, own_lion}
+use Rattle.dob_unmove.proofs.Common.{total-mirrored, within-from_piece, at-image, Cell, at, held, holds_kind, holds_lion, mirrored, piece_of, total}
+use Rattle.dob_unmove.proofs.Common.{mirrored_square, Hands, HandKind, Lion, Side, Enemy, Mover, Family, Setup, IsPositionOf, Before, Precedes, each_kind}
+use Rattle.dob_unmove.proofs.Common.{forms, key, squares, squares_from, IsPositionOf-mirrored, is_home}
+use Rattle.std.proofs.lemmas.Bool.Decides.{nat_tests}
+use Rattle.std.proofs.lemmas.List.Sums.{get_or-le-sum_by}
 use Rattle.dob_pieces.specs.declared.kind.HandKind.TheVariants as hand
 use Rattle.dob_rank.specs.Families.{RepresentsClass}
 
 -- ---- the list of one square
 
 module _ (test : Cell → Bool) where
-  counted : (c : Cell) (cs : List Cell) → count_by test (c ∷ cs) ≡ cond (test c) 1 0 + count_by test cs
-  counted c cs = sum_by-cons (λ x. cond (test x) 1 0) c cs
+  abbrev one_if : Bool → ℕ
+  one_if b = cond b 1 0
 
-  one_if_true : (c : Cell) → test c ≡ true → cond {A = ℕ} (test c) 1 0 ≡ 1
-  one_if_true c is = ap (λ b. cond b 1 0) is
-
-  none_if_false : (c : Cell) → test c ≡ false → cond {A = ℕ} (test c) 1 0 ≡ 0
-  none_if_false c isnt = ap (λ b. cond b 1 0) isnt
+  counted : (c : Cell) (cs : List Cell) → count_by test (c ∷ cs) ≡ one_if (test c) + count_by test cs
+  counted c cs = sum_by-cons (λ x. one_if (test x)) c cs
 
   no_squares : (from : ℕ) (cells : List Cell) → count_by test cells ≡ 0 → squares_from from test cells ≡ []
   no_squares from [] none = refl
   no_squares from (c ∷ cs) none = elim (cases_Bool (test c)) [
-    | inl is ↦ (let sum = counted c cs in let one = one_if_true c is in absurd (omega (arith, sum, one, none)))
-    | inr isnt ↦
-        (let sum = counted c cs in
-        let zero_there = none_if_false c isnt in
-        ap (λ b. cond b (from ∷ squares_from (suc from) test cs) (squares_from (suc from) test cs)) isnt
-        ∙ no_squares (suc from) cs (omega (arith, sum, zero_there, none)))
+    | inl is ↦ absurd (omega (arith, counted c cs, ap one_if is, none))
+    | inr isnt ↦ rw isnt (no_squares (suc from) cs (omega (arith, counted c cs, ap one_if isnt, none)))
   ]
-
-  some_there : (cells : List Cell) (k : ℕ) → k < length cells → test (get_or cells k None) ≡ true → 0 < count_by test cells
-  some_there [] k lt is = absurd (omega arith)
-  some_there (c ∷ cs) zero lt is = let sum = counted c cs in let one = one_if_true c is in omega (arith, sum, one)
-  some_there (c ∷ cs) (suc k) lt is = let sum = counted c cs in let more = some_there cs k (omega arith) is in omega (arith, sum, more)
 
   one_square : (from k : ℕ) (cells : List Cell) → count_by test cells ≡ 1 → k < length cells → test (get_or cells k None) ≡ true
       → squares_from from test cells ≡ (from + k) ∷ []
   one_square from k [] one lt is = absurd (omega arith)
   one_square from zero (c ∷ cs) one lt is =
-      let sum = counted c cs in
-      let here = one_if_true c is in
-      let same : from ≡ from + 0 = omega arith in
-      ap (λ b. cond b (from ∷ squares_from (suc from) test cs) (squares_from (suc from) test cs)) is
-      ∙ ap (λ (xs : List ℕ). from ∷ xs) (no_squares (suc from) cs (omega (arith, sum, here, one))) ∙ ap (λ (n : ℕ). n ∷ []) same
+      rw (is, no_squares (suc from) cs (omega (arith, counted c cs, ap one_if is, one))) (ap (λ (n : ℕ). n ∷ []) (omega arith))
   one_square from (suc k) (c ∷ cs) one lt is = elim (cases_Bool (test c)) [
     | inl first ↦
-        (let sum = counted c cs in
-        let here = one_if_true c first in
-        let more = some_there cs k (omega arith) is in
-        absurd (omega (arith, sum, here, more, one)))
+        let more = get_or-le-sum_by (λ (x : Cell). one_if (test x)) cs k None (omega arith) in
+        absurd (omega (arith, counted c cs, ap one_if first, more, ap one_if is, one))
     | inr isnt ↦
-        (let sum = counted c cs in
-        let zero_there = none_if_false c isnt in
-        let same : suc from + k ≡ from + suc k = omega arith in
-        ap (λ b. cond b (from ∷ squares_from (suc from) test cs) (squares_from (suc from) test cs)) isnt
-        ∙ one_square (suc from) k cs (omega (arith, sum, zero_there, one)) (omega arith) is ∙ ap (λ (n : ℕ). n ∷ []) same)
+        let rest = one_square (suc from) k cs (omega (arith, counted c cs, ap one_if isnt, one)) (omega arith) is in
+        rw isnt (rest ∙ ap (λ (n : ℕ). n ∷ []) (omega arith))
   ]
 
 lion_square : (side : Side) (family : Family) (p : Setup) (s : ℕ) → IsPositionOf family p → at p s ≡ Some (piece_of side Lion)
@@ -74,10 +55,9 @@ hands-mirrored p = refl
 counts-mirrored : (kind : HandKind) (p : Setup) → length p.board ≡ 12 → count_by (holds_kind kind) (mirrored p).board ≡ count_by (holds_kind kind) p.board
 unfolding total
 counts-mirrored kind p twelve =
-    let all = total-mirrored kind p twelve in
     let mover : held (mirrored p).hands.mover kind ≡ held p.hands.mover kind = ap (λ (h : Hands). held h.mover kind) (hands-mirrored p) in
     let enemy : held (mirrored p).hands.enemy kind ≡ held p.hands.enemy kind = ap (λ (h : Hands). held h.enemy kind) (hands-mirrored p) in
-    omega (arith, all, mover, enemy)
+    omega (arith, total-mirrored kind p twelve, mover, enemy)
 
 lion-mirrored : (p : Setup) (side : Side) (s : ℕ) → s < 12 → at p s ≡ Some (piece_of side Lion)
     → at (mirrored p) (mirrored_square s) ≡ Some (piece_of side Lion)
@@ -100,11 +80,7 @@ counts_first p = each_kind (λ kind. count_by (holds_kind kind) p.board) ++ each
 
 counts_first-mirrored : (p : Setup) → length p.board ≡ 12 → counts_first (mirrored p) ≡ counts_first p
 unfolding counts_first
-counts_first-mirrored p twelve =
-    let chicks = counts-mirrored hand.Chick p twelve in
-    let elephants = counts-mirrored hand.Elephant p twelve in
-    let giraffes = counts-mirrored hand.Giraffe p twelve in
-    (λ i. chicks i ∷ elephants i ∷ giraffes i ∷ each_kind (held (hands-mirrored p i).mover))
+counts_first-mirrored p twelve = search (rules, counts-mirrored, hands-mirrored)
 
 -- the rest of the key
 rest_of : Setup → List ℕ
@@ -119,10 +95,7 @@ rest_of p =
 key-lions : (p : Setup) (s e : ℕ) → squares (holds_lion Mover) p ≡ s ∷ [] → squares (holds_lion Enemy) p ≡ e ∷ []
     → key p ≡ counts_first p ++ (s ∷ e ∷ rest_of p)
 unfolding key counts_first rest_of
-key-lions p s e own other =
-    ap (λ (xs : List ℕ). each_kind (λ kind. count_by (holds_kind kind) p.board)
-    ++ (each_kind (held p.hands.mover) ++ (xs ++ (squares (holds_lion Enemy) p ++ rest_of p)))) own
-    ∙ ap (λ (xs : List ℕ). each_kind (λ kind. count_by (holds_kind kind) p.board) ++ (each_kind (held p.hands.mover) ++ (s ∷ (xs ++ rest_of p)))) other
+key-lions p s e own other = rw (own, other) refl
 
 image_before : (family : Family) (p : Setup) (s e : ℕ) → IsPositionOf family p → at p s ≡ Some (piece_of Mover Lion) → at p e ≡ Some (piece_of Enemy Lion)
     → s < 12 → e < 12 → lions_before (mirrored_square s) (mirrored_square e) s e → Before (mirrored p) p
@@ -133,14 +106,9 @@ image_before family p s e is own other low_s low_e less =
     let theirs = key-lions (mirrored p) (mirrored_square s) (mirrored_square e)
     (lion_square Mover family (mirrored p) (mirrored_square s) image (lion-mirrored p Mover s low_s own))
     (lion_square Enemy family (mirrored p) (mirrored_square e) image (lion-mirrored p Enemy e low_e other)) in
-    subst (λ (xs : List ℕ). Precedes xs (key p)) (sym theirs)
-    (subst (λ (xs : List ℕ). Precedes (counts_first (mirrored p) ++ (mirrored_square s ∷ mirrored_square e ∷ rest_of (mirrored p))) xs) (sym mine)
+    rw (theirs, mine)
     (six_before (counts_first (mirrored p)) (counts_first p) (mirrored_square s) (mirrored_square e) s e (rest_of (mirrored p)) (rest_of p)
-    (counts_first-mirrored p is.of_set.legal.squares) less))
-
-pub either_true : (a b : Bool) → (a || b) ≡ true → (a ≡ true) ⊎ (b ≡ true)
-either_true true b h = inl refl
-either_true false b h = inr h
+    (counts_first-mirrored p is.of_set.legal.squares) less)
 
 -- the lions of one square each that aren't at home have their mirror images before them
 abbrev tells_before : ℕ → ℕ → Bool
@@ -149,29 +117,19 @@ tells_before s e = is_home e s || (nat_lt 8 s || (nat_lt (mirrored_square s) s |
 all_tell : all_below (λ s. all_below (tells_before s) 12) 12 ≡ true
 all_tell = refl
 
+-- what the table tells of a lion that stands off its far row, where the image isn't the earlier one
+told_home : (home : Bool) (s e s2 e2 : ℕ) → (home || (nat_lt 8 s || (nat_lt s2 s || ((s2 == s) && nat_lt e2 e)))) ≡ true
+    → (8 < s → ⊥) → (lions_before s2 e2 s e → ⊥) → home ≡ true
+told_home home s e s2 e2 told far less = grind (arith, nat_tests)
+
 pub representative_home : (family : Family) (p : Setup) (class s e : ℕ) → RepresentsClass family p class → at p s ≡ Some (piece_of Mover Lion)
     → at p e ≡ Some (piece_of Enemy Lion)
     → is_home e s ≡ true
 representative_home family p class s e represents own other =
     let is = represents.0.0 in
-    let twelve = is.of_set.legal.squares in
-    let in_s = within-from_piece p s (piece_of Mover Lion) own in
-    let in_e = within-from_piece p e (piece_of Enemy Lion) other in
-    let low_s : s < 12 = omega (arith, in_s, twelve) in
-    let low_e : e < 12 = omega (arith, in_e, twelve) in
-    let told : tells_before s e ≡ true = all_below-at (tells_before s) 12 e (all_below-at (λ s. all_below (tells_before s) 12) 12 s all_tell low_s) low_e in
-    elim (either_true (is_home e s) _ told) [
-      | inl home ↦ home
-      | inr rest ↦ elim (either_true (nat_lt 8 s) _ rest) [
-        | inl far ↦ absurd (is.of_set.legal.home s (let high = ltb-true 8 s far in omega (arith, high)) own)
-        | inr image ↦ absurd (represents.0.1 (image_before family p s e is own other low_s low_e (lions image)))
-      ]
-    ]
-  where
-    lions : (nat_lt (mirrored_square s) s || ((mirrored_square s == s) && nat_lt (mirrored_square e) e)) ≡ true
-        → lions_before (mirrored_square s) (mirrored_square e) s e
-    lions told = elim (either_true (nat_lt (mirrored_square s) s) _ told) [
-      | inl less ↦ inl (ltb-true (mirrored_square s) s less)
-      | inr same ↦ (let both = and_parts (mirrored_square s == s) (nat_lt (mirrored_square e) e) same in
-          inr (eqb-true (mirrored_square s) s both.0, ltb-true (mirrored_square e) e both.1))
-    ]
+    let low_s : s < 12 = rw is.of_set.legal.squares at (within-from_piece p s (piece_of Mover Lion) own) in
+    let low_e : e < 12 = rw is.of_set.legal.squares at (within-from_piece p e (piece_of Enemy Lion) other) in
+    told_home (is_home e s) s e (mirrored_square s) (mirrored_square e)
+    (all_below-at (tells_before s) 12 e (all_below-at (λ s. all_below (tells_before s) 12) 12 s all_tell low_s) low_e)
+    (λ high. is.of_set.legal.home s (omega (arith, high)) own)
+    (λ less. represents.0.1 (image_before family p s e is own other low_s low_e less))

@@ -5,9 +5,6 @@ pub mod Runs  -- ways taken in turn
 pub mod Undone  -- the ways are those of the moves that lead there
 pub mod Listed  -- the list has each way that can undo the last move
 pub mod Once  -- and no way twice
-pub mod Shapes  -- where the ways of a list end, and from where they come
-pub mod Hands  -- what the hands hold
-pub mod Allowed  -- and leads to a setup that the profile allows
 pub mod Kept  -- taking a move back keeps the lions and the other pieces
 -- Counts of the moves that lead into a class.
 pub mod Counting  -- what all ways add counts the moves
@@ -18,11 +15,9 @@ pub mod Edges  -- the predecessors are that one list
 -- Ways that are skipped.
 pub mod Threats  -- who could catch the enemy lion before the move
 pub mod Homes  -- where the mover's lion of a representative stands
-pub mod LionsBefore  -- and where it stood before the ways that are gone through
 pub mod Gathered  -- what the ways add, one list after the other
 pub mod Dead  -- ways that lead back to no open representative
 pub mod Standing  -- which ways a piece can have made
 pub mod WayMasks  -- the masks of the ways
 pub mod OwnImages  -- positions that are their own mirror images
 pub mod BitUndone  -- and when a move is taken back
-pub mod OwnKinds  -- the mover's piece on a square

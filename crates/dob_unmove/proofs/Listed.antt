@@ -1,11 +1,13 @@
 -- The list of the ways has each way that can undo the last move, once, and no other.
-use Rattle.dob_unmove.proofs.Common.{◌&&◌, ◌++◌, ◌<◌, ◌∙◌, ◌∷◌, ◌≡◌, Bool, Contains, List, None, Option, Some, [], ap, false, inl, inr, length, not, refl}
-use Rattle.dob_unmove.proofs.Common.{subst, true, ℕ, and_parts, lt-ltb, ltb-true, Contains-append_cases, Contains-append_left, Contains-append_right, is_some}
-use Rattle.dob_unmove.proofs.Common.{leads-to_board, within-from_piece, cond_sound, cons_cases, each_sound, head_in, none_in_empty, is_kind, kind_in_hand}
-use Rattle.dob_unmove.proofs.Common.{kind_on_board, leads, Cell, at, held, piece_of, Hand, HandKind, Kind, Chick, Elephant, Giraffe, Hen, Lion, Side, Enemy}
-use Rattle.dob_unmove.proofs.Common.{Mover, Setup, CanGiveBack, CanUndo, CanUnstep, arrives_at, holds_any, holds_caught, if_so, is_movers, stands, uncatch}
-use Rattle.dob_unmove.proofs.Common.{undoes, undoes_at, unputs, unsteps, unsteps_between, unsteps_from, Undo, Unput, Unstep}
+use Rattle.dob_unmove.proofs.Common.{rules, ◌&&◌, ◌++◌, ◌<◌, ◌∙◌, ◌∷◌, ◌≡◌, Bool, Contains, List, None, Option, Some, [], ap, false, inl, inr, length, not}
+use Rattle.dob_unmove.proofs.Common.{refl, subst, true, ℕ, and_parts, lt-ltb, ltb-true, Contains-append_cases, Contains-append_left, Contains-append_right}
+use Rattle.dob_unmove.proofs.Common.{is_some, leads-to_board, within-from_piece, cond_sound, cons_cases, each_sound, head_in, none_in_empty, is_kind}
+use Rattle.dob_unmove.proofs.Common.{kind_in_hand, kind_on_board, leads, Cell, at, held, piece_of, Hand, HandKind, Kind, Chick, Elephant, Giraffe, Hen, Lion}
+use Rattle.dob_unmove.proofs.Common.{Side, Enemy, Mover, Setup, CanGiveBack, CanUndo, CanUnstep, arrives_at, holds_any, holds_caught, if_so, is_movers, stands}
+use Rattle.dob_unmove.proofs.Common.{uncatch, undoes, undoes_at, unputs, unsteps, unsteps_between, unsteps_from, Undo, Unput, Unstep}
 use Rattle.dob_pieces.specs.declared.kind.HandKind.TheVariants as hand
+use Rattle.dob_unmove.proofs.Runs.{runs}
+use Rattle.dob_unmove.proofs.Undone.{ends_on}
 use Rattle.dob_pieces.proofs.Lists.{cond_whole, each_whole, rest_in}
 
 -- ---- the tests
@@ -29,12 +31,7 @@ movers Enemy e = cc
 -- the test finds the mover's piece
 pub stands-true : (cell : Cell) (kind : Kind) → stands cell kind ≡ true → cell ≡ Some (piece_of Mover kind)
 stands-true None kind e = cc
-stands-true (Some piece) kind e =
-    let parts = and_parts (is_movers piece.side) (is_kind piece.kind kind) e in
-    let side = movers piece.side parts.0 in
-    let own = is_kind-same piece.kind kind parts.1 in
-    let first : Some piece ≡ Some (piece_of Mover piece.kind) = ap (λ (s : Side). Some (piece_of s piece.kind)) side in
-    first ∙ ap (λ (k : Kind). Some (piece_of Mover k)) own
+stands-true (Some piece) kind e = search (rules, movers, is_kind-same)
 
 pub stands-from : (cell : Cell) (kind : Kind) → cell ≡ Some (piece_of Mover kind) → stands cell kind ≡ true
 stands-from cell kind e = ap (λ (c : Cell). stands c kind) e ∙ is_kind-itself kind
@@ -56,39 +53,81 @@ empty-true (Some piece) e = cc
 -- a step to where the piece stands, from a free square
 pub free_step : (after : Setup) (kind : Kind) (from to : ℕ) → stands (at after to) (arrives_at kind to) ≡ true → is_some (at after from) ≡ false
     → leads kind from to ≡ true → from < 12 → CanUnstep after kind from to None
-free_step after kind from to there empty leads on_board =
-    record { stands = stands-true (at after to) (arrives_at kind to) there; on_board = on_board; empty = empty-true (at after from) (ap (λ b. not b) empty); leads = leads; in_hand = tt }
+free_step after kind from to there empty leads on_board = search (rules, stands-true, empty-true)
+
+pub ruleset steps = (runs, free_step)
 
 -- ---- the way alone, if a test is met
 
 pub if_so_sound : (b : Bool) (x u : Undo) → Contains (if_so b x) u → (b ≡ true) × (x ≡ u)
-if_so_sound b x u h =
-    let found = cond_sound b (x ∷ []) u h in
-    elim (cons_cases x [] u found.1) [ inl e ↦ (found.0, e) | inr none ↦ absurd (none_in_empty u none) ]
+if_so_sound b x u h = search (rules, cond_sound, cons_cases, none_in_empty)
 
 if_so_whole : (b : Bool) (x : Undo) → b ≡ true → Contains (if_so b x) x
 if_so_whole b x e = cond_whole b (x ∷ []) x e (head_in x [])
 
--- ---- the parts of the lists
+-- ---- every way in the list can undo the last move
 
 either : {P : Type 0} (xs ys : List Undo) (u : Undo) → Contains (xs ++ ys) u → (Contains xs u → P) → (Contains ys u → P) → P
 either xs ys u h first second = elim (Contains-append_cases xs ys u h) [ inl a ↦ first a | inr b ↦ second b ]
 
-module _ (t : Setup) {P : Type 0} (u : Undo) where
-  -- the step without a catch, or one with it
-  pub by_catch : (kind : Kind) (from to : ℕ) → Contains (unsteps_between t kind from to) u → (Unstep kind from to None ≡ u → P)
-      → ((caught : Kind) → Contains (uncatch t kind from to caught) u → P) → P
-  by_catch kind from to h none some = elim (cons_cases _ _ u h) [
-    | inl e ↦ none e
+-- a step of the kind between these squares, with a catch or without
+pub record IsStep (t : Setup) (kind : Kind) (from to : ℕ) (u : Undo) : Type 0 where
+  pub caught : Option Kind
+  pub is : Unstep kind from to caught ≡ u
+  pub can : CanUnstep t kind from to caught
+
+-- the way ends on the square
+abbrev pub EndsOn : Setup → ℕ → Undo → Type 0
+EndsOn t to u = CanUndo t u × (ends_on u ≡ to)
+
+module _ (t : Setup) where
+  uncatch_sound : (kind : Kind) (from to : ℕ) (caught : Kind) (u : Undo) → CanUnstep t kind from to None → Contains (uncatch t kind from to caught) u
+      → IsStep t kind from to u
+  uncatch_sound kind from to caught u step h =
+      let found = if_so_sound (holds_caught t.hands.mover caught) (Unstep kind from to (Some caught)) u h in
+      let back = holds-true t.hands.mover caught (kind_in_hand caught) refl found.0 in
+      record {
+        caught = Some caught;
+        is = found.1;
+        can = record { stands = step.stands; on_board = step.on_board; empty = step.empty; leads = step.leads; in_hand = back };
+      }
+
+  between_sound : (kind : Kind) (from to : ℕ) (u : Undo) → CanUnstep t kind from to None → Contains (unsteps_between t kind from to) u
+      → IsStep t kind from to u
+  between_sound kind from to u step h = elim (cons_cases _ _ u h) [
+    | inl e ↦ record { caught = None; is = e; can = step }
     | inr rest ↦
+        let some = λ (caught : Kind) (there : Contains (uncatch t kind from to caught) u). uncatch_sound kind from to caught u step there in
         either _ _ u rest (some Giraffe) (λ rest. either _ _ u rest (some Elephant) (λ rest. either _ _ u rest (some Chick) (some Hen)))
   ]
 
-  -- a step of one of the kinds, or a drop
-  pub by_kind : (to : ℕ) → Contains (undoes_at t to) u → ((kind : Kind) → Contains (unsteps t kind to) u → P)
-      → ((kind : HandKind) → Contains (unputs t kind to) u → P) → P
+  pub from_sound : (kind : Kind) (from to : ℕ) (u : Undo) → at t to ≡ Some (piece_of Mover (arrives_at kind to)) → from < 12
+      → Contains (unsteps_from t kind to from) u → IsStep t kind from to u
+  unfolding unsteps_from
+  from_sound kind from to u here low h =
+      let found = cond_sound _ _ u h in
+      let parts = and_parts (not (is_some (at t from))) (leads kind from to) found.0 in
+      between_sound kind from to u (record { stands = here; on_board = low; empty = empty-true (at t from) parts.0; leads = parts.1; in_hand = tt }) found.1
+
+  unsteps_sound : (kind : Kind) (to : ℕ) (u : Undo) → Contains (unsteps t kind to) u → EndsOn t to u
+  unfolding unsteps
+  unsteps_sound kind to u h =
+      let found = cond_sound _ _ u h in
+      let w = each_sound (unsteps_from t kind to) 12 u found.1 in
+      let step = from_sound kind w.0 to u (stands-true (at t to) (arrives_at kind to) found.0) w.1 w.2 in
+      subst (EndsOn t to) step.is (step.can, refl)
+
+  unputs_sound : (kind : HandKind) (to : ℕ) (u : Undo) → Contains (unputs t kind to) u → EndsOn t to u
+  unfolding unputs
+  unputs_sound kind to u h =
+      let found = if_so_sound (stands (at t to) (kind_on_board kind)) (Unput kind to) u h in
+      subst (EndsOn t to) found.1 (stands-true (at t to) (kind_on_board kind) found.0, refl)
+
+  pub at_sound : (to : ℕ) (u : Undo) → Contains (undoes_at t to) u → EndsOn t to u
   unfolding undoes_at
-  by_kind to h step put =
+  at_sound to u h =
+      let step = λ (kind : Kind) (there : Contains (unsteps t kind to) u). unsteps_sound kind to u there in
+      let put = λ (kind : HandKind) (there : Contains (unputs t kind to) u). unputs_sound kind to u there in
       either _ _ u h (step Lion)
       (λ rest. either _ _ u rest (step Giraffe)
       (λ rest. either _ _ u rest (step Elephant)
@@ -97,53 +136,9 @@ module _ (t : Setup) {P : Type 0} (u : Undo) where
       (λ rest. either _ _ u rest (put hand.Chick)
       (λ rest. either _ _ u rest (put hand.Elephant) (put hand.Giraffe)))))))
 
--- ---- every way in the list can undo the last move
-
-module _ (t : Setup) where
-  uncatch_sound : (kind : Kind) (from to : ℕ) (caught : Kind) (u : Undo) → CanUnstep t kind from to None → Contains (uncatch t kind from to caught) u
-      → CanUndo t u
-  uncatch_sound kind from to caught u step h =
-      let found = if_so_sound (holds_caught t.hands.mover caught) (Unstep kind from to (Some caught)) u h in
-      subst (CanUndo t) found.1 (record {
-        stands = step.stands;
-        on_board = step.on_board;
-        empty = step.empty;
-        leads = step.leads;
-        in_hand = holds-true t.hands.mover caught (kind_in_hand caught) refl found.0;
-      })
-
-  between_sound : (kind : Kind) (from to : ℕ) (u : Undo) → CanUnstep t kind from to None → Contains (unsteps_between t kind from to) u → CanUndo t u
-  between_sound kind from to u step h =
-      by_catch t u kind from to h (λ e. subst (CanUndo t) e step) (λ caught there. uncatch_sound kind from to caught u step there)
-
-  pub from_sound : (kind : Kind) (from to : ℕ) (u : Undo) → at t to ≡ Some (piece_of Mover (arrives_at kind to)) → from < 12
-      → Contains (unsteps_from t kind to from) u → CanUndo t u
-  unfolding unsteps_from
-  from_sound kind from to u here low h =
-      let found = cond_sound _ _ u h in
-      let parts = and_parts (not (is_some (at t from))) (leads kind from to) found.0 in
-      between_sound kind from to u (record { stands = here; on_board = low; empty = empty-true (at t from) parts.0; leads = parts.1; in_hand = tt }) found.1
-
-  unsteps_sound : (kind : Kind) (to : ℕ) (u : Undo) → Contains (unsteps t kind to) u → CanUndo t u
-  unfolding unsteps
-  unsteps_sound kind to u h =
-      let found = cond_sound _ _ u h in
-      let here = stands-true (at t to) (arrives_at kind to) found.0 in
-      let w = each_sound (unsteps_from t kind to) 12 u found.1 in
-      from_sound kind w.0 to u here w.1 w.2
-
-  unputs_sound : (kind : HandKind) (to : ℕ) (u : Undo) → Contains (unputs t kind to) u → CanUndo t u
-  unfolding unputs
-  unputs_sound kind to u h =
-      let found = if_so_sound (stands (at t to) (kind_on_board kind)) (Unput kind to) u h in
-      subst (CanUndo t) found.1 (stands-true (at t to) (kind_on_board kind) found.0)
-
-  pub at_sound : (to : ℕ) (u : Undo) → Contains (undoes_at t to) u → CanUndo t u
-  at_sound to u h = by_kind t u to h (λ kind there. unsteps_sound kind to u there) (λ kind there. unputs_sound kind to u there)
-
   pub undoes_sound : (u : Undo) → Contains (undoes t) u → CanUndo t u
   unfolding undoes
-  undoes_sound u h = let w = each_sound (undoes_at t) 12 u h in at_sound w.0 u w.2
+  undoes_sound u h = let w = each_sound (undoes_at t) 12 u h in (at_sound w.0 u w.2).0
 
   -- ---- every way that can undo the last move is in the list
 

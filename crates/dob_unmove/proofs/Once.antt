@@ -1,6 +1,6 @@
 -- The list of the ways has no way twice: their places in the walk ascend.
 use Rattle.dob_unmove.proofs.Common.{◌*◌, ◌++◌, ◌+◌, ◌<◌, ◌∷◌, ◌≡◌, ◌≢◌, ◌≤◌, AllPairs, List, None, Option, Some, [], ap, arith, suc, sym, ℕ, each_below}
-use Rattle.dob_unmove.proofs.Common.{kind_place, HandKind, Kind, Chick, Elephant, Giraffe, Hen, Lion, Setup, uncatch, undoes, undoes_at, unputs, unsteps}
+use Rattle.dob_unmove.proofs.Common.{kind_place, HandKind, Kind, Chick, Elephant, Giraffe, Hen, Lion, Setup, undoes, undoes_at, unputs, unsteps}
 use Rattle.dob_unmove.proofs.Common.{unsteps_between, unsteps_from, Undo, Unput, Unstep}
 use Rattle.dob_pieces.specs.declared.kind.HandKind.TheVariants as hand
 use Rattle.dob_pieces.proofs.Lists.{Rising, rising-lower, rising-append, rising-cond, rising-each, rising-pairs}
@@ -43,21 +43,10 @@ rising-once low high us r = λ i j d before within. apart-place _ _ (rising-pair
 -- ---- the places in the walk
 
 module _ (t : Setup) where
-  rising-uncatch : (kind : Kind) (from to : ℕ) (caught : Kind) (low : ℕ) → place (Unstep kind from to (Some caught)) ≡ low
-      → Rising place low (suc low) (uncatch t kind from to caught)
-  rising-uncatch kind from to caught low e =
-      rising-cond place _ low (suc low) (Unstep kind from to (Some caught) ∷ []) (omega arith) (rising-one (Unstep kind from to (Some caught)) low e)
-
   rising-between : (kind : Kind) (from to low : ℕ) → low ≡ 1000 * to + (100 * kind_place kind + 5 * from)
       → Rising place low (low + 5) (unsteps_between t kind from to)
   unfolding place caught_place
-  rising-between kind from to low e =
-      let all =
-      rising-then _ _ _ _ _ _ (rising-uncatch kind from to Giraffe (low + 1) (omega arith)) (omega arith)
-      (rising-then _ _ _ _ _ _ (rising-uncatch kind from to Elephant (low + 2) (omega arith)) (omega arith)
-      (rising-then _ _ _ _ _ _ (rising-uncatch kind from to Chick (low + 3) (omega arith)) (omega arith)
-      (rising-higher _ _ (low + 5) _ (omega arith) (rising-uncatch kind from to Hen (low + 4) (omega arith))))) in
-      (omega arith, rising-lower place _ (low + 1) (low + 5) _ (omega arith) all)
+  rising-between kind from to low e = grind arith
 
   rising-from : (kind : Kind) (from to low : ℕ) → low ≡ 1000 * to + (100 * kind_place kind + 5 * from)
       → Rising place low (low + 5) (unsteps_from t kind to from)

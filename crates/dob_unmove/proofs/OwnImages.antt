@@ -1,9 +1,9 @@
 -- Positions that are their own mirror images: their lions stand on column b.
 use Rattle.dob_unmove.proofs.Common.{◌&&◌, ◌<◌, ◌==◌, ◌||◌, ◌∙◌, ◌≡◌, Bool, Some, ap, bit_and, bit_or, false, not, refl, sym, true, ℕ, eq-eqb, all_below}
 use Rattle.dob_unmove.proofs.Common.{all_below-at, at-mirrored, one_lion, IsMask-and, IsMask-or, is_mask, AreMasks, is_piece, IsLegal, at, mirrored, piece_of}
-use Rattle.dob_unmove.proofs.Common.{column, mirrored_square, Lion, Side, Enemy, Mover, Setup, IsSeenTurned, BESIDE_B}
+use Rattle.dob_unmove.proofs.Common.{column, mirrored_square, Lion, Side, Enemy, Mover, Setup, IsSeenTurned, BESIDE_B, not-true}
 use Rattle.dob_pieces.specs.declared.masks.Masks.{Masks}
-use Rattle.dob_unmove.proofs.Threats.{turned_lions}
+use Rattle.dob_unmove.proofs.Undone.{turned_lions}
 use Rattle.dob_unmove.proofs.WayMasks.{empty_mask, lion_passes}
 
 -- of columns a and c
@@ -17,13 +17,7 @@ all_move : all_below moves_if_beside_b 12 ≡ true
 all_move = refl
 
 fixed_on_b : (s : ℕ) → s < 12 → mirrored_square s ≡ s → is_beside_b s ≡ false
-fixed_on_b s lt same =
-    second (mirrored_square s == s) (is_beside_b s) (eq-eqb (mirrored_square s) s same) (all_below-at moves_if_beside_b 12 s all_move lt)
-  where
-    second : (a b : Bool) → a ≡ true → (not a || not b) ≡ true → b ≡ false
-    second true true e h = cc
-    second true false e h = refl
-    second false b e h = cc
+fixed_on_b s lt same = not-true (is_beside_b s) (rw (eq-eqb (mirrored_square s) s same) at (all_below-at moves_if_beside_b 12 s all_move lt))
 
 either : (a b c : Bool) → (a ≡ true → c ≡ false) → (b ≡ true → c ≡ false) → ((a || b) && c) ≡ false
 either true b c first second = first refl

@@ -1,9 +1,11 @@
 -- What the piece that stands on a square says of the ways that end there: only lists of its own kind have some.
-use Rattle.dob_unmove.proofs.Common.{◌++◌, ◌==◌, ◌∷◌, ◌≡◌, Bool, Some, [], ap, append-nil, cond, false, refl, true, ℕ}
-use Rattle.dob_unmove.proofs.Common.{is_kind, kind_on_board, at, piece_of, row, HandKind, Kind, Chick, Elephant, Giraffe, Hen, Lion, Mover, Setup}
-use Rattle.dob_unmove.proofs.Common.{arrives_at, if_so, stands, undoes_at, unputs, unsteps, Unput}
+use Rattle.dob_unmove.proofs.Common.{◌++◌, ◌==◌, ◌∷◌, ◌≡◌, Bool, Some, [], ap, append-nil, cond, false, refl, true, ℕ, is_kind, kind_on_board, at, piece_of}
+use Rattle.dob_unmove.proofs.Common.{row, HandKind, Kind, Chick, Elephant, Giraffe, Hen, Lion, Mover, Setup, arrives_at, if_so, stands, undoes_at, unputs}
+use Rattle.dob_unmove.proofs.Common.{unsteps, Unput, None}
 use Rattle.dob_pieces.specs.declared.kind.HandKind.TheVariants as hand
-use Rattle.dob_unmove.proofs.Listed.{stands-from}
+use Rattle.std.proofs.lemmas.Bool.{false_from_ne_true}
+use Rattle.dob_pieces.specs.Masks.{own_kind}
+use Rattle.dob_unmove.proofs.Listed.{stands-from, stands-true}
 
 -- no chick becomes one of the others
 chick_apart : (own : Kind) (grows : Bool) → is_kind own Chick ≡ false → is_kind own Hen ≡ false → is_kind own (cond grows Hen Chick) ≡ false
@@ -11,9 +13,11 @@ chick_apart own true chick hen = hen
 chick_apart own false chick hen = chick
 
 module _ (after : Setup) (to : ℕ) where
-  pub ways_of_none : ((kind : Kind) → stands (at after to) kind ≡ false) → undoes_at after to ≡ []
+  pub ways_of_none : own_kind (at after to) ≡ None → undoes_at after to ≡ []
   unfolding undoes_at unsteps unputs
-  ways_of_none none = rw (none Lion, none Giraffe, none Elephant, none (arrives_at Chick to), none Hen, none Chick)
+  ways_of_none none = rw (empty Lion, empty Giraffe, empty Elephant, empty (arrives_at Chick to), empty Hen, empty Chick) where
+    empty : (kind : Kind) → stands (at after to) kind ≡ false
+    empty kind = false_from_ne_true (stands (at after to) kind) (λ is. let own = ap own_kind (stands-true (at after to) kind is) in cc)
 
   pub ways_of_lion : at after to ≡ Some (piece_of Mover Lion) → undoes_at after to ≡ unsteps after Lion to
   unfolding undoes_at unsteps unputs

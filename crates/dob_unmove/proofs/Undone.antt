@@ -1,23 +1,28 @@
 -- The ways that can undo the last move are those of the moves that lead there.
 use Rattle.dob_unmove.proofs.Common.{◌+◌, ◌-◌, ◌<◌, ◌∙◌, ◌≡◌, ◌≢◌, Bool, List, None, Option, Some, ap, arith, cond, false, get_or, length, refl, set, subst}
-use Rattle.dob_unmove.proofs.Common.{sym, true, ℕ, get_or-set_other, get_or-set_same, length-set, set-get_or, set-set, set_comm, is_some, leads-apart}
-use Rattle.dob_unmove.proofs.Common.{leads-to_board, length-turned, within-from_piece, turned-turned, kind_in_hand, kind_on_board, leads, Cell, at, held}
-use Rattle.dob_unmove.proofs.Common.{piece_of, turned, with_one_less, with_one_more, Hand, Hands, HandKind, Kind, Hen, Mover, Setup, CanTake, Drops, HasOutcome}
-use Rattle.dob_unmove.proofs.Common.{Steps, grows_at, hands_after_catch, Move, Put, Step, CanGiveBack, CanUndo, CanUnstep, arrives_at, choice, earlier}
-use Rattle.dob_unmove.proofs.Common.{enemy_cell, without_caught, Undo, Unput, Unstep}
+use Rattle.dob_unmove.proofs.Common.{sym, true, ℕ, get_or-set_other, get_or-set_same, get_or_past, length-set, set-get_or, set-set, set_comm, is_some}
+use Rattle.dob_unmove.proofs.Common.{leads-apart, leads-to_board, length-turned, within-from_piece, turned-turned, kind_on_board, Cell, at, held, piece_of}
+use Rattle.dob_unmove.proofs.Common.{turned, with_one_less, with_one_more, Hand, HandKind, Kind, Hen, Mover, Setup, HasOutcome, grows_at, Move, Put, Step}
+use Rattle.dob_unmove.proofs.Common.{CanGiveBack, CanUndo, arrives_at, choice, earlier, enemy_cell, without_caught, Undo, Unput, Unstep, HasFewPieces, HasLions}
+use Rattle.dob_unmove.proofs.Common.{IsLegal, total, Enemy, HasOutcome-is, lions-HasOutcome, total-HasOutcome, HasFewPieces-turned, HasLions-turned}
+use Rattle.dob_unmove.proofs.Common.{IsSeenTurned}
 use Rattle.dob_pieces.specs.declared.kind.HandKind.TheVariants as hand
+use Rattle.dob_pieces.specs.Setups.{setup_of}
+unfoldable use Rattle.dob_moves.specs.Outcomes.{stepped, dropped}
+use Rattle.dob_moves.specs.Outcomes.{arrives_as, moved, with_caught}
+use Rattle.dob_moves.proofs.Outcomes.{Met, step_parts, HasOutcome-parts}
 
 -- ---- hands and boards written and written back
 
 one_less-more : (h : Hand) (k : HandKind) → with_one_less (with_one_more h k) k ≡ h
-one_less-more h hand.Chick = let e : h.chicks + 1 - 1 ≡ h.chicks = omega arith in ap (λ (n : ℕ). record h { chicks = n }) e
-one_less-more h hand.Elephant = let e : h.elephants + 1 - 1 ≡ h.elephants = omega arith in ap (λ (n : ℕ). record h { elephants = n }) e
-one_less-more h hand.Giraffe = let e : h.giraffes + 1 - 1 ≡ h.giraffes = omega arith in ap (λ (n : ℕ). record h { giraffes = n }) e
+one_less-more h hand.Chick = let e : h.chicks + 1 - 1 ≡ h.chicks = omega arith in λ i. record h { chicks = e i }
+one_less-more h hand.Elephant = let e : h.elephants + 1 - 1 ≡ h.elephants = omega arith in λ i. record h { elephants = e i }
+one_less-more h hand.Giraffe = let e : h.giraffes + 1 - 1 ≡ h.giraffes = omega arith in λ i. record h { giraffes = e i }
 
 one_more-less : (h : Hand) (k : HandKind) → 0 < held h k → with_one_more (with_one_less h k) k ≡ h
-one_more-less h hand.Chick some = let e : h.chicks - 1 + 1 ≡ h.chicks = omega arith in ap (λ (n : ℕ). record h { chicks = n }) e
-one_more-less h hand.Elephant some = let e : h.elephants - 1 + 1 ≡ h.elephants = omega arith in ap (λ (n : ℕ). record h { elephants = n }) e
-one_more-less h hand.Giraffe some = let e : h.giraffes - 1 + 1 ≡ h.giraffes = omega arith in ap (λ (n : ℕ). record h { giraffes = n }) e
+one_more-less h hand.Chick some = let e : h.chicks - 1 + 1 ≡ h.chicks = omega arith in λ i. record h { chicks = e i }
+one_more-less h hand.Elephant some = let e : h.elephants - 1 + 1 ≡ h.elephants = omega arith in λ i. record h { elephants = e i }
+one_more-less h hand.Giraffe some = let e : h.giraffes - 1 + 1 ≡ h.giraffes = omega arith in λ i. record h { giraffes = e i }
 
 some_after_more : (h : Hand) (k : HandKind) → 0 < held (with_one_more h k) k
 some_after_more h hand.Chick = omega arith
@@ -26,185 +31,183 @@ some_after_more h _ = omega arith
 -- two squares written, and then both written back
 written_back : (b : List Cell) (i j : ℕ) (c d x y : Cell) → i ≢ j → get_or b j None ≡ x → get_or b i None ≡ y
     → set (set (set (set b i c) j d) j x) i y ≡ b
-written_back b i j c d x y apart at_j at_i =
-    let apart_back : j ≢ i = λ e. apart (sym e) in
-    let first : set (set (set b i c) j d) j x ≡ set (set b i c) j x = set-set (set b i c) j d x in
-    let second : set (set b i c) j x ≡ set (set b j x) i c = set_comm b i j c x apart in
-    let third : set b j x ≡ b = ap (λ (v : Cell). set b j v) (sym at_j) ∙ set-get_or b j None in
-    let fourth : set (set b i c) i y ≡ set b i y = set-set b i c y in
-    let fifth : set b i y ≡ b = ap (λ (v : Cell). set b i v) (sym at_i) ∙ set-get_or b i None in
-    ap (λ (v : List Cell). set v i y) (first ∙ second ∙ ap (λ (v : List Cell). set v i c) third) ∙ fourth ∙ fifth
+written_back b i j c d x y apart at_j at_i = rw (set-set, set_comm b i j c x apart, ← at_j, set-get_or, set-set, ← at_i, set-get_or) refl
 
 -- one square written, and then written back
 written_back_once : (b : List Cell) (i : ℕ) (c x : Cell) → get_or b i None ≡ x → set (set b i c) i x ≡ b
-written_back_once b i c x at_i = set-set b i c x ∙ ap (λ (v : Cell). set b i v) (sym at_i) ∙ set-get_or b i None
+written_back_once b i c x at_i = rw (set-set, ← at_i, set-get_or) refl
 
-abbrev setup_of : List Cell → Hands → Setup
-setup_of board hands = record { board = board; hands = hands }
+-- ---- what stood where
+
+-- the square from which the piece came, for a drop one beyond the board
+abbrev pub leaves : Undo → ℕ
+leaves (Unstep kind from to caught) = from
+leaves (Unput kind to) = 12
+
+-- the square on which the move ended
+abbrev pub ends_on : Undo → ℕ
+ends_on (Unstep kind from to caught) = to
+ends_on (Unput kind to) = to
+
+-- what stood on the one, and what stands on the other
+abbrev pub came : Undo → Cell
+came (Unstep kind from to caught) = Some (piece_of Mover kind)
+came (Unput kind to) = None
+
+abbrev pub arrived : Undo → Kind
+arrived (Unstep kind from to caught) = arrives_at kind to
+arrived (Unput kind to) = kind_on_board kind
+
+-- what is given back there
+abbrev pub given : Undo → Option Kind
+given (Unstep kind from to caught) = caught
+given (Unput kind to) = None
+
+-- the move changed the cells of these two squares alone
+pub record IsBefore (after : Setup) (u : Undo) : Type 0 where
+  pub from_after : at after (leaves u) ≡ None
+  pub to_after : at after (ends_on u) ≡ Some (piece_of Mover (arrived u))
+  pub from_before : at (earlier after u) (leaves u) ≡ came u
+  pub to_before : at (earlier after u) (ends_on u) ≡ enemy_cell (given u)
+  pub others : (s : ℕ) → s ≢ leaves u → s ≢ ends_on u → at (earlier after u) s ≡ at after s
+
+pub is_before : (after : Setup) (u : Undo) → length after.board ≡ 12 → CanUndo after u → IsBefore after u
+unfolding earlier
+is_before after (Unstep kind from to caught) twelve can =
+    let given = set after.board to (enemy_cell caught) in record {
+      from_after = can.empty;
+      to_after = can.stands;
+      from_before = get_or-set_same given from (Some (piece_of Mover kind)) None (rw (length-set, twelve) can.on_board);
+      to_before =
+          get_or-set_other given from to (Some (piece_of Mover kind)) None (λ e. leads-apart kind from to can.leads (sym e))
+          ∙ get_or-set_same after.board to (enemy_cell caught) None (rw twelve (leads-to_board kind from to can.leads));
+      others = λ s away apart.
+          get_or-set_other given from s (Some (piece_of Mover kind)) None away ∙ get_or-set_other after.board to s (enemy_cell caught) None apart;
+    }
+is_before after (Unput kind to) twelve can =
+    let on = within-from_piece after to (piece_of Mover (kind_on_board kind)) can in record {
+      from_after = get_or_past after.board 12 None (omega (arith, twelve));
+      to_after = can;
+      from_before = get_or_past (set after.board to None) 12 None (rw (length-set, twelve) (omega arith));
+      to_before = get_or-set_same after.board to None None on;
+      others = λ s away apart. get_or-set_other after.board to s None None apart;
+    }
 
 -- ---- what can be undone was a move
 
-goes_free : (p q : Setup) (kind : Kind) (from to : ℕ) (grows : Bool) → grows_at kind to ≡ grows → at p to ≡ None
-    → Steps p kind from to (cond grows Hen kind) p.hands q → HasOutcome p (Step kind from to false grows) q
-goes_free p q kind from to false e free s = (e, free, s)
-goes_free p q kind from to true e free s = (e, free, s)
+-- a chick that grows is a hen
+same_arrival : (kind : Kind) (grows : Bool) → arrives_as kind grows ≡ cond grows Hen kind
+same_arrival kind true = refl
+same_arrival kind false = refl
 
-goes_catch : (p q : Setup) (kind : Kind) (from to : ℕ) (grows : Bool) (taken : HandKind) → grows_at kind to ≡ grows → CanTake p to taken
-    → Steps p kind from to (cond grows Hen kind) (hands_after_catch p.hands taken) q → HasOutcome p (Step kind from to true grows) q
-goes_catch p q kind from to false taken e take s = (e, taken, take, s)
-goes_catch p q kind from to true taken e take s = (e, taken, take, s)
+-- what is given back is caught again
+caught_again : (h : Hand) (caught : Option Kind) → CanGiveBack h caught → with_caught (without_caught h caught) (enemy_cell caught) ≡ h
+caught_again h None some = refl
+caught_again h (Some kind) some = rw some.1 (one_more-less h some.0 some.2)
 
-module _ (q : Setup) (twelve : length q.board ≡ 12) (kind : Kind) (from to : ℕ) (caught : Option Kind) (u : CanUnstep (turned q) kind from to caught) where
-  to_on_board : to < length (turned q).board
-  to_on_board = rw length-turned (leads-to_board kind from to u.leads)
+met_again : (p : Setup) (to : ℕ) (h : Hand) (caught : Option Kind) → at p to ≡ enemy_cell caught → CanGiveBack h caught → Met p to (is_some caught)
+met_again p to h None there some = there
+met_again p to h (Some kind) there some = (some.0, (kind, there, some.1))
 
-  from_on_board : from < length (turned q).board
-  from_on_board = rw length-turned u.on_board
+module _ (after : Setup) (twelve : length after.board ≡ 12) where
+  moved_again : (u : Undo) → CanUndo after u → moved (earlier after u) (choice u) ≡ after
+  unfolding earlier stepped dropped
+  moved_again (Unstep kind from to caught) can =
+      let board = written_back after.board to from (enemy_cell caught) (Some (piece_of Mover kind)) None
+      (Some (piece_of Mover (arrives_as kind (grows_at kind to)))) (λ e. leads-apart kind from to can.leads (sym e)) can.empty
+      (can.stands ∙ ap (λ (k : Kind). Some (piece_of Mover k)) (sym (same_arrival kind (grows_at kind to)))) in
+      let mover = ap (with_caught (without_caught after.hands.mover caught)) (is_before after (Unstep kind from to caught) twelve can).to_before
+      ∙ caught_again after.hands.mover caught can.in_hand in
+      λ i. setup_of (board i) (record after.hands { mover = mover i })
+  moved_again (Unput kind to) can =
+      let board = written_back_once after.board to None (Some (piece_of Mover (kind_on_board kind))) can in
+      λ i. setup_of (board i) (record after.hands { mover = one_less-more after.hands.mover kind i })
 
-  apart : to ≢ from
-  apart e = leads-apart kind from to u.leads (sym e)
-
-  at_from : at (earlier (turned q) (Unstep kind from to caught)) from ≡ Some (piece_of Mover kind)
-  unfolding earlier
-  at_from = get_or-set_same (set (turned q).board to (enemy_cell caught)) from (Some (piece_of Mover kind)) None (rw length-set from_on_board)
-
-  pub at_to : at (earlier (turned q) (Unstep kind from to caught)) to ≡ enemy_cell caught
-  unfolding earlier
-  at_to =
-      get_or-set_other (set (turned q).board to (enemy_cell caught)) from to (Some (piece_of Mover kind)) None apart
-      ∙ get_or-set_same (turned q).board to (enemy_cell caught) None to_on_board
-
-  steps_back : (hands : Hands) → hands ≡ (turned q).hands → Steps (earlier (turned q) (Unstep kind from to caught)) kind from to (arrives_at kind to) hands q
-  unfolding earlier
-  steps_back hands same = record {
-    own = at_from;
-    leads = u.leads;
-    outcome =
-        let board =
-        written_back (turned q).board to from (enemy_cell caught) (Some (piece_of Mover kind)) None
-        (Some (piece_of Mover (arrives_at kind to))) apart u.empty u.stands in
-        let whole : setup_of (set (set (earlier (turned q) (Unstep kind from to caught)).board from None) to (Some (piece_of Mover (arrives_at kind to)))) hands
-        ≡ turned q
-        = ap (λ (b : List Cell). setup_of b hands) board ∙ ap (setup_of (turned q).board) same in
-        sym (turned-turned q twelve) ∙ ap turned (sym whole);
+  HasOutcome-earlier : (u : Undo) → CanUndo after u → HasOutcome (earlier after u) (choice u) (turned after)
+  unfolding earlier stepped dropped
+  HasOutcome-earlier (Unstep kind from to caught) can =
+      let u = Unstep kind from to caught in
+      let b = is_before after u twelve can in
+      HasOutcome-parts (earlier after u) kind from to (turned after) (is_some caught) (grows_at kind to) (record {
+        grows_is = refl;
+        met = met_again (earlier after u) to after.hands.mover caught b.to_before can.in_hand;
+        steps = record { own = b.from_before; leads = can.leads; outcome = ap turned (sym (moved_again u can)) };
+      })
+  HasOutcome-earlier (Unput kind to) can = record {
+    in_hand = some_after_more after.hands.mover kind;
+    on_board = rw twelve at (within-from_piece after to (piece_of Mover (kind_on_board kind)) can);
+    free = (is_before after (Unput kind to) twelve can).to_before;
+    outcome = ap turned (sym (moved_again (Unput kind to) can));
   }
 
--- the hands after the catch are those that are there now
-caught_hands : (hands : Hands) (caught : Kind) (taken : HandKind) → kind_in_hand caught ≡ Some taken → 0 < held hands.mover taken
-    → hands_after_catch (record hands { mover = without_caught hands.mover (Some caught) }) taken ≡ hands
-caught_hands hands caught taken e some =
-    rw e (ap (λ (h : Hand). record hands { mover = h }) (one_more-less hands.mover taken some))
-
-pub HasOutcome-from_undo : (q : Setup) (u : Undo) → length q.board ≡ 12 → CanUndo (turned q) u → HasOutcome (earlier (turned q) u) (choice u) q
-unfolding earlier
-HasOutcome-from_undo q (Unstep kind from to None) twelve u =
-    goes_free _ q kind from to (grows_at kind to) refl (at_to q twelve kind from to None u) (steps_back q twelve kind from to None u (turned q).hands refl)
-HasOutcome-from_undo q (Unstep kind from to (Some caught)) twelve u =
-    let hands = caught_hands (turned q).hands caught u.in_hand.0 u.in_hand.1 u.in_hand.2 in
-    goes_catch _ q kind from to (grows_at kind to) u.in_hand.0 refl (caught, at_to q twelve kind from to (Some caught) u, u.in_hand.1)
-    (steps_back q twelve kind from to (Some caught) u _ hands)
-HasOutcome-from_undo q (Unput kind to) twelve u =
-    let here : to < length (turned q).board = within-from_piece (turned q) to (piece_of Mover (kind_on_board kind)) u in
-    record {
-      in_hand = some_after_more (turned q).hands.mover kind;
-      on_board = rw length-turned at here;
-      free = get_or-set_same (turned q).board to None None here;
-      outcome =
-          let board = written_back_once (turned q).board to None (Some (piece_of Mover (kind_on_board kind))) u in
-          let mover = one_less-more (turned q).hands.mover kind in
-          let whole : setup_of (set (set (turned q).board to None) to (Some (piece_of Mover (kind_on_board kind))))
-          (record (turned q).hands { mover = with_one_less (with_one_more (turned q).hands.mover kind) kind }) ≡ turned q
-          = ap (λ (b : List Cell). setup_of b (record (turned q).hands { mover = with_one_less (with_one_more (turned q).hands.mover kind) kind })) board
-          ∙ ap (λ (h : Hand). setup_of (turned q).board (record (turned q).hands { mover = h })) mover in
-          sym (turned-turned q twelve) ∙ ap turned (sym whole);
-    }
-
 -- ---- every move can be undone
+
+-- what a step took, and the hands before it
+record IsTaken (p : Setup) (to : ℕ) (catch : Bool) : Type 0 where
+  caught : Option Kind
+  found : at p to ≡ enemy_cell caught
+  catches : is_some caught ≡ catch
+  in_hand : CanGiveBack (with_caught p.hands.mover (at p to)) caught
+  back : without_caught (with_caught p.hands.mover (at p to)) caught ≡ p.hands.mover
+
+is_taken : (p : Setup) (to : ℕ) (catch : Bool) → Met p to catch → IsTaken p to catch
+is_taken p to false free = record { caught = None; found = free; catches = refl; in_hand = tt; back = rw free refl }
+is_taken p to true t = record {
+  caught = Some t.1.0;
+  found = t.1.1;
+  catches = refl;
+  in_hand = (t.0, t.1.2, rw (t.1.1, t.1.2) (some_after_more p.hands.mover t.0));
+  back = rw (t.1.1, t.1.2) (one_less-more p.hands.mover t.0);
+}
 
 -- a way that takes the move back to p
 abbrev pub Undoes : Setup → Move → Setup → Undo → Type 0
 Undoes p m after u = CanUndo after u × (choice u ≡ m) × (earlier after u ≡ p)
 
-module _ (p : Setup) (twelve : length p.board ≡ 12) (kind : Kind) (from to : ℕ) (caught : Option Kind) (hands : Hands)
-    (own : at p from ≡ Some (piece_of Mover kind)) (steps : leads kind from to ≡ true) (found : at p to ≡ enemy_cell caught)
-    (some : CanGiveBack hands.mover caught) (before : record hands { mover = without_caught hands.mover caught } ≡ p.hands) where
-  stepped : Setup
-  stepped = setup_of (set (set p.board from None) to (Some (piece_of Mover (arrives_at kind to)))) hands
-
-  from_here : from < length p.board
-  from_here = within-from_piece p from (piece_of Mover kind) own
-
-  to_here : to < length (set p.board from None)
-  to_here = rw (length-set, twelve) (leads-to_board kind from to steps)
-
-  from_to : from ≢ to
-  from_to = leads-apart kind from to steps
-
-  undone : CanUndo stepped (Unstep kind from to caught)
-  unfolding stepped
-  undone = record {
-    stands = get_or-set_same (set p.board from None) to (Some (piece_of Mover (arrives_at kind to))) None to_here;
-    on_board = rw twelve at from_here;
-    empty =
-        get_or-set_other (set p.board from None) to from (Some (piece_of Mover (arrives_at kind to))) None from_to
-        ∙ get_or-set_same p.board from None None from_here;
-    leads = steps;
-    in_hand = some;
-  }
-
-  back_to : earlier stepped (Unstep kind from to caught) ≡ p
-  unfolding earlier stepped
-  back_to =
-      let board =
-      written_back p.board from to None (Some (piece_of Mover (arrives_at kind to))) (enemy_cell caught) (Some (piece_of Mover kind)) from_to found own in
-      ap (λ (b : List Cell). setup_of b (record hands { mover = without_caught hands.mover caught })) board ∙ ap (setup_of p.board) before
-
-  step_undone : (q : Setup) (grows : Bool) → grows_at kind to ≡ grows → Steps p kind from to (cond grows Hen kind) hands q
-      → (u : Undo) × Undoes p (Step kind from to (is_some caught) grows) (turned q) u
-  unfolding stepped
-  step_undone q grows e s =
-      let arrives : stepped ≡ setup_of (set (set p.board from None) to (Some (piece_of Mover (cond grows Hen kind)))) hands
-      = ap (λ (b : Bool). setup_of (set (set p.board from None) to (Some (piece_of Mover (cond b Hen kind)))) hands) e in
-      let long : length stepped.board ≡ 12 = length-set (set p.board from None) to _ ∙ length-set p.board from None ∙ twelve in
-      let after : turned q ≡ stepped = ap turned (s.outcome ∙ ap turned (sym arrives)) ∙ turned-turned stepped long in
-      let made : choice (Unstep kind from to caught) ≡ Step kind from to (is_some caught) grows = ap (Step kind from to (is_some caught)) e in
-      subst (λ (t : Setup). (u : Undo) × Undoes p (Step kind from to (is_some caught) grows) t u) (sym after)
-      (Unstep kind from to caught, (undone, made, back_to))
-
-drop_undone : (p q : Setup) (kind : HandKind) (to : ℕ) → length p.board ≡ 12 → Drops p kind to q → (u : Undo) × Undoes p (Put kind to) (turned q) u
-unfolding earlier
-drop_undone p q kind to twelve d =
+undone : (p : Setup) (m : Move) (q : Setup) → length p.board ≡ 12 → HasOutcome p m q → (u : Undo) × Undoes p m (moved p m) u
+unfolding earlier stepped dropped
+undone p (Step kind from to catch grows) q twelve g =
+    let parts = step_parts p kind from to q catch grows g in
+    let s = parts.steps in
+    let t = is_taken p to catch parts.met in
+    let apart = leads-apart kind from to s.leads in
+    let cell = Some (piece_of Mover (arrives_as kind grows)) in
+    let here = within-from_piece p from (piece_of Mover kind) s.own in
+    let board = written_back p.board from to None cell (enemy_cell t.caught) (Some (piece_of Mover kind)) apart t.found s.own in (
+      Unstep kind from to t.caught,
+      (
+        record {
+          stands = get_or-set_same (set p.board from None) to cell None (rw (length-set, twelve) (leads-to_board kind from to s.leads))
+              ∙ ap (λ (k : Kind). Some (piece_of Mover k)) (same_arrival kind grows ∙ ap (λ b. cond b Hen kind) (sym parts.grows_is));
+          on_board = rw twelve at here;
+          empty = get_or-set_other (set p.board from None) to from cell None apart ∙ get_or-set_same p.board from None None here;
+          leads = s.leads;
+          in_hand = t.in_hand;
+        },
+        λ i. Step kind from to (t.catches i) (parts.grows_is i),
+        λ i. setup_of (board i) (record p.hands { mover = t.back i }),
+      ),
+    )
+undone p (Put kind to) q twelve d =
     let cell = Some (piece_of Mover (kind_on_board kind)) in
-    let hands : Hands = record p.hands { mover = with_one_less p.hands.mover kind } in
-    let dropped = setup_of (set p.board to cell) hands in
-    let here : to < length p.board = rw twelve d.on_board in
-    let long : length dropped.board ≡ 12 = length-set p.board to cell ∙ twelve in
-    let after : turned q ≡ dropped = ap turned d.outcome ∙ turned-turned dropped long in
-    let board = written_back_once p.board to cell None d.free in
-    let mover = one_more-less p.hands.mover kind d.in_hand in
-    let back : setup_of (set (set p.board to cell) to None) (record p.hands { mover = with_one_more (with_one_less p.hands.mover kind) kind }) ≡ p
-    = ap (λ (b : List Cell). setup_of b (record p.hands { mover = with_one_more (with_one_less p.hands.mover kind) kind })) board
-    ∙ ap (λ (h : Hand). setup_of p.board (record p.hands { mover = h })) mover in
-    subst (λ (t : Setup). (u : Undo) × Undoes p (Put kind to) t u) (sym after)
-    (Unput kind to, (get_or-set_same p.board to cell None here, refl, back))
+    let board = written_back_once p.board to cell None d.free in (
+      Unput kind to,
+      (
+        get_or-set_same p.board to cell None (rw twelve d.on_board),
+        refl,
+        λ i. setup_of (board i) (record p.hands { mover = one_more-less p.hands.mover kind d.in_hand i }),
+      ),
+    )
 
--- the hands before a catch
-hands_before : (hands : Hands) (caught : Kind) (taken : HandKind) → kind_in_hand caught ≡ Some taken
-    → record (hands_after_catch hands taken) { mover = without_caught (hands_after_catch hands taken).mover (Some caught) } ≡ hands
-hands_before hands caught taken e = rw e (ap (λ (h : Hand). record hands { mover = h }) (one_less-more hands.mover taken))
+length-moved : (p : Setup) (m : Move) → length (moved p m).board ≡ length p.board
+unfolding stepped dropped
+length-moved p (Step kind from to catch grows) = length-set (set p.board from None) to _ ∙ length-set p.board from None
+length-moved p (Put kind to) = length-set p.board to _
 
 pub undo_from_HasOutcome : (p : Setup) (m : Move) (q : Setup) → length p.board ≡ 12 → HasOutcome p m q → (u : Undo) × Undoes p m (turned q) u
-undo_from_HasOutcome p (Step kind from to false false) q twelve g =
-    step_undone p twelve kind from to None p.hands g.2.own g.2.leads g.1 tt refl q false g.0 g.2
-undo_from_HasOutcome p (Step kind from to false true) q twelve g =
-    step_undone p twelve kind from to None p.hands g.2.own g.2.leads g.1 tt refl q true g.0 g.2
-undo_from_HasOutcome p (Step kind from to true false) q twelve g =
-    step_undone p twelve kind from to (Some g.2.0) (hands_after_catch p.hands g.1) g.3.own g.3.leads g.2.1
-    (g.1, g.2.2, some_after_more p.hands.mover g.1) (hands_before p.hands g.2.0 g.1 g.2.2) q false g.0 g.3
-undo_from_HasOutcome p (Step kind from to true true) q twelve g =
-    step_undone p twelve kind from to (Some g.2.0) (hands_after_catch p.hands g.1) g.3.own g.3.leads g.2.1
-    (g.1, g.2.2, some_after_more p.hands.mover g.1) (hands_before p.hands g.2.0 g.1 g.2.2) q true g.0 g.3
-undo_from_HasOutcome p (Put kind to) q twelve d = drop_undone p q kind to twelve d
+undo_from_HasOutcome p m q twelve g =
+    let after : turned q ≡ moved p m = ap turned (HasOutcome-is p m q g) ∙ turned-turned (moved p m) (length-moved p m ∙ twelve) in
+    subst (λ (t : Setup). (u : Undo) × Undoes p m t u) (sym after) (undone p m q twelve g)
 
 -- ---- two ways never take the same move back to the same setup
 
@@ -217,19 +220,52 @@ same_caught None None e = refl
 same_caught (Some a) (Some b) e = ap kind_there e
 same_caught _ _ e = cc
 
-pub same_undo : (q : Setup) (u v : Undo) → length q.board ≡ 12 → CanUndo (turned q) u → CanUndo (turned q) v
-    → choice u ≡ choice v → earlier (turned q) u ≡ earlier (turned q) v → u ≡ v
-same_undo q (Unstep kind from to caught) (Unstep kind2 from2 to2 caught2) twelve u v e f =
-    let kinds : kind ≡ kind2 = cc in
-    let froms : from ≡ from2 = cc in
+pub same_undo : (after : Setup) (u v : Undo) → length after.board ≡ 12 → CanUndo after u → CanUndo after v
+    → choice u ≡ choice v → earlier after u ≡ earlier after v → u ≡ v
+same_undo after (Unstep kind from to caught) (Unstep kind2 from2 to2 caught2) twelve can other e f =
+    let here = is_before after (Unstep kind from to caught) twelve can in
+    let there = is_before after (Unstep kind2 from2 to2 caught2) twelve other in
     let tos : to ≡ to2 = cc in
-    let here = at_to q twelve kind from to caught u in
-    let there = at_to q twelve kind2 from2 to2 caught2 v in
-    let moved : at (earlier (turned q) (Unstep kind from to caught)) to ≡ at (earlier (turned q) (Unstep kind2 from2 to2 caught2)) to
-    = ap (λ (s : Setup). at s to) f in
-    let at_same : at (earlier (turned q) (Unstep kind2 from2 to2 caught2)) to ≡ enemy_cell caught2
-    = ap (at (earlier (turned q) (Unstep kind2 from2 to2 caught2))) tos ∙ there in
-    let caughts : caught ≡ caught2 = same_caught caught caught2 (sym here ∙ moved ∙ at_same) in
+    let caughts : caught ≡ caught2 = same_caught caught caught2 (sym here.to_before ∙ (λ i. at (f i) (tos i)) ∙ there.to_before) in
     cc
-same_undo q (Unput kind to) (Unput kind2 to2) twelve u v e f = cc
-same_undo q _ _ twelve u v e f = cc
+same_undo after (Unput kind to) (Unput kind2 to2) twelve can other e f = cc
+same_undo after _ _ twelve can other e f = cc
+
+-- ---- what a setup after a move keeps of the position to which it was turned, and what stood before it
+
+pub turned_squares : (after : Setup) → IsSeenTurned IsLegal after → length after.board ≡ 12
+turned_squares after t = rw t.2 (length-turned t.0)
+
+pub turned_lions : (after : Setup) → IsSeenTurned IsLegal after → HasLions after
+turned_lions after t = rw t.2 (HasLions-turned t.0 t.1.squares t.1.lions)
+
+pub few_turned : (after : Setup) → IsSeenTurned IsLegal after → HasFewPieces after
+few_turned after t = rw t.2 (HasFewPieces-turned t.0 t.1.squares t.1.few)
+
+-- a hand has few pieces
+pub few_held : (s : Setup) (kind : HandKind) → HasFewPieces s → held s.hands.mover kind < 255
+unfolding total
+few_held s kind few = omega (arith, few kind)
+
+pub HasOutcome-from_undo : (q after : Setup) (u : Undo) → length q.board ≡ 12 → after ≡ turned q → CanUndo after u → HasOutcome (earlier after u) (choice u) q
+HasOutcome-from_undo q after u twelve e can =
+    subst (HasOutcome (earlier after u) (choice u)) (ap turned e ∙ turned-turned q twelve) (HasOutcome-earlier after (rw e (length-turned q)) u can)
+
+length-earlier : (after : Setup) (u : Undo) → length (earlier after u).board ≡ length after.board
+unfolding earlier
+length-earlier after (Unstep kind from to caught) = length-set (set after.board to (enemy_cell caught)) from _ ∙ length-set after.board to _
+length-earlier after (Unput kind to) = length-set after.board to _
+
+module _ (after : Setup) (t : IsSeenTurned IsLegal after) (u : Undo) (can : CanUndo after u) where
+  pub goes_before : HasOutcome (earlier after u) (choice u) t.0
+  goes_before = HasOutcome-from_undo t.0 after u t.1.squares t.2 can
+
+  pub squares_before : length (earlier after u).board ≡ 12
+  squares_before = length-earlier after u ∙ turned_squares after t
+
+  pub total_before : (kind : HandKind) → total kind t.0 ≡ total kind (earlier after u)
+  total_before = total-HasOutcome (earlier after u) (choice u) t.0 goes_before squares_before
+
+  pub lions_before : HasLions (earlier after u)
+  lions_before Mover = sym (lions-HasOutcome (earlier after u) (choice u) t.0 goes_before squares_before Enemy) ∙ t.1.lions Enemy
+  lions_before Enemy = sym (lions-HasOutcome (earlier after u) (choice u) t.0 goes_before squares_before Mover) ∙ t.1.lions Mover

@@ -1,9 +1,11 @@
 -- The masks of the ways: where the lion may stand, where a move may have ended, from where a piece may have come.
-use Rattle.dob_unmove.proofs.Common.{◌%◌, ◌&&◌, ◌*◌, ◌<◌, ◌==◌, ◌^◌, ◌||◌, ◌∙◌, ◌≡◌, ◌≢◌, Bool, Some, ap, arith, bit_and, cond, false, inl, inr, nat_lt, not}
-use Rattle.dob_unmove.proofs.Common.{refl, sym, true, ℕ, cases_Bool, eq-eqb, ne_eqb, cell_lion, is_that_lion, all_below, all_below-at, one_lion, IsMask-and}
-use Rattle.dob_unmove.proofs.Common.{IsMask-same, none_passes, everywhere, has_bits, is_mask, IsMask, is_own, is_piece, Cell, HasLions, at, piece_of, column}
-use Rattle.dob_unmove.proofs.Common.{Kind, Chick, Elephant, Giraffe, Hen, Lion, Side, Mover, ALL_SQUARES, Setup, elsewhere, TellsHome, comes_home, is_home}
-use Rattle.dob_unmove.proofs.Common.{may_have_ended, One, Threat, HOMES_ON_A, HOMES_ON_A_AND_B}
+use Rattle.dob_unmove.proofs.Common.{◌%◌, ◌&&◌, ◌*◌, ◌<◌, ◌==◌, ◌^◌, ◌||◌, ◌∙◌, ◌≡◌, ◌≢◌, Bool, Some, ap, arith, bit_and, cond, false, nat_lt, not, refl, sym}
+use Rattle.dob_unmove.proofs.Common.{true, ℕ, cell_lion, is_that_lion, all_below, all_below-at, one_lion, IsMask-and, IsMask-same, none_passes, everywhere}
+use Rattle.dob_unmove.proofs.Common.{has_bits, is_mask, IsMask, is_own, is_piece, Cell, HasLions, at, piece_of, column, Kind, Lion, Side, Mover, ALL_SQUARES}
+use Rattle.dob_unmove.proofs.Common.{Setup, elsewhere, TellsHome, comes_home, is_home, may_have_ended, One, Threat, AreMasks, and_parts, length, trailing_zeros}
+use Rattle.dob_unmove.proofs.Common.{w16, within-from_piece}
+use Rattle.dob_pieces.proofs.MaskBits.{lowest_is}
+use Rattle.dob_pieces.specs.declared.masks.Masks.{Masks}
 use Rattle.std.proofs.lemmas.Nat.Bits.{same_from_bits_below, bit_at-zero}
 
 -- ---- masks of constants
@@ -11,12 +13,8 @@ use Rattle.std.proofs.lemmas.Nat.Bits.{same_from_bits_below, bit_at-zero}
 abbrev home_by : Bool → ℕ → Bool
 home_by aside s = nat_lt s 9 && ((column s == 0) || ((column s == 1) && not aside))
 
-pub homes_on_a : (lion : ℕ) → (column lion == 2) ≡ true → IsMask (is_home lion) HOMES_ON_A
-homes_on_a lion e = IsMask-same (home_by true) (is_home lion) HOMES_ON_A (λ s lt. ap (λ b. home_by b s) (sym e)) (is_mask (home_by true) HOMES_ON_A refl)
-
-pub homes_on_both : (lion : ℕ) → (column lion == 2) ≡ false → IsMask (is_home lion) HOMES_ON_A_AND_B
-homes_on_both lion e =
-    IsMask-same (home_by false) (is_home lion) HOMES_ON_A_AND_B (λ s lt. ap (λ b. home_by b s) (sym e)) (is_mask (home_by false) HOMES_ON_A_AND_B refl)
+pub homes_on : (lion mask : ℕ) (aside : Bool) → (column lion == 2) ≡ aside → has_bits (home_by aside) mask ≡ true → IsMask (is_home lion) mask
+homes_on lion mask aside e all = IsMask-same (home_by aside) (is_home lion) mask (λ s lt. ap (λ b. home_by b s) (sym e)) (is_mask (home_by aside) mask all)
 
 pub nowhere : (test : ℕ → Bool) → ((s : ℕ) → test s ≡ false) → IsMask test 0
 nowhere test none = IsMask-same (λ s. false) test 0 (λ s lt. sym (none s)) (is_mask (λ s. false) 0 refl)
@@ -32,10 +30,7 @@ alone a lt = is_mask (λ s. not (not (a == s))) (1 * 2 ^ a % 2 ^ 16) (all_below-
 
 pub comes_anywhere : (kind : Kind) (lion : ℕ) → kind ≢ Lion → IsMask (comes_home kind lion) ALL_SQUARES
 comes_anywhere Lion lion other = absurd (other refl)
-comes_anywhere Giraffe lion other = everywhere (comes_home Giraffe lion) (λ s. refl)
-comes_anywhere Elephant lion other = everywhere (comes_home Elephant lion) (λ s. refl)
-comes_anywhere Chick lion other = everywhere (comes_home Chick lion) (λ s. refl)
-comes_anywhere Hen lion other = everywhere (comes_home Hen lion) (λ s. refl)
+comes_anywhere kind lion other = everywhere (comes_home kind lion) (λ s. refl)
 
 -- ---- where a move may have ended
 
@@ -52,48 +47,37 @@ and_true false = refl
 pub lion_passes : (side : Side) (cell : Cell) → is_piece side Lion cell ≡ true → cell ≡ Some (piece_of side Lion)
 lion_passes side cell h = is_that_lion side cell (sym (cell_lion side cell) ∙ h)
 
-module _ (after : Setup) (threat : Threat) (lions : HasLions after) (lion homes calm own place : ℕ)
-    (lion_is : IsMask (λ s. is_piece Mover Lion (at after s)) lion) (homes_are : IsMask (is_home threat.lion) homes)
-    (own_are : IsMask (λ s. is_own (at after s)) own) (calm_are : IsMask (λ s. not (elsewhere threat.attackers s)) calm)
-    (there : at after place ≡ Some (piece_of Mover Lion)) (low : place < 12) where
-  both_are : IsMask (λ s. is_piece Mover Lion (at after s) && is_home threat.lion s) (bit_and lion homes)
-  both_are = IsMask-and _ _ lion homes lion_is homes_are
+module _ (after : Setup) (threat : Threat) (masks : Masks) (homes calm : ℕ) (twelve : length after.board ≡ 12) (lions : HasLions after)
+    (are : AreMasks after masks) (homes_are : IsMask (is_home threat.lion) homes) (calm_are : IsMask (λ s. not (elsewhere threat.attackers s)) calm) where
+  both_are : IsMask (λ s. is_piece Mover Lion (at after s) && is_home threat.lion s) (bit_and masks.lion homes)
+  both_are = IsMask-and _ _ masks.lion homes are.lion_is homes_are
 
-  here : is_piece Mover Lion (at after place) ≡ true
-  here = ap (is_piece Mover Lion) there
+  own_calm : IsMask (λ s. is_own (at after s) && not (elsewhere threat.attackers s)) (bit_and masks.own calm)
+  own_calm = IsMask-and _ _ masks.own calm are.own_are calm_are
+
+  -- whether the lion stands at home, and so where the move may have ended
+  abbrev pub Told : ℕ → Type 0
+  Told ends = (stays : Bool) × TellsHome after threat.lion stays × IsMask (may_have_ended after threat stays) ends
 
   -- no lion at home
-  pub away : bit_and lion homes ≡ 0 → TellsHome after threat.lion false
-  away none s is =
-      let same : s ≡ place = one_lion Mover after s place lions is there in
-      ap (is_home threat.lion) same ∙ ap (λ b. b && is_home threat.lion place) (sym here)
-      ∙ none_passes (λ s. is_piece Mover Lion (at after s) && is_home threat.lion s) (bit_and lion homes) both_are none place low
+  pub away : bit_and masks.lion homes ≡ 0 → Told (bit_and (bit_and masks.own calm) masks.lion)
+  away none = (
+    false,
+    λ s is. rw (ap (is_piece Mover Lion) is) at
+        (none_passes (λ k. is_piece Mover Lion (at after k) && is_home threat.lion k) (bit_and masks.lion homes) both_are none s
+        (rw twelve at (within-from_piece after s (piece_of Mover Lion) is))),
+    IsMask-and _ _ (bit_and masks.own calm) masks.lion own_calm are.lion_is,
+  )
 
   -- the lion at home
-  pub at_home : bit_and lion homes ≢ 0 → TellsHome after threat.lion true
-  at_home some s is = elim (cases_Bool (is_home threat.lion s)) [
-    | inl yes_home ↦ yes_home
-    | inr no_home ↦ absurd (some (none_there s is no_home))
-  ] where
-    none_there : (s : ℕ) → at after s ≡ Some (piece_of Mover Lion) → is_home threat.lion s ≡ false → bit_and lion homes ≡ 0
-    none_there s is no_home = empty_mask (λ s. is_piece Mover Lion (at after s) && is_home threat.lion s) (bit_and lion homes) both_are
-        (λ k lt. elim (cases_Bool (is_piece Mover Lion (at after k))) [
-          | inl lion_there ↦
-              (let found : at after k ≡ Some (piece_of Mover Lion) = lion_passes Mover (at after k) lion_there in
-              let same : k ≡ s = one_lion Mover after k s lions found is in
-              ap (λ b. b && is_home threat.lion k) lion_there ∙ ap (is_home threat.lion) same ∙ no_home)
-          | inr not_there ↦ ap (λ b. b && is_home threat.lion k) not_there
-        ])
-
-  pub calm_ends : IsMask (may_have_ended after threat true) (bit_and own calm)
-  calm_ends = IsMask-same (λ s. is_own (at after s) && not (elsewhere threat.attackers s)) (may_have_ended after threat true) (bit_and own calm)
-      (λ s lt. sym (and_true (is_own (at after s) && not (elsewhere threat.attackers s)))) (IsMask-and _ _ own calm own_are calm_are)
-
-  pub lion_ends : IsMask (may_have_ended after threat false) (bit_and (bit_and own calm) lion)
-  lion_ends = IsMask-and _ _ (bit_and own calm) lion (IsMask-and _ _ own calm own_are calm_are) lion_is
-
-pub is_two : (lion c : ℕ) → c ≡ column lion → c ≡ 2 → (column lion == 2) ≡ true
-is_two lion c e two = eq-eqb (column lion) 2 (sym e ∙ two)
-
-pub not_two : (lion c : ℕ) → c ≡ column lion → c ≢ 2 → (column lion == 2) ≡ false
-not_two lion c e other = ne_eqb (column lion) 2 (λ two. other (e ∙ two))
+  pub at_home : bit_and masks.lion homes ≢ 0 → Told (bit_and masks.own calm)
+  at_home some = (
+    true,
+    λ s is.
+        let t = trailing_zeros w16 (bit_and masks.lion homes) in
+        let it = lowest_is (λ k. is_piece Mover Lion (at after k) && is_home threat.lion k) (bit_and masks.lion homes) t both_are (omega (arith, some)) refl in
+        let parts = and_parts (is_piece Mover Lion (at after t)) (is_home threat.lion t) it.passes in
+        rw (one_lion Mover after s t lions is (lion_passes Mover (at after t) parts.0)) parts.1,
+    IsMask-same (λ s. is_own (at after s) && not (elsewhere threat.attackers s)) (may_have_ended after threat true) (bit_and masks.own calm)
+        (λ s lt. sym (and_true (is_own (at after s) && not (elsewhere threat.attackers s)))) own_calm,
+  )

@@ -68,7 +68,7 @@ fn before_step(after: &Setup, kind: Kind, from: Square, to: Square, caught: Opti
 }
 
 // What stood and lay where before a drop.
-#[tactic(auto, using(crate::proofs::Hands::few_held), unfolding(crate::specs::Undoes::earlier))]
+#[tactic(auto, using(crate::proofs::Undone::few_held), unfolding(crate::specs::Undoes::earlier))]
 fn before_put(after: &Setup, kind: HandKind, to: Square) -> Setup
     requires { HasFewPieces after.now }
     ensures { result ≡ earlier after.now (Undo.Unput kind to) }

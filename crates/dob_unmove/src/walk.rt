@@ -87,7 +87,7 @@ fn take_unsteps<T: Taker>(
 }
 
 // Takes the steps of a piece of that kind, which stands on the one square now, from the other.
-#[tactic(auto, using(crate::proofs::Runs::runs), unfolding(crate::specs::Walks::unsteps_from))]
+#[tactic(auto, using(crate::proofs::Listed::steps), unfolding(crate::specs::Walks::unsteps_from))]
 fn take_unsteps_from<T: Taker>(
     taker: &T,
     after: &Setup,

@@ -57,9 +57,7 @@ module _ {family : Family} {n to : ℕ} {parts : List Part} {skip : ℕ} {classe
     is_cut from next new_skip left others left_is skip_is others_are =
         let listed = front_settlements parts k in
         let g = gone_behind family n to parts skip k cutting.listed.rest.parts_fit parts_within in
-        let many = g.many in
         let least : k ≡ min size (length all) = (let all_listed = many_listed cutting.listed in let few = cutting.least in omega (arith, all_listed, few)) in
-        let long : length items ≡ k = ap length items_are ∙ length-take-le k all items_within in
         record {
           items = items_are ∙ ap (λ m. take m all) least ∙ take_min size all;
           left = ap (λ (ps : List Part). items_of_parts ps others) left_is ∙ ap (λ xs. items_of_parts (behind k parts) xs) others_are
@@ -71,7 +69,7 @@ module _ {family : Family} {n to : ℕ} {parts : List Part} {skip : ℕ} {classe
           kept = (
             g.gone,
             g.apart ∙ ap (λ ps. g.gone ++ settlements_of ps) (sym left_is),
-            omega (arith, many, skip_is, long),
+            omega (arith, g.many, skip_is, ap length items_are ∙ length-take-le k all items_within),
           );
           of_link = (refl, refl, refl, refl);
           same_link = (refl, refl, refl, refl);

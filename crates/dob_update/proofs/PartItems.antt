@@ -31,13 +31,12 @@ items_of_parts-push [] part [] more all m =
 items_of_parts-push [] part (class ∷ classes) more all m = absurd (omega (arith, all))
 items_of_parts-push (first ∷ parts) part classes more all m =
     let within : first.items ≤ length classes = omega (arith, all) in
-    let left = length-drop first.items classes in
     let own = map (item_for first.settlement) (take first.items classes) in
     grind (
       arith,
       take-append-le first.items classes more within,
       drop-append-le first.items classes more within,
-      items_of_parts-push parts part (drop first.items classes) more (omega (arith, all, left)) m,
+      items_of_parts-push parts part (drop first.items classes) more (omega (arith, all, length-drop first.items classes)) m,
       append_assoc own (items_of_parts parts (drop first.items classes)) (map (item_for part.settlement) more),
     )
 
@@ -92,9 +91,7 @@ items_of_parts-split k (part ∷ parts) classes = elim (cases_lt k part.items) [
 ]
 
 long : (k : ℕ) (parts : List Part) (classes : List ℕ) → items_in_all parts ≤ length classes → k ≤ items_in_all parts → length (items_of_parts (front k parts) classes) ≡ k
-long k parts classes enough within =
-    let many = total-front parts k within in
-    items_of_parts-length (front k parts) classes (omega (arith, many, enough, within)) ∙ many
+long k parts classes enough within = grind (arith, total-front, items_of_parts-length)
 
 pub items_of_parts-front : (k : ℕ) (parts : List Part) (classes : List ℕ) → items_in_all parts ≤ length classes → k ≤ items_in_all parts → items_of_parts (front k parts) classes ≡ take k (items_of_parts parts classes)
 items_of_parts-front k parts classes enough within =
@@ -115,8 +112,7 @@ targets_of_items s (class ∷ classes) = ap (λ (xs : List ℕ). class ∷ xs) (
 
 -- items of one settlement, from the classes that they are for
 pub items_again : (s : Settlement) (items : List Item) (classes : List ℕ) → items ≡ map (item_for s) classes → map (item_for s) (map target_of items) ≡ items
-items_again s items classes is =
-    ap (λ (xs : List Item). map (item_for s) (map target_of xs)) is ∙ ap (λ (xs : List ℕ). map (item_for s) xs) (targets_of_items s classes) ∙ sym is
+items_again s items classes is = grind (arith, targets_of_items)
 
 -- ---- items made from parts
 
@@ -124,12 +120,11 @@ items_again s items classes is =
 pub items_more : (s : Settlement) (before items : List Item) (classes : List ℕ) (start index class : ℕ) → start + index < length classes → class ≡ get_or classes (start + index) class
     → items ≡ before ++ map (item_for s) (take index (drop start classes)) → items ++ item_for s class ∷ [] ≡ before ++ map (item_for s) (take (index + 1) (drop start classes))
 items_more s before items classes start index class within read so_far =
-    let left = length-drop start classes in
     let own = map (item_for s) (take index (drop start classes)) in
     ap (λ (xs : List Item). xs ++ item_for s class ∷ []) so_far ∙ append_assoc before own (item_for s class ∷ [])
     ∙ ap (λ (xs : List Item). before ++ xs)
     (ap (λ (c : ℕ). own ++ item_for s c ∷ []) (read ∙ sym (get_or-drop start classes index class))
-    ∙ sym (map_more (item_for s) (drop start classes) index class (omega (arith, within, left))))
+    ∙ sym (map_more (item_for s) (drop start classes) index class (omega (arith, within, length-drop start classes))))
 
 -- the items of the parts so far, and what is left to make
 pub record IsMaking (parts : List Part) (classes : List ℕ) (index next : ℕ) (list : List Item) : Type 0 where
@@ -146,10 +141,7 @@ no_part = record { settlement = record { number = 0; class = 0; was = Win 0; now
 -- the next part's classes are there
 pub making_within : (parts : List Part) (classes : List ℕ) (index next : ℕ) (list : List Item) (part : Part) → index < length parts → part ≡ get_or parts index part
     → IsMaking parts classes index next list → next + part.items ≤ length classes
-making_within parts classes index next list part there read l =
-    let many : items_in_all (drop index parts) ≡ part.items + items_in_all (drop (index + 1) parts) = ap items_in_all (next_part parts index part there read) in
-    let within = l.within in
-    omega (arith, many, within)
+making_within parts classes index next list part there read l = grind (arith, next_part)
 
 pub making_more : (parts : List Part) (classes : List ℕ) (index next : ℕ) (list more : List Item) (part : Part) → index < length parts → part ≡ get_or parts index part
     → IsMaking parts classes index next list → more ≡ list ++ map (item_for part.settlement) (take part.items (drop next classes))
@@ -163,9 +155,7 @@ making_more parts classes index next list more part there read l is = record {
       ∙ append_assoc list own left
       ∙ ap (λ (ps : List Part). list ++ items_of_parts ps (drop next classes)) (sym (next_part parts index part there read)) ∙ l.so_far;
   within =
-      let many : items_in_all (drop index parts) ≡ part.items + items_in_all (drop (index + 1) parts) = ap items_in_all (next_part parts index part there read) in
-      let within = l.within in
-      omega (arith, many, within);
+      omega (arith, ap items_in_all (next_part parts index part there read), l.within);
 }
 
 -- ---- what an outbox lists
@@ -173,8 +163,7 @@ making_more parts classes index next list more part there read l is = record {
 -- there is an item for each class that is listed
 pub many_listed : {family : Family} {n to : ℕ} {parts : List Part} {skip : ℕ} {classes : List ℕ} → AreListed family n to parts skip classes →
     length (items_of_parts parts classes) ≡ length classes
-many_listed {parts = parts} {classes = classes} listed =
-    let counted = listed.counted in items_of_parts-length parts classes (omega (arith, counted)) ∙ counted
+many_listed {parts = parts} {classes = classes} listed = grind (arith, items_of_parts-length)
 
 -- so that there is none just where no class is
 pub none_listed : {family : Family} {n to : ℕ} {parts : List Part} {skip : ℕ} {classes : List ℕ} → AreListed family n to parts skip classes →
@@ -203,11 +192,9 @@ listed_behind family n to parts skip k classes r within =
     let all = items_of_parts parts classes in
     let long = items_of_parts-length parts classes (omega (arith, before)) in
     let rest = rest_cut family n to parts skip k all r.rest (omega (arith, before, long, within)) in
-    let many = rest_many family n to (behind k parts) (skip_behind skip k parts) (drop k all) rest in
-    let fewer = length-drop k all in
     let left = length-drop k classes in
     record {
-      counted = omega (arith, before, long, many, fewer, left);
+      counted = omega (arith, before, long, rest_many family n to (behind k parts) (skip_behind skip k parts) (drop k all) rest, length-drop k all, left);
       rest = subst (λ (xs : List Item). IsRest family n to (behind k parts) (skip_behind skip k parts) xs)
           (sym (items_of_parts-behind k parts classes (omega (arith, before)) (omega (arith, before, within)))) rest;
     }
@@ -236,15 +223,11 @@ pub is_grown : (family : Family) (n to skip : ℕ) (parts grown : List Part) (cl
     → IsGrown family n to skip parts grown classes longer s more
 is_grown family n to skip parts grown classes longer s more listed some low of_settlement parts_are classes_are =
     let part : Part = record { settlement = s; items = length more } in
-    let before = listed.counted in
-    let sum = total-push parts part in
-    let both = length-append classes (map target_of more) in
-    let own = length-map more target_of in
     let items_are = items_added family n to parts classes s more listed.counted of_settlement in
     subst (λ (ps : List Part). IsGrown family n to skip parts ps classes longer s more) (sym parts_are)
     (subst (λ (cs : List ℕ). IsGrown family n to skip parts (parts ++ part ∷ []) classes cs s more) (sym classes_are) (record {
       listed = record {
-        counted = omega (arith, before, sum, both, own);
+        counted = omega (arith, listed.counted, total-push parts part, length-append classes (map target_of more), length-map more target_of);
         rest = subst (λ (xs : List Item). IsRest family n to (parts ++ part ∷ []) skip xs) (sym items_are)
             (rest_added family n to parts skip (items_of_parts parts classes) more s listed.rest some low of_settlement);
       };

@@ -1,6 +1,6 @@
 -- Lists of parts: what is taken from their front, and what is left behind it.
 use Rattle.dob_update.proofs.Common.{nat_tests}
-use Rattle.dob_update.proofs.Common.{◌++◌, ◌+◌, ◌-◌, ◌<◌, ◌^◌, ◌∷◌, ◌≡◌, ◌≤◌, List, [], arith, drop, get_or, length, min, refl}
+use Rattle.dob_update.proofs.Common.{◌++◌, ◌+◌, ◌-◌, ◌<◌, ◌∷◌, ◌≡◌, ◌≤◌, List, [], arith, drop, get_or, length, min, refl}
 use Rattle.dob_update.proofs.Common.{take, ℕ, append-nil, append_assoc, drop_all, drop_more, Settlement, AreWhole, behind, front}
 use Rattle.dob_update.proofs.Common.{items_in_all, skip_behind, with_number, Part}
 
@@ -16,8 +16,7 @@ front-cons k part parts some = grind (arith, nat_tests)
 -- the next part goes over from the rest to the front
 front_next : (rest index : ℕ) (parts : List Part) (part : Part) → 0 < rest → index < length parts → part ≡ get_or parts index part
     → front rest (drop index parts) ≡ with_number part (min part.items rest) ∷ front (rest - min part.items rest) (drop (index + 1) parts)
-front_next rest index parts part some within read =
-    grind (arith, nat_tests, drop_more parts index part within, front-cons rest part (drop (index + 1) parts) some)
+front_next rest index parts part some within read = grind (arith, drop_more, front-cons)
 
 -- the parts in front are listed so far
 pub record IsListing (k rest index : ℕ) (parts list : List Part) : Type 0 where
@@ -82,23 +81,6 @@ pub record IsDropping (k skip rest before : ℕ) (old parts : List Part) : Type 
   pub within : rest ≤ items_in_all parts
   pub behind_is : behind rest parts ≡ behind k old
   pub skip_is : skip_behind before rest parts ≡ skip_behind skip k old
-
--- the first part of those that are left
-pub record IsFirstPart (rest before : ℕ) (parts : List Part) (part : Part) : Type 0 where
-  pub some : 0 < part.items
-  pub fits : before + part.items < 2 ^ 64
-  pub is : parts ≡ part ∷ drop 1 parts
-
-pub parts_left : (count : Settlement → ℕ) (before rest : ℕ) (parts : List Part) → AreWhole count before parts → 0 < rest → rest ≤ items_in_all parts → 0 < length parts
-parts_left count before rest [] w some within = absurd (omega (arith, some, within))
-parts_left count before rest (part ∷ parts) w some within = omega arith
-
-pub first_part : (k skip rest before : ℕ) (old parts : List Part) (part : Part) → 0 < rest → part ≡ get_or parts 0 part → IsDropping k skip rest before old parts
-    → IsFirstPart rest before parts part
-first_part k skip rest before old parts part some read d = at parts d.whole d.within read where
-  at : (parts : List Part) → AreWhole d.count before parts → rest ≤ items_in_all parts → part ≡ get_or parts 0 part → IsFirstPart rest before parts part
-  at [] w within read = absurd (omega (arith, some, within))
-  at (p ∷ ps) w within read = grind (arith, w.0, w.1, w.2)
 
 -- nothing is left to be dropped
 pub dropped_all : (k skip rest before : ℕ) (old parts : List Part) → rest ≡ 0 → IsDropping k skip rest before old parts → (parts ≡ behind k old) × (before ≡ skip_behind skip k old)

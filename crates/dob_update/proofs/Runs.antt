@@ -35,17 +35,7 @@ module _ (count : Settlement → ℕ) where
   -- the parts in front are parts
   AreParts-front : (parts : List Part) (k skip : ℕ) → AreParts count skip parts → AreParts count skip (front k parts)
   AreParts-front [] k skip h = tt
-  AreParts-front (part ∷ parts) k skip h = at (k == 0) refl (AreParts-front parts (k - part.items) 0 h.3) where
-    at : (none : Bool) → (k == 0) ≡ none → AreParts count 0 (front (k - part.items) parts)
-        → AreParts count skip (cond none [] (with_number part (min k part.items) ∷ front (k - part.items) parts))
-    at true e later = tt
-    at false e later = (
-      grind (arith, nat_tests),
-      omega (arith, h.1),
-      (λ more.
-          omega (arith, some_in_front (k - part.items) parts more, h.2 (some_in_front (k - part.items) parts more).1)),
-      later,
-    )
+  AreParts-front (part ∷ parts) k skip h = grind (arith, some_in_front, (AreParts-front parts (k - part.items) 0 h.3))
 
   -- one more settlement at the end, with all its items
   AreWhole-push : (parts : List Part) (skip : ℕ) (part : Part) → AreWhole count skip parts → 0 < part.items → part.items ≡ count part.settlement
@@ -88,11 +78,9 @@ module _ (family : Family) (n to : ℕ) where
       let w = each_needed parts 0 h.3 bs s behind others in
       let as_many : length parts ≡ length (bs ++ s ∷ behind) = sym (length-map parts settlement_of) ∙ ap length others in
       let exact : skip + part.items ≡ count b = h.2 (omega (arith, as_many, length-append bs (s ∷ behind))) ∙ ap count first in
-      let low = length-items b bs in
-      let high = length-items b (bs ++ s ∷ []) in
       record {
         place = count b + w.place;
-        of_settlement = (omega (arith, low, w.of_settlement.0), omega (arith, high, w.of_settlement.1));
+        of_settlement = (omega (arith, length-items b bs, w.of_settlement.0), omega (arith, length-items b (bs ++ s ∷ []), w.of_settlement.1));
         of_run = (omega (arith, exact), omega (arith, exact, w.of_run.1));
       }
 

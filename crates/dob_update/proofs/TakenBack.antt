@@ -1,8 +1,8 @@
 -- An outbox without the settlement that was added last.
-use Rattle.dob_update.proofs.Common.{◌++◌, ◌+◌, ◌-◌, ◌<◌, ◌∙◌, ◌∷◌, ◌≡◌, ◌≤◌, List, [], ap, arith, drop, get_or, length, length-append, length-drop}
-use Rattle.dob_update.proofs.Common.{length-take-le, subst, sym, take, ℕ, append-nil, drop-append-le, length-map, map-append, take_all, map, Item}
-use Rattle.dob_update.proofs.Common.{Settlement, HasOneMore, OutboxView, added, items_for, with_items, item_for, AreWhole, items_in_all, items_of_parts}
-use Rattle.dob_update.proofs.Common.{settlement_of, settlements_of, AreListed, count_for, Part}
+use Rattle.dob_update.proofs.Common.{◌++◌, ◌+◌, ◌-◌, ◌<◌, ◌∙◌, ◌∷◌, ◌≡◌, ◌≤◌, List, [], ap, arith, drop, get_or, length, length-append, length-drop, rules}
+use Rattle.dob_update.proofs.Common.{length-take-le, subst, sym, take, ℕ, drop-append-le, length-map, map-append, take_all, map, Item, Settlement, HasOneMore}
+use Rattle.dob_update.proofs.Common.{OutboxView, items_for, with_items, item_for, AreWhole, items_in_all, items_of_parts, settlement_of, settlements_of}
+use Rattle.dob_update.proofs.Common.{AreListed, count_for, Part}
 use Rattle.std.proofs.lemmas.List.{take_at, take_more, take-append-drop, nil_from_length, same_from_push}
 use Rattle.dob_update.proofs.Runs.{items-append, whole_is}
 use Rattle.dob_update.proofs.PartItems.{items_of_parts-length, items_of_parts-push, total-push, with_some}
@@ -29,10 +29,7 @@ module _ (count : Settlement → ℕ) where
 
 -- where the settlement has no items, nothing was added
 pub nothing_back : (before outbox : OutboxView) (count : ℕ) → count ≡ 0 → HasOneMore before count outbox → outbox ≡ before
-nothing_back before outbox count none more =
-    more.outbox_is ∙ ap (λ (xs : List Item). added before more.settlement xs) (nil_from_length more.items (more.many ∙ none))
-    ∙ ap (λ (ss : List Settlement). record before { settlements = ss; items = before.items ++ [] }) (append-nil before.settlements)
-    ∙ ap (λ (xs : List Item). record before { items = xs }) (append-nil before.items)
+nothing_back before outbox count none more = search (rules, nil_from_length)
 
 -- there are as many items
 pub as_many : (before outbox : OutboxView) (count : ℕ) → HasOneMore before count outbox → length outbox.items ≡ length before.items + count
@@ -98,13 +95,12 @@ module _ (old before : OutboxView) (left : List Part) (part : Part) (classes : L
       let apart : items_for old.family old.n old.to (settlements_of (left ++ part ∷ [])) ≡ first ++ own
       = ap (items_for old.family old.n old.to) (map-append settlement_of left (part ∷ [])) ∙ items-append old.family old.n old.to (settlements_of left) (part.settlement ∷ []) in
       let long = whole_is old.family old.n old.to left old.skip whole in
-      let fewer = length-drop old.skip first in
       record {
         counted = left_is ∙ sym (length-take-le k classes within);
         rest = record {
           parts_fit = whole;
           rest = sym items_left ∙ ap (take k) (items_are ∙ listed.rest.rest ∙ ap (drop old.skip) apart ∙ drop-append-le old.skip first own (omega (arith, long)))
-              ∙ take_at (drop old.skip first) own k (omega (arith, fewer, long, left_is));
+              ∙ take_at (drop old.skip first) own k (omega (arith, length-drop old.skip first, long, left_is));
         };
       }
 
@@ -123,11 +119,10 @@ taken_back old before parts left classes rest count listed settlements_are items
     let k = length parts - 1 in
     let none : Part = record { settlement = more.settlement; items = 0 } in
     let part = get_or parts k none in
-    let many = more.many in
     let as_parts = length-map parts settlement_of in
     let as_settlements : length old.settlements ≡ length before.settlements + 1
     = ap (λ (o : OutboxView). length o.settlements) more.outbox_is ∙ length-append before.settlements (with_items more.settlement more.items)
-    ∙ ap (λ (ss : List Settlement). length before.settlements + length ss) (with_some more.settlement more.items (omega (arith, many, some))) in
+    ∙ ap (λ (ss : List Settlement). length before.settlements + length ss) (with_some more.settlement more.items (omega (arith, more.many, some))) in
     let same = ap length settlements_are in
     let apart : parts ≡ take k parts ++ part ∷ []
     = sym (take_all (k + 1) parts (omega (arith, as_parts, as_settlements, same))) ∙ take_more parts k none (omega (arith, as_parts, as_settlements, same)) in

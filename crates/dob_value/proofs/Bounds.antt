@@ -1,8 +1,8 @@
 -- Of a table that is right, at least up to a depth, no distance up to it is above the number of classes.
-use Rattle.dob_value.proofs.Common.{◌<◌, ◌∙◌, ◌≡◌, ◌≢◌, ◌≤◌, ◌⊎◌, AllPairs, Contains, List, arith, get_or, inl, inr, length, map, slice_index_or}
-use Rattle.dob_value.proofs.Common.{subst, suc, ℕ, get_or-map, length-map, slice_get-get_or, range_with_len, Family, Profile}
-use Rattle.dob_value.proofs.Common.{Setup, HasClass-marked, HasClasses-classes_of, IsPositionOf, IsRepresentative, classes_of, marks_below, rank_of_set}
-use Rattle.dob_value.proofs.Common.{HasDistance, IsCutOff, AreCutOff, HasEntries, SomeHasDistance, HasValue, Lost, Won, Value, Draw, Loss, Win}
+use Rattle.dob_value.proofs.Common.{◌<◌, ◌∙◌, ◌≡◌, ◌≢◌, ◌≤◌, ◌⊎◌, AllPairs, Contains, List, arith, get_or, inl, inr, length, map, slice_index_or, subst, suc, ℕ}
+use Rattle.dob_value.proofs.Common.{get_or-map, length-map, slice_get-get_or, range_with_len, Family, Profile, Setup, HasClass-marked, HasClasses-classes_of}
+use Rattle.dob_value.proofs.Common.{IsPositionOf, IsRepresentative, classes_of, marks_below, rank_of_set, HasDistance, IsCutOff, AreCutOff, HasEntries}
+use Rattle.dob_value.proofs.Common.{SomeHasDistance, HasValue, Lost, Won, Value, Draw, Loss, Win}
 use Rattle.std.proofs.lemmas.List.FromFn.{length-range_with_len, get_or-range_with_len}
 use Rattle.dob_pieces.proofs.Lists.{stands_or}
 use Rattle.dob_rank.specs.Families.{is_marked, class_setup}
@@ -41,28 +41,24 @@ abbrev pub AreRightUpTo : ℕ → Family → List Value → Type 0
 AreRightUpTo n family = HasEntries (λ number p entry. IsRightUpTo family.profile n p entry) family
 
 cut_right : (profile : Profile) (n : ℕ) (p : Setup) (v : Value) → IsCutOff profile n p v → IsRightUpTo profile n p v
-cut_right profile n p (Win plies) cut = cut.1
-cut_right profile n p (Loss plies) cut = cut.1
 cut_right profile n p Draw cut = cut
+cut_right profile n p _ cut = cut.1
 
 value_right : (profile : Profile) (n : ℕ) (p : Setup) (v : Value) → HasValue profile p v → IsRightUpTo profile n p v
-value_right profile n p (Win plies) has = has
-value_right profile n p (Loss plies) has = has
 value_right profile n p Draw has = has n
+value_right profile n p _ has = has
 
 -- what isn't the distance of an entry is new to no class
 no_new : (profile : Profile) (n k : ℕ) (p : Setup) (v : Value) → suc k ≤ n → IsRightUpTo profile n p v → plies_of v ≢ suc k →
     (Won profile (suc k) p → Won profile k p) × (Lost profile (suc k) p → Lost profile k p)
-no_new profile n k p (Win plies) low right other =
-    let apart : plies ≢ suc k = other in (
-      λ won. won_stays profile plies k p (let upto = right.1 (suc k) won in omega (arith, upto, apart)) right.0,
-      λ lost. absurd (won_not_lost profile plies (suc k) p right.0 lost),
-    )
-no_new profile n k p (Loss plies) low right other =
-    let apart : plies ≢ suc k = other in (
-      λ won. absurd (won_not_lost profile (suc k) plies p won right.0),
-      λ lost. lost_stays profile plies k p (let upto = right.1 (suc k) lost in omega (arith, upto, apart)) right.0,
-    )
+no_new profile n k p (Win plies) low right other = (
+  λ won. won_stays profile plies k p (omega (arith, right.1 (suc k) won, other)) right.0,
+  λ lost. absurd (won_not_lost profile plies (suc k) p right.0 lost),
+)
+no_new profile n k p (Loss plies) low right other = (
+  λ won. absurd (won_not_lost profile (suc k) plies p won right.0),
+  λ lost. lost_stays profile plies k p (omega (arith, right.1 (suc k) lost, other)) right.0,
+)
 no_new profile n k p Draw low right other = (
   λ won. absurd (right.0 (won_stays profile (suc k) n p low won)),
   λ lost. absurd (right.1 (lost_stays profile (suc k) n p low lost)),
@@ -76,10 +72,8 @@ module _ (family : Family) (n : ℕ) (entries : List Value) (right : AreRightUpT
 
   in_told : (number k : ℕ) → number < classes_of family → plies_of (slice_index_or entries number Draw) ≡ k → Contains told k
   in_told number k low is =
-      let whole : length entries ≡ classes_of family = right.same_length in
-      let within : number < length entries = omega (arith, whole, low) in
-      let same = length-map entries plies_of in
-      (number, omega (arith, same, within), get_or-map plies_of entries number Draw k within ∙ is)
+      let within : number < length entries = rw right.same_length low in
+      (number, rw length-map within, get_or-map plies_of entries number Draw k within ∙ is)
 
   lesser_told : (number d k : ℕ) → number < classes_of family → HasDistance family.profile (class_setup family number) d → d ≤ n → suc k ≤ d → Contains told (suc k)
   lesser_told number d k low has upto less = elim (stands_or told (suc k)) [
@@ -89,32 +83,28 @@ module _ (family : Family) (n : ℕ) (entries : List Value) (right : AreRightUpT
         (right.fits other there) (λ same. absent (in_told other (suc k) there same)) in
         let later = nothing_later k family (leads family) nothing d number low in
         absurd (elim has [
-          | inl won ↦ let least = won.1 k (later.0 won.0) in omega (arith, least, less)
-          | inr lost ↦ let least = lost.1 k (later.1 lost.0) in omega (arith, least, less)
+          | inl won ↦ omega (arith, won.1 k (later.0 won.0), less)
+          | inr lost ↦ omega (arith, lost.1 k (later.1 lost.0), less)
         ])
   ]
 
   range_apart : (d : ℕ) → AllPairs (λ (a b : ℕ). a ≢ b) (range_with_len 1 d)
-  range_apart d i j e less within same =
-      let whole = length-range_with_len 1 d in
-      let at_i = get_or-range_with_len 1 d i e (omega (arith, less, within, whole)) in
-      let at_j = get_or-range_with_len 1 d j e (omega (arith, within, whole)) in
-      omega (arith, at_i, at_j, same, less)
+  range_apart d i j e less within same = grind (arith, length-range_with_len, get_or-range_with_len)
 
   -- so as many classes as plies
   pub distance_within : (number d : ℕ) → number < classes_of family → HasDistance family.profile (class_setup family number) d → d ≤ n → d ≤ classes_of family
   distance_within number d low has upto =
       let each : (k : ℕ) → Contains (range_with_len 1 d) k → Contains told k = λ k there.
-      let whole = length-range_with_len 1 d in
-      let below : there.0 < d = omega (arith, whole, there.1) in
-      let at = get_or-range_with_len 1 d there.0 k below in
-      let is : suc there.0 ≡ k = omega (arith, at, there.2) in
+      let below : there.0 < d = rw length-range_with_len at there.1 in
+      let is : suc there.0 ≡ k = omega (arith, get_or-range_with_len 1 d there.0 k below, there.2) in
       subst (λ m. Contains told m) is (lesser_told number d there.0 low has upto (omega (arith, below))) in
-      let most = no_longer (range_with_len 1 d) told (range_apart d) each in
-      let long = length-range_with_len 1 d in
-      let same = length-map entries plies_of in
-      let whole : length entries ≡ classes_of family = right.same_length in
-      omega (arith, most, long, same, whole)
+      omega (
+        arith,
+        no_longer (range_with_len 1 d) told (range_apart d) each,
+        length-range_with_len 1 d,
+        length-map entries plies_of,
+        right.same_length,
+      )
 
 -- a class that is won or lost in n plies, where entries are cut off at depth n
 pub deep_within : (family : Family) (n : ℕ) (entries : List Value) → AreCutOff n family entries → SomeHasDistance family n → n ≤ classes_of family
@@ -134,12 +124,10 @@ pub distances_are_few : DistancesAreFew
 distances_are_few family entries table = λ number default within.
     let number_low : number < classes_of family = omega (arith, whole, within) in
     let v = get_or entries number default in
-    let has = values number default within in
-    elim (value_distance family.profile (class_setup family number) v has) [
+    elim (value_distance family.profile (class_setup family number) v (values number default within)) [
       | inl none ↦ omega (arith, none)
       | inr distance ↦
-          let most = distance_within family (plies_of v) entries (right (plies_of v)) number (plies_of v) number_low distance (omega arith) in
-          omega (arith, most, whole)
+          omega (arith, distance_within family (plies_of v) entries (right (plies_of v)) number (plies_of v) number_low distance (omega arith), whole)
     ]
   where
     whole : length entries ≡ classes_of family

@@ -1,6 +1,7 @@
 -- Each position of a family has one entry in a table of the family, and the outlook of its representative.
-use Rattle.dob_value.proofs.Common.{◌<◌, ◌∙◌, ◌∷◌, ◌≡◌, List, Some, [], arith, get_or, inl, inr, length, slice_get, subst, sym, ℕ, same_Some, slice_get-get_or}
-use Rattle.dob_value.proofs.Common.{Family, Profile, Setup, HasClass-marked, HasClasses, IsPositionOf, marks_below, rank_of_set, SameOutlook, HasInTable, Value}
+use Rattle.dob_value.proofs.Common.{◌<◌, ◌∙◌, ◌≡◌, List, Some, inl, inr, length, slice_get, subst, sym, ℕ, same_Some, Family, Profile, Setup, HasClass-marked}
+use Rattle.dob_value.proofs.Common.{HasClasses, IsPositionOf, marks_below, rank_of_set, SameOutlook, HasInTable, Value}
+use Rattle.dob_pieces.proofs.Elements.{some_at}
 use Rattle.dob_rank.specs.Order.{RepresentativeOf}
 use Rattle.dob_rank.specs.Families.{is_marked}
 pub use Rattle.dob_classes.proofs.OfFamilies.Counted.{no_longer, one_count}
@@ -39,10 +40,7 @@ has_entry family values p classes is =
   where
     entry_at : {P : Value → Type 0} (values : List Value) (class : ℕ) → class < length values →
         ((v : Value) → slice_get values class ≡ Some v → P v) → (v : Value) × P v
-    entry_at [] class below give = absurd (omega arith)
-    entry_at (v ∷ values) class below give =
-        let there = slice_get-get_or (v ∷ values) class v below in
-        (get_or (v ∷ values) class v, give (get_or (v ∷ values) class v) there)
+    entry_at values class below give = let v = some_at values class below in (v.0, give v.0 v.1)
 
 -- and no other
 pub one_entry : (family : Family) (values : List Value) (p : Setup) (v w : Value) → IsPositionOf family p →

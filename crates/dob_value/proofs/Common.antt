@@ -1,11 +1,11 @@
 -- The names that the proofs here use most, from other crates and the definitions of this one.
-pub use Rattle.std.proofs.Common.{◌%◌, ◌++◌, ◌+◌, ◌-◌, ◌<◌, ◌∙◌, ◌∷◌, ◌≡◌, ◌≢◌, ◌≤◌, ◌⊎◌, AllPairs, Contains, Err, List, Ok, Option, Result, Some, [], ap}
-pub use Rattle.std.proofs.Common.{append-nil, append_assoc, arith, drop, false, get_or, get_or-set_other, get_or-set_same, inl, inr, length, length-set, map}
-pub use Rattle.std.proofs.Common.{option_map, refl, rules, slice_get, slice_index_or, slice_set, subst, suc, sym, take, true, zero, ℕ}
+pub use Rattle.std.proofs.Common.{◌%◌, ◌++◌, ◌+◌, ◌-◌, ◌<◌, ◌∙◌, ◌∷◌, ◌≡◌, ◌≢◌, ◌≤◌, ◌⊎◌, AllPairs, Contains, Err, List, Ok, Result, Some, [], ap, add-one}
+pub use Rattle.std.proofs.Common.{append-nil, append_assoc, arith, drop, false, get_or, inl, inr, length, map, option_map, refl, rules, slice_get}
+pub use Rattle.std.proofs.Common.{slice_index_or, slice_set, subst, suc, sym, take, true, zero, ℕ}
 pub use Rattle.std.proofs.lemmas.Bool.{cases_eq, cases_lt, le-leb, leb-true}
 pub use Rattle.std.proofs.lemmas.Grind.{common_steps}
 pub use Rattle.std.proofs.lemmas.List.{get_or-map, length-map}
-pub use Rattle.std.proofs.lemmas.List.Elements.{All-push, Contains-append_left, Contains-append_right, Contains-get_or, Contains-push, Contains-push_cases}
+pub use Rattle.std.proofs.lemmas.List.Elements.{All-push, Contains-append_left, Contains-get_or, Contains-push, Contains-push_cases}
 pub use Rattle.std.proofs.lemmas.Option.{get_or_from_slice_get, same_Some, slice_get-get_or, slice_get-map, slice_get_read, slice_get_within}
 pub use Rattle.std.specs.List.{All, list_all, list_any, range_with_len}
 pub use Rattle.dob_pieces.proofs.Elements.{at_end, before_or_here, standing}
@@ -23,7 +23,7 @@ pub use Rattle.dob_rank.specs.Families.{HasClasses, IsPositionOf, IsRepresentati
 pub use Rattle.dob_rank.specs.Marks.{marks_below}
 pub use Rattle.dob_rank.specs.Numbers.{rank_of_set}
 pub use Rattle.dob_value.specs.ClassRows.{class_setup}
-pub use Rattle.dob_value.specs.Codes.{IsShort, ValuesHaveParity, value_at_distance, value_of_code, values_of_codes}
+pub use Rattle.dob_value.specs.Codes.{IsShort, ValuesHaveParity, value_of_code, values_of_codes}
 pub use Rattle.dob_value.specs.Depths.{LostStaysLost, MirrorsHaveOneOutlook, MirrorsHaveOneValue, OneValue, SameOutlook, WonStaysWon}
 pub use Rattle.dob_value.specs.Entries.{HasDistance, IsCutOff, Tells, TellsAt, is_draw, is_loss_within, is_win_within}
 pub use Rattle.dob_value.specs.Follows.{AreGiven, ClassTable, HasInTable, IsEntry, IsValueTable}

@@ -1,5 +1,5 @@
 -- A consistent table is the value table.
-use Rattle.dob_value.proofs.Common.{◌+◌, ◌∙◌, ◌≡◌, ◌≤◌, List, arith, inl, inr, refl, subst, suc, sym, zero, ℕ, Family, Profile, Setup, Goes, HasStatus, Move}
+use Rattle.dob_value.proofs.Common.{◌<◌, ◌∙◌, ◌≡◌, ◌≤◌, List, arith, inl, inr, refl, subst, suc, sym, zero, ℕ, Family, Profile, Setup, Goes, HasStatus, Move}
 use Rattle.dob_value.proofs.Common.{Status, Caught, Open, Stuck, Tried, IsPositionOf, SameOutlook, HasInTable, HasLost, HasValue, Lost, Won, Value, Draw, Loss}
 use Rattle.dob_value.proofs.Common.{Win}
 use Rattle.dob_moves.proofs.Cases.{one_status}
@@ -27,29 +27,17 @@ not_draw_loss d e = absurd (cc)
 
 -- what follows at each status
 module _ (profile : Profile) (Has : Setup → Value → Type 0) (p : Setup) where
-  follows_caught : (v : Value) → HasStatus profile p Caught → Follows profile Has p v → v ≡ Win 1
-  follows_caught v caught follows =
-      subst (λ s. FollowsAt profile Has p s v) (one_status profile p follows.0 Caught follows.1 caught) follows.2
+  follows_at : (v : Value) (status : Status) → HasStatus profile p status → Follows profile Has p v → FollowsAt profile Has p status v
+  follows_at v status has follows = rw (one_status profile p follows.0 status follows.1 has) at follows.2
 
   follows_over : (v : Value) → HasLost profile p → Follows profile Has p v → v ≡ Loss 0
-  follows_over v over follows = elim over [
-    | inl tried ↦ subst (λ s. FollowsAt profile Has p s v) (one_status profile p follows.0 Tried follows.1 tried) follows.2
-    | inr stuck ↦ subst (λ s. FollowsAt profile Has p s v) (one_status profile p follows.0 Stuck follows.1 stuck) follows.2
-  ]
-
-  follows_open : (v : Value) → HasStatus profile p Open → Follows profile Has p v → FollowsFromSuccessors profile Has p v
-  follows_open v goes_on follows =
-      subst (λ s. FollowsAt profile Has p s v) (one_status profile p follows.0 Open follows.1 goes_on) follows.2
+  follows_over v over follows = elim over [ inl tried ↦ follows_at v Tried tried follows | inr stuck ↦ follows_at v Stuck stuck follows ]
 
   -- a lost successor makes a win, and successors that are all won make a loss, where a position has one value
   win_follows : (n : ℕ) (v : Value) → (move : Move) (q : Setup) → Goes profile p move q → ((a b : Value) → Has q a → Has q b → a ≡ b) →
       (u : Value) → Has q u → IsLossWithin n u → FollowsFromSuccessors profile Has p v → IsWinWithin (suc n) v
   win_follows n (Win plies) move q goes one u has loss follows =
-      let at_loss : Has q (Loss loss.0) = subst (Has q) loss.1 has in
-      let least : follows.0 ≤ loss.0 = follows.3 loss.0 (move, q, goes, at_loss) in
-      let within : loss.0 ≤ n = loss.2 in
-      let is : plies ≡ follows.0 + 1 = follows.1 in
-      (plies, refl, omega arith)
+      (plies, refl, omega (arith, follows.3 loss.0 (move, q, goes, subst (Has q) loss.1 has), loss.2, follows.1))
   win_follows n (Loss plies) move q goes one u has loss follows =
       let win = follows.4 move q goes in
       absurd (not_loss_and_win loss.0 win.0 (sym loss.1 ∙ one u (Win win.0) has win.1))
@@ -59,22 +47,9 @@ module _ (profile : Profile) (Has : Setup → Value → Type 0) (p : Setup) wher
   loss_follows : (n : ℕ) (v : Value) → ((move : Move) (q : Setup) → Goes profile p move q → (a b : Value) → Has q a → Has q b → a ≡ b) →
       ((move : Move) (q : Setup) → Goes profile p move q → (u : Value) × Has q u × IsWinWithin n u) →
       FollowsFromSuccessors profile Has p v → IsLossWithin (suc n) v
-  loss_follows n (Win plies) one wins follows =
-      let next = follows.2 in
-      let win = wins next.0 next.1 next.2 in
-      absurd (not_loss_and_win follows.0 win.2.0 (one next.0 next.1 next.2 (Loss follows.0) win.0 next.3 win.1 ∙ win.2.1))
-  loss_follows n (Loss plies) one wins follows =
-      let next = follows.2 in
-      let win = wins next.0 next.1 next.2 in
-      let same : Win follows.0 ≡ Win win.2.0 = one next.0 next.1 next.2 (Win follows.0) win.0 next.3 win.1 ∙ win.2.1 in
-      let greatest : follows.0 ≡ win.2.0 = cc in
-      let within : win.2.0 ≤ n = win.2.2 in
-      let is : plies ≡ follows.0 + 1 = follows.1 in
-      (plies, refl, omega arith)
-  loss_follows n Draw one wins follows =
-      absurd (follows.1 (λ move q goes.
-      let win = wins move q goes in
-      (win.2.0, subst (Has q) win.2.1 win.1)))
+  loss_follows n (Win plies) one wins follows = grind (arith, not_loss_and_win)
+  loss_follows n (Loss plies) one wins follows = grind arith
+  loss_follows n Draw one wins follows = grind arith
 
 module _ (family : Family) (values : List Value) (consistent : IsConsistent family values) where
   known : (p : Setup) → IsPositionOf family p → (v : Value) × HasInTable family values p v
@@ -104,7 +79,7 @@ module _ (family : Family) (values : List Value) (consistent : IsConsistent fami
         let representative = has.number.representative in
         let follows = entry_follows p v is has in
         elim (((outlook p v is has).won (suc n)).0 won) [
-          | inl caught ↦ (1, follows_caught family.profile (HasInTable family values) representative v caught follows, omega arith)
+          | inl caught ↦ (1, follows_at family.profile (HasInTable family values) representative v Caught caught follows, omega arith)
           | inr open_win ↦
               let goes_on = open_win.0 in
               let move = open_win.1 in
@@ -114,7 +89,7 @@ module _ (family : Family) (values : List Value) (consistent : IsConsistent fami
               let entry = known q next in
               win_follows family.profile (HasInTable family values) representative n v move q goes (λ a b. one q a b next) entry.0 entry.1
               (lost_in_table n q entry.0 next entry.1 open_win.4)
-              (follows_open family.profile (HasInTable family values) representative v goes_on follows)
+              (follows_at family.profile (HasInTable family values) representative v Open goes_on follows)
         ]
 
     lost_in_table : (n : ℕ) (p : Setup) (v : Value) → IsPositionOf family p → HasInTable family values p v → Lost family.profile n p → IsLossWithin n v
@@ -134,104 +109,67 @@ module _ (family : Family) (values : List Value) (consistent : IsConsistent fami
               let next = moves_keep_the_family family representative move q member goes_on goes in
               let entry = known q next in
               (entry.0, entry.1, won_in_table n q entry.0 next entry.1 (open_loss.1 move q goes)))
-              (follows_open family.profile (HasInTable family values) representative v goes_on follows)
+              (follows_at family.profile (HasInTable family values) representative v Open goes_on follows)
         ]
 
   -- a win of the table at a representative, where losses in one ply less are right; and likewise a loss
   win_step : (plies : ℕ) (p : Setup) → IsPositionOf family p → (status : Status) → HasStatus family.profile p status →
       FollowsAt family.profile (HasInTable family values) p status (Win plies) →
       ((least : ℕ) (q : Setup) → suc least ≤ plies → IsPositionOf family q → HasInTable family values q (Loss least) → Lost family.profile least q) → Won family.profile plies p
-  win_step plies p is Caught status follows lower =
-      let one_ply : plies ≡ 1 = cc in
-      subst (λ d. Won family.profile d p) (sym one_ply) (inl status)
-  win_step plies p is Tried status follows lower = absurd (not_loss_and_win 0 plies (sym follows))
-  win_step plies p is Stuck status follows lower = absurd (not_loss_and_win 0 plies (sym follows))
+  win_step plies p is Caught status follows lower = rw (same_win plies 1 follows) (inl status)
   win_step plies p is Open status follows lower =
-      let least = follows.0 in
       let next = follows.2 in
-      let more : plies ≡ least + 1 = follows.1 in
-      let then : suc least ≡ plies = omega arith in
-      subst (λ d. Won family.profile d p) then (inr (
-        status,
-        next.0,
-        next.1,
-        next.2,
-        lower least next.1 (omega arith) (moves_keep_the_family family p next.0 next.1 is status next.2) next.3,
-      ))
+      let more : plies ≡ suc follows.0 = omega (arith, follows.1) in
+      let lost = lower follows.0 next.1 (omega arith) (moves_keep_the_family family p next.0 next.1 is status next.2) next.3 in
+      rw more (inr (status, next.0, next.1, next.2, lost))
+  win_step plies p is _ status follows lower = cc
 
   loss_step : (plies : ℕ) (p : Setup) → IsPositionOf family p → (status : Status) → HasStatus family.profile p status →
       FollowsAt family.profile (HasInTable family values) p status (Loss plies) →
       ((win : ℕ) (q : Setup) → suc win ≤ plies → IsPositionOf family q → HasInTable family values q (Win win) → Won family.profile win q) → Lost family.profile plies p
-  loss_step plies p is Caught status follows lower = absurd (not_loss_and_win plies 1 follows)
-  loss_step plies p is Tried status follows lower =
-      let none : plies ≡ 0 = cc in
-      subst (λ d. Lost family.profile d p) (sym none) (inl status)
-  loss_step plies p is Stuck status follows lower =
-      let none : plies ≡ 0 = cc in
-      subst (λ d. Lost family.profile d p) (sym none) (inr status)
+  loss_step plies p is Caught status follows lower = cc
+  loss_step plies p is Tried status follows lower = rw (same_loss plies 0 follows) (inl status)
+  loss_step plies p is Stuck status follows lower = rw (same_loss plies 0 follows) (inr status)
   loss_step plies p is Open status follows lower =
-      let greatest = follows.0 in
-      let more : plies ≡ greatest + 1 = follows.1 in
-      let then : suc greatest ≡ plies = omega arith in
-      subst (λ d. Lost family.profile d p) then (inr (
+      let more : plies ≡ suc follows.0 = omega (arith, follows.1) in
+      rw more (inr (
         status,
         λ move q goes.
             let win = follows.4 move q goes in
-            let least : win.0 ≤ greatest = follows.3 win.0 (move, q, goes, win.1) in
-            won_stays family.profile win.0 greatest q least
-            (lower win.0 q (omega arith) (moves_keep_the_family family p move q is status goes) win.1),
+            let least : win.0 ≤ follows.0 = follows.3 win.0 (move, q, goes, win.1) in
+            won_stays family.profile win.0 follows.0 q least (lower win.0 q (omega arith) (moves_keep_the_family family p move q is status goes) win.1),
       ))
 
   -- what is a win or a loss in the table is so, by induction on the distance
   mutual
-    win_is_won : (n plies : ℕ) (p : Setup) → plies ≤ n → IsPositionOf family p → HasInTable family values p (Win plies) → Won family.profile plies p
-    win_is_won zero plies p upto is has =
+    win_is_won : (n plies : ℕ) (p : Setup) → plies < n → IsPositionOf family p → HasInTable family values p (Win plies) → Won family.profile plies p
+    win_is_won zero plies p below is has = absurd (omega arith)
+    win_is_won (suc n) plies p below is has =
         let follows = entry_follows p (Win plies) is has in
         ((outlook p (Win plies) is has).won plies).1
         (win_step plies has.number.representative (representative_member p (Win plies) is has) follows.0 follows.1 follows.2
-        (λ least q below next entry. absurd (omega arith)))
-    win_is_won (suc n) plies p upto is has =
-        let follows = entry_follows p (Win plies) is has in
-        ((outlook p (Win plies) is has).won plies).1
-        (win_step plies has.number.representative (representative_member p (Win plies) is has) follows.0 follows.1 follows.2
-        (λ least q below next entry. loss_is_lost n least q (omega arith) next entry))
+        (λ least q less next entry. loss_is_lost n least q (omega arith) next entry))
 
-    loss_is_lost : (n plies : ℕ) (p : Setup) → plies ≤ n → IsPositionOf family p → HasInTable family values p (Loss plies) → Lost family.profile plies p
-    loss_is_lost zero plies p upto is has =
+    loss_is_lost : (n plies : ℕ) (p : Setup) → plies < n → IsPositionOf family p → HasInTable family values p (Loss plies) → Lost family.profile plies p
+    loss_is_lost zero plies p below is has = absurd (omega arith)
+    loss_is_lost (suc n) plies p below is has =
         let follows = entry_follows p (Loss plies) is has in
         ((outlook p (Loss plies) is has).lost plies).1
         (loss_step plies has.number.representative (representative_member p (Loss plies) is has) follows.0 follows.1 follows.2
-        (λ win q below next entry. absurd (omega arith)))
-    loss_is_lost (suc n) plies p upto is has =
-        let follows = entry_follows p (Loss plies) is has in
-        ((outlook p (Loss plies) is has).lost plies).1
-        (loss_step plies has.number.representative (representative_member p (Loss plies) is has) follows.0 follows.1 follows.2
-        (λ win q below next entry. win_is_won n win q (omega arith) next entry))
+        (λ win q less next entry. win_is_won n win q (omega arith) next entry))
 
   entry_is_value : (p : Setup) (v : Value) → IsPositionOf family p → HasInTable family values p v → HasValue family.profile p v
   entry_is_value p (Win plies) is has = (
-    win_is_won plies plies p (omega arith) is has,
-    λ n won.
-        let win = won_in_table n p (Win plies) is has won in
-        let same : plies ≡ win.0 = same_win plies win.0 win.1 in
-        let within : win.0 ≤ n = win.2 in
-        omega arith,
+    win_is_won (suc plies) plies p (omega arith) is has,
+    λ n won. let win = won_in_table n p (Win plies) is has won in omega (arith, same_win plies win.0 win.1, win.2),
   )
   entry_is_value p (Loss plies) is has = (
-    loss_is_lost plies plies p (omega arith) is has,
-    λ n lost.
-        let loss = lost_in_table n p (Loss plies) is has lost in
-        let same : plies ≡ loss.0 = same_loss plies loss.0 loss.1 in
-        let within : loss.0 ≤ n = loss.2 in
-        omega arith,
+    loss_is_lost (suc plies) plies p (omega arith) is has,
+    λ n lost. let loss = lost_in_table n p (Loss plies) is has lost in omega (arith, same_loss plies loss.0 loss.1, loss.2),
   )
   entry_is_value p Draw is has = λ n. (
-    λ won.
-        let win = won_in_table n p Draw is has won in
-        absurd (not_draw_win win.0 win.1),
-    λ lost.
-        let loss = lost_in_table n p Draw is has lost in
-        absurd (not_draw_loss loss.0 loss.1),
+    λ won. let win = won_in_table n p Draw is has won in not_draw_win win.0 win.1,
+    λ lost. let loss = lost_in_table n p Draw is has lost in not_draw_loss loss.0 loss.1,
   )
 
 pub consistent_is_right : ConsistentIsRight

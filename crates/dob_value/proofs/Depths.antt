@@ -62,17 +62,11 @@ won_not_lost profile n m p won lost =
 
 -- a position has at most one value
 pub at_most_one_value : OneValue
-at_most_one_value profile p (Win a) (Win b) h k =
-    let ab : a ≤ b = h.1 b k.0 in
-    let ba : b ≤ a = k.1 a h.0 in
-    let e : a ≡ b = omega arith in ap Win e
+at_most_one_value profile p (Win a) (Win b) h k = ap Win (omega (arith, h.1 b k.0, k.1 a h.0))
 at_most_one_value profile p (Win a) (Loss b) h k = absurd (won_not_lost profile a b p h.0 k.0)
 at_most_one_value profile p (Win a) Draw h k = absurd ((k a).0 h.0)
 at_most_one_value profile p (Loss a) (Win b) h k = absurd (won_not_lost profile b a p k.0 h.0)
-at_most_one_value profile p (Loss a) (Loss b) h k =
-    let ab : a ≤ b = h.1 b k.0 in
-    let ba : b ≤ a = k.1 a h.0 in
-    let e : a ≡ b = omega arith in ap Loss e
+at_most_one_value profile p (Loss a) (Loss b) h k = ap Loss (omega (arith, h.1 b k.0, k.1 a h.0))
 at_most_one_value profile p (Loss a) Draw h k = absurd ((k a).1 h.0)
 at_most_one_value profile p Draw (Win b) h k = absurd ((h b).0 k.0)
 at_most_one_value profile p Draw (Loss b) h k = absurd ((h b).1 k.0)

@@ -1,5 +1,5 @@
 -- The lists of a graph as they grow.
-use Rattle.dob_value.proofs.Common.{◌++◌, ◌+◌, ◌-◌, ◌<◌, ◌∙◌, ◌∷◌, ◌≡◌, ◌≤◌, List, [], ap, arith, drop, inl, inr, length, slice_index_or, subst, sym, take, ℕ}
+use Rattle.dob_value.proofs.Common.{◌++◌, ◌+◌, ◌-◌, ◌<◌, ◌∙◌, ◌∷◌, ◌≡◌, ◌≤◌, List, [], ap, arith, drop, inl, inr, length, slice_index_or, subst, take, ℕ}
 use Rattle.dob_value.proofs.Common.{cases_lt, Family, Status, Open, HasClasses-classes_of, IsPositionOf, classes_of, class_setup, AreNodes, ClassStandsFor}
 use Rattle.dob_value.proofs.Common.{IsNode, SomeHasDistance, run_at, SomeTooDeep, MAX_DISTANCE}
 use Rattle.std.proofs.Common.{length-append}
@@ -53,16 +53,12 @@ module _ (family : Family) (upto : ℕ) (statuses : List Status) (starts success
       ∙ ap (λ n. take (n - slice_index_or starts number 0) (drop (slice_index_or starts number 0) all)) to
       ∙ earlier_run (slice_index_or starts number 0) (slice_index_or starts (number + 1) 0) successors numbers (before.ordered number below)
       (before.within number below) in
-      subst (λ s. IsNode family.profile (ClassStandsFor family) (class_setup family number) s (run_at starts_now all number)) (sym same_status)
-      (subst (λ run. IsNode family.profile (ClassStandsFor family) (class_setup family number) (slice_index_or statuses number Open) run) (sym same_run)
-      (before.known number below))
+      rw (same_status, same_run) (before.known number below)
 
   known_now : IsNode family.profile (ClassStandsFor family) (class_setup family upto) (slice_index_or (statuses ++ status ∷ []) upto Open) (run_at starts_now all upto)
   known_now =
-      subst (λ s. IsNode family.profile (ClassStandsFor family) (class_setup family upto) s (run_at starts_now all upto))
-      (sym (get_or_push statuses status Open upto before.statuses_whole))
-      (subst (λ run. IsNode family.profile (ClassStandsFor family) (class_setup family upto) status run)
-      (sym (last_run (slice_index_or starts_now upto 0) (slice_index_or starts_now (upto + 1) 0) successors numbers last_start end_now)) known)
+      let run = last_run (slice_index_or starts_now upto 0) (slice_index_or starts_now (upto + 1) 0) successors numbers last_start end_now in
+      rw (get_or_push statuses status Open upto before.statuses_whole, run) known
 
   pub nodes_more : AreNodes family (upto + 1) (statuses ++ status ∷ []) (starts ++ length (successors ++ numbers) ∷ []) (successors ++ numbers)
   nodes_more = record {
@@ -71,10 +67,7 @@ module _ (family : Family) (upto : ℕ) (statuses : List Status) (starts success
     end = end_now;
     ordered = λ number below. elim (cases_lt number upto) [
       | inl earlier ↦
-          let from = start_before number (omega arith) in
-          let to = start_before (number + 1) (omega arith) in
-          let there = before.ordered number earlier in
-          omega (arith, from, to, there)
+          omega (arith, start_before number (omega arith), start_before (number + 1) (omega arith), before.ordered number earlier)
       | inr later ↦
           let same : upto ≡ number = omega arith in
           subst (λ n. slice_index_or starts_now n 0 ≤ slice_index_or starts_now (n + 1) 0) same
@@ -82,9 +75,7 @@ module _ (family : Family) (upto : ℕ) (statuses : List Status) (starts success
     ];
     within = λ number below. elim (cases_lt number upto) [
       | inl earlier ↦
-          let to = start_before (number + 1) (omega arith) in
-          let there = before.within number earlier in
-          omega (arith, to, there, length-append successors numbers)
+          omega (arith, start_before (number + 1) (omega arith), before.within number earlier, length-append successors numbers)
       | inr later ↦
           let same : upto ≡ number = omega arith in
           subst (λ n. slice_index_or starts_now (n + 1) 0 ≤ length all) same (omega (arith, end_now))
@@ -106,11 +97,7 @@ pub nodes_grown : (family : Family) (upto : ℕ) (statuses : List Status) (start
     AreNodes family (upto + 1) statuses_now starts_now successors_now
 nodes_grown family upto statuses starts successors status numbers statuses_now starts_now successors_now last before known is_statuses is_starts is_last
     is_successors =
-    subst (λ xs. AreNodes family (upto + 1) xs starts_now successors_now) (sym is_statuses)
-    (subst (λ xs. AreNodes family (upto + 1) (statuses ++ status ∷ []) xs successors_now)
-    (sym (is_starts ∙ ap (λ n. starts ++ n ∷ []) (is_last ∙ ap length is_successors)))
-    (subst (λ xs. AreNodes family (upto + 1) (statuses ++ status ∷ []) (starts ++ length (successors ++ numbers) ∷ []) xs) (sym is_successors)
-    (nodes_more family upto statuses starts successors before status numbers known)))
+    rw (is_statuses, is_starts, is_last, is_successors) (nodes_more family upto statuses starts successors before status numbers known)
 
 -- a class too deep is a position of its family too deep
 pub deep_position : (family : Family) (n : ℕ) → MAX_DISTANCE < n → SomeHasDistance family n → SomeTooDeep family.profile (IsPositionOf family)

@@ -1,8 +1,8 @@
 -- Wins come at odd and losses at even distances, and so a number says the value.
 use Rattle.dob_value.proofs.Common.{◌%◌, ◌<◌, ◌∙◌, ◌≡◌, ◌≤◌, Err, List, Ok, Result, Some, ap, arith, get_or, inl, inr, length, option_map, refl, slice_get}
 use Rattle.dob_value.proofs.Common.{subst, suc, sym, zero, ℕ, cases_eq, get_or-map, length-map, slice_get-map, All, Family, Profile, Setup, classes_of}
-use Rattle.dob_value.proofs.Common.{class_setup, IsShort, ValuesHaveParity, value_at_distance, value_of_code, values_of_codes, IsCutOff, IsEntry, AreCutOff}
-use Rattle.dob_value.proofs.Common.{AreValues, HasValue, Lost, Won, MAX_DISTANCE, Value, Draw, Loss, Win}
+use Rattle.dob_value.proofs.Common.{class_setup, IsShort, ValuesHaveParity, value_of_code, values_of_codes, IsCutOff, IsEntry, AreCutOff, AreValues, HasValue}
+use Rattle.dob_value.proofs.Common.{Lost, Won, MAX_DISTANCE, Value, Draw, Loss, Win}
 use Rattle.std.specs.Result.{IfOk}
 use Rattle.std.proofs.lemmas.List.{get_or_default}
 
@@ -35,18 +35,13 @@ odd_win : (profile : Profile) (plies : ℕ) (p : Setup) → HasValue profile p (
 odd_win profile zero p has = absurd has.0
 odd_win profile (suc n) p has = elim (cases_eq (suc n % 2) 1) [
   | inl odd ↦ odd
-  | inr other ↦
-      let even : suc n % 2 ≡ 0 = omega (arith, other) in
-      let less : suc n ≤ n = has.1 n (won_one_less profile n p even has.0) in
-      absurd (omega arith)
+  | inr other ↦ absurd (omega (arith, has.1 n (won_one_less profile n p (omega (arith, other)) has.0)))
 ]
 
 even_loss : (profile : Profile) (plies : ℕ) (p : Setup) → HasValue profile p (Loss plies) → plies % 2 ≡ 0
 even_loss profile zero p has = refl
 even_loss profile (suc n) p has = elim (cases_eq (suc n % 2) 1) [
-  | inl odd ↦
-      let less : suc n ≤ n = has.1 n (lost_one_less profile n p odd has.0) in
-      absurd (omega arith)
+  | inl odd ↦ absurd (omega (arith, has.1 n (lost_one_less profile n p odd has.0)))
   | inr other ↦ omega (arith, other)
 ]
 
@@ -58,20 +53,7 @@ values_have_parity profile p Draw has = tt
 -- a code of 16 bits is an entry
 entry_of_code : (code : ℕ) → code < 65536 → IsEntry (value_of_code code)
 entry_of_code zero below = tt
-entry_of_code (suc plies) below = elim (cases_eq (plies % 2) 1) [
-  | inl odd ↦ at_odd plies odd below
-  | inr even ↦ at_even plies (omega (arith, even)) below
-]
-  where
-    at_odd : (plies : ℕ) → plies % 2 ≡ 1 → suc plies < 65536 → IsEntry (value_at_distance plies)
-    at_odd plies odd below =
-        let win : value_at_distance plies ≡ Win plies = rw odd refl in
-        subst IsEntry (sym win) (odd, omega arith)
-
-    at_even : (plies : ℕ) → plies % 2 ≡ 0 → suc plies < 65536 → IsEntry (value_at_distance plies)
-    at_even plies even below =
-        let loss : value_at_distance plies ≡ Loss plies = rw even refl in
-        subst IsEntry (sym loss) (even, omega arith)
+entry_of_code (suc plies) below = grind arith
 
 pub entries_of_codes : (codes : List ℕ) → All (λ code. code < 65536) codes → All IsEntry (values_of_codes codes)
 entries_of_codes codes small k d below =
@@ -88,8 +70,8 @@ entry_of_value profile p Draw has short = tt
 
 -- entries cut off at a depth that isn't too great are short
 pub short_of_cut : (profile : Profile) (n : ℕ) (p : Setup) (v : Value) → n ≤ MAX_DISTANCE → IsCutOff profile n p v → IsShort v
-short_of_cut profile n p (Win plies) upto cut = (let within : plies ≤ n = cut.0 in omega arith)
-short_of_cut profile n p (Loss plies) upto cut = (let within : plies ≤ n = cut.0 in omega arith)
+short_of_cut profile n p (Win plies) upto cut = omega (arith, cut.0, upto)
+short_of_cut profile n p (Loss plies) upto cut = omega (arith, cut.0, upto)
 short_of_cut profile n p Draw upto cut = tt
 
 pub all_short : (n : ℕ) (family : Family) (entries : List Value) → n ≤ MAX_DISTANCE → AreCutOff n family entries → All IsShort entries

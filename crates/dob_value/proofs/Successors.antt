@@ -1,19 +1,13 @@
 -- A list of successors' numbers as it grows.
-use Rattle.dob_value.proofs.Common.{◌++◌, ◌+◌, ◌<◌, ◌∙◌, ◌∷◌, ◌≡◌, ◌≤◌, Contains, List, Some, [], arith, get_or, inl, inr, length, slice_get, subst}
-use Rattle.dob_value.proofs.Common.{sym, ℕ, Contains-append_left, Contains-get_or, Contains-push, Contains-push_cases, before_or_here, standing, Family}
-use Rattle.dob_value.proofs.Common.{Profile, Setup, IsLegal-Goes, total-Goes, CanGo, Goes, AreMoves, HasStatus, Move, Open, IsPositionOf, AreSuccessors}
+use Rattle.dob_value.proofs.Common.{◌++◌, ◌+◌, ◌<◌, ◌∷◌, ◌≡◌, ◌≤◌, Contains, List, Some, [], arith, get_or, inl, inr, length, slice_get, subst, sym, ℕ}
+use Rattle.dob_value.proofs.Common.{Contains-append_left, Contains-get_or, Contains-push, Contains-push_cases, before_or_here, standing, Family, Profile, Setup}
+use Rattle.dob_value.proofs.Common.{IsLegal-Goes, total-Goes, CanGo, Goes, AreMoves, HasStatus, Move, Open, IsPositionOf, AreSuccessors}
 use Rattle.dob_moves.proofs.Kept.{IsAllowed-Goes}
 
 -- moves lead from positions of a family to such positions
 pub moves_keep_the_family : (family : Family) (p : Setup) (move : Move) (q : Setup) → IsPositionOf family p → HasStatus family.profile p Open →
     Goes family.profile p move q → IsPositionOf family q
-moves_keep_the_family family p move q is goes_on goes = record {
-  of_set = record {
-    legal = IsLegal-Goes family.profile p move q goes is.of_set.legal goes_on.1;
-    pieces = λ kind. total-Goes family.profile p move q goes is.of_set.legal.squares kind ∙ is.of_set.pieces kind;
-  };
-  allowed = IsAllowed-Goes family.profile p move q is.of_set.legal.squares is.allowed goes;
-}
+moves_keep_the_family family p move q is goes_on goes = grind (arith, IsLegal-Goes, total-Goes, IsAllowed-Goes)
 
 -- the numbers stand for the outcomes of the moves below an index
 pub record AreSuccessorsBelow (profile : Profile) {X : Type 0} (StandsFor : X → Setup → Type 0) (p : Setup) (legal : List Move) (upto : ℕ) (numbers : List X) : Type 0 where

@@ -1,9 +1,9 @@
 -- Tables during the sweeps.
-use Rattle.dob_value.proofs.Common.{◌++◌, ◌+◌, ◌<◌, ◌∙◌, ◌≡◌, ◌≤◌, List, arith, drop, get_or-set_other, get_or-set_same, inl, inr, length, length-set, map}
-use Rattle.dob_value.proofs.Common.{refl, slice_index_or, slice_set, subst, suc, sym, take, true, zero, ℕ, cases_eq, cases_lt, le-leb, leb-true, common_steps}
-use Rattle.dob_value.proofs.Common.{get_or-map, length-map, Family, Profile, Setup, Goes, HasStatus, Move, Status, Caught, Open, Stuck, Tried, classes_of}
-use Rattle.dob_value.proofs.Common.{class_setup, SameOutlook, IsCutOff, Tells, TellsAt, is_draw, AreCutOff, AreSwept, AreValues, ClassStandsFor, IsGraph}
-use Rattle.dob_value.proofs.Common.{IsNode, status_at, value_at_start, HasValue, Lost, Won, Value, Draw, Loss, Win}
+use Rattle.dob_value.proofs.Common.{rules, add-one, ◌++◌, ◌+◌, ◌<◌, ◌∙◌, ◌≡◌, ◌≤◌, List, arith, drop, inl, inr, length, map, refl, slice_index_or, slice_set}
+use Rattle.dob_value.proofs.Common.{suc, take, true, zero, ℕ, cases_lt, le-leb, leb-true, common_steps, get_or-map, length-map, Family, Profile, Setup, Goes}
+use Rattle.dob_value.proofs.Common.{HasStatus, Move, Status, Caught, Open, Stuck, Tried, classes_of, class_setup, SameOutlook, IsCutOff, Tells, TellsAt}
+use Rattle.dob_value.proofs.Common.{is_draw, AreCutOff, AreSwept, AreValues, ClassStandsFor, IsGraph, IsNode, status_at, value_at_start, HasValue, Lost, Won}
+use Rattle.dob_value.proofs.Common.{Value, Draw, Loss, Win}
 use Rattle.dob_value.specs.declared.graph.Graph.{Graph}
 use Rattle.dob_value.proofs.Depths.{won_stays, lost_stays, lost_not_caught, lost_not_open, won_not_lost}
 
@@ -30,12 +30,7 @@ tells profile n m p Draw upto cut = record {
 
 -- positions with the same outlook: an entry says the same of both, and they have the same values
 pub tells_same : (profile : Profile) (n : ℕ) (p q : Setup) (entry : Value) → SameOutlook profile q p → Tells profile n p entry → Tells profile n q entry
-tells_same profile n p q entry same told = record {
-  win = λ yes. (same.won n).1 (told.win yes);
-  won = λ won. told.won ((same.won n).0 won);
-  loss = λ yes. (same.lost n).1 (told.loss yes);
-  lost = λ lost. told.lost ((same.lost n).0 lost);
-}
+tells_same profile n p q entry same told = grind arith
 
 pub value_same : (profile : Profile) (p q : Setup) (v : Value) → SameOutlook profile q p → HasValue profile p v → HasValue profile q v
 value_same profile p q (Win d) same has = ((same.won d).1 has.0, λ n won. has.1 n ((same.won n).0 won))
@@ -43,9 +38,8 @@ value_same profile p q (Loss d) same has = ((same.lost d).1 has.0, λ n lost. ha
 value_same profile p q Draw same has = λ n. (λ won. (has n).0 ((same.won n).0 won), λ lost. (has n).1 ((same.lost n).0 lost))
 
 pub draw_is : (v : Value) → is_draw v ≡ true → v ≡ Draw
-draw_is (Win d) h = absurd (cc)
-draw_is (Loss d) h = absurd (cc)
 draw_is Draw h = refl
+draw_is _ h = cc
 
 -- a node's successors stay so where their numbers stand for positions in another way too
 pub node_standing : (profile : Profile) (StandsFor Other : ℕ → Setup → Type 0) (p : Setup) (status : Status) (numbers : List ℕ) →
@@ -64,8 +58,7 @@ pub successors_told : (n upto : ℕ) (family : Family) (entries : List Value) (p
 successors_told n upto family entries p status numbers swept known =
     let told : (number : ℕ) (q : Setup) → ClassStandsFor family number q → TellsAt family.profile n entries number q = λ number q stands.
     let fits = swept.fits number stands.0 in
-    let same_length : length entries ≡ classes_of family = swept.same_length in
-    let below : number < length entries = omega (arith, stands.0) in
+    let below : number < length entries = omega (arith, stands.0, swept.same_length) in
     let told_there : Tells family.profile n (class_setup family number) (slice_index_or entries number Draw) = elim (cases_lt number upto) [
       | inl earlier ↦ tells family.profile n (n + 1) (class_setup family number) _ (omega arith) (fits.0 earlier)
       | inr later ↦ tells family.profile n n (class_setup family number) _ (omega arith) (fits.1 later)
@@ -76,25 +69,7 @@ successors_told n upto family entries p status numbers swept known =
 -- one entry more is swept, which is written
 pub swept_written : (n upto : ℕ) (family : Family) (entries : List Value) (v : Value) → upto < classes_of family →
     AreSwept n upto family entries → IsCutOff family.profile (n + 1) (class_setup family upto) v → AreSwept n (upto + 1) family (slice_set entries upto v)
-swept_written n upto family entries v within swept cut =
-    let same_length : length entries ≡ classes_of family = swept.same_length in
-    let below_length : upto < length entries = omega arith in
-    let written : slice_index_or (slice_set entries upto v) upto Draw ≡ v = rw get_or-set_same in
-    record {
-      same_length = length-set entries upto v ∙ same_length;
-      fits = λ number there. elim (cases_eq number upto) [
-        | inl same ↦ (
-          λ below. subst (λ k. IsCutOff family.profile (n + 1) (class_setup family k) (slice_index_or (slice_set entries upto v) k Draw)) (sym same)
-              (subst (λ x. IsCutOff family.profile (n + 1) (class_setup family upto) x) (sym written) cut),
-          λ above. absurd (omega arith),
-        )
-        | inr apart ↦
-            let kept = get_or-set_other entries upto number v Draw apart in (
-              λ below. subst (λ x. IsCutOff family.profile (n + 1) (class_setup family number) x) (sym kept) ((swept.fits number there).0 (omega arith)),
-              λ above. subst (λ x. IsCutOff family.profile n (class_setup family number) x) (sym kept) ((swept.fits number there).1 (omega arith)),
-            )
-      ];
-    }
+swept_written n upto family entries v within swept cut = search rules
 
 -- an entry that one depth more doesn't change: nothing is won or lost first at that depth
 pub nothing_new : (profile : Profile) (n : ℕ) (p : Setup) (entry : Value) → IsCutOff profile n p entry → IsCutOff profile (n + 1) p entry →
@@ -104,8 +79,7 @@ nothing_new profile n p (Win d) cut next =
 nothing_new profile n p (Loss d) cut next =
     (λ won. absurd (won_not_lost profile (suc n) d p won cut.1.0), λ lost. lost_stays profile d n p cut.0 cut.1.0)
 nothing_new profile n p Draw cut next =
-    let e : suc n ≡ n + 1 = omega arith in
-    (λ won. absurd (next.0 (subst (λ k. Won profile k p) e won)), λ lost. absurd (next.1 (subst (λ k. Lost profile k p) e lost)))
+    (λ won. absurd (next.0 (rw add-one won)), λ lost. absurd (next.1 (rw add-one lost)))
 
 -- nothing is won or lost first at depth n + 1
 abbrev pub NothingNew : ℕ → Family → Type 0
@@ -169,11 +143,7 @@ unchanged_is_final n graph entries is cut next =
 pub open_here : (n upto : ℕ) (family : Family) (entries : List Value) (entry : Value) →
     AreSwept n upto family entries → upto < classes_of family → entry ≡ slice_index_or entries upto Draw →
     is_draw entry ≡ true → (¬ Won family.profile n (class_setup family upto)) × (¬ Lost family.profile n (class_setup family upto))
-open_here n upto family entries entry swept within read is_open =
-    let cut : IsCutOff family.profile n (class_setup family upto) (slice_index_or entries upto Draw) = (swept.fits upto within).1 (omega arith) in
-    let draw : slice_index_or entries upto Draw ≡ Draw = sym read ∙ draw_is entry is_open in
-    let at_draw : IsCutOff family.profile n (class_setup family upto) Draw = subst (λ x. IsCutOff family.profile n (class_setup family upto) x) draw cut in
-    at_draw
+open_here n upto family entries entry swept within read is_open = grind (arith, draw_is)
 
 -- the table before the first sweep
 pub start_at : (profile : Profile) (p : Setup) (status : Status) → HasStatus profile p status → IsCutOff profile 0 p (value_at_start status)
@@ -186,11 +156,7 @@ pub starts_cut : (graph : Graph) → IsGraph graph → AreCutOff 0 graph.family 
 starts_cut graph is = record {
   same_length = length-map graph.statuses.items value_at_start ∙ is.statuses_whole;
   fits = λ number there.
-      let whole : length graph.statuses.items ≡ classes_of graph.family = is.statuses_whole in
-      let within : number < length graph.statuses.items = omega arith in
-      let read : slice_index_or (map value_at_start graph.statuses.items) number Draw ≡ value_at_start (status_at graph number) =
-      get_or-map value_at_start graph.statuses.items number Open Draw within in
-      subst (λ x. IsCutOff graph.family.profile 0 (class_setup graph.family number) x) (sym read)
+      rw (get_or-map value_at_start graph.statuses.items number Open Draw (rw is.statuses_whole there))
       (start_at graph.family.profile (class_setup graph.family number) (status_at graph number) (is.known number there).status);
 }
 

@@ -8,8 +8,9 @@ ghost use Rattle.dob_rank.specs.Families.{IsPositionOf};
 ghost use Rattle.dob_rank.specs.Families.{classes_of};
 ghost use Rattle.dob_value.specs.Graphs.{ClassStandsFor, IsNode, IsGraph, status_at, successors_at};
 
+use crate::outcomes::outcome_of;
 use dob_classes::Classes;
-use dob_moves::{Move, Status, apply, moves_into};
+use dob_moves::{Move, Status, moves_into};
 use dob_pieces::{Family, Memory, Position};
 use std::alloc::Global;
 
@@ -58,7 +59,7 @@ fn number_after(classes: &Classes, position: &Position, played: Move) -> usize
     requires can_go { CanGo classes.now.family.profile position.now.setup played }
     ensures { (q : Setup) → Goes classes.now.family.profile position.now.setup played q → ClassStandsFor classes.now.family result q }
 {
-    number_of(classes, &apply(position, played))
+    number_of(classes, &outcome_of(classes.family, position, played))
 }
 
 // Appends the numbers of the classes to which the position's moves lead, and gives its status. The list of legal is

@@ -1,9 +1,9 @@
 -- How `clap` reads all the words of the program.
 use Rattle.dob_words.proofs.Common.{◌++◌, ◌∙◌, ◌∷◌, ◌≡◌, Bool, List, None, Option, Some, [], ap, codes, cond, false, inl, inr, refl, rules, subst, sym, true}
-use Rattle.dob_words.proofs.Common.{true≢false, or-false, bytes_eq-Decides, option_map_or, find, fold, is_some, option_map, bytes_eq, Kinds, or_else, Shape}
-use Rattle.dob_words.proofs.Common.{entered, names_of, App, AreProfiles, Finds, IsMet, ProfileNames, dobutsu_app, Meaning, asks, help, is_dashes, is_help_flag}
+use Rattle.dob_words.proofs.Common.{or-false, bytes_eq-Decides, option_map_or, find, fold, is_some, option_map, bytes_eq, Kinds, or_else, Shape, entered}
+use Rattle.dob_words.proofs.Common.{names_of, App, AreProfiles, Finds, IsMet, ProfileNames, dobutsu_app, Meaning, asks, help, is_dashes, is_help_flag}
 use Rattle.dob_words.proofs.Common.{is_text, is_topic, meaning_of_command, meaning_of_form, meaning_of_other, usage, version}
-use Rattle.std.proofs.Common.{◌==◌}
+use Rattle.std.proofs.Common.{◌==◌, arith}
 use Rattle.std.specs.Prelude.{map}
 use Rattle.clap.specs.Words.{Row, built, fault_of, subcommand_of}
 use Rattle.clap.specs.Walk.{answers_to, Names, Walk, finished, idle, nothing_held, rows_after, settled, subcommand_met, walked}
@@ -77,8 +77,7 @@ module _ (profiles : ProfileNames) (are : AreProfiles profiles) where
       (or_else_usage (turn_fault top names w word) (walk_fault top names (walked top.rules names w word) rest) fails)
 
   or_else_nil : (k : Kinds) → or_else k [] ≡ k
-  or_else_nil [] = refl
-  or_else_nil (k ∷ ks) = refl
+  or_else_nil k = grind arith
 
   -- ---- the words from the name of a subcommand on
 
@@ -155,9 +154,8 @@ module _ (profiles : ProfileNames) (are : AreProfiles profiles) where
 
   -- of which `clap` says no more than that it tells one or the other
   pub topic_kinds : (words : List Text) → is_topic words ≡ true → fault_of (dobutsu_app profiles) words ≡ kind.DisplayHelp ∷ kind.InvalidSubcommand ∷ []
-  topic_kinds [] e = absurd (true≢false (sym e))
-  topic_kinds (word ∷ rest) e =
-      subst (λ w. kinds_at start (w ∷ rest) ≡ kind.DisplayHelp ∷ kind.InvalidSubcommand ∷ []) ((bytes_eq-Decides (codes "help") word).0 e) (help_kinds rest)
+  topic_kinds [] e = absurd (cc)
+  topic_kinds (word ∷ rest) e = rw (← (bytes_eq-Decides (codes "help") word).0 e) (help_kinds rest)
 
   -- no words, and `--` alone
   no_words : is_usage (kinds_at start []) ≡ true

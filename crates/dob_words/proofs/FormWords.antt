@@ -1,14 +1,13 @@
 -- How `clap` reads the words after the name of a subcommand, for any form. `IsTaken` is found by computing (proofs/Taken.antt).
-use Rattle.dob_words.proofs.Common.{◌++◌, ◌+◌, ◌∙◌, ◌∷◌, ◌≡◌, Bool, List, None, Option, Some, [], ap, ap₂, codes, cond, false, map, min, refl, subst, sym, true}
-use Rattle.dob_words.proofs.Common.{true≢false, ℕ, or-false, bytes_eq-Decides, after_first, list_any, option_map_or, ◌&&◌, ◌==◌, ◌||◌, find, fold, is_some, not}
-use Rattle.dob_words.proofs.Common.{option_map, bytes_eq, Kinds, or_else, usize_max, Shape, built_leaf, inherited, marked_built, with_leaf_noted, is_given}
-use Rattle.dob_words.proofs.Common.{first_of, AreProfiles, ProfileNames, bare_app, form_app, Given, Meaning, Stand, Text, after_dashes, after_part, after_word}
-use Rattle.dob_words.proofs.Common.{asked, asks, at_end, behind, between, call, dashes, ended, fits, flag, help, is_dashes, is_help_flag, is_text, kept}
-use Rattle.dob_words.proofs.Common.{label_of, meaning_of_form, name_in, named_part, once, option, placed, text, text_behind, texts_of, unknown, usage, valued}
-use Rattle.dob_words.proofs.Common.{version, wanted, wants}
-use Rattle.clap.specs.Walk.{rows_after, value as a_value, is_pending, with_default, Held, Row, Rule, Waiting, Walk, arg_by_id, arg_by_index, arg_by_long}
-use Rattle.clap.specs.Walk.{arg_by_short, finished, idle, next_position, nothing_held, option as waits_for, settled, settled_rows}
-use Rattle.clap.specs.Walk.{subcommand_met, walked}
+use Rattle.dob_words.proofs.Common.{◌++◌, ◌+◌, ◌∙◌, ◌∷◌, ◌≡◌, Bool, List, None, Option, Some, [], ap, ap₂, codes, cond, false, map, min, refl, subst, sym}
+use Rattle.dob_words.proofs.Common.{true, true≢false, ℕ, or-false, bytes_eq-Decides, after_first, list_any, option_map_or, ◌&&◌, ◌==◌, ◌||◌, find, fold}
+use Rattle.dob_words.proofs.Common.{is_some, not, option_map, bytes_eq, Kinds, or_else, usize_max, Shape, built_leaf, inherited, marked_built}
+use Rattle.dob_words.proofs.Common.{with_leaf_noted, is_given, first_of, AreProfiles, ProfileNames, bare_app, form_app, Given, Meaning, Stand, Text}
+use Rattle.dob_words.proofs.Common.{after_dashes, after_part, after_word, asked, asks, at_end, behind, between, call, dashes, ended, fits, flag, help}
+use Rattle.dob_words.proofs.Common.{is_dashes, is_help_flag, is_text, kept, label_of, meaning_of_form, name_in, named_part, once, option, placed, text}
+use Rattle.dob_words.proofs.Common.{text_behind, texts_of, unknown, usage, valued, version, wanted, wants, unwrap_or}
+use Rattle.clap.specs.Walk.{rows_after, value as a_value, is_pending, Held, Row, Rule, Waiting, Walk, arg_by_id, arg_by_index, arg_by_long, arg_by_short}
+use Rattle.clap.specs.Walk.{finished, idle, next_position, nothing_held, option as waits_for, settled, settled_rows, subcommand_met, walked}
 use Rattle.clap.specs.Faults.{check_fault, defaults_fault, level_fault, settle_fault, step_fault, turn_fault, walk_fault}
 use Rattle.clap.specs.declared.error.kind.ErrorKind.TheVariants as kind
 use Rattle.dob_words.specs.Forms.{Form, is_among, labels}
@@ -18,6 +17,8 @@ use Rattle.dob_words.proofs.Turns.{KnowsHelp, help_flag, held, is_usage, or_else
 use Rattle.dob_words.proofs.Steps.{closed_at, failing_turn, help_turn, open_at, other_turn, text_taken, text_turn, text_turn_at, text_walked, waiting_at}
 use Rattle.dob_words.proofs.Texts.{Each, Looked, defaults_none, flag_arg, flag_passes, flag_twice, flagged_fresh, looked, no_faults, kept_both, misfit_usage}
 use Rattle.dob_words.proofs.Texts.{rows_of, some_missing, text_arg, use_misfit, use_passes, use_twice, used_fresh}
+use Rattle.std.proofs.lemmas.Bool.{cases_Bool}
+use Rattle.std.proofs.Common.{arith, inl, inr}
 
 -- ---- the subcommand's arguments, built
 
@@ -58,27 +59,12 @@ long_options : (profiles : ProfileNames) (f : Form) (os : List (Text × Text)) (
     → arg_by_long (map (option_arg profiles f) os ++ more) name
     ≡ option_map_or (λ o. Some (option_arg profiles f o)) (find (λ o. bytes_eq o.0 name) os) (arg_by_long more name)
 long_options profiles f [] more name = refl
-long_options profiles f (o ∷ os) more name = go (bytes_eq o.0 name) (long_options profiles f os more name)
-  where
-    go : (b : Bool)
-        → arg_by_long (map (option_arg profiles f) os ++ more) name
-        ≡ option_map_or (λ x. Some (option_arg profiles f x)) (find (λ x. bytes_eq x.0 name) os) (arg_by_long more name)
-        → cond (b || false) (Some (option_arg profiles f o)) (arg_by_long (map (option_arg profiles f) os ++ more) name)
-        ≡ option_map_or (λ x. Some (option_arg profiles f x)) (cond b (Some o) (find (λ x. bytes_eq x.0 name) os)) (arg_by_long more name)
-    go true rec = refl
-    go false rec = rec
+long_options profiles f (o ∷ os) more name = grind (arith, long_options profiles f os more name)
 
 long_flags : (names : List Text) (more : List Rule) (name : Text)
     → arg_by_long (map flag_arg names ++ more) name ≡ cond (is_among names name) (Some (flag_arg name)) (arg_by_long more name)
 long_flags [] more name = refl
-long_flags (n ∷ names) more name = go (bytes_eq n name) refl (long_flags names more name)
-  where
-    go : (b : Bool) → bytes_eq n name ≡ b
-        → arg_by_long (map flag_arg names ++ more) name ≡ cond (is_among names name) (Some (flag_arg name)) (arg_by_long more name)
-        → cond (b || false) (Some (flag_arg n)) (arg_by_long (map flag_arg names ++ more) name)
-        ≡ cond (b || is_among names name) (Some (flag_arg name)) (arg_by_long more name)
-    go true e rec = ap (λ x. Some (flag_arg x)) ((bytes_eq-Decides n name).0 e)
-    go false e rec = rec
+long_flags (n ∷ names) more name = grind (arith, long_flags names more name, bytes_eq-Decides n name)
 
 long_placed : (profiles : ProfileNames) (f : Form) (i : ℕ) (labels : List Text) (more : List Rule) (name : Text)
     → arg_by_long (placed_args profiles f i labels ++ more) name ≡ arg_by_long more name
@@ -101,24 +87,12 @@ short_placed profiles f i (label ∷ labels) more x = short_placed profiles f (m
 
 -- what holds of each flag holds of the one of a name
 pub each_flag : (P : Text → Type 0) (names : List Text) (name : Text) → Each P names → is_among names name ≡ true → P name
-each_flag P [] name each e = absurd (true≢false (sym e))
-each_flag P (n ∷ names) name each e = go (bytes_eq n name) refl e (each_flag P names name each.1)
-  where
-    go : (b : Bool) → bytes_eq n name ≡ b → (b || is_among names name) ≡ true → (is_among names name ≡ true → P name) → P name
-    go true is e rec = subst P ((bytes_eq-Decides n name).0 is) each.0
-    go false is e rec = rec e
-
-abbrev pub ForFound : (Text × Text → Type 0) → Option (Text × Text) → Type 0
-ForFound P None = Unit {0}
-ForFound P (Some o) = P o
+each_flag P [] name each e = absurd (cc)
+each_flag P (n ∷ names) name each e = grind (arith, bytes_eq-Decides n name, each_flag P names name each.1)
 
 pub each_found : (P : Text × Text → Type 0) (p : Text × Text → Bool) (os : List (Text × Text)) (o : Text × Text) → Each P os → find p os ≡ Some o → P o
-each_found P p [] o each e = absurd (true≢false (sym (ap is_some e)))
-each_found P p (x ∷ xs) o each e = go (p x) e (each_found P p xs o each.1)
-  where
-    go : (b : Bool) → cond b (Some x) (find p xs) ≡ Some o → (find p xs ≡ Some o → P o) → P o
-    go true e rec = subst (ForFound P) e each.0
-    go false e rec = rec e
+each_found P p [] o each e = absurd (cc)
+each_found P p (x ∷ xs) o each e = grind (arith, each_found P p xs o each.1)
 
 module _ (profiles : ProfileNames) (are : AreProfiles profiles) (f : Form) (is : IsTaken profiles f) where
   abbrev rules : List Rule
@@ -148,26 +122,17 @@ module _ (profiles : ProfileNames) (are : AreProfiles profiles) (f : Form) (is :
   flag_by_long name = long_flags f.flags places name ∙ ap (cond (is_among f.flags name) (Some (flag_arg name))) (help_by_long name)
 
   by_long : (name : Text) → arg_by_long rules name ≡ option_map_or (λ o. Some (option_arg profiles f o)) (found name) (flag_or_help name)
-  by_long name =
-      long_options profiles f f.options (map flag_arg f.flags ++ places) name
-      ∙ ap (option_map_or (λ o. Some (option_arg profiles f o)) (found name)) (flag_by_long name)
+  by_long name = long_options profiles f f.options (map flag_arg f.flags ++ places) name ∙ rw flag_by_long refl
 
   by_short : (x : ℕ) → arg_by_short rules x ≡ cond (104 == x) (Some help_flag) None
-  by_short x = short_options profiles f f.options (map flag_arg f.flags ++ places) x ∙ (short_flags f.flags places x
-      ∙ (short_placed profiles f 1 f.positions (help_flag ∷ []) x ∙ ap (λ b. cond b (Some help_flag) None) (or-false (104 == x))))
+  by_short x = simp (short_options, short_flags, short_placed, or-false)
 
   -- the name is that of one of its options or flags
   abbrev is_named : Text → Bool
   is_named name = is_some (label_of f.options name) || is_among f.flags name
 
   other_by_long : (name : Text) → is_named name ≡ false → arg_by_long rules name ≡ help_or_none name
-  other_by_long name e = by_long name ∙ go (found name) (is_among f.flags name) e
-    where
-      go : (o : Option (Text × Text)) (b : Bool) → (is_some (option_map (λ x. x.1) o) || b) ≡ false
-          → option_map_or (λ x. Some (option_arg profiles f x)) o (cond b (Some (flag_arg name)) (help_or_none name)) ≡ help_or_none name
-      go None false e = refl
-      go None true e = absurd (true≢false e)
-      go (Some o) b e = absurd (true≢false e)
+  other_by_long name e = grind (arith, by_long name)
 
   -- no name is that of an option or a flag where neither is
   not_named : (name : Text) → (label_of f.options name ≡ None) × (is_among f.flags name ≡ false) → is_named name ≡ false
@@ -205,13 +170,10 @@ module _ (profiles : ProfileNames) (are : AreProfiles profiles) (f : Form) (is :
     -- that, or a second text of one label
     unfit_fails : (given : Given) (t : Text) → (is_some (text_behind label given) || not (fits f label t)) ≡ true
         → is_usage (settle_fault rules false (held (rows_of given) (Some (label, t ∷ [])))) ≡ true
-    unfit_fails given t e = go (text_behind label given) (fits f label t) refl refl e
-      where
-        go : (o : Option Text) (b : Bool) → text_behind label given ≡ o → fits f label t ≡ b → (is_some o || not b) ≡ true
-            → is_usage (settle_fault rules false (held (rows_of given) (Some (label, t ∷ [])))) ≡ true
-        go (Some u) b there fit e = rw (known, use_twice profiles are f long index label t u given there) refl
-        go None false fresh fit e = misfit_fails given t fresh fit
-        go None true fresh fit e = absurd (true≢false (sym e))
+    unfit_fails given t e = elim (cases_Bool (is_some (text_behind label given))) [
+      | inl some ↦ rw (known, use_twice profiles are f long index label t (unwrap_or (text_behind label given) []) given (grind arith)) refl
+      | inr none ↦ misfit_fails given t (grind arith) (grind arith)
+    ]
 
     -- an option without its text
     wanted_fails : (rows : List Row) → is_usage (settle_fault rules false (held rows (Some (label, [])))) ≡ true
@@ -279,8 +241,7 @@ module _ (profiles : ProfileNames) (are : AreProfiles profiles) (f : Form) (is :
 
   -- the subcommand has none of its own
   none_met : (waiting : Waiting) (word : Text) → subcommand_met [] waiting word ≡ None
-  none_met idle word = refl
-  none_met waiting word = refl
+  none_met waiting word = grind arith
 
   -- ---- where what waits can't be used, all that follows is refused
 
@@ -289,8 +250,7 @@ module _ (profiles : ProfileNames) (are : AreProfiles profiles) (f : Form) (is :
   ends_failing w fails = or_else_usage (settle_fault rules false w.held) _ fails
 
   and_false : (b : Bool) → (b && false) ≡ false
-  and_false true = refl
-  and_false false = refl
+  and_false b = grind arith
 
   module _ (rows : List Row) (pending : Option (Text × List Text)) (fails : is_usage (settle_fault rules false (held rows pending)) ≡ true)
       (p : ℕ) (left : List Text) (at : ArePlaced profiles f rules p left) where
@@ -317,15 +277,14 @@ module _ (profiles : ProfileNames) (are : AreProfiles profiles) (f : Form) (is :
 
     -- a word that begins with a hyphen is refused
     no_text : (waiting : Waiting) (u : Text) (more : List Text) → is_text u ≡ false → is_usage (kinds_at (waiting_at waiting rows pending p) (u ∷ more)) ≡ true
-    no_text waiting u more e = go (is_dashes u) refl
-      where
-        go : (b : Bool) → is_dashes u ≡ b → is_usage (kinds_at (waiting_at waiting rows pending p) (u ∷ more)) ≡ true
-        go true d = subst (λ x. is_usage (kinds_at (waiting_at waiting rows pending p) (x ∷ more)) ≡ true) ((bytes_eq-Decides (codes "--") u).0 d)
-            (passes usage (waiting_at waiting rows pending p) (behind_at waiting rows pending p) (codes "--") more (passing waiting) (closes waiting)
-            (closed_fails waiting more))
-        go false d =
-            misused (waiting_at waiting rows pending p) u more
-            (failing_turn s [] rows pending p waiting u (none_met waiting u) refl fails e (flip_bytes (codes "--") u false d))
+    no_text waiting u more e = elim (cases_Bool (is_dashes u)) [
+      | inl d ↦ rw (← (bytes_eq-Decides (codes "--") u).0 d)
+          (passes usage (waiting_at waiting rows pending p) (behind_at waiting rows pending p) (codes "--") more (passing waiting) (closes waiting)
+          (closed_fails waiting more))
+      | inr d ↦
+          misused (waiting_at waiting rows pending p) u more
+          (failing_turn s [] rows pending p waiting u (none_met waiting u) refl fails e (flip_bytes (codes "--") u false d))
+    ]
 
     failing : (words : List Text) → is_usage (kinds_at (open_at rows pending p) words) ≡ true
     failing [] = ends_failing (open_at rows pending p) fails
@@ -345,12 +304,11 @@ module _ (profiles : ProfileNames) (are : AreProfiles profiles) (f : Form) (is :
   good_end rows pending given good = go (texts_of f (labels f) given) (looked f (labels f) given)
     where
       last : finished rules (held rows pending) ≡ rows_of given
-      last = ap (λ r. fold with_default r rules) good.rows_are ∙ defaults_none rules (rows_of given) is.defaults
+      last = rw good.rows_are (defaults_none rules (rows_of given) is.defaults)
 
       go : (o : Option (List (Option Text))) → Looked f (labels f) given o
           → Comes (option_map_or (asks f.name) o usage) (ending_of (held rows pending)) (finished rules (held rows pending))
-      go (Some texts) l =
-          (refl, rw (good.settles, no_faults rules (settled_rows rules pending rows) is.defaults, last, is.required (rows_of given), l.0) refl, rw last l.1)
+      go (Some texts) l = rw (good.settles, no_faults rules (settled_rows rules pending rows) is.defaults, last, is.required (rows_of given), l.0) (refl, refl, l.1)
       go None l = rw (good.settles, no_faults rules (settled_rows rules pending rows) is.defaults, last, is.required (rows_of given), l) refl
 
   open_end : (rows : List Row) (pending : Option (Text × List Text)) (p : ℕ) (given : Given) → Good rows pending given
@@ -556,9 +514,7 @@ module _ (profiles : ProfileNames) (are : AreProfiles profiles) (f : Form) (is :
 
     module _ (o : Text × Text) (is_found : found (name_in (c ∷ cs)) ≡ Some o) where
       named : arg_by_long rules (name_in (c ∷ cs)) ≡ Some (option_arg profiles f o)
-      named =
-          by_long (name_in (c ∷ cs))
-          ∙ ap (λ m. option_map_or (λ x. Some (option_arg profiles f x)) m (flag_or_help (name_in (c ∷ cs)))) is_found
+      named = by_long (name_in (c ∷ cs)) ∙ rw is_found refl
 
       labelled : arg_by_id rules o.1 ≡ Some (option_arg profiles f o)
       labelled = each_found (λ x. arg_by_id rules x.1 ≡ Some (option_arg profiles f x)) (λ x. bytes_eq x.0 (name_in (c ∷ cs))) f.options o is.options is_found

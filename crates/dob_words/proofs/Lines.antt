@@ -1,11 +1,12 @@
 -- The lines that ask for something are just those that the words' meaning says.
-use Rattle.dob_words.proofs.Common.{◌++◌, ◌+◌, ◌∙◌, ◌∷◌, ◌≡◌, Bool, List, None, Option, Some, [], ap, append-nil, append_assoc, arith, codes, cond, drop, false}
-use Rattle.dob_words.proofs.Common.{inl, inr, refl, rules, subst, suc, sym, true, true≢false, ℕ, Decides-eqb, bytes_eq-Decides, after_first, before_first}
-use Rattle.dob_words.proofs.Common.{option_map_or, ◌&&◌, ◌==◌, ◌||◌, find, fold, is_some, not, option_map, unwrap_or, bytes_eq, has_byte, IsReadingOf, AreFit}
-use Rattle.dob_words.proofs.Common.{IsFit, Given, Meaning, Part, Stand, after_dashes, after_part, after_word, asked, asks, at_end, behind, between, call}
-use Rattle.dob_words.proofs.Common.{dashes, ended, fits, flag, has_topic, help, is_clear, is_dashes, is_help_flag, is_text, kept, label_of, meaning_of}
-use Rattle.dob_words.proofs.Common.{meaning_of_command, meaning_of_form, meaning_of_other, meaning_of_topic, name_in, named_part, option, part_named, placed}
-use Rattle.dob_words.proofs.Common.{settled, takes_lines, text, text_behind, texts_of, unknown, usage, valued, version, wants, writes_stream, Reading}
+use Rattle.dob_words.proofs.Common.{◌++◌, ◌+◌, ◌∙◌, ◌∷◌, ◌≡◌, Bool, List, None, Option, Some, [], ap, append-nil, append_assoc, arith, codes, cond, drop}
+use Rattle.dob_words.proofs.Common.{false, inl, inr, refl, rules, subst, suc, sym, true, true≢false, ℕ, Decides-eqb, bytes_eq-Decides, after_first}
+use Rattle.dob_words.proofs.Common.{before_first, option_map_or, ◌&&◌, ◌==◌, ◌||◌, find, fold, is_some, not, option_map, unwrap_or, bytes_eq, has_byte}
+use Rattle.dob_words.proofs.Common.{IsReadingOf, AreFit, IsFit, Given, Meaning, Stand, after_dashes, after_part, after_word, asked, asks, at_end, behind}
+use Rattle.dob_words.proofs.Common.{between, call, dashes, ended, fits, flag, has_topic, help, is_clear, is_dashes, is_help_flag, is_text, kept, label_of}
+use Rattle.dob_words.proofs.Common.{meaning_of, meaning_of_command, meaning_of_form, meaning_of_other, meaning_of_topic, name_in, named_part, option}
+use Rattle.dob_words.proofs.Common.{part_named, placed, settled, takes_lines, text, text_behind, texts_of, unknown, usage, valued, version, wants}
+use Rattle.dob_words.proofs.Common.{writes_stream, Reading, chars}
 use Rattle.dob_words.specs.Forms.{is_among, is_needed, Form, Text, forms, labels, no_form}
 use Rattle.dob_words.specs.Lines.{AreNew, Behind, Gives, IsAmong, IsCommandLine, by_dashes, by_flag, by_option, by_place, by_value, next, none, nothing}
 use Rattle.dob_words.specs.Readings.{ComesFromLine, SomeLine}
@@ -13,6 +14,8 @@ use Rattle.dob_words.specs.declared.command.Reading.TheVariants as reading
 use Rattle.dob_words.proofs.Lexing.{hyphen_first, before_none, take_one}
 use Rattle.dob_words.proofs.Texts.{Each, kept_both}
 use Rattle.dob_words.proofs.FormWords.{each_flag, each_found}
+use Rattle.std.proofs.lemmas.Bool.{cases_Bool}
+use Rattle.std.proofs.lemmas.Option.{same_Some}
 
 -- ---- options' words
 
@@ -21,24 +24,13 @@ drop_more n x xs = let e : 1 + n + 1 ≡ suc (n + 1) = omega arith in rw e refl
 
 -- a text with `=` (61) is what stands before the first, and it, and what stands behind
 equals_split : (t : Text) → has_byte 61 t ≡ true → before_first (λ x. x == 61) t ++ 61 ∷ after_first (λ x. x == 61) t ≡ t
-equals_split [] e = absurd (true≢false (sym e))
-equals_split (x ∷ xs) e = go (x == 61) refl e (equals_split xs)
-  where
-    go : (b : Bool) → (x == 61) ≡ b → (b || has_byte 61 xs) ≡ true
-        → (has_byte 61 xs ≡ true → before_first (λ y. y == 61) xs ++ 61 ∷ after_first (λ y. y == 61) xs ≡ xs)
-        → before_first (λ y. y == 61) (x ∷ xs) ++ 61 ∷ after_first (λ y. y == 61) (x ∷ xs) ≡ x ∷ xs
-    go true t e rec = rw t (ap (λ y. y ∷ xs) (sym ((Decides-eqb x 61).0 t)))
-    go false t e rec = rw (t, take_one, drop_more) (ap (λ ys. x ∷ ys) (rec e))
+equals_split [] e = absurd (cc)
+equals_split (x ∷ xs) e = grind (arith, Decides-eqb x 61, take_one, drop_more, equals_split xs)
 
 dashes_of : (word rest : Text) → after_dashes word ≡ Some rest → codes "--" ++ rest ≡ word
-dashes_of [] rest e = absurd (true≢false (sym (ap is_some e)))
-dashes_of (a ∷ []) rest e = absurd (true≢false (sym (ap is_some e)))
-dashes_of (a ∷ b ∷ more) rest e = go (a == 45) (b == 45) refl refl e
-  where
-    go : (x y : Bool) → (a == 45) ≡ x → (b == 45) ≡ y → cond (x && y) (Some more) None ≡ Some rest → codes "--" ++ rest ≡ a ∷ b ∷ more
-    go false y p q e = absurd (true≢false (sym (ap is_some e)))
-    go true false p q e = absurd (true≢false (sym (ap is_some e)))
-    go true true p q e = rw ((Decides-eqb a 45).0 p, (Decides-eqb b 45).0 q) (ap (λ (o : Option Text). 45 ∷ 45 ∷ unwrap_or o []) (sym e))
+dashes_of [] rest e = absurd (cc)
+dashes_of (a ∷ []) rest e = absurd (cc)
+dashes_of (a ∷ b ∷ more) rest e = grind (arith, Decides-eqb a 45, Decides-eqb b 45)
 
 abbrev asked_name : Meaning → Text
 asked_name (asks name texts) = name
@@ -49,12 +41,8 @@ asked_texts (asks name texts) = texts
 asked_texts _ = []
 
 found_passes : (p : Text × Text → Bool) (os : List (Text × Text)) (o : Text × Text) → find p os ≡ Some o → p o ≡ true
-found_passes p [] o e = absurd (true≢false (sym (ap is_some e)))
-found_passes p (x ∷ xs) o e = go (p x) refl e (found_passes p xs o)
-  where
-    go : (b : Bool) → p x ≡ b → cond b (Some x) (find p xs) ≡ Some o → (find p xs ≡ Some o → p o ≡ true) → p o ≡ true
-    go true t e rec = subst (λ (m : Option (Text × Text)). option_map_or p m true ≡ true) e t
-    go false t e rec = rec e
+found_passes p [] o e = absurd (cc)
+found_passes p (x ∷ xs) o e = grind (arith, found_passes p xs o)
 
 -- ---- what is asked for is given by the words
 
@@ -107,12 +95,10 @@ module _ (f : Form) (name : Text) (texts : List (Option Text)) where
     -- a text that was kept is the first of its label, and fits
     kept_led : (label t : Text) (before : Given) (stand : Stand) → Led (kept f label t before stand)
         → (text_behind label before ≡ None) × (fits f label t ≡ true) × Led stand
-    kept_led label t before stand e = go (is_some (text_behind label before) || not (fits f label t)) refl e
-      where
-        go : (b : Bool) → (is_some (text_behind label before) || not (fits f label t)) ≡ b → Led (cond b (ended usage) stand)
-            → (text_behind label before ≡ None) × (fits f label t ≡ true) × Led stand
-        go true h e = not_usage (ended_told usage rest e)
-        go false h e = let both = kept_both (text_behind label before) (fits f label t) h in (both.0, both.1, e)
+    kept_led label t before stand e = elim (cases_Bool (is_some (text_behind label before) || not (fits f label t))) [
+      | inl refused ↦ not_usage (ended_told usage rest (rw refused at e))
+      | inr kept ↦ let both = kept_both (text_behind label before) (fits f label t) kept in (both.0, both.1, rw kept at e)
+    ]
 
     -- and the rest gives what comes after it
     kept_told : (label t : Text) (before : Given) (left : List Text) → Led (kept f label t before (between (before ++ (label, t) ∷ []) left))
@@ -236,11 +222,6 @@ pub record IsSpelled (f : Form) : Type 0 where
   pub by_value : Each (λ o. (t : Text) → part_named f (codes "--" ++ o.0 ++ 61 ∷ t) ≡ valued o.1 t) f.options
   pub by_flag : Each (λ n. part_named f (codes "--" ++ n) ≡ flag n) f.flags
 
--- a word with two hyphens
-pub long_part : (f : Form) (c : ℕ) (cs : Text) → bytes_eq (codes "help") (c ∷ cs) ≡ false
-    → part_named f (45 ∷ 45 ∷ c ∷ cs) ≡ named_part f (c ∷ cs)
-long_part f c cs differs = rw (hyphen_first (c ∷ cs), differs) refl
-
 dashes_part : (f : Form) → part_named f (codes "--") ≡ dashes
 dashes_part f = rw (hyphen_first []) refl
 
@@ -301,39 +282,21 @@ module _ (f : Form) (is : IsSpelled f) where
 
   -- a text that was given is what it has to be
   given_fits : (given before : Given) → AreNew f before given → (label t : Text) → text_behind label given ≡ Some t → fits f label t ≡ true
-  given_fits [] before new label t e = absurd (true≢false (sym (ap is_some e)))
-  given_fits (g ∷ given) before new label t e = go (bytes_eq g.0 label) refl e (given_fits given (before ++ g ∷ []) new.2 label t)
-    where
-      go : (b : Bool) → bytes_eq g.0 label ≡ b → option_map (λ (x : Text × Text). x.1) (cond b (Some g) (find (λ x. bytes_eq x.0 label) given)) ≡ Some t
-          → (text_behind label given ≡ Some t → fits f label t ≡ true) → fits f label t ≡ true
-      go true same e rec =
-          let is_t : g.1 ≡ t = ap (λ (m : Option Text). unwrap_or m []) e in
-          subst (λ l. fits f l t ≡ true) ((bytes_eq-Decides g.0 label).0 same) (subst (λ u. fits f g.0 u ≡ true) is_t new.1)
-      go false same e rec = rec e
+  given_fits [] before new label t e = absurd (cc)
+  given_fits (g ∷ given) before new label t e = elim (cases_Bool (bytes_eq g.0 label)) [
+    | inl same ↦ let is_t : g.1 ≡ t = same_Some g.1 t (rw same at e) in rw ((bytes_eq-Decides g.0 label).0 same, is_t) at new.1
+    | inr other ↦ given_fits given (before ++ g ∷ []) new.2 label t (rw other at e)
+  ]
 
   -- what was given for a label is fit, and so is nothing where the label may be left out
   text_fits : (given : Given) → AreNew f [] given → (l : Text) (o : Option Text) → text_behind l given ≡ o → (is_needed f l && not (is_some o)) ≡ false
       → IsFit f l o
-  text_fits given new l None is free = and_true (is_needed f l) free
-    where
-      and_true : (b : Bool) → (b && true) ≡ false → b ≡ false
-      and_true false e = refl
-      and_true true e = e
+  text_fits given new l None is free = grind arith
   text_fits given new l (Some t) is free = given_fits given [] new l t is
 
   texts_fit : (given : Given) → AreNew f [] given → (ls : List Text) (texts : List (Option Text)) → texts_of f ls given ≡ Some texts → AreFit f ls texts
   texts_fit given new [] texts e = tt
-  texts_fit given new (l ∷ ls) texts e =
-      go (is_needed f l && not (is_some (text_behind l given))) (texts_of f ls given) refl refl e (texts_fit given new ls)
-    where
-      go : (b : Bool) (more : Option (List (Option Text))) → (is_needed f l && not (is_some (text_behind l given))) ≡ b → texts_of f ls given ≡ more
-          → cond b None (option_map (λ ts. text_behind l given ∷ ts) more) ≡ Some texts
-          → ((ts : List (Option Text)) → texts_of f ls given ≡ Some ts → AreFit f ls ts) → AreFit f (l ∷ ls) texts
-      go true more is are e rec = absurd (true≢false (sym (ap is_some e)))
-      go false None is are e rec = absurd (true≢false (sym (ap is_some e)))
-      go false (Some ts) is are e rec =
-          subst (AreFit f (l ∷ ls)) (ap (λ (m : Option (List (Option Text))). unwrap_or m []) e)
-          (text_fits given new l (text_behind l given) refl is, rec ts are)
+  texts_fit given new (l ∷ ls) texts e = grind (arith, texts_fit given new ls, text_fits given new l (text_behind l given) refl)
 
 -- each text of a line is what it has to be
 pub line_fits : (f : Form) (words : List Text) (texts : List (Option Text)) → IsSpelled f → IsCommandLine f words texts → AreFit f (labels f) texts
@@ -341,60 +304,19 @@ line_fits f words texts is line = texts_fit f is line.given line.new (labels f) 
 
 -- ---- the program's forms
 
-abbrev is_empty : Text → Bool
-is_empty [] = true
-is_empty (c ∷ cs) = false
-
--- what the names of a form's options and flags come to behind `--`, which is found by computing
-record IsPlain (f : Form) : Type 0 where
-  by_name : Each (λ o. (is_empty o.0 ≡ false) × (bytes_eq (codes "help") o.0 ≡ false) × (named_part f o.0 ≡ option o.1)) f.options
-  by_value : Each (λ o. (t : Text) → (bytes_eq (codes "help") (o.0 ++ 61 ∷ t) ≡ false) × (named_part f (o.0 ++ 61 ∷ t) ≡ valued o.1 t)) f.options
-  by_flag : Each (λ n. (is_empty n ≡ false) × (bytes_eq (codes "help") n ≡ false) × (named_part f n ≡ flag n)) f.flags
-
-all_plain : Each IsPlain forms
-all_plain = search rules
-
-each_so : {X : Type 0} {P Q : X → Type 0} → ((x : X) → P x → Q x) → (xs : List X) → Each P xs → Each Q xs
-each_so so [] each = tt
-each_so so (x ∷ xs) each = (so x each.0, each_so so xs each.1)
-
-each_both : {X : Type 0} {P Q R : X → Type 0} → ((x : X) → P x → Q x → R x) → (xs : List X) → Each P xs → Each Q xs → Each R xs
-each_both so [] each other = tt
-each_both so (x ∷ xs) each other = (so x each.0 other.0, each_both so xs each.1 other.1)
-
--- behind two hyphens
-named : (f : Form) (name : Text) (p : Part) → is_empty name ≡ false → (bytes_eq (codes "help") name ≡ false) × (named_part f name ≡ p)
-    → part_named f (codes "--" ++ name) ≡ p
-named f [] p some is = absurd (true≢false some)
-named f (c ∷ cs) p some is = long_part f c cs is.0 ∙ is.1
-
-valued_so : (f : Form) (o : Text × Text) → is_empty o.0 ≡ false
-    → ((t : Text) → (bytes_eq (codes "help") (o.0 ++ 61 ∷ t) ≡ false) × (named_part f (o.0 ++ 61 ∷ t) ≡ valued o.1 t))
-    → (t : Text) → part_named f (codes "--" ++ o.0 ++ 61 ∷ t) ≡ valued o.1 t
-valued_so f ([], label) some is t = absurd (true≢false some)
-valued_so f (c ∷ cs, label) some is t = long_part f c (cs ++ 61 ∷ t) (is t).0 ∙ (is t).1
-
-spelled : (f : Form) → IsPlain f → IsSpelled f
-spelled f is = record {
-  by_name = each_so (λ o plain. named f o.0 (option o.1) plain.0 (plain.1, plain.2)) f.options is.by_name;
-  by_value = each_both (λ o plain also. valued_so f o plain.0 also) f.options is.by_name is.by_value;
-  by_flag = each_so (λ n plain. named f n (flag n) plain.0 (plain.1, plain.2)) f.flags is.by_flag;
-}
-
+-- found by computing
 pub all_spelled : Each IsSpelled forms
-all_spelled = each_so spelled forms all_plain
+unfolding chars
+all_spelled = search rules
 
 abbrev IsMeant : Form → Type 0
 IsMeant f = (rest : List Text) → meaning_of (f.name ∷ rest) ≡ settled (meaning_of_form f rest)
-
-all_meant : Each IsMeant forms
-all_meant = search rules
 
 abbrev IsKnown : Form → Type 0
 IsKnown f = IsSpelled f × IsMeant f
 
 all_known : Each IsKnown forms
-all_known = each_both {P = IsSpelled} {Q = IsMeant} {R = IsKnown} (λ f is meant. (is, meant)) forms all_spelled all_meant
+all_known = search (rules, all_spelled)
 
 among_known : (fs : List Form) (f : Form) → Each IsKnown fs → IsAmong f fs → IsKnown f
 among_known [] f each among = absurd among

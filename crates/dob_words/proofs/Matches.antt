@@ -1,9 +1,9 @@
 -- The texts of a subcommand, from its own matches, which form's matches they are, and the row of its name.
-use Rattle.dob_words.proofs.Common.{◌∙◌, ◌∷◌, ◌≡◌, Bool, List, None, Option, Some, [], ap, ap₂, arith, codes, false, inl, inr, length, map, refl, rules, subst}
-use Rattle.dob_words.proofs.Common.{suc, sym, true, true≢false, ℕ, Ok-from_Ok_iff, bytes_eq-Decides, Bor, list_any, option_map, unwrap_or, bytes_eq}
-use Rattle.dob_words.proofs.Common.{first_value-rows, first_of, subcommand_rows_of, IsReadFor, AreFit, Finds, HasFit, IsMet, IsMetBySome, IsNamed}
-use Rattle.dob_words.proofs.Common.{ReadRow, texts_in, asks, cleared, is_number, number_in, settled, Order}
-use Rattle.std.proofs.Common.{◌<◌, zero, ◌||◌}
+use Rattle.dob_words.proofs.Common.{◌∙◌, ◌∷◌, ◌≡◌, List, None, Option, Some, [], ap, ap₂, arith, codes, false, inl, inr, length, map, refl, rules, subst, suc}
+use Rattle.dob_words.proofs.Common.{sym, true, true≢false, ℕ, Ok-from_Ok_iff, bytes_eq-Decides, Bor, list_any, option_map, unwrap_or, bytes_eq}
+use Rattle.dob_words.proofs.Common.{first_value-rows, first_of, subcommand_rows_of, IsReadFor, Finds, HasFit, IsMet, IsMetBySome, IsNamed, ReadRow, texts_in}
+use Rattle.dob_words.proofs.Common.{asks, cleared, is_number, number_in, settled, Order}
+use Rattle.std.proofs.Common.{◌<◌, zero}
 use Rattle.std.specs.Prelude.{Err, get_or, is_err, Result}
 use Rattle.std.specs.Str.Parse.{ParsesUnsigned}
 use Rattle.clap.specs.Words.{Row, first_value, found_of, rows_of, subcommand_name_of}
@@ -14,7 +14,6 @@ use Rattle.dob_words.specs.Forms.{Form, Text, form_named, forms, labels}
 use Rattle.dob_words.specs.Lines.{IsAmong}
 use Rattle.dob_words.specs.Readings.{AreNamed, IsFlaggedBy, IsOneOf, form_for, name_of, subcommand_asked, texts_asked}
 use Rattle.dob_words.specs.declared.command.orders.Asked.{Asked}
-use Rattle.dob_words.specs.declared.command.orders.Asked.TheVariants as ask
 use Rattle.dob_words.specs.declared.command.orders.Order.TheVariants as order
 use Rattle.dob_words.proofs.Texts.{Each, taken_number}
 
@@ -31,8 +30,7 @@ never_refused t r e is parses refused =
 -- the name that was met, on its own
 name_met : {A : Type 0} (name : A → Text) (rows : A → List Row) (o : Option A) (n : Text) (rs : List Row)
     → option_map {U = Text × List Row} (λ a. (name a, rows a)) o ≡ Some (n, rs) → option_map name o ≡ Some n
-name_met name rows None n rs e = ap (option_map (λ (p : Text × List Row). p.0)) e
-name_met name rows (Some a) n rs e = ap (option_map (λ (p : Text × List Row). p.0)) e
+name_met name rows o n rs e = grind arith
 
 -- each form is the one of its name
 itself : Each (λ f. form_named f.name ≡ f) forms
@@ -91,14 +89,11 @@ module _ (m inner : ArgMatches) (name : Text) (named : Some name ≡ subcommand_
       go (f ∷ fs) (inr more) = inr (go fs more)
 
   pub has_fit : HasFit (form_named name) inner
-  has_fit =
-      subst (λ (f : Form). HasFit f inner) (sym form_is) (subst (AreFit form (labels form)) (sym texts_are) found.3)
+  has_fit = rw (form_is, texts_are) found.3
 
   -- what is read for them is what is asked for
   pub reads : (o : Option Order) → IsReadFor (settled (asks name (texts_in (form_named name) inner))) o → IsReadFor (settled (asks form.name texts)) o
-  reads o is =
-      subst (λ (n : Text). IsReadFor (settled (asks n texts)) o) (sym name_is)
-      (subst (λ (ts : List (Option Text)). IsReadFor (settled (asks name ts)) o) (ap (λ (f : Form). texts_in f inner) form_is ∙ texts_are) is)
+  reads o is = rw name_is (rw (form_is, texts_are) at is)
 
 -- ---- the row of a name
 
@@ -111,12 +106,7 @@ named_at (r ∷ rs) (suc i) d below named = named_at rs i d (omega (arith, below
 -- a form of this name is found by it
 pub any_named : (name : Text) (fs : List Form) → IsNamed name fs → list_any (λ n. bytes_eq n name) (map (λ f. f.name) fs) ≡ true
 any_named name [] none = absurd none
-any_named name (f ∷ fs) (inl is) = ap (λ (b : Bool). b || list_any (λ n. bytes_eq n name) (map (λ g. g.name) fs)) ((bytes_eq-Decides f.name name).1 is)
-any_named name (f ∷ fs) (inr more) = go (bytes_eq f.name name) (any_named name fs more)
-  where
-    go : (b : Bool) → list_any (λ n. bytes_eq n name) (map (λ g. g.name) fs) ≡ true → (b || list_any (λ n. bytes_eq n name) (map (λ g. g.name) fs)) ≡ true
-    go true later = refl
-    go false later = later
+any_named name (f ∷ fs) named = grind (arith, any_named name fs, bytes_eq-Decides f.name name)
 
 -- ---- what is asked of each line
 
@@ -124,14 +114,12 @@ any_named name (f ∷ fs) (inr more) = go (bytes_eq f.name name) (any_named name
 asked_texts : (a : Asked) (m : ArgMatches)
     → texts_asked a (first_value (found_of m) (codes "FILE")) (first_value (found_of m) (codes "numbered")) (first_value (found_of m) (codes "each"))
     (first_value (found_of m) (codes "json")) (first_value (found_of m) (codes "POSITION")) ≡ texts_in (form_for (subcommand_asked a)) m
-asked_texts ask.Probe m = refl
-asked_texts a m = refl
+asked_texts a m = grind arith
 
 -- by `--each` alone it is clear
 each_clear : (a : Asked) (x n y j z : Option Text) (file : Bor Text) (flag : Text) → x ≡ Some file.now → y ≡ Some flag → z ≡ None → IsFlaggedBy a n j
     → IsReadFor (cleared (asks (name_of (subcommand_asked a)) (texts_asked a x n y j z))) (Some (order.EachLine file a))
-each_clear ask.Probe x n y j z file flag f e p is = rw (f, e, p) (refl, (n, j, flag, refl, is))
-each_clear a x n y j z file flag f e p is = rw (f, e, p) (refl, (n, j, flag, refl, is))
+each_clear a x n y j z file flag f e p is = grind arith
 
 pub each_read : (a : Asked) (m : ArgMatches) (file : Bor Text) → first_value (found_of m) (codes "FILE") ≡ Some file.now
     → IsOneOf (first_value (found_of m) (codes "each")) (first_value (found_of m) (codes "POSITION")) (Some None)

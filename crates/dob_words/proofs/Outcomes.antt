@@ -1,8 +1,8 @@
 -- What the matches and the errors of the program's command come to.
 use Rattle.dob_words.proofs.Common.{◌∙◌, ◌∷◌, ◌≡◌, Bool, List, Option, [], ap, false, inl, inr, refl, subst, sym, true, true≢false, not-true, both}
-use Rattle.dob_words.proofs.Common.{false_from_ne_true, app_of, subcommand_rows_of, IsReadFor, IsReadingOf, Finds, IsMet, dobutsu_app, Meaning}
-use Rattle.dob_words.proofs.Common.{asks, help, is_topic, is_version, meaning_of, meaning_of_command, settled, usage, version, Reading, Order}
-use Rattle.std.proofs.Common.{◌⊎◌, not}
+use Rattle.dob_words.proofs.Common.{false_from_ne_true, app_of, subcommand_rows_of, IsReadFor, IsReadingOf, Finds, IsMet, dobutsu_app, Meaning, asks, help}
+use Rattle.dob_words.proofs.Common.{is_topic, is_version, meaning_of, meaning_of_command, settled, usage, version, Reading, Order}
+use Rattle.std.proofs.Common.{◌⊎◌, not, arith}
 use Rattle.clap.specs.Words.{HasKind, IsAmong, Kinds, Row, fault_of, is_simple, is_simple_and_free, kind_of, subcommand_of}
 use Rattle.clap.specs.declared.Error.{Error}
 use Rattle.clap.specs.declared.builder.Command.{Command}
@@ -32,9 +32,7 @@ no_kinds k ks e = true≢false (ap (λ (l : Kinds). elim l as (λ _. Bool) [ [] 
 asked_for : (words : List Text) (m : Meaning) (met : Option (Text × List Row)) → is_topic words ≡ false → meaning_of_command words ≡ m → Fits m [] met
     → IsAsked words met
 asked_for words (asks name texts) met plain e fits = record { name = name; texts = texts; plain = plain; meant = e; found = fits.1 }
-asked_for words help met plain e fits = absurd (no_kinds _ _ fits)
-asked_for words usage met plain e fits = absurd (true≢false (sym fits))
-asked_for words version met plain e fits = absurd fits
+asked_for words m met plain e fits = absurd (grind arith)
 
 -- words that ask neither for the version nor by `help` mean what the command makes of them
 command_meaning : (words : List Text) → is_version words ≡ false → is_topic words ≡ false → settled (meaning_of_command words) ≡ meaning_of words
@@ -63,26 +61,20 @@ usage_kind (x ∷ xs) k e (inl is) = rw is (not-true (is_help_kind x) (both (not
 usage_kind (x ∷ xs) k e (inr more) = usage_kind xs k (both (not (is_help_kind x)) (no_help_kind xs) e).1 more
 
 usage_list : (kinds : Kinds) → is_usage kinds ≡ true → no_help_kind kinds ≡ true
-usage_list [] e = refl
-usage_list (k ∷ ks) e = e
+usage_list kinds e = grind arith
 
 abbrev IsUsage : Reading → Type 0
 IsUsage (reading.Usage _) = Unit {0}
 IsUsage _ = ⊥
 
 not_help : (k : ErrorKind) (r : Reading) → is_help_kind k ≡ false → IsReadingOfKind k r → IsUsage r
-not_help kind.OutOfMemory r e h = absurd h
-not_help kind.DisplayHelp r e h = absurd (true≢false e)
-not_help k (reading.Usage s) e h = tt
-not_help k r e h = absurd h
+not_help k r e h = grind arith
 
 help_read : (r : Reading) → IsReadingOfKind kind.DisplayHelp r → IsReadingOf help r
-help_read (reading.Help s) h = tt
-help_read r h = absurd h
+help_read r h = grind arith
 
 usage_read : (r : Reading) → IsUsage r → IsReadingOf usage r
-usage_read (reading.Usage s) h = tt
-usage_read r h = absurd h
+usage_read r h = grind arith
 
 -- an error comes to what the words ask for
 error_is_meant : (m : Meaning) (kinds : Kinds) (met : Option (Text × List Row)) (k : ErrorKind) (r : Reading) → Fits m kinds met

@@ -1,26 +1,23 @@
 -- The rows that `clap` keeps of given texts.
-use Rattle.dob_words.proofs.Common.{◌++◌, ◌∙◌, ◌∷◌, ◌≡◌, Bool, List, None, Option, Some, [], ap, append-nil, arith, cond, false, map, refl, sym, true}
-use Rattle.dob_words.proofs.Common.{true≢false, ℕ, le-leb, ltb-true, or_right, Bor, list_all, list_any, option_map_or, ◌&&◌, ◌||◌, find, fold, is_some, not}
-use Rattle.dob_words.proofs.Common.{option_map, slice_get, unwrap_or, bytes_eq, Kinds, or_else, value_kinds, filled, is_given, ErrorKind, AreProfiles}
-use Rattle.dob_words.proofs.Common.{ProfileNames, flag_rule, no_names, text_rule, Given, Text, fits, is_number, is_profile, number_in, text_behind, texts_of}
-use Rattle.std.specs.Prelude.{length, nat_le, nat_lt, option_and_then, ◌^◌}
-use Rattle.std.specs.Char.{digit_value}
-use Rattle.std.specs.Str.Parse.{without_leading_plus}
+use Rattle.dob_words.proofs.Common.{◌++◌, ◌∙◌, ◌∷◌, ◌≡◌, Bool, List, None, Option, Some, [], ap, append-nil, arith, cond, false, map, refl, sym, true, ℕ}
+use Rattle.dob_words.proofs.Common.{or_right, Bor, list_any, ◌&&◌, ◌||◌, find, fold, is_some, not, option_map, unwrap_or, bytes_eq, Kinds, value_kinds}
+use Rattle.dob_words.proofs.Common.{filled, is_given, ErrorKind, AreProfiles, ProfileNames, flag_rule, no_names, text_rule, Given, Text, fits, is_number}
+use Rattle.dob_words.proofs.Common.{is_profile, text_behind, texts_of}
 use Rattle.std.proofs.lemmas.List.{map-append}
 use Rattle.clap.proofs.WalkLemmas.{find-map}
-use Rattle.clap.specs.Facts.{explicit_source, parser_of_value}
+use Rattle.clap.specs.Facts.{parser_of_value}
 use Rattle.clap.specs.Values.{reading_of}
 use Rattle.clap.specs.ValueTests.{accepts}
-use Rattle.clap.specs.declared.builder.value_parser.Reading.{Reading}
 use Rattle.clap.specs.declared.builder.value_parser.Reading.TheVariants.{AsWritten}
 use Rattle.clap.specs.declared.builder.value_parser.ValueParser.TheVariants.{Names, String, Unsigned}
-use Rattle.clap.specs.Walk.{Row, Rule, at_row, first_of, has_row, more_values, used, with_default, with_values, without}
+use Rattle.clap.specs.Walk.{Row, Rule, at_row, first_of, has_row, more_values, used, with_default}
 use Rattle.clap.specs.Faults.{default_fault, defaults_fault, use_fault}
 use Rattle.clap.specs.declared.error.kind.ErrorKind.TheVariants as kind
 use Rattle.clap.specs.declared.builder.value_parser.ValueParser.{ValueParser}
 use Rattle.clap.specs.declared.parser.matches.ValueSource.TheVariants.{CommandLine}
 use Rattle.dob_words.specs.Forms.{Form, is_among, is_needed, no_form}
 use Rattle.dob_words.proofs.Turns.{is_usage}
+use Rattle.std.proofs.lemmas.Bool.Decides.{nat_tests}
 
 -- the argument of a text, built: an option's by its name, another by its place
 abbrev pub text_arg : ProfileNames → Form → Option Text → Option ℕ → Text → Rule
@@ -49,28 +46,14 @@ pub row_found : (label : Text) (given : Given) → find (λ r. bytes_eq r.id lab
 row_found label given = sym (find-map (λ (r : Row). bytes_eq r.id label) row_of given)
 
 first_found : (label : Text) (given : Given) → first_of label (rows_of given) ≡ text_behind label given
-first_found label given = ap (option_and_then (λ (r : Row). slice_get r.values 0)) (row_found label given) ∙ go (find (λ g. bytes_eq g.0 label) given)
-  where
-    go : (o : Option (Text × Text)) → option_and_then (λ (r : Row). slice_get r.values 0) (option_map row_of o) ≡ option_map (λ g. g.1) o
-    go None = refl
-    go (Some g) = refl
+first_found label given = grind (arith, row_found label given)
 
 given_found : (label : Text) (given : Given) → is_given label (rows_of given) ≡ is_some (text_behind label given)
-given_found label given =
-    ap (λ (o : Option Row). option_map_or (λ r. explicit_source r.source) o false) (row_found label given) ∙ go (find (λ g. bytes_eq g.0 label) given)
-  where
-    go : (o : Option (Text × Text)) → option_map_or (λ (r : Row). explicit_source r.source) (option_map row_of o) false ≡ is_some (option_map (λ g. g.1) o)
-    go None = refl
-    go (Some g) = refl
+given_found label given = rw (row_found label given) (grind arith)
 
 pub has_found : (label : Text) (given : Given) → has_row label (rows_of given) ≡ is_some (text_behind label given)
 has_found label [] = refl
-has_found label (g ∷ given) = go (bytes_eq g.0 label) (has_found label given)
-  where
-    go : (b : Bool) → has_row label (rows_of given) ≡ is_some (text_behind label given)
-        → (b || has_row label (rows_of given)) ≡ is_some (option_map (λ (x : Text × Text). x.1) (cond b (Some g) (find (λ x. bytes_eq x.0 label) given)))
-    go true rec = refl
-    go false rec = rec
+has_found label (g ∷ given) = grind (arith, has_found label given)
 
 -- a text of one of these labels is missing
 abbrev pub some_missing : Form → List Row → List Text → Bool
@@ -84,26 +67,13 @@ Looked f labels given None = some_missing f (rows_of given) labels ≡ true
 
 pub looked : (f : Form) (labels : List Text) (given : Given) → Looked f labels given (texts_of f labels given)
 looked f [] given = (refl, refl)
-looked f (l ∷ ls) given = go (is_needed f l) (text_behind l given) (texts_of f ls given) refl refl (looked f ls given)
-  where
-    go : (b : Bool) (o : Option Text) (more : Option (List (Option Text))) → is_needed f l ≡ b → text_behind l given ≡ o → Looked f ls given more
-        → Looked f (l ∷ ls) given (cond (b && not (is_some o)) None (option_map (λ ts. o ∷ ts) more))
-    go true None more n e rest = rw (n, given_found l given, e) refl
-    go true (Some t) None n e rest = rw (n, given_found l given, e) rest
-    go false o None n e rest = rw n rest
-    go true (Some t) (Some ts) n e rest = (rw (n, given_found l given, e) rest.0, rw (first_found l given, e) (ap (λ xs. Some t ∷ xs) rest.1))
-    go false o (Some ts) n e rest = (rw n rest.0, rw (first_found l given, e) (ap (λ xs. o ∷ xs) rest.1))
+looked f (l ∷ ls) given = grind (arith, looked f ls given, given_found l given, first_found l given)
 
 -- ---- one more text
 
 at_row_fresh : (id : Text) (change : Row → List Row) (missing rows : List Row) → has_row id rows ≡ false → at_row id change missing rows ≡ rows ++ missing
 at_row_fresh id change missing [] e = refl
-at_row_fresh id change missing (r ∷ rs) e = go (bytes_eq r.id id) e (at_row_fresh id change missing rs)
-  where
-    go : (b : Bool) → (b || has_row id rs) ≡ false → (has_row id rs ≡ false → at_row id change missing rs ≡ rs ++ missing)
-        → cond b (change r ++ rs) (r ∷ at_row id change missing rs) ≡ r ∷ (rs ++ missing)
-    go true e rec = absurd (true≢false e)
-    go false e rec = ap (λ xs. r ∷ xs) (rec e)
+at_row_fresh id change missing (r ∷ rs) e = grind (arith, at_row_fresh id change missing rs)
 
 -- what a text is read as, where it has to be a number, or to name a profile
 abbrev parser_for : ProfileNames → Bool → Bool → ValueParser
@@ -112,33 +82,22 @@ parser_for profiles is_one is_name =
 
 -- each is read as it is written
 as_written : (profiles : ProfileNames) (is_one is_name : Bool) → reading_of (parser_for profiles is_one is_name) ≡ AsWritten
-as_written profiles true is_name = refl
-as_written profiles false true = refl
-as_written profiles false false = refl
+as_written profiles is_one is_name = grind arith
 
 pub used_fresh : (profiles : ProfileNames) (f : Form) (long : Option Text) (index : Option ℕ) (label t : Text) (given : Given) → text_behind label given ≡ None
     → used (text_arg profiles f long index label) (t ∷ []) (rows_of given) ≡ rows_of (given ++ (label, t) ∷ [])
 used_fresh profiles f long index label t given fresh =
     let none : has_row label (rows_of given) ≡ false = has_found label given ∙ ap is_some fresh in
-    ap (λ (how : Reading). with_values label how CommandLine (t ∷ []) (without label (rows_of given))) (as_written profiles (is_among f.numbers label) (is_among f.profiles label))
-    ∙ ap (at_row label (more_values CommandLine (t ∷ [])) (row_of (label, t) ∷ []))
-    (at_row_fresh label (λ _. []) [] (rows_of given) none ∙ append-nil (rows_of given))
-    ∙ (at_row_fresh label (more_values CommandLine (t ∷ [])) (row_of (label, t) ∷ []) (rows_of given) none ∙ sym (map-append row_of given ((label, t) ∷ [])))
+    rw (
+      as_written profiles (is_among f.numbers label) (is_among f.profiles label),
+      at_row_fresh label (λ _. []) [] (rows_of given) none,
+      append-nil (rows_of given),
+      at_row_fresh label (more_values CommandLine (t ∷ [])) (row_of (label, t) ∷ []) (rows_of given) none,
+    ) (sym (map-append row_of given ((label, t) ∷ [])))
 
 -- `clap` takes just such numbers
 pub taken_number : (t : Text) → accepts false (Unsigned 0 18446744073709551615) t ≡ is_number t
-taken_number t = go (nat_lt 0 (length digits) && list_all (λ d. nat_lt (digit_value d) 10) digits) (nat_lt (number_in t) (2 ^ 64)) refl
-  where
-    digits : Text
-    digits = without_leading_plus t
-
-    go : (a b : Bool) → nat_lt (number_in t) (2 ^ 64) ≡ b
-        → (a && (b && (nat_le 0 (number_in t) && nat_le (number_in t) 18446744073709551615))) ≡ (a && b)
-    go false b e = refl
-    go true false e = refl
-    go true true e =
-        let below = ltb-true (number_in t) (2 ^ 64) e in
-        rw (le-leb 0 (number_in t) (omega arith), le-leb (number_in t) 18446744073709551615 (omega (arith, below))) refl
+taken_number t = grind (arith, nat_tests)
 
 -- and just the names of profiles
 any_name : (names : List (Bor Text)) (t : Text) → list_any (λ name. bytes_eq name.now t) names ≡ is_among (map (λ name. name.now) names) t
@@ -152,32 +111,25 @@ taken_profile profiles are t = any_name profiles.now t ∙ ap (λ (names : List 
 abbrev text_kinds : ProfileNames → Bool → Bool → Text → Kinds
 text_kinds profiles is_one is_name t = value_kinds false (parser_for profiles is_one is_name) t
 
-fit_kinds : (profiles : ProfileNames) → AreProfiles profiles → (is_one is_name : Bool) (t : Text)
-    → cond is_one (is_number t) (cond is_name (is_profile t) true) ≡ true → text_kinds profiles is_one is_name t ≡ []
-fit_kinds profiles are false false t e = refl
-fit_kinds profiles are false true t e = rw (taken_profile profiles are t, e) refl
-fit_kinds profiles are true is_name t e = rw (taken_number t, e) refl
-
 -- what is told of a text that isn't what it has to be
 abbrev pub misfit_kind : Bool → ErrorKind
 misfit_kind true = kind.ValueValidation
 misfit_kind false = kind.InvalidValue
 
 pub misfit_usage : (is_one : Bool) → is_usage (misfit_kind is_one ∷ []) ≡ true
-misfit_usage true = refl
-misfit_usage false = refl
+misfit_usage is_one = grind arith
+
+fit_kinds : (profiles : ProfileNames) → AreProfiles profiles → (is_one is_name : Bool) (t : Text)
+    → cond is_one (is_number t) (cond is_name (is_profile t) true) ≡ true → text_kinds profiles is_one is_name t ≡ []
+fit_kinds profiles are is_one is_name t e = grind (arith, taken_profile profiles are t, taken_number t)
 
 misfit_kinds : (profiles : ProfileNames) → AreProfiles profiles → (is_one is_name : Bool) (t : Text)
     → cond is_one (is_number t) (cond is_name (is_profile t) true) ≡ false → text_kinds profiles is_one is_name t ≡ misfit_kind is_one ∷ []
-misfit_kinds profiles are false false t e = absurd (true≢false e)
-misfit_kinds profiles are false true t e = rw (taken_profile profiles are t, e) refl
-misfit_kinds profiles are true is_name t e = rw (taken_number t, e) refl
+misfit_kinds profiles are is_one is_name t e = grind (arith, taken_profile profiles are t, taken_number t)
 
 -- a text that is kept is the first of its label, and what it has to be
 pub kept_both : (before : Option Text) (fit : Bool) → (is_some before || not fit) ≡ false → (before ≡ None) × (fit ≡ true)
-kept_both None true e = (refl, refl)
-kept_both None false e = absurd (true≢false e)
-kept_both (Some t) fit e = absurd (true≢false e)
+kept_both before fit e = grind arith
 
 module _ (profiles : ProfileNames) (are : AreProfiles profiles) (f : Form) (long : Option Text) (index : Option ℕ) (label : Text) where
   pub use_passes : (t : Text) (given : Given) → text_behind label given ≡ None → fits f label t ≡ true
@@ -217,8 +169,7 @@ Each P [] = Unit {0}
 Each P (x ∷ xs) = P x × (Each P xs)
 
 same_either : {X : Type 0} (b : Bool) (x : X) → cond b x x ≡ x
-same_either true x = refl
-same_either false x = refl
+same_either b x = grind arith
 
 default_none : (rows : List Row) (a : Rule) → a.defaults ≡ [] → with_default rows a ≡ rows
 default_none rows a e = rw e (same_either (has_row a.id rows) rows)
@@ -233,5 +184,4 @@ defaults_none (a ∷ rules) rows e = ap (λ r. fold with_default r rules) (defau
 pub no_faults : (rules : List Rule) (rows : List Row) → Each (λ a. a.defaults ≡ []) rules → defaults_fault rows rules ≡ []
 unfolding defaults_fault
 no_faults [] rows e = refl
-no_faults (a ∷ rules) rows e =
-    ap (λ k. or_else k (defaults_fault (with_default rows a) rules)) (no_fault rows a e.0) ∙ no_faults rules (with_default rows a) e.1
+no_faults (a ∷ rules) rows e = rw (no_fault rows a e.0) (no_faults rules (with_default rows a) e.1)

@@ -1,14 +1,14 @@
 -- What `clap` makes of one word of the program's command line, at a command whose one flag is the
 -- help flag; it may have an option too.
-use Rattle.dob_words.proofs.Common.{◌∙◌, ◌∷◌, ◌≡◌, Bool, List, None, Option, Some, [], ap, codes, cond, false, length, refl, subst, suc, sym, true, true≢false}
-use Rattle.dob_words.proofs.Common.{ℕ, bytes_eq-Decides, before_first, option_map_or, is_some, not, slice_get, bytes_eq, chars, Kinds, or_else, has_byte}
-use Rattle.dob_words.proofs.Common.{long_of, name_and_value, filled, help_rule, Rule, ErrorKind, Text, flag_of, is_help_flag, is_text}
-use Rattle.std.proofs.Common.{◌==◌, ◌&&◌, zero}
+use Rattle.dob_words.proofs.Common.{◌∙◌, ◌∷◌, ◌≡◌, Bool, List, None, Option, Some, [], ap, codes, cond, false, length, refl, subst, suc, sym, true}
+use Rattle.dob_words.proofs.Common.{true≢false, ℕ, bytes_eq-Decides, before_first, option_map_or, is_some, not, slice_get, bytes_eq, chars, Kinds, or_else}
+use Rattle.dob_words.proofs.Common.{has_byte, long_of, name_and_value, filled, help_rule, Rule, ErrorKind, Text, flag_of, is_help_flag, is_text}
+use Rattle.std.proofs.Common.{◌==◌, ◌&&◌, arith}
 use Rattle.clap.specs.Walk.{Held, Row, Waiting, attached_value, plain, plain_word, arg_by_long, arg_by_short, bundle_met, long_or_other, takes_values}
 use Rattle.clap.specs.Faults.{flag_word_fault, flags_fault, long_fault, option_fault, react_fault, settle_fault, short_fault}
 use Rattle.clap.specs.declared.error.kind.ErrorKind.TheVariants as kind
-use Rattle.dob_words.proofs.Lexing.{flip, help_dashes, help_long, help_short, View, empty, letter, hyphen, dashes, long, short}
-use Rattle.dob_words.proofs.Lexing.{hyphen_first, long_name, no_first, before_none}
+use Rattle.dob_words.proofs.Lexing.{flip, help_dashes, help_long, help_short, View, empty, letter, hyphen, dashes, long, short, hyphen_first, long_name}
+use Rattle.dob_words.proofs.Lexing.{no_first, before_none}
 
 -- the help flag, built
 abbrev pub help_flag : Rule
@@ -30,13 +30,11 @@ module _ (c : List Rule) (rows : List Row) (pending : Option (Text × List Text)
 
   bundle_plain : (k : ℕ) (flags : Text) → slice_get (chars flags) 0 ≡ None → bundle_met c k flags 0 plain h ≡ (h, plain)
   unfolding bundle_met
-  bundle_plain zero flags e = refl
-  bundle_plain (suc k) flags e = rw e refl
+  bundle_plain k flags e = grind arith
 
   bundle_passes : (k : ℕ) (flags : Text) → slice_get (chars flags) 0 ≡ None → flags_fault c false k flags 0 h ≡ []
   unfolding flags_fault
-  bundle_passes zero flags e = refl
-  bundle_passes (suc k) flags e = rw e refl
+  bundle_passes k flags e = grind arith
 
   -- a text is no flag
   pub text_plain : (waiting : Waiting) (w : Text) → View w → flag_of w ≡ None → Plain waiting w
@@ -82,8 +80,7 @@ is_usage (k ∷ ks) = no_help_kind (k ∷ ks)
 
 -- a first step that is usage makes it usage
 pub or_else_usage : (a b : Kinds) → is_usage a ≡ true → is_usage (or_else a b) ≡ true
-or_else_usage [] b e = absurd (true≢false (sym e))
-or_else_usage (k ∷ ks) b e = e
+or_else_usage a b e = grind arith
 
 module _ (c : List Rule) (rows : List Row) (pending : Option (Text × List Text)) (is_option : Text → Bool) (knows : KnowsHelp c rows pending is_option) where
   abbrev g : Held
@@ -176,13 +173,7 @@ module _ (c : List Rule) (rows : List Row) (pending : Option (Text × List Text)
 
   long_fails : (o : Option Rule) (v : Option Text) → is_usage (long_fault c false o v f) ≡ true
   long_fails None v = refl
-  long_fails (Some a) v = go (takes_values a) v
-    where
-      go : (b : Bool) (u : Option Text)
-          → is_usage (cond b (option_fault c false a u f) (cond (is_some u) (kind.TooManyValues ∷ []) (react_fault c false a [] f))) ≡ true
-      go true u = option_fails a u
-      go false (Some x) = refl
-      go false None = react_fails a []
+  long_fails (Some a) v = grind (arith, option_fails a, react_fails a [])
 
   short_fails : (o : Option Rule) (rest : Text) (next : Held → Kinds) → is_usage (short_fault c false o rest f next) ≡ true
   short_fails None rest next = refl

@@ -3,10 +3,11 @@
 // A further subcommand, as `stats --db FILE`, has
 // - here a variant of `Subcommand`, a row, a text for its help and an arm of `help_of` in rows.rt; a variant of `LinesOrder` and an arm of `order_for` in
 //   command/orders.rt; and its name, its order and its texts in specs/Readings.antt;
-// - in dob_query what it owes in a file of specs/, and its answer in a file of src/, each named in the Lib.antt or lib.rt there;
+// - in dob_query what it owes in a file of specs/, and its answer in a file of src/, each named in the Lib.antt or lib.rt there; and what the answer's
+//   proof needs in proofs/FILE/answer_NAME/Answers.antt;
 // - in dob_cli a case in the definitions of specs/Orders.antt and an arm of `answer` in program.rt, with a line in its Answers.antt where the prover doesn't
-//   find what the arm owes, as it finds that of `verify`; where a value table's file makes its answer right, that in `AnswersLinesRight` and `rightly` of
-//   proofs/Orders.antt.
+//   find what the arm owes, as it finds that of `verify`; where the answer speaks of values and a value table's file makes it right, that in
+//   `AnswersLinesRight` and `rightly` of proofs/Orders.antt.
 // What is asked of a position by a file, as `best --db FILE POSITION`, is a variant of `Asked` instead, and of `--each` too.
 ghost use Rattle.std.specs.Prelude.{◌≡◌, [], IfOk, IfSome, List, Option, codes, false, is_some, map, true};
 ghost use Rattle.std.specs.List.{list_any};

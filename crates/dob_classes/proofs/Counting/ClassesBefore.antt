@@ -1,17 +1,15 @@
 -- How many classes of a family stand before a run of a block and before a place of a run, as sums over the runs of one hand.
-use Rattle.dob_classes.proofs.Common.{◌%◌, ◌*◌, ◌+◌, ◌/◌, ◌<◌, ◌^◌, ◌∙◌, ◌≡◌, ◌≤◌, ap, arith, refl, sym, ℕ, mod-mul-add, Family, Setup, run_start_end}
-use Rattle.dob_classes.proofs.Common.{run_start_first, run_start_next, spot_there, marks_below-upto, sum_below_more, IsPositionOf, class_number, is_marked}
-use Rattle.dob_classes.proofs.Common.{marks_below, block_bases, block_of, block_size, product, rank_of_set, sum_below, RepresentativeOf, IsInRun, lion_pairs}
-use Rattle.dob_classes.proofs.Common.{run_kind, run_of, run_start, runs_in, local_of, run_size, First, Later, is_there, local_marks_in, classes_to_block}
+use Rattle.dob_classes.proofs.Common.{◌%◌, ◌*◌, ◌+◌, ◌/◌, ◌<◌, ◌^◌, ◌∙◌, ◌≡◌, ◌≤◌, Bool, ap, arith, cond, refl, sym, ℕ, mod-mul-add, Family, Setup}
+use Rattle.dob_classes.proofs.Common.{run_start_end, run_start_first, run_start_next, spot_there, marks_below-upto, sum_below_more, IsPositionOf, class_number}
+use Rattle.dob_classes.proofs.Common.{is_marked, marks_below, block_bases, block_of, block_size, product, rank_of_set, sum_below, RepresentativeOf, IsInRun}
+use Rattle.dob_classes.proofs.Common.{lion_pairs, run_kind, run_of, run_start, runs_in, local_of, run_size, is_there, local_marks_in, classes_to_block}
 use Rattle.dob_classes.proofs.Common.{classes_to_place, classes_to_run, classes_to_setup}
 use Rattle.dob_lists.proofs.Sums.{sum_same, sum_blocks, sum_alike}
 use Rattle.dob_rank.proofs.Arithmetic.MixedRadix.{digit_below}
 use Rattle.dob_rank.proofs.InRuns.RunSums.{lions_there}
-use Rattle.dob_classes.proofs.MarksOfRuns.FamilyMarks.{first_marks, later_marks, classes_before_place}
+use Rattle.dob_classes.proofs.MarksOfRuns.FamilyMarks.{classes_before_place, kind_if, marks_of_lions, marks_of_runs, marks_told, run_marks}
 use Rattle.dob_classes.proofs.Tables.RunTables.{marks_small}
-use Rattle.dob_classes.proofs.Counting.FamilySums.{run_marks, marks_of_lions, marks_of_runs}
-use Rattle.dob_classes.proofs.OfFamilies.FamilyNumbers.{earlier_in}
-use Rattle.dob_classes.proofs.OfFamilies.FamilyRepresentatives.{same_representative}
+use Rattle.dob_classes.proofs.OfFamilies.FamilyNumbers.{earlier_is}
 
 -- ---- a position's place
 
@@ -29,10 +27,7 @@ stands_at family s block run local p block_is run_is local_is =
 -- the classes before the position's representative are before its class
 pub class_of_earlier : (family : Family) (s representative : Setup) → IsPositionOf family s → RepresentativeOf s representative
     → classes_to_setup family representative ≡ class_number family s
-class_of_earlier family s representative p represents =
-    let e = earlier_in family s p in
-    ap (λ (t : Setup). classes_to_setup family t) (same_representative family s representative e.0 p represents e.1.stands)
-    ∙ sym e.1.number_is
+class_of_earlier family s representative p represents = sym (earlier_is family s representative p represents).number_is
 
 -- ---- the runs before one
 
@@ -41,18 +36,18 @@ pub all_lions : (family : Family) (block : ℕ) → block < product (block_bases
 all_lions family block within = (let last = lions_there family.set block 98 within (omega arith) in omega (arith, last))
 
 pub none_before : (family : Family) (block : ℕ) → classes_to_block family block + 0 ≡ classes_to_run family block 0
-none_before family block =
-    let first = ap (marks_below (is_marked family)) (run_start_first family.set block) in
-    omega (arith, first)
+none_before family block = omega (arith, ap (marks_below (is_marked family)) (run_start_first family.set block))
 
 -- one run more
 pub one_run_more : (family : Family) (block run size count marks : ℕ) → size ≡ run_size family.set block
     → classes_to_block family block + count ≡ classes_to_run family block run → classes_to_run family block run + marks ≡ classes_to_place family block run size
     → classes_to_block family block + (count + marks) ≡ classes_to_run family block (run + 1)
-one_run_more family block run size count marks size_is counted more =
-    let end : classes_to_place family block run size ≡ classes_to_run family block (run + 1)
-    = ap (λ n. classes_to_place family block run n) size_is ∙ ap (marks_below (is_marked family)) (sym (run_start_next family.set block run)) in
-    omega (arith, counted, more, end)
+one_run_more family block run size count marks size_is counted more = omega (
+  arith,
+  counted,
+  more,
+  ap (λ n. classes_to_place family block run n) size_is ∙ ap (marks_below (is_marked family)) (sym (run_start_next family.set block run)),
+)
 
 -- each hand before has as many as the first, and the run's own hand those of the lions before
 pub record AreByHands (family : Family) (block run hands whole part : ℕ) : Type 0 where
@@ -111,15 +106,12 @@ by_hands family block run hands lions whole part within upto hands_are lions_are
 
 -- all runs of a block
 pub block_end : (family : Family) (block runs : ℕ) → runs ≡ runs_in family.set block → classes_to_run family block runs ≡ classes_to_block family (block + 1)
-block_end family block runs runs_are =
-    ap (λ n. classes_to_run family block n) runs_are
-    ∙ ap (marks_below (is_marked family)) (run_start_end family.set block)
-    ∙ ap (marks_below (is_marked family)) (sym (sum_below_more (block_size family.set) block))
+block_end family block runs runs_are = rw runs_are (ap (marks_below (is_marked family))
+    (run_start_end family.set block ∙ sym (sum_below_more (block_size family.set) block)))
 
 pub one_block_more : (family : Family) (block runs count marks : ℕ) → runs ≡ runs_in family.set block → count ≡ classes_to_block family block
     → classes_to_block family block + marks ≡ classes_to_run family block runs → count + marks ≡ classes_to_block family (block + 1)
-one_block_more family block runs count marks runs_are counted more =
-    ap (λ n. n + marks) counted ∙ more ∙ block_end family block runs runs_are
+one_block_more family block runs count marks runs_are counted more = rw counted (more ∙ block_end family block runs runs_are)
 
 -- ---- the places before one
 
@@ -128,22 +120,16 @@ pub in_run_before : (family : Family) (block run place marks : ℕ) → block < 
     → place ≤ run_size family.set block → marks ≡ marks_below (local_marks_in family block run) (marks_below (is_there family block run) place)
     → classes_to_run family block run + marks ≡ classes_to_place family block run place
 in_run_before family block run place marks within below upto is =
-    ap (λ n. classes_to_run family block run + n) is ∙ sym (classes_before_place family block run place within below upto)
+    rw is (sym (classes_before_place family block run within below place upto))
 
 -- where the lions show it
-pub first_before : (family : Family) (block run place : ℕ) → block < product (block_bases family.set) → run < runs_in family.set block
-    → place ≤ run_size family.set block → run_kind (run % lion_pairs) ≡ First
-    → marks_below (is_there family block run) place ≡ marks_below (local_marks_in family block run) (marks_below (is_there family block run) place)
-first_before family block run place within below upto kind =
-    sym (first_marks family block run (marks_below (is_there family block run) place) within below
-    (marks_below-upto (is_there family block run) place (run_size family.set block) upto) kind)
-
-pub later_before : (family : Family) (block run place : ℕ) → block < product (block_bases family.set) → run < runs_in family.set block
-    → place ≤ run_size family.set block → run_kind (run % lion_pairs) ≡ Later
-    → 0 ≡ marks_below (local_marks_in family block run) (marks_below (is_there family block run) place)
-later_before family block run place within below upto kind =
-    sym (later_marks family block run (marks_below (is_there family block run) place) within below
-    (marks_below-upto (is_there family block run) place (run_size family.set block) upto) kind)
+pub told_before : (family : Family) (block run place : ℕ) (on : Bool) → block < product (block_bases family.set) → run < runs_in family.set block
+    → place ≤ run_size family.set block → run_kind (run % lion_pairs) ≡ kind_if on
+    → classes_to_run family block run + cond on (marks_below (is_there family block run) place) 0 ≡ classes_to_place family block run place
+told_before family block run place on within below upto kind =
+    in_run_before family block run place (cond on (marks_below (is_there family block run) place) 0) within below upto
+    (sym (marks_told family block run within below (marks_below (is_there family block run) place) on
+    (marks_below-upto (is_there family block run) place (run_size family.set block) upto) kind))
 
 -- ---- a position's block, run and place
 

@@ -1,10 +1,10 @@
 -- How many positions of profile B a run has up to a place, and before a position: by its choice of the chicks' squares, the others' squares and forms.
-use Rattle.dob_classes.proofs.Common.{◌%◌, ◌*◌, ◌+◌, ◌/◌, ◌<◌, ◌^◌, ◌∙◌, ◌≡◌, ◌≤◌, Bool, List, [], ap, arith, false, get_or, slice_index, subst, sym, true, ℕ}
-use Rattle.dob_classes.proofs.Common.{add-mul, mul-le-mul, mul-le-mul_right, mul-pos, mul_assoc, div-add-mod', div-mul-add, div_below, mod_below, PieceSet}
-use Rattle.dob_classes.proofs.Common.{Family, A, B, Setup, AreFewOnBoard-digits, marks_agree, marks_from, there, HasDigits-numbers, few_in_block, four_small}
-use Rattle.dob_classes.proofs.Common.{on_board-block, forms_small, IsPositionOf, family_of, is_present, marks_below, one_if, block_bases, block_of, choose}
-use Rattle.dob_classes.proofs.Common.{digits, digits_of, forms_number, free_squares, on_board, order, product, settle, sum_below, AreFewOnBoard, lion_pairs}
-use Rattle.dob_classes.proofs.Common.{run_of, run_start, runs_in, square_bases, local_of, run_size, are_allowed, forms_stand, may_have, Chicks, is_there}
+use Rattle.dob_classes.proofs.Common.{◌%◌, ◌*◌, ◌+◌, ◌/◌, ◌<◌, ◌^◌, ◌∙◌, ◌≡◌, ◌≤◌, Bool, List, [], ap, arith, false, get_or, refl, slice_index, subst, sym}
+use Rattle.dob_classes.proofs.Common.{true, ℕ, mul-le-mul_right, mul-pos, div-add-mod', div-mul-add, div_below, mod_below, PieceSet, Family, A, B, Setup}
+use Rattle.dob_classes.proofs.Common.{AreFewOnBoard-digits, marks_agree, marks_from, there, HasDigits-numbers, four_small, on_board-block, forms_small}
+use Rattle.dob_classes.proofs.Common.{IsPositionOf, family_of, is_present, marks_below, one_if, block_bases, block_of, choose, digits, digits_of, forms_number}
+use Rattle.dob_classes.proofs.Common.{free_squares, on_board, order, product, settle, sum_below, AreFewOnBoard, lion_pairs, run_of, run_start, runs_in}
+use Rattle.dob_classes.proofs.Common.{square_bases, local_of, run_size, are_allowed, forms_stand, may_have, Chicks, is_there}
 use Rattle.std.proofs.Math.Nat.{add_assoc}
 use Rattle.dob_rank.specs.Weights.{local_in, weight, forms_on, lions_in, choice_weight, forms_before, allowed_number, others_squares, others_forms}
 use Rattle.dob_rank.proofs.InRuns.Lions.{lions_layers}
@@ -15,7 +15,7 @@ use Rattle.dob_rank.proofs.OfFamilies.RunCounts.{IsSpotIn, is_form, present_befo
 use Rattle.dob_rank.proofs.OfFamilies.FamilyRuns.{factor_out, others_forms-some, others_squares-some, run_size-parts}
 use Rattle.dob_rank.proofs.OfFamilies.FamilyRanks.{before_place, present_at, own_place, local_parts, squares_number, others_number}
 use Rattle.dob_rank.proofs.ProfileB.PlaceParts.{others_squares_are, others_forms_are}
-use Rattle.dob_classes.proofs.MarksOfRuns.FamilyMarks.{all_marked}
+use Rattle.dob_classes.proofs.MarksOfRuns.FamilyMarks.{all_alike}
 
 -- ---- the forms up to one
 
@@ -42,16 +42,10 @@ form_count mark others last count some is low =
     ∙ ap (λ (n : ℕ). n * others + (last % others + 1) * one_if (mark (last / others))) (sym is) in
     record {
       few = omega (arith, parts, under);
-      on = λ yes. with_own (count * others) (last % others) (marks_below (λ (n : ℕ). mark (n / others)) (last + 1)) (one_if (mark (last / others))) (ap one_if yes) all;
-      off = λ no. without (count * others) (last % others) (marks_below (λ (n : ℕ). mark (n / others)) (last + 1)) (one_if (mark (last / others))) (ap one_if no) all;
+      on = λ yes. (let whole = rw yes at all in omega (arith, whole));
+      off = λ no. (let whole = rw no at all in omega (arith, whole));
       upto = omega (arith, parts, under);
     }
-  where
-    with_own : (a x z one : ℕ) → one ≡ 1 → z ≡ a + (x + 1) * one → a + x + 1 ≡ z
-    with_own a x z one e f = (let g : z ≡ a + (x + 1) * 1 = subst (λ (y : ℕ). z ≡ a + (x + 1) * y) e f in omega (arith, g))
-
-    without : (a x z one : ℕ) → one ≡ 0 → z ≡ a + (x + 1) * one → a ≡ z
-    without a x z one e f = (let g : z ≡ a + (x + 1) * 0 = subst (λ (y : ℕ). z ≡ a + (x + 1) * y) e f in omega (arith, g))
 
 -- ---- the parts of a place
 
@@ -65,34 +59,25 @@ pub record ArePartsOf (ob : List ℕ) (last n a : ℕ) : Type 0 where
   pub form_below : last % a < a
   pub whole : (last / a / n * n + last / a % n) * a + last % a ≡ last
 
-pub parts_of : (set : PieceSet) (block last n r a : ℕ) (ob : List ℕ) → block < product (block_bases set) → ob ≡ digits_of (block_bases set) block
-    → last < run_size set block → n ≡ others_squares ob → r ≡ others_forms ob → r ≤ 16 → a ≡ 4 ^ slice_index ob 0 * r → ArePartsOf ob last n a
-parts_of set block last n r a ob within ob_is below n_is r_is few a_is =
-    let few_chicks : 4 ^ slice_index ob 0 ≤ 16 = subst (λ (xs : List ℕ). 4 ^ slice_index xs 0 ≤ 16) (sym ob_is)
-    (four_small (slice_index (digits_of (block_bases set) block) 0) (AreFewOnBoard-digits set (digits_of (block_bases set) block) (few_in_block set block within)).chicks) in
-    let some_r : 0 < r = subst (λ (x : ℕ). 0 < x) (sym r_is) (others_forms-some ob) in
-    let some_a : 0 < a = subst (λ (x : ℕ). 0 < x) (sym a_is) (mul-pos (power_positive 4 (slice_index ob 0) four_some) some_r) in
-    let some_n : 0 < n = subst (λ (x : ℕ). 0 < x) (sym (n_is ∙ ap others_squares ob_is)) (others_squares-some (family_of set B) block within) in
-    let size : run_size set block ≡ choose free_squares (slice_index ob 0) * n * a
-    = run_size-parts (family_of set B) block
-    ∙ ap (λ (xs : List ℕ). choose free_squares (slice_index xs 0) * others_squares xs * (4 ^ slice_index xs 0 * others_forms xs)) (sym ob_is)
-    ∙ ap (λ (x : ℕ). choose free_squares (slice_index ob 0) * x * (4 ^ slice_index ob 0 * others_forms ob)) (sym n_is)
-    ∙ ap (λ (x : ℕ). choose free_squares (slice_index ob 0) * n * (4 ^ slice_index ob 0 * x)) (sym r_is)
-    ∙ ap (λ (x : ℕ). choose free_squares (slice_index ob 0) * n * x) (sym a_is) in
+parts_of : (set : PieceSet) (block last n r a : ℕ) (ob : List ℕ) → block < product (block_bases set) → ob ≡ digits_of (block_bases set) block
+    → AreFewOnBoard ob → last < run_size set block → n ≡ others_squares ob → r ≡ others_forms ob → r ≤ 16 → a ≡ 4 ^ slice_index ob 0 * r
+    → ArePartsOf ob last n a
+parts_of set block last n r a ob within ob_is few below n_is r_is few_r a_is =
+    let some_r : 0 < r = rw r_is (others_forms-some ob) in
+    let some_a : 0 < a = rw a_is (mul-pos (power_positive 4 (slice_index ob 0) (omega arith)) some_r) in
+    let some_n : 0 < n = rw (n_is, ob_is) (others_squares-some (family_of set B) block within) in
+    let size : run_size set block ≡ choose free_squares (slice_index ob 0) * n * a = rw (a_is, n_is, r_is, ob_is) (run_size-parts (family_of set B) block) in
     let squares : last / a < choose free_squares (slice_index ob 0) * n
-    = div_below last a (choose free_squares (slice_index ob 0) * n) some_a (subst (λ (x : ℕ). last < x) size below) in
+    = div_below last a (choose free_squares (slice_index ob 0) * n) some_a (rw size at below) in
     record {
       some_forms = some_a;
       some_squares = some_n;
-      few_forms = subst (λ (x : ℕ). x ≤ 256) (sym a_is) (forms_small (4 ^ slice_index ob 0) r few_chicks few);
+      few_forms = rw a_is (forms_small (4 ^ slice_index ob 0) r (four_small (slice_index ob 0) few.chicks) few_r);
       choice_below = div_below (last / a) n (choose free_squares (slice_index ob 0)) some_n squares;
       squares_below = mod_below (last / a) n some_n;
       form_below = mod_below last a some_a;
       whole = ap (λ (x : ℕ). x * a + last % a) (div-add-mod' (last / a) n) ∙ div-add-mod' last a;
     }
-  where
-    four_some : 0 < 4
-    four_some = omega arith
 
 -- the same of the numbers that the code finds
 pub record AreUptoParts (ob : List ℕ) (last n r a : ℕ) : Type 0 where
@@ -113,18 +98,18 @@ upto_parts set block last ob choices elephants giraffes chicks within ob_is belo
     let few = AreFewOnBoard-digits set ob (HasDigits-numbers set block ob within ob_is) in
     let of_squares = others_squares_are ob [] choices few choices_are in
     let of_forms = others_forms_are ob [] elephants giraffes few e g in
-    let few_others : elephants * giraffes ≤ 16 = subst (λ (x : ℕ). x ≤ 16) (sym of_forms.count_is) of_forms.count_few in
+    let few_others : elephants * giraffes ≤ 16 = rw of_forms.count_is of_forms.count_few in
     let all : chicks * (elephants * giraffes) ≡ 4 ^ slice_index ob 0 * (elephants * giraffes) = ap (λ (x : ℕ). x * (elephants * giraffes)) h in
     record {
       squares_are = of_squares.count_is;
-      few_squares = subst (λ (x : ℕ). x ≤ 2025) (sym of_squares.count_is) of_squares.count_few;
+      few_squares = rw of_squares.count_is of_squares.count_few;
       forms_are = of_forms.count_is;
       few_others = few_others;
-      some_others = subst (λ (x : ℕ). 0 < x) (sym of_forms.count_is) (others_forms-some ob);
+      some_others = rw of_forms.count_is (others_forms-some ob);
       all_are = all;
       few = few;
-      parts = parts_of set block last (get_or choices 1 0 * get_or choices 2 0) (elephants * giraffes) (chicks * (elephants * giraffes)) ob within ob_is below
-          of_squares.count_is of_forms.count_is few_others all;
+      parts = parts_of set block last (get_or choices 1 0 * get_or choices 2 0) (elephants * giraffes) (chicks * (elephants * giraffes))
+          ob within ob_is few below of_squares.count_is of_forms.count_is few_others all;
     }
 
 -- and what it makes of them is small
@@ -134,20 +119,10 @@ pub record AreUptoSmall (n q r s w : ℕ) : Type 0 where
   pub all : (s * n + q * w) * r ≤ 2 ^ 27
 
 pub upto_small : (n q r s w : ℕ) → n ≤ 2025 → q < n → r ≤ 16 → s ≤ 582 → w ≤ 582 → AreUptoSmall n q r s w
-upto_small n q r s w n_few low r_few s_few w_few =
-    let before : s * n ≤ 582 * 2025 = mul-le-mul s_few n_few in
-    let own : q * w ≤ 2025 * 582 = mul-le-mul (less q n n_few low) w_few in
-    let all : (s * n + q * w) * r ≤ (582 * 2025 + 2025 * 582) * 16 = mul-le-mul (both (s * n) (q * w) before own) r_few in
-    record { before = before; own = own; all = omega (arith, all) }
-  where
-    less : (q n : ℕ) → n ≤ 2025 → q < n → q ≤ 2025
-    less q n h k = omega (arith, h, k)
-
-    both : (a b : ℕ) → a ≤ 582 * 2025 → b ≤ 2025 * 582 → a + b ≤ 582 * 2025 + 2025 * 582
-    both a b h k = omega (arith, h, k)
+upto_small n q r s w n_few low r_few s_few w_few = grind arith
 
 pub sums : (s n q w x y : ℕ) → s ≡ x → w ≡ y → s * n + q * w ≡ x * n + q * y
-sums s n q w x y e f = ap (λ (z : ℕ). z * n + q * w) e ∙ ap (λ (z : ℕ). x * n + q * z) f
+sums s n q w x y e f = rw (e, f) refl
 
 -- ---- the count up to a place
 
@@ -159,11 +134,7 @@ rest_again : (run lions : ℕ) → lions ≡ run % lion_pairs → lions % lion_p
 rest_again run lions e = omega (arith, e)
 
 gathered : (s n q w r y : ℕ) → s * (n * r) + q * (w * r) + y ≡ (s * n + q * w) * r + y
-gathered s n q w r y =
-    let one : (s * n + q * w) * r ≡ s * n * r + q * w * r = add-mul (s * n) (q * w) r in
-    let two : s * n * r ≡ s * (n * r) = mul_assoc s n r in
-    let three : q * w * r ≡ q * (w * r) = mul_assoc q w r in
-    omega (arith, one, two, three)
+gathered s n q w r y = grind arith
 
 one_more : (x y : ℕ) → x < y → x + 1 ≤ y
 one_more x y h = omega (arith, h)
@@ -216,18 +187,18 @@ count_is set block run last n r a lions first second before upto ob within below
     again = rest_again run lions lions_are
 
     whole_forms : a ≡ 4 ^ slice_index (digits_of (block_bases set) block) 0 * r
-    whole_forms = subst (λ (xs : List ℕ). a ≡ 4 ^ slice_index xs 0 * r) ob_is a_is
+    whole_forms = rw ob_is at a_is
 
     choice_here : c < choose free_squares (slice_index (digits_of (block_bases set) block) 0)
-    choice_here = subst (λ (xs : List ℕ). c < choose free_squares (slice_index xs 0)) ob_is p.choice_below
+    choice_here = rw ob_is at p.choice_below
 
     spot : IsSpotIn (family_of set B) block run c q (f + 1) n r
     spot = record {
       block_below = within;
       run_below = below;
-      n_is = subst (λ (xs : List ℕ). n ≡ others_squares xs) ob_is n_is;
-      r_is = subst (λ (xs : List ℕ). r ≡ others_forms xs) ob_is r_is;
-      some = subst (λ (x : ℕ). 0 < x) (sym r_is) (others_forms-some ob);
+      n_is = rw ob_is at n_is;
+      r_is = rw ob_is at r_is;
+      some = rw r_is (others_forms-some ob);
       choice_below = choice_here;
       squares_below = p.squares_below;
       forms_below = subst (λ (x : ℕ). f + 1 ≤ x) whole_forms (one_more f a p.form_below);
@@ -238,7 +209,7 @@ count_is set block run last n r a lions first second before upto ob within below
 -- ---- in profile A each place is one of the family's
 
 pub all_there : (family : Family) (block run n : ℕ) → family.profile ≡ A → marks_below (is_there family block run) n ≡ n
-all_there family block run n a = all_marked (is_there family block run) n (λ k low. there family (run_start family.set block run + k) a)
+all_there family block run n a = all_alike (is_there family block run) true n (λ k low. there family (run_start family.set block run + k) a)
 
 -- ---- a position's number in its run
 

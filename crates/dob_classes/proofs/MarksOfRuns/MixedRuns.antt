@@ -1,17 +1,180 @@
 -- In a run whose lions stand on column b: the first digit that differs from its mirror image's decides for all places that
 -- have the same digits up to there.
-use Rattle.dob_classes.proofs.Common.{◌%◌, ◌*◌, ◌++◌, ◌+◌, ◌-◌, ◌/◌, ◌<◌, ◌∙◌, ◌∷◌, ◌≡◌, ◌≤◌, Bool, List, [], ap, arith, drop, false, inl, inr, leb, length}
-use Rattle.dob_classes.proofs.Common.{min, refl, subst, suc, sym, take, true, zero, ℕ, add-mul, div-mul-le_self, mul-le-mul_right, cases_lt, le-leb, lt-leb}
-use Rattle.dob_classes.proofs.Common.{length-take, take-append-drop, div-add-mod', div-mul-add, div_below, le-div, mod_below, same_from_place, All, mirrored}
-use Rattle.dob_classes.proofs.Common.{PieceSet, Setup, local_digits, AreBases-by, few_in_block, HasDigits-digits, HasParts-from_position}
-use Rattle.dob_classes.proofs.Common.{IsPositionOfSet-mirrored, HasDigits-drop, HasDigits-length, HasBlock-setup_in, on_board-block, marked, HasBlock}
-use Rattle.dob_classes.proofs.Common.{HasDigits, bases_by, block_bases, digits_of, number_of, on_board, place_of, product, setup_in, IsPositionOfSet, IsInRun}
-use Rattle.dob_classes.proofs.Common.{lion_pairs, lions_of, local_bases, run_kind, run_of, run_start, local_of, run_size, Mixed, IsWidth, local_marks}
+use Rattle.dob_classes.proofs.Common.{◌%◌, ◌*◌, ◌++◌, ◌+◌, ◌/◌, ◌<◌, ◌^◌, ◌∙◌, ◌∷◌, ◌≡◌, ◌≤◌, Bool, List, None, [], ap, arith, cond, drop, eqb, false, get_or}
+use Rattle.dob_classes.proofs.Common.{inl, inr, leb, length, map, min, refl, rules, slice_index_or, subst, suc, sym, take, true, zero, ℕ, cases_eq, cases_lt}
+use Rattle.dob_classes.proofs.Common.{eq-eqb, le-leb, lt-leb, ne_eqb, length-map, length-take, take-append-drop, div-mul-add, div_below, le-div, mod_below}
+use Rattle.dob_classes.proofs.Common.{same_from_place, All, Cell, board_by, mirrored, mirrored_square, PieceSet, Setup, count_other, local_digits, AreBases-by}
+use Rattle.dob_classes.proofs.Common.{few_in_block, HasDigits-digits, HasParts-from_position, hide_all, IsPositionOfSet-mirrored, HasDigits-drop}
+use Rattle.dob_classes.proofs.Common.{HasDigits-length, HasBlock-setup_in, on_board-block, marked, HasBlock, HasDigits, base_of, bases_by, block_bases, cell_of}
+use Rattle.dob_classes.proofs.Common.{choice, count, digits_of, forms_number, layer, number_of, on_board, order, place_of, product, setup_in, IsPositionOfSet}
+use Rattle.dob_classes.proofs.Common.{form, IsInRun, lion_pairs, lions_of, local_bases, run_kind, run_of, run_start, local_of, run_size, Chicks, Empty, Mixed}
+use Rattle.dob_classes.proofs.Common.{IsWidth, local_marks}
 use Rattle.dob_rank.proofs.Arithmetic.MixedRadix.{number_of-below, number_of-append, digits_of-number_of, product-append}
-use Rattle.dob_rank.proofs.InRuns.Lions.{image_lions, lions_of-below, mixed_lions}
+use Rattle.dob_rank.proofs.InRuns.Lions.{image_lions, lions_of-below, mixed_lions, mirror_layers, layers-mirrored, hide-mirror, lions_layers, lions_layers-of}
+use Rattle.dob_rank.proofs.InRuns.Lions.{HasPair-from_position}
 use Rattle.dob_rank.proofs.InRuns.RunPlaces.{local_size, local_size-block, local_of-below, place_of-run, run_of-lions, hand_of, on_board-mirrored, place-parts}
 use Rattle.dob_rank.proofs.InRuns.RunPlaces.{image-parts, place_in_run, marked_by_place, unmarked_by_place, mark_of_spot, positive_locals}
-use Rattle.dob_classes.proofs.MarksOfRuns.ImageDigits.{ArePair, image_digits}
+use Rattle.std.proofs.lemmas.List.{get_or-take}
+use Rattle.dob_rank.proofs.Boards.Settled.{hide, settle-choice, choice_hide_next}
+use Rattle.dob_rank.proofs.Boards.FormDigits.{AreLayers-map, cell_of-cell, forms_number_same, forms_number_other, forms_number-below}
+
+-- ---- squares
+
+-- the layers up to one give the choice that it makes on the mirror image
+image_choice : (t : ℕ) (s : Setup) → t < order Empty → length s.board ≡ 12 →
+    choice t (map layer (mirrored s).board) ≡ choice t (mirror_layers (hide (suc t) (map layer s.board)))
+image_choice t s low twelve =
+    ap (choice t) (layers-mirrored s twelve)
+    ∙ sym (choice_hide_next t (mirror_layers (map layer s.board)) low)
+    ∙ ap (choice t) (hide-mirror (suc t) (map layer s.board) (length-map s.board layer ∙ twelve))
+
+same_image_choice : (t : ℕ) (p q : Setup) → t < order Empty → length p.board ≡ 12 → length q.board ≡ 12 →
+    hide (suc t) (map layer p.board) ≡ hide (suc t) (map layer q.board) →
+    choice t (map layer (mirrored p).board) ≡ choice t (map layer (mirrored q).board)
+same_image_choice t p q low hp hq same =
+    image_choice t p low hp ∙ ap (λ ls. choice t (mirror_layers ls)) same ∙ sym (image_choice t q low hq)
+
+-- one more choice gives one more layer
+hide_more : (t : ℕ) (p q : Setup) → t < order Empty → hide t (map layer p.board) ≡ hide t (map layer q.board) →
+    count t (map layer p.board) ≡ count t (map layer q.board) → choice t (map layer p.board) ≡ choice t (map layer q.board) →
+    hide (suc t) (map layer p.board) ≡ hide (suc t) (map layer q.board)
+hide_more t p q low same number chosen =
+    rw (← settle-choice t (map layer p.board) low (AreLayers-map p.board), number, chosen, same)
+    (settle-choice t (map layer q.board) low (AreLayers-map q.board))
+
+-- the same lions
+lions_hidden : (set : PieceSet) (p q : Setup) → IsPositionOfSet set p → IsPositionOfSet set q → lions_of p ≡ lions_of q →
+    hide (order Chicks) (map layer p.board) ≡ hide (order Chicks) (map layer q.board)
+lions_hidden set p q hp hq same =
+    sym (lions_layers-of (map layer p.board) (HasPair-from_position set p hp))
+    ∙ ap lions_layers same ∙ lions_layers-of (map layer q.board) (HasPair-from_position set q hq)
+
+-- ---- forms
+
+-- a cell if it is of that layer
+abbrev shown : ℕ → Cell → Cell
+shown t cell = cond (eqb (layer cell) t) cell None
+
+shown_same : (t : ℕ) (cell : Cell) → layer cell ≡ t → shown t cell ≡ cell
+shown_same t cell is = rw (eq-eqb (layer cell) t is) refl
+
+shown_other : (t : ℕ) (cell : Cell) → (layer cell ≡ t → ⊥) → shown t cell ≡ None
+shown_other t cell other = rw (ne_eqb (layer cell) t other) refl
+
+count_shown : (t : ℕ) (cells : List Cell) → t < order Empty → count t (map layer (map (shown t) cells)) ≡ count t (map layer cells)
+count_shown t [] low = refl
+count_shown t (cell ∷ cells) low = grind (arith, shown_same, shown_other, count_other, (count_shown t cells low))
+
+forms_shown : (t : ℕ) (cells : List Cell) → t < order Empty → forms_number t (map (shown t) cells) ≡ forms_number t cells
+forms_shown t [] low = refl
+forms_shown t (cell ∷ cells) low = search (rules, shown_same, forms_number_same, count_shown, shown_other, forms_number_other, (forms_shown t cells low))
+
+-- the forms number of a layer gives its cells, where the layers are known
+same_shown : (t : ℕ) (xs ys : List Cell) → map layer xs ≡ map layer ys → forms_number t xs ≡ forms_number t ys → map (shown t) xs ≡ map (shown t) ys
+same_shown t [] [] layers forms = refl
+same_shown t [] (y ∷ ys) layers forms = absurd cc
+same_shown t (x ∷ xs) [] layers forms = absurd cc
+same_shown t (x ∷ xs) (y ∷ ys) layers forms =
+    let head : layer x ≡ layer y = cc in
+    let tail : map layer xs ≡ map layer ys = cc in
+    elim (cases_eq (layer x) t) [
+      | inl is ↦
+          let is_y : layer y ≡ t = sym head ∙ is in
+          let w = base_of t ^ count t (map layer ys) in
+          let low : forms_number t xs < w = subst (λ ls. forms_number t xs < base_of t ^ count t ls) tail (forms_number-below t xs) in
+          let both : form x * w + forms_number t xs ≡ form y * w + forms_number t ys =
+          ap (λ ls. form x * base_of t ^ count t ls + forms_number t xs) (sym tail)
+          ∙ sym (forms_number_same t x xs is) ∙ forms ∙ forms_number_same t y ys is_y in
+          let parts = same_from_place (form x) (forms_number t xs) (form y) (forms_number t ys) w low (forms_number-below t ys) both in
+          let one : x ≡ y =
+          sym (cell_of-cell x) ∙ ap (λ l. cell_of l (form x)) head ∙ ap (cell_of (layer y)) parts.0 ∙ cell_of-cell y in
+          join (shown t x) (shown t y) (map (shown t) xs) (map (shown t) ys) (ap (shown t) one) (same_shown t xs ys tail parts.1)
+      | inr other ↦
+          let other_y : layer y ≡ t → ⊥ = λ e. other (head ∙ e) in
+          join (shown t x) (shown t y) (map (shown t) xs) (map (shown t) ys)
+          (shown_other t x other ∙ sym (shown_other t y other_y))
+          (same_shown t xs ys tail (sym (forms_number_other t x xs other) ∙ forms ∙ forms_number_other t y ys other_y))
+    ]
+  where
+    join : (x y : Cell) (xs ys : List Cell) → x ≡ y → xs ≡ ys → x ∷ xs ≡ y ∷ ys
+    join x y xs ys e f = cc
+
+abbrev mirror_cells : List Cell → List Cell
+mirror_cells cells = board_by (λ k. slice_index_or cells (mirrored_square k) None)
+
+shown_mirror : (t : ℕ) (cells : List Cell) → length cells ≡ 12 → map (shown t) (mirror_cells cells) ≡ mirror_cells (map (shown t) cells)
+shown_mirror t (a ∷ b ∷ c ∷ d ∷ e ∷ i ∷ j ∷ k ∷ l ∷ m ∷ n ∷ o ∷ []) eq = refl
+shown_mirror t cells eq = absurd (omega arith)
+
+mirrored_cells : (s : Setup) → (mirrored s).board ≡ mirror_cells s.board
+unfolding mirrored
+mirrored_cells s = refl
+
+image_forms : (t : ℕ) (s : Setup) → t < order Empty → length s.board ≡ 12 →
+    forms_number t (mirrored s).board ≡ forms_number t (mirror_cells (map (shown t) s.board))
+image_forms t s low twelve =
+    sym (forms_shown t (mirrored s).board low)
+    ∙ ap (λ cells. forms_number t (map (shown t) cells)) (mirrored_cells s)
+    ∙ ap (forms_number t) (shown_mirror t s.board twelve)
+
+same_image_forms : (t : ℕ) (p q : Setup) → t < order Empty → length p.board ≡ 12 → length q.board ≡ 12 →
+    map layer p.board ≡ map layer q.board → forms_number t p.board ≡ forms_number t q.board →
+    forms_number t (mirrored p).board ≡ forms_number t (mirrored q).board
+same_image_forms t p q low hp hq layers forms =
+    image_forms t p low hp ∙ ap (λ cells. forms_number t (mirror_cells cells)) (same_shown t p.board q.board layers forms)
+    ∙ sym (image_forms t q low hq)
+
+-- ---- digit by digit
+
+-- two positions with the same numbers on the board and the same lions
+record ArePair (set : PieceSet) (p q : Setup) : Type 0 where
+  first : IsPositionOfSet set p
+  second : IsPositionOfSet set q
+  on_board_is : on_board p ≡ on_board q
+  lions_are : lions_of p ≡ lions_of q
+
+module _ (set : PieceSet) (p q : Setup) (two : ArePair set p q) (n : ℕ)
+    (same : (k : ℕ) → k < n → get_or (local_digits p) k 0 ≡ get_or (local_digits q) k 0) where
+  hide_chicks : 0 < n → hide 3 (map layer p.board) ≡ hide 3 (map layer q.board)
+  hide_chicks low = (let on = two.on_board_is in
+      hide_more 2 p q (omega arith) (lions_hidden set p q two.first two.second two.lions_are) (cc) (same 0 low))
+
+  hide_elephants : 1 < n → hide 4 (map layer p.board) ≡ hide 4 (map layer q.board)
+  hide_elephants low = (let on = two.on_board_is in hide_more 3 p q (omega arith) (hide_chicks (omega (arith, low))) (cc) (same 1 low))
+
+  hide_giraffes : 2 < n → hide 5 (map layer p.board) ≡ hide 5 (map layer q.board)
+  hide_giraffes low = (let on = two.on_board_is in hide_more 4 p q (omega arith) (hide_elephants (omega (arith, low))) (cc) (same 2 low))
+
+  same_layers : 2 < n → map layer p.board ≡ map layer q.board
+  same_layers low = sym (hide_all (map layer p.board) (AreLayers-map p.board)) ∙ hide_giraffes low ∙ hide_all (map layer q.board) (AreLayers-map q.board)
+
+  -- digits that agree up to one of them have images that agree in it
+  image_digit : (k : ℕ) → k < n → get_or (local_digits (mirrored p)) k 0 ≡ get_or (local_digits (mirrored q)) k 0
+  image_digit zero low = same_image_choice 2 p q (omega arith) two.first.legal.squares two.second.legal.squares (hide_chicks low)
+  image_digit (suc zero) low = same_image_choice 3 p q (omega arith) two.first.legal.squares two.second.legal.squares (hide_elephants low)
+  image_digit (suc (suc zero)) low = same_image_choice 4 p q (omega arith) two.first.legal.squares two.second.legal.squares (hide_giraffes low)
+  image_digit (suc (suc (suc zero))) low =
+      same_image_forms 2 p q (omega arith) two.first.legal.squares two.second.legal.squares (same_layers (omega (arith, low))) (same 3 low)
+  image_digit (suc (suc (suc (suc zero)))) low =
+      same_image_forms 3 p q (omega arith) two.first.legal.squares two.second.legal.squares (same_layers (omega (arith, low))) (same 4 low)
+  image_digit (suc (suc (suc (suc (suc zero))))) low =
+      same_image_forms 4 p q (omega arith) two.first.legal.squares two.second.legal.squares (same_layers (omega (arith, low))) (same 5 low)
+  image_digit (suc (suc (suc (suc (suc (suc k)))))) low = refl
+
+take_alike : (xs ys : List ℕ) (n : ℕ) → length xs ≡ length ys → ((k : ℕ) → k < n → get_or xs k 0 ≡ get_or ys k 0) → take n xs ≡ take n ys
+take_alike xs ys zero long same = refl
+take_alike [] [] (suc n) long same = refl
+take_alike [] (y ∷ ys) (suc n) long same = absurd (omega arith)
+take_alike (x ∷ xs) [] (suc n) long same = absurd (omega arith)
+take_alike (x ∷ xs) (y ∷ ys) (suc n) long same =
+    let head : x ≡ y = same 0 (omega arith) in
+    let rest = take_alike xs ys n (omega arith) (λ k low. same (suc k) (omega (arith, low))) in
+    cc
+
+image_digits : (set : PieceSet) (p q : Setup) → ArePair set p q → (n : ℕ) → take n (local_digits p) ≡ take n (local_digits q)
+    → take n (local_digits (mirrored p)) ≡ take n (local_digits (mirrored q))
+image_digits set p q two n same = take_alike (local_digits (mirrored p)) (local_digits (mirrored q)) n refl (image_digit set p q two n
+    (λ k low. sym (get_or-take n (local_digits p) k 0 low) ∙ ap (λ (xs : List ℕ). get_or xs k 0) same ∙ get_or-take n (local_digits q) k 0 low))
 
 -- ---- the first digits of a number
 
@@ -58,7 +221,7 @@ first_part set s ob n p is =
     ∙ first_digits (local_bases ob) (local_digits s) n (HasDigits-local set s ob p is)
 
 -- Places that have the same first digits have images with the same first digits.
-pub image_part : (set : PieceSet) (p q : Setup) (ob : List ℕ) (n : ℕ) → ArePair set p q → on_board p ≡ ob →
+image_part : (set : PieceSet) (p q : Setup) (ob : List ℕ) (n : ℕ) → ArePair set p q → on_board p ≡ ob →
     local_of p / weight ob n ≡ local_of q / weight ob n → local_of (mirrored p) / weight ob n ≡ local_of (mirrored q) / weight ob n
 image_part set p q ob n two is same =
     let is_q : on_board q ≡ ob = sym two.on_board_is ∙ is in
@@ -83,9 +246,8 @@ pub at_spot : (set : PieceSet) (block run local : ℕ) (s : Setup) → local < r
     HasBlock set block (run * run_size set block + local) s → IsAtSpot set block run local s
 at_spot set block run local s below there =
     let size : local_size s ≡ run_size set block = local_size-block set block s there.position there.block_is in
-    let parts : run_of set s * run_size set block + local_of s ≡ run * run_size set block + local =
-    ap (λ n. run_of set s * n + local_of s) (sym size) ∙ sym (place_of-run set s) ∙ there.place_is in
-    let low : local_of s < run_size set block = subst (λ n. local_of s < n) size (local_of-below set s there.position) in
+    let parts = rw size at (sym (place_of-run set s) ∙ there.place_is) in
+    let low = rw size at (local_of-below set s there.position) in
     let both = same_from_place (run_of set s) (local_of s) run local (run_size set block) low below parts in
     record {
       position = there.position;
@@ -136,26 +298,11 @@ mixed_mark set block run local s below there kind =
 
 quotient-rises : (a b w : ℕ) → a ≤ b → a / w ≤ b / w
 quotient-rises a b zero le = omega arith
-quotient-rises a b (suc w) le =
-    let low : a / suc w * suc w ≤ a = div-mul-le_self a (suc w) in
-    le-div (a / suc w) b (suc w) (omega arith) (omega (arith, low, le))
+quotient-rises a b (suc w) le = grind (arith, le-div)
 
 -- numbers whose quotients differ stand as those
 pub decided : (x mx y my w : ℕ) → (x / w ≡ mx / w → ⊥) → y / w ≡ x / w → my / w ≡ mx / w → leb y my ≡ leb x mx
-decided x mx y my w apart e f = elim (cases_lt mx x) [
-  | inl lt ↦
-      let q : mx / w ≤ x / w = quotient-rises mx x w (omega arith) in
-      lt-leb y my (elim (cases_lt my y) [
-        | inl below ↦ below
-        | inr upto ↦ absurd (let r = quotient-rises y my w upto in apart (omega (arith, q, r, e, f)))
-      ]) ∙ sym (lt-leb x mx lt)
-  | inr ge ↦
-      let q : x / w ≤ mx / w = quotient-rises x mx w ge in
-      le-leb y my (elim (cases_lt my y) [
-        | inl below ↦ absurd (let r = quotient-rises my y w (omega arith) in apart (omega (arith, q, r, e, f)))
-        | inr upto ↦ upto
-      ]) ∙ sym (le-leb x mx ge)
-]
+decided x mx y my w apart e f = grind (arith, quotient-rises)
 
 -- where the image of a place differs from it in the first n digits, all places with these digits have its mark
 pub same_mark : (set : PieceSet) (block run local other : ℕ) (s t : Setup) (n : ℕ) → IsInRun set block run local → run_kind (run % lion_pairs) ≡ Mixed →
@@ -199,23 +346,13 @@ unfolding run_size
 run_size-bases set block = refl
 
 end_after : (local w : ℕ) → 0 < w → local < (local / w + 1) * w
-end_after local w some =
-    let next : (local / w + 1) * w ≡ local / w * w + 1 * w = add-mul (local / w) 1 w in
-    let whole = div-add-mod' local w in
-    let low : local % w < w = mod_below local w some in
-    omega (arith, next, whole, low)
+end_after local w some = grind (arith, mod_below)
 
 end_within : (local w p : ℕ) → 0 < w → local < p * w → (local / w + 1) * w ≤ p * w
-end_within local w p some below =
-    let low : local / w < p = div_below local w p some below in
-    mul-le-mul_right w (omega arith)
+end_within local w p some below = grind (arith, div_below)
 
 same_quotient : (local w k : ℕ) → 0 < w → local ≤ k → k < (local / w + 1) * w → k / w ≡ local / w
-same_quotient local w k some from below =
-    let next : (local / w + 1) * w ≡ local / w * w + 1 * w = add-mul (local / w) 1 w in
-    let low : local / w * w ≤ local = div-mul-le_self local w in
-    let there : local / w * w + (k - local / w * w) ≡ k = omega (arith, low, from) in
-    sym (ap (λ n. n / w) there) ∙ div-mul-add (local / w) w (k - local / w * w) (omega (arith, next, low, from, below))
+same_quotient local w k some from below = grind (arith, div-mul-add)
 
 pub stretch_told : (set : PieceSet) (block run local other width : ℕ) (bs : List ℕ) (s t : Setup) → IsInRun set block run local →
     run_kind (run % lion_pairs) ≡ Mixed → HasBlock set block (run * run_size set block + local) s → t ≡ mirrored s → other ≡ local_of t →

@@ -45,8 +45,7 @@ shorter {X} xs ys w once within there absent =
 -- what implies something has no greater count
 pub no_more : (P Q : Setup → Type 0) (m n : ℕ) → HasCount P m → HasCount Q n → ((s : Setup) → P s → Q s) → m ≤ n
 no_more P Q m n hp hq implied =
-    let le = no_longer hp.list hq.list hp.once (λ s in_p. hq.whole s (implied s (All-contains P hp.list s hp.sound in_p))) in
-    omega (arith, le, hp.counted, hq.counted)
+    omega (arith, no_longer hp.list hq.list hp.once (λ s in_p. hq.whole s (implied s (All-contains P hp.list s hp.sound in_p))), hp.counted, hq.counted)
 
 -- and a lesser one where some setup has the other alone
 pub fewer : (P Q : Setup → Type 0) (m n : ℕ) (w : Setup) → HasCount P m → HasCount Q n → ((s : Setup) → P s → Q s) → Q w → ¬ P w → m < n

@@ -1,17 +1,17 @@
 -- Each position of a family has one representative and one class number, and numbers stand in the order of the representatives: as those of a set
 -- (proofs/Representatives).
-use Rattle.dob_classes.proofs.Common.{◌<◌, ◌↔◌, ◌∙◌, ◌≡◌, ◌≤◌, ap, arith, inl, inr, refl, subst, sym, ℕ, cases_lt, cases_order, mirrored-mirrored, IsAllowed}
-use Rattle.dob_classes.proofs.Common.{IsLegal, mirrored, PieceSet, Family, Profile, Setup, numbering, place_found, marks_below-upto, HasClass-marked}
-use Rattle.dob_classes.proofs.Common.{HasClasses-classes_of, HasRank-rank_of, present, represents, IsPositionOfSet-mirrored, Before-from_rank}
-use Rattle.dob_classes.proofs.Common.{rank_of_set-rises, rank_of_set-same, marked_place, HasClass, HasClasses, HasRank, IsInClass, IsPositionOf}
-use Rattle.dob_classes.proofs.Common.{IsRepresentative, RepresentsClass, family_of, is_present, class_number, class_setup, classes_of, is_marked, rank_of}
-use Rattle.dob_classes.proofs.Common.{marks_below, nth, rank_of_set, size_of_set, Before, IsEither, IsPositionOfSet, RepresentativeOf}
+use Rattle.dob_classes.proofs.Common.{◌<◌, ◌↔◌, ◌∙◌, ◌≡◌, ◌≤◌, ap, arith, inl, inr, refl, rules, subst, sym, ℕ, mirrored-mirrored, IsAllowed, IsLegal, mirrored}
+use Rattle.dob_classes.proofs.Common.{PieceSet, Family, Profile, Setup, numbering, place_found, HasClass-marked, HasClasses-classes_of, HasRank-rank_of}
+use Rattle.dob_classes.proofs.Common.{present, represents, IsPositionOfSet-mirrored, Before-from_rank, rank_of_set-rises, rank_of_set-same, marked_place}
+use Rattle.dob_classes.proofs.Common.{HasClass, HasClasses, HasRank, IsInClass, IsPositionOf, IsRepresentative, RepresentsClass, family_of, is_present}
+use Rattle.dob_classes.proofs.Common.{class_number, class_setup, classes_of, is_marked, rank_of, marks_below, nth, rank_of_set, size_of_set, Before, IsEither}
+use Rattle.dob_classes.proofs.Common.{IsFirstOfTwo, IsPositionOfSet, RepresentativeOf}
 use Rattle.dob_rank.proofs.OfFamilies.FamilyOrder.{rank_of-rises}
 use Rattle.dob_rank.proofs.Positions.Sets.{set_of, IsPositionOfSet-set_of}
 use Rattle.dob_classes.proofs.OfFamilies.Counted.{fewer, one_count}
 use Rattle.dob_rank.proofs.Marked.Representatives.{not_before_itself, has_representative_of_set, one_of_either_of_set, same_representative_of_set, IsPlaceOf}
-use Rattle.dob_classes.proofs.OfFamilies.ClassNumbers.{marks_below-rises}
-use Rattle.dob_classes.proofs.OfFamilies.FamilyNumbers.{IsInClass-class_number, IsPositionOf-mirrored, class_number-mirrored}
+use Rattle.dob_classes.proofs.OfFamilies.FamilyNumbers.{IsInClass-class_number, IsPositionOf-mirrored, below_by_marks, class_number-mirrored, earlier_is}
+use Rattle.dob_classes.proofs.OfFamilies.FamilyNumbers.{marks_below-rises}
 
 -- ---- a position and its mirror image
 
@@ -21,10 +21,7 @@ has_representative family p is = has_representative_of_set family.set p is.of_se
 -- which is a representative of the family
 pub representative_is : (family : Family) (p representative : Setup) → IsPositionOf family p → RepresentativeOf p representative
     → IsRepresentative family representative
-representative_is family p representative is represents = elim represents.0 [
-  | inl same ↦ (subst (IsPositionOf family) (sym same) is, represents.1)
-  | inr image ↦ (subst (IsPositionOf family) (sym image) (IsPositionOf-mirrored family p is), represents.1)
-]
+representative_is family p representative is represents = ((earlier_is family p representative is represents).position, represents.1)
 
 -- a representative that is one of another and its mirror image is that other
 pub one_of_either : (family : Family) (p q : Setup) → IsRepresentative family p → IsRepresentative family q → IsEither p q → q ≡ p
@@ -60,17 +57,8 @@ class_rises family p q m n is_p is_q at_p at_q below =
 -- representatives with the same class number are the same
 pub one_of_class : (family : Family) (p q : Setup) (class : ℕ) → IsRepresentative family p → IsRepresentative family q
     → HasClass family p class → HasClass family q class → p ≡ q
-one_of_class family p q class is_p is_q at_p at_q = elim (cases_order (rank_of_set family.set p) (rank_of_set family.set q)) [
-  | inl same ↦ rank_of_set-same family.set p q is_p.0.of_set is_q.0.of_set same
-  | inr order ↦ elim order [
-    | inl before ↦
-        let rises = class_rises family p q class class is_p is_q at_p at_q before in
-        absurd (omega arith)
-    | inr after ↦
-        let rises = class_rises family q p class class is_q is_p at_q at_p after in
-        absurd (omega arith)
-  ]
-]
+one_of_class family p q class is_p is_q at_p at_q = rank_of_set-same family.set p q is_p.0.of_set is_q.0.of_set
+    (grind (arith, class_rises family p q class class is_p is_q at_p at_q, class_rises family q p class class is_q is_p at_q at_p))
 
 -- the same representatives have the same class number
 pub one_number : (family : Family) (p q : Setup) (a b : ℕ) → HasClass family p a → HasClass family q b → q ≡ p → a ≡ b
@@ -81,9 +69,7 @@ one_number family p q a b at_p at_q same =
 
 -- a position has one class number
 pub one_class : (family : Family) (p : Setup) (a b : ℕ) → IsInClass family p a → IsInClass family p b → a ≡ b
-one_class family p a b at_a at_b =
-    one_number family at_a.representative at_b.representative a b at_a.before at_b.before
-    (same_representative family p at_b.representative at_a.representative at_a.position at_b.stands at_a.stands)
+one_class family p a b at_a at_b = search (rules, one_number, same_representative)
 
 pub one_representative : (family : Family) (p q : Setup) (class : ℕ) → RepresentsClass family p class → RepresentsClass family q class → p ≡ q
 one_representative family p q class at_p at_q = one_of_class family p q class at_p.0 at_q.0 at_p.1 at_q.1
@@ -96,28 +82,19 @@ ranks_keep_order family p q a b is_p is_q at_p at_q =
     let same_q : b ≡ rank_of family q = one_count (λ s. IsPositionOf family s × Before s q) b (rank_of family q) at_q (HasRank-rank_of family q is_q) in (
       λ before. (let rises = marks_below-rises (is_present family) (rank_of_set family.set p) (rank_of_set family.set q) (present family p is_p)
           (rank_of_set-rises family.set p q is_p.of_set is_q.of_set before) in omega (arith, same_p, same_q, rises)),
-      λ below. elim (cases_lt (rank_of_set family.set p) (rank_of_set family.set q)) [
-        | inl earlier ↦ Before-from_rank family.set p q is_p.of_set is_q.of_set earlier
-        | inr upto ↦ absurd (let less = marks_below-upto (is_present family) (rank_of_set family.set q) (rank_of_set family.set p) upto in
-            omega (arith, same_p, same_q, below, less))
-      ],
+      λ below. Before-from_rank family.set p q is_p.of_set is_q.of_set
+          (below_by_marks (is_present family) (rank_of_set family.set p) (rank_of_set family.set q) (omega (arith, same_p, same_q, below))),
     )
 
 pub classes_keep_order : (family : Family) (p q : Setup) (a b : ℕ) → RepresentsClass family p a → RepresentsClass family q b → (Before p q ↔ (a < b))
-classes_keep_order family p q a b at_p at_q = (
-  λ before. class_rises family p q a b at_p.0 at_q.0 at_p.1 at_q.1 (rank_of_set-rises family.set p q at_p.0.0.of_set at_q.0.0.of_set before),
-  λ below. elim (cases_order (rank_of_set family.set p) (rank_of_set family.set q)) [
-    | inl same ↦
-        let one : a ≡ b = one_number family p q a b at_p.1 at_q.1 (rank_of_set-same family.set q p at_q.0.0.of_set at_p.0.0.of_set (sym same)) in
-        absurd (omega arith)
-    | inr order ↦ elim order [
-      | inl earlier ↦ Before-from_rank family.set p q at_p.0.0.of_set at_q.0.0.of_set earlier
-      | inr later ↦
-          let rises = class_rises family q p b a at_q.0 at_p.0 at_q.1 at_p.1 later in
-          absurd (omega arith)
-    ]
-  ],
-)
+classes_keep_order family p q a b at_p at_q =
+    let of_p = at_p.0.0.of_set in
+    let of_q = at_q.0.0.of_set in
+    let one : rank_of_set family.set q ≡ rank_of_set family.set p → a ≡ b
+    = λ same. one_number family p q a b at_p.1 at_q.1 (rank_of_set-same family.set q p of_q of_p same) in (
+      λ before. class_rises family p q a b at_p.0 at_q.0 at_p.1 at_q.1 (rank_of_set-rises family.set p q of_p of_q before),
+      λ below. Before-from_rank family.set p q of_p of_q (grind (arith, below, one, class_rises family q p b a at_q.0 at_p.0 at_q.1 at_p.1)),
+    )
 
 -- ---- the row of classes
 
@@ -133,11 +110,8 @@ class_setup_is family class classes all below =
     place_found (is_marked family) class (size_of_set family.set) (subst (λ n. class < n) count below) in
     let is = (numbering family.set).sound rank found.below in
     let back : rank_of_set family.set (nth family.set rank) ≡ rank = (numbering family.set).forth rank found.below in
-    let represents_it = represents family (nth family.set rank) is (ap (is_marked family) back ∙ found.marked) in (
-      represents_it,
-      subst (HasClass family (nth family.set rank)) (ap (marks_below (is_marked family)) back ∙ found.before)
-          (HasClass-marked family (nth family.set rank) represents_it.0),
-    )
+    let represents_it = represents family (nth family.set rank) is (ap (is_marked family) back ∙ found.marked) in
+    (represents_it, rw (back, found.before) at (HasClass-marked family (nth family.set rank) represents_it.0))
 
 -- and no other
 pub class_setup_only : (family : Family) (representative : Setup) (class classes : ℕ) → HasClasses family classes → class < classes
@@ -155,9 +129,8 @@ class_representative family s class is = (representative_is family s is.represen
 -- a position and its mirror image are in one class
 pub in_mirror : (family : Family) (s : Setup) (class : ℕ) → IsInClass family s class → IsInClass family (mirrored s) class
 in_mirror family s class is =
-    let image = IsPositionOf-mirrored family s is.position in
     let own = one_class family s class (class_number family s) is (IsInClass-class_number family s is.position) in
-    subst (IsInClass family (mirrored s)) (class_number-mirrored family s is.position ∙ sym own) (IsInClass-class_number family (mirrored s) image)
+    rw (own, ← class_number-mirrored family s is.position) (IsInClass-class_number family (mirrored s) (IsPositionOf-mirrored family s is.position))
 
 -- ---- the earlier of a position and its mirror image, by their ranks
 
@@ -169,28 +142,26 @@ not_before : (family : Family) (p q : Setup) (m n : ℕ) → IsPositionOf family
     → Before p q → ⊥
 not_before family p q m n hp hq rp rq le before = let up = rank_of-rises family p q hp hq before in omega (arith, rp, rq, up, le)
 
+-- the position of the lower rank stands first
+stands_first : (profile : Profile) (set : PieceSet) (s t : Setup) (m n : ℕ) → IsPositionOfSet set s → IsPositionOfSet set t → t ≡ mirrored s
+    → IsAllowed profile s → IsAllowed profile t → RankOf profile t m → RankOf profile s n → n ≤ m → IsFirstOfTwo s
+stands_first profile set s t m n ps pt e allowed image rt rs le before =
+    not_before (family_of set profile) t s m n (record { of_set = pt; allowed = image }) (record { of_set = ps; allowed = allowed }) (rt set pt) (rs set ps) le
+    (rw e before)
+
 -- the image has the lower rank
 pub image_first : (profile : Profile) (s t : Setup) (legal : IsLegal s) (m n : ℕ) → t ≡ mirrored s → IsAllowed profile s → IsAllowed profile t
     → RankOf profile t m → RankOf profile s n → m < n → RepresentativeOf s t
 image_first profile s t legal m n e allowed image rt rs lt =
     let ps : IsPositionOfSet (set_of s legal) s = IsPositionOfSet-set_of s legal in
-    let pt : IsPositionOfSet (set_of s legal) t = subst (IsPositionOfSet (set_of s legal)) (sym e) (IsPositionOfSet-mirrored (set_of s legal) s ps) in
-    let back : mirrored t ≡ s = ap mirrored e ∙ mirrored-mirrored s legal.squares in
-    let le : m ≤ n = omega (arith, lt) in (
-      inr e,
-      λ (b : Before (mirrored t) t).
-          not_before (family_of (set_of s legal) profile) s t n m (record { of_set = ps; allowed = allowed }) (record { of_set = pt; allowed = image }) (rs (set_of s legal) ps)
-          (rt (set_of s legal) pt) le (subst (λ (x : Setup). Before x t) back b),
-    )
+    let pt : IsPositionOfSet (set_of s legal) t = rw e (IsPositionOfSet-mirrored (set_of s legal) s ps) in
+    let back : s ≡ mirrored t = sym (ap mirrored e ∙ mirrored-mirrored s legal.squares) in
+    (inr e, stands_first profile (set_of s legal) t s n m pt ps back image allowed rs rt (omega (arith, lt)))
 
 -- or else the position is the earlier one
 pub itself_first : (profile : Profile) (s t : Setup) (legal : IsLegal s) (m n : ℕ) → t ≡ mirrored s → IsAllowed profile s → IsAllowed profile t
     → RankOf profile t m → RankOf profile s n → n ≤ m → RepresentativeOf s s
 itself_first profile s t legal m n e allowed image rt rs le =
     let ps : IsPositionOfSet (set_of s legal) s = IsPositionOfSet-set_of s legal in
-    let pt : IsPositionOfSet (set_of s legal) t = subst (IsPositionOfSet (set_of s legal)) (sym e) (IsPositionOfSet-mirrored (set_of s legal) s ps) in (
-      inl refl,
-      λ (b : Before (mirrored s) s).
-          not_before (family_of (set_of s legal) profile) t s m n (record { of_set = pt; allowed = image }) (record { of_set = ps; allowed = allowed }) (rt (set_of s legal) pt)
-          (rs (set_of s legal) ps) le (subst (λ (x : Setup). Before x s) (sym e) b),
-    )
+    let pt : IsPositionOfSet (set_of s legal) t = rw e (IsPositionOfSet-mirrored (set_of s legal) s ps) in
+    (inl refl, stands_first profile (set_of s legal) s t m n ps pt e allowed image rt rs le)

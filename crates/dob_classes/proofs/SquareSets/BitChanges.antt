@@ -1,9 +1,9 @@
 -- Sets of squares when one square of the setup changes.
-use Rattle.dob_classes.proofs.Common.{◌%◌, ◌*◌, ◌<◌, ◌^◌, ◌∙◌, ◌≡◌, ◌≤◌, Bool, None, Some, ap, arith, bit_and, bit_or, cond, false, inl, inr, length, refl, set}
-use Rattle.dob_classes.proofs.Common.{subst, sym, true, w16, ℕ, cases_Bool, cases_eq, get_or-set_other, get_or-set_same, and_le_l, or_lt, bit_at_clear_other}
-use Rattle.dob_classes.proofs.Common.{bit_at_clear_same, bit_at_set_other, bit_at_set_same, bit_at, bit_not, IsMask-same, bit_if, AreSquares, Cell, at}
-use Rattle.dob_classes.proofs.Common.{piece_of, Hands, Kind, Chick, Elephant, Giraffe, Hen, Lion, Side, Enemy, Mover, Setup, AreBitboards, is_chick}
-use Rattle.dob_classes.proofs.Common.{is_elephant, is_enemy, is_enemy_lion, is_giraffe, is_hen, is_own_lion, IsWith, with_enemy, with_own, Bitboards}
+use Rattle.dob_classes.proofs.Common.{◌%◌, ◌*◌, ◌<◌, ◌^◌, ◌∙◌, ◌≡◌, ◌≤◌, Bool, None, Some, ap, arith, bit_and, bit_or, cond, false, inl, inr, length, refl}
+use Rattle.dob_classes.proofs.Common.{rules, set, subst, sym, true, w16, ℕ, cases_Bool, cases_eq, and_le_l, or_lt, bit_at_clear_other, bit_at_clear_same}
+use Rattle.dob_classes.proofs.Common.{bit_at_set_other, bit_at_set_same, bit_at, bit_not, IsMask-same, bit_if, AreSquares, Cell, at, piece_of, Hands, Kind}
+use Rattle.dob_classes.proofs.Common.{Lion, Side, Enemy, Mover, Setup, AreBitboards, is_chick, is_elephant, is_enemy, is_enemy_lion, is_giraffe, is_hen}
+use Rattle.dob_classes.proofs.Common.{is_own_lion, IsWith, with_enemy, with_own, Bitboards}
 use Rattle.std.proofs.Math.Pow.{pow_mono}
 
 -- ---- one set
@@ -97,28 +97,21 @@ module _ (before after : Setup) (square : ℕ) (lt : square < 12) (b : Bitboards
       → new.enemies ≡ bit_and b.enemies (bit_not w16 (bit square))
       → new.hands ≡ b.hands → AreBitboards after new
   without_piece w new a i c d e f g h = record {
-    own_lion_is = subst (AreSquares after is_own_lion) (sym a) (gone before after square None lt w is_own_lion b.own_lion are.own_lion_is refl);
-    enemy_lion_is = subst (AreSquares after is_enemy_lion) (sym i) (gone before after square None lt w is_enemy_lion b.enemy_lion are.enemy_lion_is refl);
-    chicks_are = subst (AreSquares after is_chick) (sym c) (gone before after square None lt w is_chick b.chicks are.chicks_are refl);
-    elephants_are = subst (AreSquares after is_elephant) (sym d) (gone before after square None lt w is_elephant b.elephants are.elephants_are refl);
-    giraffes_are = subst (AreSquares after is_giraffe) (sym e) (gone before after square None lt w is_giraffe b.giraffes are.giraffes_are refl);
-    hens_are = subst (AreSquares after is_hen) (sym f) (gone before after square None lt w is_hen b.hens are.hens_are refl);
-    enemies_are = subst (AreSquares after is_enemy) (sym g) (gone before after square None lt w is_enemy b.enemies are.enemies_are refl);
+    own_lion_is = rw a (gone before after square None lt w is_own_lion b.own_lion are.own_lion_is refl);
+    enemy_lion_is = rw i (gone before after square None lt w is_enemy_lion b.enemy_lion are.enemy_lion_is refl);
+    chicks_are = rw c (gone before after square None lt w is_chick b.chicks are.chicks_are refl);
+    elephants_are = rw d (gone before after square None lt w is_elephant b.elephants are.elephants_are refl);
+    giraffes_are = rw e (gone before after square None lt w is_giraffe b.giraffes are.giraffes_are refl);
+    hens_are = rw f (gone before after square None lt w is_hen b.hens are.hens_are refl);
+    enemies_are = rw g (gone before after square None lt w is_enemy b.enemies are.enemies_are refl);
     hands_are = h ∙ are.hands_are ∙ sym w.hands_stay;
   }
 
   module _ (empty : at before square ≡ None) where
     pub piece_added : (side : Side) (kind : Kind) → IsWith before after square (Some (piece_of side kind)) → AreBitboards after (with_piece side kind square b)
     piece_added Mover Lion w = all_grown before after square _ lt w empty b _ are refl refl refl refl refl refl refl refl
-    piece_added Mover Giraffe w = all_grown before after square _ lt w empty b _ are refl refl refl refl refl refl refl refl
-    piece_added Mover Elephant w = all_grown before after square _ lt w empty b _ are refl refl refl refl refl refl refl refl
-    piece_added Mover Chick w = all_grown before after square _ lt w empty b _ are refl refl refl refl refl refl refl refl
-    piece_added Mover Hen w = all_grown before after square _ lt w empty b _ are refl refl refl refl refl refl refl refl
     piece_added Enemy Lion w = all_grown before after square _ lt w empty b _ are refl refl refl refl refl refl refl refl
-    piece_added Enemy Giraffe w = all_grown before after square _ lt w empty b _ are refl refl refl refl refl refl refl refl
-    piece_added Enemy Elephant w = all_grown before after square _ lt w empty b _ are refl refl refl refl refl refl refl refl
-    piece_added Enemy Chick w = all_grown before after square _ lt w empty b _ are refl refl refl refl refl refl refl refl
-    piece_added Enemy Hen w = all_grown before after square _ lt w empty b _ are refl refl refl refl refl refl refl refl
+    piece_added _ _ w = all_grown before after square _ lt w empty b _ are refl refl refl refl refl refl refl refl
 
     -- nothing comes on the empty square
     pub nothing_added : IsWith before after square None → AreBitboards after b
@@ -132,29 +125,12 @@ with_cell s square cell = record s { board = set s.board square cell }
 -- a square is changed once more
 pub with_cells : (s : Setup) (square : ℕ) (first second : Cell) → length s.board ≡ 12 → square < 12
     → IsWith (with_cell s square first) (with_cell s square second) square second
-with_cells s square first second twelve lt = record {
-  here = get_or-set_same s.board square second None (omega (arith, twelve, lt));
-  there = λ k below apart. get_or-set_other s.board square k second None apart ∙ sym (get_or-set_other s.board square k first None apart);
-  hands_stay = refl;
-}
+with_cells s square first second twelve lt = search rules
 
 pub with_one : (s : Setup) (square : ℕ) (cell : Cell) → length s.board ≡ 12 → square < 12 → IsWith s (with_cell s square cell) square cell
-with_one s square cell twelve lt = record {
-  here = get_or-set_same s.board square cell None (omega (arith, twelve, lt));
-  there = λ k below apart. get_or-set_other s.board square k cell None apart;
-  hands_stay = refl;
-}
+with_one s square cell twelve lt = search rules
 
 -- other hands
 pub with_hands : (s : Setup) (b : Bitboards) (hands found : Hands) → found ≡ hands → AreBitboards s b
     → AreBitboards (record s { hands = hands }) (record b { hands = found })
-with_hands s b hands found e are = record {
-  own_lion_is = are.own_lion_is;
-  enemy_lion_is = are.enemy_lion_is;
-  chicks_are = are.chicks_are;
-  elephants_are = are.elephants_are;
-  giraffes_are = are.giraffes_are;
-  hens_are = are.hens_are;
-  enemies_are = are.enemies_are;
-  hands_are = e;
-}
+with_hands s b hands found e are = grind arith

@@ -1,6 +1,6 @@
 -- Sets of squares with a piece more, as either side sees them.
 use Rattle.dob_classes.proofs.Common.{◌%◌, ◌*◌, ◌-◌, ◌/◌, ◌<◌, ◌^◌, ◌∙◌, ◌∷◌, ◌≡◌, ◌≢◌, Bool, List, None, [], ap, arith, bit_or, cond, false, length, refl}
-use Rattle.dob_classes.proofs.Common.{replicate, set, slice_index_or, subst, suc, sym, true, zero, ℕ, get_or-set_other, length-set, at-turned, bit_if, Cell, at}
+use Rattle.dob_classes.proofs.Common.{replicate, rules, set, slice_index_or, suc, true, zero, ℕ, get_or-set_other, length-set, at-turned, bit_if, Cell, at}
 use Rattle.dob_classes.proofs.Common.{setup_of, turned_cell, turned, Hands, Side, Enemy, Mover, Setup, base_of, cell_of, enemy_squares, order, own_squares, put}
 use Rattle.dob_classes.proofs.Common.{Chicks, Elephants, Empty, Giraffes, AreBitboards, is_chick, is_elephant, is_enemy, is_enemy_lion, is_giraffe, is_hen}
 use Rattle.dob_classes.proofs.Common.{is_own_lion, IsWith, seen_by, seen_hands, seen_owner, seen_square, Bitboards}
@@ -26,20 +26,11 @@ hands_turned before after e = ap (λ (hands : Hands). record { mover = hands.ene
 seen_with : (side : Side) (before after : Setup) (square : ℕ) (cell : Cell) → square < 12 → IsWith before after square cell
     → IsWith (seen_by side before) (seen_by side after) (seen_square side square) (seen_cell side cell)
 seen_with Mover before after square cell lt w = w
-seen_with Enemy before after square cell lt w = record {
-  here = (let back : 11 - (11 - square) ≡ square = omega arith in
-      at-turned after (11 - square) (omega arith) ∙ ap (λ (k : ℕ). turned_cell (at after k)) back ∙ ap turned_cell w.here);
-  there = λ k below apart. at-turned after k below
-      ∙ ap turned_cell (w.there (11 - k) (omega (arith, below)) (λ (e : 11 - k ≡ square). apart (omega (arith, e, below, lt))))
-      ∙ sym (at-turned before k below);
-  hands_stay = hands_turned before after w.hands_stay;
-}
+seen_with Enemy before after square cell lt w = grind (arith, at-turned, hands_turned)
 
 seen_empty : (side : Side) (before : Setup) (square : ℕ) → square < 12 → at before square ≡ None → at (seen_by side before) (seen_square side square) ≡ None
 seen_empty Mover before square lt e = e
-seen_empty Enemy before square lt e =
-    let back : 11 - (11 - square) ≡ square = omega arith in
-    at-turned before (11 - square) (omega arith) ∙ ap (λ (k : ℕ). turned_cell (at before k)) back ∙ ap turned_cell e
+seen_empty Enemy before square lt e = grind (arith, at-turned)
 
 -- ---- one more piece, by a flag for each set
 
@@ -91,10 +82,9 @@ pub lion_flags : (side : Side) (owner : ℕ) → owner < 2
     → HasFlags (seen_cell side (cell_of owner 0)) (1 - seen_owner side owner) (seen_owner side owner) 0 0 0 0 0
 lion_flags Mover zero lt = refl
 lion_flags Mover (suc zero) lt = refl
-lion_flags Mover (suc (suc n)) lt = absurd (omega arith)
 lion_flags Enemy zero lt = refl
 lion_flags Enemy (suc zero) lt = refl
-lion_flags Enemy (suc (suc n)) lt = absurd (omega arith)
+lion_flags _ (suc (suc n)) lt = absurd (omega arith)
 
 pub chick_flags : (side : Side) (form : ℕ) → form < 4
     → HasFlags (seen_cell side (cell_of (order Chicks) form)) 0 0 1 0 0 (form % 2) (seen_owner side (form / 2))
@@ -102,12 +92,11 @@ chick_flags Mover zero lt = refl
 chick_flags Mover (suc zero) lt = refl
 chick_flags Mover (suc (suc zero)) lt = refl
 chick_flags Mover (suc (suc (suc zero))) lt = refl
-chick_flags Mover (suc (suc (suc (suc n)))) lt = absurd (omega arith)
 chick_flags Enemy zero lt = refl
 chick_flags Enemy (suc zero) lt = refl
 chick_flags Enemy (suc (suc zero)) lt = refl
 chick_flags Enemy (suc (suc (suc zero))) lt = refl
-chick_flags Enemy (suc (suc (suc (suc n)))) lt = absurd (omega arith)
+chick_flags _ (suc (suc (suc (suc n)))) lt = absurd (omega arith)
 
 -- an elephant, and a giraffe
 pub other_flags : (side : Side) (form : ℕ) → form < 2
@@ -115,10 +104,9 @@ pub other_flags : (side : Side) (form : ℕ) → form < 2
     × HasFlags (seen_cell side (cell_of (order Giraffes) form)) 0 0 0 0 1 0 (seen_owner side form)
 other_flags Mover zero lt = (refl, refl)
 other_flags Mover (suc zero) lt = (refl, refl)
-other_flags Mover (suc (suc n)) lt = absurd (omega arith)
 other_flags Enemy zero lt = (refl, refl)
 other_flags Enemy (suc zero) lt = (refl, refl)
-other_flags Enemy (suc (suc n)) lt = absurd (omega arith)
+other_flags _ (suc (suc n)) lt = absurd (omega arith)
 
 -- nothing comes on an empty square
 pub nothing_came : (side : Side) (before after : Setup) (square form : ℕ) → square < 12 → at before square ≡ None
@@ -135,8 +123,7 @@ pub one_put : (setup : Setup) (first : ℕ) (cell : Cell) (A B : Setup → Type 
     → slice_index_or setup.board first None ≡ None
     → ((before after : Setup) → at before first ≡ None → IsWith before after first cell → A before → B after)
     → A setup → B (setup_of (set setup.board first cell) setup.hands)
-one_put setup first cell A B twelve lt empty step are = step setup (setup_of (set setup.board first cell) setup.hands) empty
-    (with_one setup first cell twelve lt) are
+one_put setup first cell A B twelve lt empty step are = search rules
 
 -- two pieces, the second one first
 pub two_put : (setup : Setup) (first second : ℕ) (cell other : Cell) (A B C : Setup → Type 0) → length setup.board ≡ 12 → first < 12 → second < 12
@@ -154,19 +141,14 @@ two_put setup first second cell other A B C twelve lt low empty free apart one t
 length-put : (t p a b n : ℕ) (cells : List Cell) → length (put t p a b n cells) ≡ length cells
 length-put t zero a b n cells = refl
 length-put t (suc zero) a b n cells = length-set cells a (cell_of t (n % base_of t))
-length-put t (suc (suc p)) a b n cells =
-    length-set (set cells b (cell_of t (n % base_of t))) a (cell_of t (n / base_of t % base_of t)) ∙ length-set cells b (cell_of t (n % base_of t))
+length-put t (suc (suc p)) a b n cells = search rules
 
 -- what pieces on two squares leave, by other words for the squares
 pub put_moved : (P Q : Setup → Type 0) (t p a b n a' b' : ℕ) → a ≡ a' → b ≡ b'
     → ((setup : Setup) → length setup.board ≡ 12 → AreFree p a b setup.board → P setup → Q (setup_of (put t p a b n setup.board) setup.hands))
     → (setup : Setup) → length setup.board ≡ 12 → AreFree p a' b' setup.board → P setup
     → (length (put t p a' b' n setup.board) ≡ 12) × Q (setup_of (put t p a' b' n setup.board) setup.hands)
-put_moved P Q t p a b n a' b' e f step setup twelve free are = (
-  length-put t p a' b' n setup.board ∙ twelve,
-  subst (λ (y : ℕ). AreFree p a' y setup.board → Q (setup_of (put t p a' y n setup.board) setup.hands)) f
-      (subst (λ (x : ℕ). AreFree p x b setup.board → Q (setup_of (put t p x b n setup.board) setup.hands)) e (λ there. step setup twelve there are)) free,
-)
+put_moved P Q t p a b n a' b' e f step setup twelve free are = grind (arith, length-put)
 
 pub at_least_two : (p : ℕ) → 1 < p → (Holds : ℕ → Type 0) → ((n : ℕ) → Holds (suc (suc n))) → Holds p
 at_least_two zero h Holds each = absurd (omega arith)
@@ -185,8 +167,7 @@ none_there (suc n) (suc k) = none_there n k
 
 pub empty_seen : (side : Side) (hands : Hands) (square : ℕ) → square < 12 → at (seen_by side (setup_of (replicate 12 None) hands)) square ≡ None
 empty_seen Mover hands square lt = none_there 12 square
-empty_seen Enemy hands square lt =
-    at-turned (setup_of (replicate 12 None) hands) square lt ∙ ap turned_cell (none_there 12 (11 - square))
+empty_seen Enemy hands square lt = at-turned (setup_of (replicate 12 None) hands) square lt ∙ ap turned_cell (none_there 12 (11 - square))
 
 pub hands_seen : (side : Side) (board : List Cell) (hands : Hands) → (seen_by side (setup_of board hands)).hands ≡ seen_hands side hands
 unfolding turned

@@ -1,7 +1,7 @@
 -- Sets of squares found in one pass over the board: five in one word, twelve bits each, which no sum carries over.
 use Rattle.dob_classes.proofs.Common.{◌*◌, ◌+◌, ◌-◌, ◌<◌, ◌^◌, ◌||◌, ◌∙◌, ◌∷◌, ◌≡◌, ◌≤◌, Bool, List, None, Some, [], ap, arith, drop, false, length, refl}
-use Rattle.dob_classes.proofs.Common.{slice_index_or, suc, sym, ℕ, at-turned, length-turned, entry_of, Cell, at, piece_of, turned_cell, turned, Kind, Chick}
-use Rattle.dob_classes.proofs.Common.{Elephant, Giraffe, Hen, Lion, Side, Enemy, Mover, Setup, Chicks, Elephants, Giraffes, is_hen, is_of}
+use Rattle.dob_classes.proofs.Common.{slice_index_or, suc, ℕ, at-turned, length-turned, entry_of, Cell, at, piece_of, turned_cell, turned, Kind, Lion, Side}
+use Rattle.dob_classes.proofs.Common.{Enemy, Mover, Setup, Chicks, Elephants, Giraffes, is_hen, is_of}
 use Rattle.std.proofs.Math.Seq.{drop-cons}
 use Rattle.dob_pieces.specs.Pieces.{is_side, other_side}
 use Rattle.dob_pieces.proofs.Planes.{mask_of, mask_of-small, is_lion, word_by, word_by-small, word_by-parts, AreIn, IsRead, from_start}
@@ -23,15 +23,8 @@ word_piece : (side : Side) (kind : Kind) (cells : List Cell)
     → word_of (Some (piece_of (other_side side) kind) ∷ cells) ≡ 2 * word_of cells + entry_of TURNED_PLANES (Some (piece_of side kind))
 unfolding word_of
 word_piece Mover Lion cells = omega arith
-word_piece Mover Giraffe cells = omega arith
-word_piece Mover Elephant cells = omega arith
-word_piece Mover Chick cells = omega arith
-word_piece Mover Hen cells = omega arith
 word_piece Enemy Lion cells = omega arith
-word_piece Enemy Giraffe cells = omega arith
-word_piece Enemy Elephant cells = omega arith
-word_piece Enemy Chick cells = omega arith
-word_piece Enemy Hen cells = omega arith
+word_piece _ _ cells = omega arith
 
 word_cell : (cell : Cell) (cells : List Cell) → word_of (turned_cell cell ∷ cells) ≡ 2 * word_of cells + entry_of TURNED_PLANES cell
 unfolding word_of
@@ -40,29 +33,21 @@ word_cell (Some piece) cells = word_piece piece.side piece.kind cells
 
 -- ---- one more square
 
-one_added : (word read : ℕ) (cell : Cell) (cells : List Cell) → word ≡ word_of cells → read ≡ entry_of TURNED_PLANES cell
-    → word_of (turned_cell cell ∷ cells) ≡ 2 * word_of cells + entry_of TURNED_PLANES cell → 2 * word + read ≡ word_of (turned_cell cell ∷ cells)
-one_added word read cell cells w r more = omega (arith, w, r, more)
-
 word_more : (board : List Cell) (i word read : ℕ) (cell : Cell) → i < length board → slice_index_or board i None ≡ turned_cell cell
     → word ≡ word_of (drop (suc i) board) → read ≡ entry_of TURNED_PLANES cell → 2 * word + read ≡ word_of (drop i board)
 word_more board i word read cell lt there w r =
-    let cons = drop-cons board i None lt in
-    let more = word_cell cell (drop (suc i) board) in
-    one_added word read cell (drop (suc i) board) w r more ∙ ap (λ (c : Cell). word_of (c ∷ drop (suc i) board)) (sym there) ∙ ap word_of (sym cons)
+    rw (drop-cons board i None lt, there) (let more = word_cell cell (drop (suc i) board) in omega (arith, more, r, w))
 
 -- ---- the masks in a word
 
 word_small : (cells : List Cell) → length cells ≤ 12 → word_of cells < 2 ^ 60
 unfolding word_of
-word_small cells le = word_by-small _ _ _ _ _ (mask_of-small is_lion cells le) (mask_of-small is_foe cells le) (mask_of-small (is_of Chicks) cells le)
-    (mask_of-small (is_of Elephants) cells le) (mask_of-small is_giraffe_or_hen cells le)
+word_small cells le = grind (arith, word_by-small, mask_of-small)
 
 pub word_planes : (cells : List Cell) → length cells ≤ 12 → AreIn (word_of cells) (mask_of is_lion cells) (mask_of is_foe cells)
     (mask_of (is_of Chicks) cells) (mask_of (is_of Elephants) cells) (mask_of is_giraffe_or_hen cells)
 unfolding word_of
-word_planes cells le = word_by-parts _ _ _ _ _ (mask_of-small is_lion cells le) (mask_of-small is_foe cells le) (mask_of-small (is_of Chicks) cells le)
-    (mask_of-small (is_of Elephants) cells le) (mask_of-small is_giraffe_or_hen cells le)
+word_planes cells le = grind (arith, word_by-parts, mask_of-small)
 
 -- ---- the pass over the board
 

@@ -1,10 +1,9 @@
 -- Sets of squares of a setup: its layers as masks, and the form of a piece by the sets that have its square.
 use Rattle.dob_classes.proofs.Common.{◌*◌, ◌+◌, ◌-◌, ◌/◌, ◌<◌, ◌==◌, ◌^◌, ◌∙◌, ◌∷◌, ◌≡◌, List, None, [], ap, arith, bit_and, get_or, inl, inr, length, map}
-use Rattle.dob_classes.proofs.Common.{refl, slice_index_or, subst, suc, sym, zero, ℕ, cases_eq, eq-eqb, ne_eqb, bit_at-suc, bit_at, bit_if, AreSquares, Cell}
-use Rattle.dob_classes.proofs.Common.{at, Setup, count_other, count_same, count, layer, order, form, Chicks, AreBitboards, is_enemy, is_hen, is_of, Bitboards}
+use Rattle.dob_classes.proofs.Common.{refl, slice_index_or, suc, sym, zero, ℕ, cases_eq, eq-eqb, ne_eqb, bit_at-suc, bit_at, bit_if, AreSquares, Cell, at}
+use Rattle.dob_classes.proofs.Common.{Setup, count_other, count_same, count, layer, order, form, Chicks, AreBitboards, is_enemy, is_hen, is_of, Bitboards}
 use Rattle.dob_rank.specs.declared.layers.Layer.{Layer}
 use Rattle.dob_rank.specs.Masks.{layer_mask}
-use Rattle.dob_rank.proofs.Boards.EachCell.{of_cell}
 use Rattle.dob_rank.proofs.Boards.Planes.{first_square, second_square, lowest, first_found, second_found}
 
 -- the lowest bit of a number, and the others
@@ -30,17 +29,7 @@ layer_of_squares of_layer setup mask twelve are =
 
 first_layer : (t : ℕ) (cells : List Cell) → 0 < count t (map layer cells) → layer (get_or cells (first_square t (map layer cells)) None) ≡ t
 first_layer t [] h = absurd (omega arith)
-first_layer t (cell ∷ cells) h = elim (cases_eq (layer cell) t) [
-  | inl e ↦ ap (λ (k : ℕ). layer (get_or (cell ∷ cells) k None)) (first_at e) ∙ e
-  | inr n ↦ ap (λ (k : ℕ). layer (get_or (cell ∷ cells) k None)) (first_after n)
-      ∙ first_layer t cells (subst (λ (x : ℕ). 0 < x) (count_other t (layer cell) (map layer cells) n) h)
-]
-  where
-    first_at : layer cell ≡ t → first_square t (layer cell ∷ map layer cells) ≡ 0
-    first_at e = rw (eq-eqb (layer cell) t e) refl
-
-    first_after : (layer cell ≡ t → ⊥) → first_square t (layer cell ∷ map layer cells) ≡ suc (first_square t (map layer cells))
-    first_after n = rw (ne_eqb (layer cell) t n) refl
+first_layer t (cell ∷ cells) h = grind (arith, count_other, (first_layer t cells))
 
 second_layer : (t : ℕ) (cells : List Cell) → count t (map layer cells) ≡ 2 → layer (get_or cells (second_square t (map layer cells)) None) ≡ t
 second_layer t [] h = absurd (omega arith)
@@ -70,12 +59,8 @@ second_of_layer t cells mask less long is less_is two =
 -- ---- the form of a cell of a known layer
 
 chick_form : (cell : Cell) → layer cell ≡ order Chicks → 2 * bit_if (is_enemy cell) + bit_if (is_hen cell) ≡ form cell
-chick_form = of_cell (λ cell. layer cell ≡ order Chicks → 2 * bit_if (is_enemy cell) + bit_if (is_hen cell) ≡ form cell)
-    (λ e. absurd (omega (arith, e))) (λ e. absurd (omega (arith, e)), λ e. absurd (omega (arith, e)), λ e. absurd (omega (arith, e)), λ e. refl, λ e. refl)
-    (λ e. absurd (omega (arith, e)), λ e. absurd (omega (arith, e)), λ e. absurd (omega (arith, e)), λ e. refl, λ e. refl)
+chick_form = grind arith
 
 pub chick_found : (setup : Setup) (bits : Bitboards) (square enemy hen : ℕ) → square < 12 → AreBitboards setup bits → layer (at setup square) ≡ order Chicks
     → enemy ≡ bit_at bits.enemies square → hen ≡ bit_at bits.hens square → 2 * enemy + hen ≡ form (at setup square)
-chick_found setup bits square enemy hen lt are is e h =
-    ap (λ (n : ℕ). 2 * n + hen) (e ∙ are.enemies_are.bits square lt)
-    ∙ ap (λ (n : ℕ). 2 * bit_if (is_enemy (at setup square)) + n) (h ∙ are.hens_are.bits square lt) ∙ chick_form (at setup square) is
+chick_found setup bits square enemy hen lt are is e h = grind (arith, chick_form)

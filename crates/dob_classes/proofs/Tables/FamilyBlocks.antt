@@ -3,9 +3,9 @@ use Rattle.dob_classes.proofs.Common.{◌%◌, ◌*◌, ◌++◌, ◌+◌, ◌-�
 use Rattle.dob_classes.proofs.Common.{subst, sym, true, ℕ, length_push, Family, Profile, A, B, Setup, AreFewOnBoard-digits, marks_from, run_start_next}
 use Rattle.dob_classes.proofs.Common.{start_small, spot_there, marks_below-le, marks_below_none, classes_of-below, HasClasses-classes_of, represents, there}
 use Rattle.dob_classes.proofs.Common.{HasDigits-numbers, sum_below_more, local_in_bases, made_in_block, run_in_bases, HasClasses, IsPositionOf, family_of}
-use Rattle.dob_classes.proofs.Common.{is_present, classes_of, is_marked, marks_below, HasDigits, block_bases, block_of, block_size, digits_of, number_of}
-use Rattle.dob_classes.proofs.Common.{product, rank_of_set, start_of, size_of_set, AreFewOnBoard, lion_pairs, local_bases, run_bases, run_of, run_start}
-use Rattle.dob_classes.proofs.Common.{runs_in, local_of, run_size, IsInRunOf, IsNumbered, classes_before, is_there, local_marks_in, run_size_in, BlockClasses}
+use Rattle.dob_classes.proofs.Common.{is_present, classes_of, is_marked, marks_below, HasDigits, block_bases, block_of, digits_of, number_of, product}
+use Rattle.dob_classes.proofs.Common.{rank_of_set, start_of, size_of_set, AreFewOnBoard, lion_pairs, local_bases, run_bases, run_of, run_start, runs_in}
+use Rattle.dob_classes.proofs.Common.{local_of, run_size, IsInRunOf, IsNumbered, classes_before, is_there, local_marks_in, run_size_in, BlockClasses}
 use Rattle.dob_classes.proofs.Common.{classes_to_block, classes_to_place, classes_to_run, classes_to_setup}
 use Rattle.dob_classes.specs.BlockTables.{IsBlock, AreBlocks}
 use Rattle.dob_rank.specs.Places.{IsPresentAt, IsPlaceFor}
@@ -126,11 +126,7 @@ own_spot family s p =
 spot_of : (family : Family) (s : Setup) (of : Family) (block run number : ℕ) → IsPositionOf family s → of ≡ family → block ≡ block_of family.set s
     → run ≡ run_of family.set s → number ≡ marks_below (is_there family (block_of family.set s) (run_of family.set s)) (local_of s)
     → IsSpotFor family s of block run number
-spot_of family s of block run number p of_is block_is run_is number_is =
-    subst (λ f. IsSpotFor family s f block run number) (sym of_is)
-    (subst (λ b. IsSpotFor family s family b run number) (sym block_is)
-    (subst (λ r. IsSpotFor family s family (block_of family.set s) r number) (sym run_is)
-    (subst (IsSpotFor family s family (block_of family.set s) (run_of family.set s)) (sym number_is) (own_spot family s p))))
+spot_of family s of block run number p of_is block_is run_is number_is = grind (arith, own_spot)
 
 -- and of the block that is read
 pub spot_read : (family : Family) (s : Setup) (blocks : List BlockClasses) (index run number : ℕ) (block : BlockClasses) → IsPositionOf family s
@@ -150,12 +146,7 @@ pub record HasClassesFrom (family : Family) (index : ℕ) (block : BlockClasses)
   pub after_is : block.after ≡ classes_to_block family (index + 1)
 
 from_block : (family : Family) (index : ℕ) (block : BlockClasses) → IsBlock family index block → HasClassesFrom family index block
-from_block family index block is = record {
-  is = is;
-  before_is = block.starts ∙ ap (λ (f : Family). classes_to_block f block.number) is.family_is ∙ ap (classes_to_block family) is.number_is;
-  after_is = block.ends ∙ ap (marks_below (is_marked block.family)) (sym (sum_below_more (block_size block.family.set) block.number))
-      ∙ ap (λ (f : Family). classes_to_block f (block.number + 1)) is.family_is ∙ ap (λ n. classes_to_block family (n + 1)) is.number_is;
-}
+from_block family index block is = grind (arith, sum_below_more)
 
 pub classes_read : (family : Family) (blocks : List BlockClasses) (index : ℕ) (block : BlockClasses) → AreBlocks family blocks → index < length blocks
     → block ≡ slice_index_or blocks index block → HasClassesFrom family index block
@@ -194,16 +185,10 @@ pub class_in_blocks : (family : Family) (class number : ℕ) → class < classes
 class_in_blocks family class number below is = subst (λ n. class < n) (sym (classes_all family number _ is refl)) below
 
 pub in_first : (family : Family) (class number : ℕ) → number ≤ 0 → class < classes_to_block family number → ⊥
-in_first family class number none below =
-    let zero_is : number ≡ 0 = omega arith in
-    let none_before : classes_to_block family number ≡ 0 = ap (classes_to_block family) zero_is ∙ sym (no_classes_yet family) in
-    omega (arith, below, none_before)
+in_first family class number none below = grind (arith, no_classes_yet)
 
 pub classes_few : (family : Family) (block : ℕ) → block ≤ product (block_bases family.set) → classes_to_block family block ≤ 27 * 2 ^ 36
-classes_few family block upto =
-    let start = start_small family.set block upto in
-    let marks = marks_below-le (is_marked family) (start_of family.set block) in
-    omega (arith, start, marks)
+classes_few family block upto = grind (arith, start_small, marks_below-le)
 
 -- ---- the position at a spot of the block that is read
 
@@ -214,11 +199,7 @@ pub record IsSpotOf (family : Family) (block : BlockClasses) (run local : ℕ) :
 
 pub spot_in_block : (family : Family) (run local : ℕ) (block : BlockClasses) → block.family ≡ family → run < runs_in block.family.set block.number
     → local < run_size block.family.set block.number → IsSpotOf family block run local
-spot_in_block family run local block is run_low local_low = subst (λ (f : Family). IsSpotOf f block run local) is (record {
-  on_board_has = HasDigits-numbers block.family.set block.number block.on_board block.within block.numbers;
-  run_below = run_in_bases block.family.set block.number run block.on_board block.numbers run_low;
-  local_below = local_in_bases block.family.set block.number local block.on_board block.numbers local_low;
-})
+spot_in_block family run local block is run_low local_low = grind (arith, HasDigits-numbers, run_in_bases, local_in_bases)
 
 -- at a marked spot stands the representative of its class
 pub at_spot_in : (family : Family) (run local class : ℕ) (block : BlockClasses) (s : Setup) → block.family ≡ family

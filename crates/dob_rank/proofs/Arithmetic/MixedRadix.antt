@@ -1,7 +1,7 @@
 -- Mixed radix numbers: the number of the digits and the digits of the number, in order.
-use Rattle.dob_rank.proofs.Common.{◌%◌, ◌*◌, ◌++◌, ◌+◌, ◌/◌, ◌<◌, ◌∙◌, ◌∷◌, ◌≡◌, ◌≤◌, List, [], ap, arith, get_or, inl, inr, length, refl, subst, suc, sym}
-use Rattle.dob_rank.proofs.Common.{zero, ℕ, add-mul, mul_assoc, mul_comm, div-add-mod', div-mul-add, div_below, mod-mul-add, mod_below, mul-add-lt, HasDigits}
-use Rattle.dob_rank.proofs.Common.{digits_of, number_of, product, Precedes, append-nil}
+use Rattle.dob_rank.proofs.Common.{◌%◌, ◌*◌, ◌++◌, ◌+◌, ◌/◌, ◌<◌, ◌∙◌, ◌∷◌, ◌≡◌, ◌≤◌, List, [], ap, arith, get_or, inl, inr, length, refl, suc, sym, zero, ℕ}
+use Rattle.dob_rank.proofs.Common.{add-mul, mul_assoc, mul_comm, div-add-mod', div-mul-add, div_below, mod-mul-add, mod_below, mul-add-lt, HasDigits, digits_of}
+use Rattle.dob_rank.proofs.Common.{number_of, product, Precedes, append-nil, mul-le}
 use Rattle.dob_rank.proofs.Arithmetic.Order.{Upto, Upto-split}
 
 -- a digit below its base, and less than a whole step after it
@@ -21,49 +21,37 @@ number_of-below bs ds h = absurd h
 
 -- an earlier list of digits has a lower number
 pub number_of-rises : (bases xs ys : List ℕ) → HasDigits bases xs → HasDigits bases ys → Precedes xs ys → number_of bases xs < number_of bases ys
-number_of-rises [] [] [] h k p = absurd p
-number_of-rises [] [] (y ∷ ys) h k p = absurd k
-number_of-rises [] (x ∷ xs) ys h k p = absurd h
-number_of-rises (b ∷ bs) [] ys h k p = absurd h
-number_of-rises (b ∷ bs) (x ∷ xs) [] h k p = absurd k
 number_of-rises (b ∷ bs) (x ∷ xs) (y ∷ ys) h k p =
-    let low : number_of bs xs < product bs = number_of-below bs xs h.1 in
-    elim p [
-      | inl lt ↦ (let step : x * product bs + number_of bs xs < y * product bs = digit_below x y (product bs) (number_of bs xs) lt low in omega arith)
-      | inr q ↦ (let rest : number_of bs xs < number_of bs ys = number_of-rises bs xs ys h.1 k.1 q.1 in
-          let same : x * product bs ≡ y * product bs = ap (λ (z : ℕ). z * product bs) q.0 in omega arith)
-    ]
+    let low = digit_below x y (product bs) (number_of bs xs) in
+    grind (arith, low, number_of-below bs xs h.1, number_of-rises bs xs ys h.1 k.1)
+number_of-rises bs xs ys h k p = grind arith
 
-pub number_of-upto : (bases xs ys : List ℕ) → length xs ≡ length ys → HasDigits bases xs → HasDigits bases ys → Upto xs ys → number_of bases xs ≤ number_of bases ys
-number_of-upto bases xs ys e h k p =
-    elim (Upto-split xs ys [] [] e (subst (λ (zs : List ℕ). Upto zs (ys ++ [])) (sym (append-nil xs)) (subst (Upto xs) (sym (append-nil ys)) p))) [
-      | inl lt ↦ (let less = number_of-rises bases xs ys h k lt in omega (arith, less))
-      | inr q ↦ (let same : number_of bases xs ≡ number_of bases ys = ap (number_of bases) q.0 in omega arith)
-    ]
+pub number_of-upto : (bases xs ys : List ℕ) → length xs ≡ length ys → HasDigits bases xs → HasDigits bases ys → Upto xs ys → number_of bases xs ≤ number_of
+    bases ys
+number_of-upto bases xs ys e h k p = elim (Upto-split xs ys [] [] e (rw (append-nil xs, append-nil ys) p)) [
+  | inl lt ↦ (let less = number_of-rises bases xs ys h k lt in omega arith)
+  | inr q ↦ rw q.0 (omega arith)
+]
 
 -- the digits of a number below the product are below their bases
 pub HasDigits-digits_of : (bases : List ℕ) (n : ℕ) → n < product bases → HasDigits bases (digits_of bases n)
 HasDigits-digits_of [] n h = tt
 HasDigits-digits_of (b ∷ bs) n h =
-    let positive : 0 < product bs = factor_positive n b (product bs) h in
+    let positive = factor_positive n b (product bs) h in
     (div_below n (product bs) b positive h, HasDigits-digits_of bs (n % product bs) (mod_below n (product bs) positive))
 
 -- the number of a number's digits is that number
 pub number_of-digits_of : (bases : List ℕ) (n : ℕ) → n < product bases → number_of bases (digits_of bases n) ≡ n
 number_of-digits_of [] n h = omega arith
 number_of-digits_of (b ∷ bs) n h =
-    let positive : 0 < product bs = factor_positive n b (product bs) h in
-    let rest : number_of bs (digits_of bs (n % product bs)) ≡ n % product bs
-    = number_of-digits_of bs (n % product bs) (mod_below n (product bs) positive) in
-    omega (arith, div-add-mod' n (product bs))
+    omega (arith, number_of-digits_of bs (n % product bs) (mod_below n (product bs) (factor_positive n b (product bs) h)), div-add-mod' n (product bs))
 
 -- the digits of the number that digits write are those digits
 pub digits_of-number_of : (bases digits : List ℕ) → HasDigits bases digits → digits_of bases (number_of bases digits) ≡ digits
 digits_of-number_of [] [] h = refl
 digits_of-number_of (b ∷ bs) (d ∷ ds) h =
-    let low : number_of bs ds < product bs = number_of-below bs ds h.1 in
-    let rest : digits_of bs (number_of bs ds) ≡ ds = digits_of-number_of bs ds h.1 in
-    rw (div-mul-add d (product bs) (number_of bs ds) low, mod-mul-add d (product bs) (number_of bs ds) low, rest)
+    let low = number_of-below bs ds h.1 in
+    rw (div-mul-add d (product bs) (number_of bs ds) low, mod-mul-add d (product bs) (number_of bs ds) low, digits_of-number_of bs ds h.1)
 digits_of-number_of bs ds h = absurd h
 
 -- ---- in two parts
@@ -76,13 +64,12 @@ pub number_of-append : (bs cs xs ys : List ℕ) → length bs ≡ length xs →
     number_of (bs ++ cs) (xs ++ ys) ≡ number_of bs xs * product cs + number_of cs ys
 number_of-append [] cs [] ys e = omega arith
 number_of-append (b ∷ bs) cs (x ∷ xs) ys e =
-    let rest : number_of (bs ++ cs) (xs ++ ys) ≡ number_of bs xs * product cs + number_of cs ys =
-    number_of-append bs cs xs ys (omega arith) in
-    let front : x * product (bs ++ cs) ≡ x * product bs * product cs =
-    ap (λ n. x * n) (product-append bs cs) ∙ sym (mul_assoc x (product bs) (product cs)) in
-    let sum : (x * product bs + number_of bs xs) * product cs ≡ x * product bs * product cs + number_of bs xs * product cs =
-    add-mul (x * product bs) (number_of bs xs) (product cs) in
-    omega (arith, rest, front, sum)
+    rw (
+      product-append bs cs,
+      number_of-append bs cs xs ys (omega arith),
+      add-mul (x * product bs) (number_of bs xs) (product cs),
+      mul_assoc x (product bs) (product cs),
+    ) (omega arith)
 number_of-append bs cs xs ys e = absurd (omega arith)
 
 length-digits_of : (bs : List ℕ) (n : ℕ) → length bs ≡ length (digits_of bs n)
@@ -98,41 +85,39 @@ HasDigits-append bs cs xs ys h k = absurd h
 pub digits_of-append : (bs cs : List ℕ) (n : ℕ) → n < product (bs ++ cs) →
     digits_of (bs ++ cs) n ≡ digits_of bs (n / product cs) ++ digits_of cs (n % product cs)
 digits_of-append bs cs n h =
-    let below : n < product bs * product cs = subst (λ (m : ℕ). n < m) (product-append bs cs) h in
-    let some : 0 < product cs = factor_positive n (product bs) (product cs) below in
-    let high : n / product cs < product bs = div_below n (product cs) (product bs) some below in
-    let low : n % product cs < product cs = mod_below n (product cs) some in
-    let whole : number_of (bs ++ cs) (digits_of bs (n / product cs) ++ digits_of cs (n % product cs)) ≡ n =
-    number_of-append bs cs (digits_of bs (n / product cs)) (digits_of cs (n % product cs)) (length-digits_of bs (n / product cs))
-    ∙ ap (λ (x : ℕ). x * product cs + number_of cs (digits_of cs (n % product cs))) (number_of-digits_of bs (n / product cs) high)
-    ∙ ap (λ (x : ℕ). n / product cs * product cs + x) (number_of-digits_of cs (n % product cs) low)
-    ∙ div-add-mod' n (product cs) in
-    ap (digits_of (bs ++ cs)) (sym whole)
-    ∙ digits_of-number_of (bs ++ cs) (digits_of bs (n / product cs) ++ digits_of cs (n % product cs))
-    (HasDigits-append bs cs (digits_of bs (n / product cs)) (digits_of cs (n % product cs)) (HasDigits-digits_of bs (n / product cs) high)
-    (HasDigits-digits_of cs (n % product cs) low))
+    let below : n < product bs * product cs = rw (product-append bs cs) at h in
+    let some = factor_positive n (product bs) (product cs) below in
+    let high = div_below n (product cs) (product bs) some below in
+    let low = mod_below n (product cs) some in
+    let back = digits_of-number_of (bs ++ cs) (digits_of bs (n / product cs) ++ digits_of cs (n % product cs))
+    (HasDigits-append bs cs (digits_of bs (n / product cs)) (digits_of cs (n % product cs))
+    (HasDigits-digits_of bs (n / product cs) high) (HasDigits-digits_of cs (n % product cs) low)) in
+    rw (
+      number_of-append bs cs (digits_of bs (n / product cs)) (digits_of cs (n % product cs)) (length-digits_of bs (n / product cs)),
+      number_of-digits_of bs (n / product cs) high,
+      number_of-digits_of cs (n % product cs) low,
+      div-add-mod' n (product cs),
+    ) at back
 
 -- the number that two parts make is below the product of both, and its digits are theirs
 pub parts-below : (bs cs : List ℕ) (high low : ℕ) → high < product bs → low < product cs → high * product cs + low < product (bs ++ cs)
-parts-below bs cs high low h l =
-    subst (λ (n : ℕ). high * product cs + low < n) (sym (product-append bs cs)) (digit_below high (product bs) (product cs) low h l)
+parts-below bs cs high low h l = rw (product-append bs cs) (digit_below high (product bs) (product cs) low h l)
 
 pub digits_of-parts : (bs cs : List ℕ) (high low : ℕ) → high < product bs → low < product cs →
     digits_of (bs ++ cs) (high * product cs + low) ≡ digits_of bs high ++ digits_of cs low
 digits_of-parts bs cs high low h l =
-    digits_of-append bs cs (high * product cs + low) (parts-below bs cs high low h l)
-    ∙ ap (λ (n : ℕ). digits_of bs n ++ digits_of cs ((high * product cs + low) % product cs)) (div-mul-add high (product cs) low l)
-    ∙ ap (λ (n : ℕ). digits_of bs high ++ digits_of cs n) (mod-mul-add high (product cs) low l)
+    rw (
+      digits_of-append bs cs (high * product cs + low) (parts-below bs cs high low h l),
+      div-mul-add high (product cs) low l,
+      mod-mul-add high (product cs) low l,
+    )
 
 once : (n : ℕ) → n * 1 ≡ n
 once n = omega arith
 
 -- three digits make their number by two steps
 pub number_of-three : (a b c x y z : ℕ) → (x * b + y) * c + z ≡ number_of (a ∷ b ∷ c ∷ []) (x ∷ y ∷ z ∷ [])
-number_of-three a b c x y z =
-    let sum : (x * b + y) * c ≡ x * b * c + y * c = add-mul (x * b) y c in
-    let first : x * b * c ≡ x * (b * (c * 1)) = mul_assoc x b c ∙ ap (λ (n : ℕ). x * (b * n)) (sym (once c)) in
-    omega (arith, sum, first)
+number_of-three a b c x y z = simp (add-mul, mul_assoc) (omega arith)
 
 -- the same of lists of three, and that nothing on the way is too large
 pub record IsNumberOfThree (bs ds : List ℕ) : Type 0 where
@@ -144,21 +129,17 @@ pub record IsNumberOfThree (bs ds : List ℕ) : Type 0 where
 
 pub number_by_three : (bs ds : List ℕ) → length bs ≡ 3 → length ds ≡ 3 → HasDigits bs ds → IsNumberOfThree bs ds
 number_by_three (a ∷ b ∷ c ∷ []) (x ∷ y ∷ z ∷ []) e f h =
-    let low : number_of (a ∷ b ∷ c ∷ []) (x ∷ y ∷ z ∷ []) < product (a ∷ b ∷ c ∷ []) = number_of-below (a ∷ b ∷ c ∷ []) (x ∷ y ∷ z ∷ []) h in
-    let is : (x * b + y) * c + z ≡ number_of (a ∷ b ∷ c ∷ []) (x ∷ y ∷ z ∷ []) = number_of-three a b c x y z in
-    let some : z < c = h.1.1.0 in
-    let more : x * b + y ≤ (x * b + y) * c = times_some (x * b + y) c (omega arith) in
+    let low = number_of-below (a ∷ b ∷ c ∷ []) (x ∷ y ∷ z ∷ []) h in
+    let is = number_of-three a b c x y z in
+    let more : 1 * (x * b + y) ≤ c * (x * b + y) = mul-le 1 (x * b + y) c (x * b + y) (let some : z < c = h.1.1.0 in omega arith) (omega arith) in
+    let turned = mul_comm c (x * b + y) in
     record {
-      first_low = omega (arith, low, is, more);
-      second_low = omega (arith, low, is, more);
+      first_low = omega (arith, low, is, more, turned);
+      second_low = omega (arith, low, is, more, turned);
       third_low = omega (arith, low, is);
       number_is = is;
       number_low = low;
     }
-  where
-    times_some : (n c : ℕ) → 0 < c → n ≤ n * c
-    times_some n zero p = absurd (omega arith)
-    times_some n (suc c) p = omega arith
 number_by_three bs ds e f h = absurd (omega arith)
 
 whole : (n : ℕ) → n / 1 ≡ n
@@ -169,11 +150,7 @@ digits_of-two b c n = rw (once c, whole (n % c)) refl
 
 -- the digits of three bases, the last first
 pub digits_of-three : (a b c n : ℕ) → n < a * (b * (c * 1)) → digits_of (a ∷ b ∷ c ∷ []) n ≡ n / c / b ∷ n / c % b ∷ n % c ∷ []
-digits_of-three a b c n h =
-    digits_of-append (a ∷ b ∷ []) (c ∷ []) n h
-    ∙ ap (λ (xs : List ℕ). xs ++ digits_of (c ∷ []) (n % (c * 1))) (digits_of-two a b (n / (c * 1)))
-    ∙ ap (λ (m : ℕ). n / m / b ∷ n / m % b ∷ n % m / 1 ∷ []) (once c)
-    ∙ ap (λ (x : ℕ). n / c / b ∷ n / c % b ∷ x ∷ []) (whole (n % c))
+digits_of-three a b c n h = rw (digits_of-append (a ∷ b ∷ []) (c ∷ []) n h, once c, once b, whole (n / c % b), whole (n % c)) refl
 
 -- the same of a list of three bases, none of which is 0
 pub record AreThree (bs : List ℕ) (n : ℕ) : Type 0 where
@@ -183,11 +160,15 @@ pub record AreThree (bs : List ℕ) (n : ℕ) : Type 0 where
 
 pub three : (bs : List ℕ) (n : ℕ) → length bs ≡ 3 → n < product bs → AreThree bs n
 three (a ∷ b ∷ c ∷ []) n e h =
-    let two : 0 < b * (c * 1) = factor_positive n a (b * (c * 1)) h in
+    let two = factor_positive n a (b * (c * 1)) h in
     let one : 0 < c * 1 = factor_positive 0 b (c * 1) two in
-    record { third_some = omega arith; second_some = first_some b (c * 1) two; digits_are = sym (digits_of-three a b c n h) }
-  where
-    first_some : (b m : ℕ) → 0 < b * m → 0 < b
-    first_some zero m h = absurd (omega arith)
-    first_some (suc b) m h = omega arith
+    record {
+      third_some = omega arith;
+      second_some = factor_positive 0 (c * 1) b (omega (
+        arith,
+        two,
+        mul_comm b (c * 1),
+      ));
+      digits_are = sym (digits_of-three a b c n h);
+    }
 three bs n e h = absurd (omega arith)

@@ -1,64 +1,38 @@
 -- The parts of the key against the digits: squares against choices, forms against forms numbers.
-use Rattle.dob_rank.proofs.Common.{◌*◌, ◌+◌, ◌<◌, ◌^◌, ◌∙◌, ◌∷◌, ◌≡◌, ◌≤◌, List, [], ap, arith, cond, eqb, inl, inr, length, map, refl, replicate, subst, suc}
-use Rattle.dob_rank.proofs.Common.{sym, zero, ℕ, pow-succ', pow-zero, cases_eq, cases_lt, eq-eqb, ne_eqb, filter, Cell, HasDigits, base_of, choice, count}
-use Rattle.dob_rank.proofs.Common.{count_from, forms_number, layer, number_of, product, Precedes, form}
+use Rattle.dob_rank.proofs.Common.{◌*◌, ◌<◌, ◌^◌, ◌∙◌, ◌∷◌, ◌≡◌, List, [], ap, arith, eqb, inl, inr, length, map, refl, replicate, subst, suc, sym, zero, ℕ}
+use Rattle.dob_rank.proofs.Common.{pow-succ', pow-zero, cases_eq, eq-eqb, ne_eqb, filter, Cell, HasDigits, base_of, choice, count, forms_number, layer}
+use Rattle.dob_rank.proofs.Common.{number_of, product, Precedes, form, nat_tests}
 use Rattle.dob_rank.proofs.Arithmetic.MixedRadix.{number_of-rises}
 use Rattle.dob_rank.proofs.Boards.Choices.{Alike, layer_squares, count_other, count_from-alike, count_at}
-use Rattle.dob_rank.proofs.Boards.Choices.{choice_later, choice_not_later}
 use Rattle.dob_rank.proofs.Boards.FormDigits.{form-below, forms_number_same, forms_number_other}
 
 -- ---- squares
 
 pub length-layer_squares : (t from : ℕ) (ls : List ℕ) → length (layer_squares t from ls) ≡ count t ls
 length-layer_squares t from [] = refl
-length-layer_squares t from (l ∷ ls) = elim (cases_eq l t) [
-  | inl e ↦ rw (count_at t l ls e, eq-eqb l t e) (ap suc (length-layer_squares t (suc from) ls))
-  | inr n ↦ rw (count_other t l ls n, ne_eqb l t n) (length-layer_squares t (suc from) ls)
-]
+length-layer_squares t from (l ∷ ls) = grind (arith, nat_tests, length-layer_squares t (suc from) ls)
 
 -- boards of the same length are alike below layer 0
 pub Alike-start : (xs ys : List ℕ) → length xs ≡ length ys → Alike 0 xs ys
 Alike-start [] [] e = tt
-Alike-start (x ∷ xs) (y ∷ ys) e = (inr ((omega arith), (omega arith)), Alike-start xs ys (omega arith))
+Alike-start (x ∷ xs) (y ∷ ys) e = (inr (omega arith, omega arith), Alike-start xs ys (omega arith))
 Alike-start xs ys e = absurd (omega arith)
 
 pub count-alike : (t : ℕ) (xs ys : List ℕ) → Alike (suc t) xs ys → count t xs ≡ count t ys
 count-alike t [] [] h = refl
-count-alike t (x ∷ xs) (y ∷ ys) h =
-    let rest : count t xs ≡ count t ys = count-alike t xs ys h.1 in
-    elim h.0 [
-      | inl q ↦ ap (λ (z : ℕ). count t (z ∷ xs)) q.0 ∙ ap (λ (n : ℕ). cond (eqb y t) 1 0 + n) rest
-      | inr q ↦ (let a : suc t ≤ x = q.0 in let b : suc t ≤ y = q.1 in let nx : x ≡ t → ⊥ = omega arith in let ny : y ≡ t → ⊥ = omega arith in
-          count_other t x xs nx ∙ rest ∙ sym (count_other t y ys ny))
-    ]
+count-alike t (x ∷ xs) (y ∷ ys) h = grind (arith, nat_tests, count-alike t xs ys h.1)
 count-alike t xs ys h = absurd h
 
 pub count_from-alike-next : (t : ℕ) (xs ys : List ℕ) → Alike (suc t) xs ys → Alike t xs ys
 count_from-alike-next t [] [] h = tt
-count_from-alike-next t (x ∷ xs) (y ∷ ys) h = (
-  elim h.0 [
-    | inl q ↦ (let low : x < suc t = q.1 in elim (cases_lt x t) [
-      | inl lt ↦ inl (q.0, lt)
-      | inr le ↦ (let same : x ≡ y = q.0 in inr (le, (omega arith)))
-    ])
-    | inr q ↦ (let a : suc t ≤ x = q.0 in let b : suc t ≤ y = q.1 in inr ((omega arith), (omega arith)))
-  ],
-  count_from-alike-next t xs ys h.1,
-)
+count_from-alike-next t (x ∷ xs) (y ∷ ys) h = (grind arith, count_from-alike-next t xs ys h.1)
 count_from-alike-next t xs ys h = absurd h
 
 -- layers that are alike up to t make the same choice
 pub choice-alike : (t : ℕ) (xs ys : List ℕ) → Alike (suc t) xs ys → choice t xs ≡ choice t ys
 choice-alike t [] [] h = refl
 choice-alike t (x ∷ xs) (y ∷ ys) h =
-    let rest : choice t xs ≡ choice t ys = choice-alike t xs ys h.1 in
-    elim h.0 [
-      | inl q ↦ (let low : x < suc t = q.1 in let same : x ≡ y = q.0 in
-          choice_not_later t x xs (omega arith) ∙ rest ∙ sym (choice_not_later t y ys (omega arith)))
-      | inr q ↦ (let c : count t xs ≡ count t ys = count-alike t xs ys h.1 in
-          let m : count_from t xs ≡ count_from t ys = count_from-alike t xs ys (count_from-alike-next t xs ys h.1) in
-          rw (choice_later t x xs q.0, choice_later t y ys q.1, m, c, rest) refl)
-    ]
+    grind (arith, nat_tests, choice-alike t xs ys h.1, count-alike t xs ys h.1, count_from-alike t xs ys (count_from-alike-next t xs ys h.1))
 choice-alike t xs ys h = absurd h
 
 -- ---- forms
@@ -75,10 +49,7 @@ layer_forms_other t cell cells h = rw (ne_eqb (layer cell) t h) refl
 
 pub length-layer_forms : (t : ℕ) (cells : List Cell) → length (layer_forms t cells) ≡ count t (map layer cells)
 length-layer_forms t [] = refl
-length-layer_forms t (cell ∷ cells) = elim (cases_eq (layer cell) t) [
-  | inl e ↦ rw (count_at t (layer cell) (map layer cells) e, layer_forms_same t cell cells e) (ap suc (length-layer_forms t cells))
-  | inr n ↦ rw (count_other t (layer cell) (map layer cells) n, layer_forms_other t cell cells n) (length-layer_forms t cells)
-]
+length-layer_forms t (cell ∷ cells) = grind (arith, nat_tests, length-layer_forms t cells)
 
 pub product-replicate : (b n : ℕ) → product (replicate n b) ≡ b ^ n
 product-replicate b zero = sym (pow-zero b)
@@ -104,24 +75,24 @@ forms_number-digits t (cell ∷ cells) = elim (cases_eq (layer cell) t) [
     product-replicate (base_of t) (count t (map layer cells)),
     forms_number-digits t cells,
   ) refl
-  | inr n ↦ rw (forms_number_other t cell cells n, count_other t (layer cell) (map layer cells) n, layer_forms_other t cell cells n) (forms_number-digits t cells)
+  | inr n ↦ rw (
+    forms_number_other t cell cells n,
+    count_other t (layer cell) (map layer cells) n,
+    layer_forms_other t cell cells n,
+  ) (forms_number-digits t cells)
 ]
 
 -- earlier forms have a lower number, and the same forms the same
 pub forms_number-rises : (t : ℕ) (xs ys : List Cell) → count t (map layer xs) ≡ count t (map layer ys)
     → Precedes (layer_forms t xs) (layer_forms t ys) → forms_number t xs < forms_number t ys
 forms_number-rises t xs ys c p =
-    let low : number_of (replicate (count t (map layer ys)) (base_of t)) (layer_forms t xs)
-    < number_of (replicate (count t (map layer ys)) (base_of t)) (layer_forms t ys)
-    = number_of-rises (replicate (count t (map layer ys)) (base_of t)) (layer_forms t xs) (layer_forms t ys)
-    (subst (λ (n : ℕ). HasDigits (replicate n (base_of t)) (layer_forms t xs)) c (HasDigits-layer_forms t xs)) (HasDigits-layer_forms t ys) p in
-    let x : forms_number t xs ≡ number_of (replicate (count t (map layer ys)) (base_of t)) (layer_forms t xs)
-    = forms_number-digits t xs ∙ ap (λ (n : ℕ). number_of (replicate n (base_of t)) (layer_forms t xs)) c in
-    let y : forms_number t ys ≡ number_of (replicate (count t (map layer ys)) (base_of t)) (layer_forms t ys) = forms_number-digits t ys in
-    omega arith
+    rw (
+      forms_number-digits t xs,
+      forms_number-digits t ys,
+      c,
+    ) (number_of-rises (replicate (count t (map layer ys)) (base_of t)) (layer_forms t xs) (layer_forms t ys)
+    (rw c at (HasDigits-layer_forms t xs)) (HasDigits-layer_forms t ys) p)
 
 pub forms_number-alike : (t : ℕ) (xs ys : List Cell) → count t (map layer xs) ≡ count t (map layer ys)
     → layer_forms t xs ≡ layer_forms t ys → forms_number t xs ≡ forms_number t ys
-forms_number-alike t xs ys c e =
-    forms_number-digits t xs ∙ ap (λ (n : ℕ). number_of (replicate n (base_of t)) (layer_forms t xs)) c
-    ∙ ap (number_of (replicate (count t (map layer ys)) (base_of t))) e ∙ sym (forms_number-digits t ys)
+forms_number-alike t xs ys c e = rw (forms_number-digits t xs, forms_number-digits t ys, c, e)

@@ -1,6 +1,6 @@
 -- The tables of the choices of two squares: computed for each number of squares and each choice.
-use Rattle.dob_rank.proofs.Common.{◌&&◌, ◌*◌, ◌+◌, ◌-◌, ◌/◌, ◌<◌, ◌||◌, ◌≡◌, ◌≤◌, Bool, ap, arith, false, nat_eq, nat_lt, not, refl, slice_index_or, subst}
-use Rattle.dob_rank.proofs.Common.{true, ℕ, lt-ltb, all_below, all_below-at, choose, free_squares, higher_of, lower_of, and_parts, ltb-true}
+use Rattle.dob_rank.proofs.Common.{◌&&◌, ◌*◌, ◌+◌, ◌-◌, ◌/◌, ◌<◌, ◌||◌, ◌≡◌, ◌≤◌, Bool, ap, arith, false, nat_eq, nat_lt, not, refl, slice_index_or, true, ℕ}
+use Rattle.dob_rank.proofs.Common.{lt-ltb, all_below, all_below-at, choose, free_squares, higher_of, lower_of, and_parts, ltb-true}
 use Rattle.dob_rank.specs.declared.placing.TheConstants.{FIRST_FROM_END, SECOND_FROM_END}
 use Rattle.dob_rank.proofs.Positions.Blocks.{choose-small, most_choices}
 use Rattle.dob_rank.proofs.Boards.EmptySquares.{choose_one}
@@ -66,7 +66,4 @@ pair_is squares number few below =
     }
 
 pub few_ones : (squares pieces number : ℕ) → squares ≤ free_squares → pieces ≡ 1 → number < choose squares pieces → number ≤ 12
-few_ones squares pieces number few one below =
-    let low : number < choose squares 1 = subst (λ (n : ℕ). number < choose squares n) one below in
-    let is = choose_one squares in
-    omega arith
+few_ones squares pieces number few one below = (let is = rw one at below in omega (arith, is, choose_one squares))

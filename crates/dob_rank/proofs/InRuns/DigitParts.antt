@@ -1,15 +1,16 @@
--- The digits of a place in a block, part by part: the hands, the lions, the squares and the forms.
-use Rattle.dob_rank.proofs.Common.{◌%◌, ◌*◌, ◌++◌, ◌+◌, ◌-◌, ◌/◌, ◌<◌, ◌^◌, ◌∙◌, ◌∷◌, ◌≡◌, ◌≤◌, Bool, List, [], ap, arith, get_or, length, nat_eq, refl}
-use Rattle.dob_rank.proofs.Common.{slice_index, subst, sym, true, ℕ, div-add-mod', div_below, mod_below, mul-le, one_shl, all_below, all_below-at, PieceSet}
-use Rattle.dob_rank.proofs.Common.{HasDigits, bases_by, block_bases, choose, digits_of, enemy_squares, free_squares, number_of, own_squares, product}
-use Rattle.dob_rank.proofs.Common.{AreFewOnBoard, form_bases, lion_pairs, local_bases, local_number, run_bases, run_number, square_bases}
+-- The digits of a place in a block, part by part: the hands, the lions, the squares and the forms. The code keeps those that a run's positions have in common.
+use Rattle.dob_rank.proofs.Common.{◌%◌, ◌*◌, ◌++◌, ◌+◌, ◌/◌, ◌<◌, ◌^◌, ◌∙◌, ◌∷◌, ◌≡◌, ◌≤◌, Bool, List, [], ap, arith, get_or, length, nat_eq, refl, slice_index}
+use Rattle.dob_rank.proofs.Common.{subst, sym, true, ℕ, div-add-mod', div_below, mod_below, mul-le, one_shl, all_below, all_below-at, PieceSet, HasDigits}
+use Rattle.dob_rank.proofs.Common.{bases_by, block_bases, digits_of, enemy_squares, number_of, own_squares, product, AreFewOnBoard, form_bases, lion_pairs}
+use Rattle.dob_rank.proofs.Common.{local_bases, local_number, run_bases, run_number, square_bases, run_digits}
 use Rattle.dob_rank.proofs.Arithmetic.MixedRadix.{factor_positive, product-append, number_of-below, number_of-append, number_by_three, digits_of-append}
-use Rattle.dob_rank.proofs.Arithmetic.MixedRadix.{digits_of-parts, digits_of-two, digits_of-three}
+use Rattle.dob_rank.proofs.Arithmetic.MixedRadix.{digits_of-parts, digits_of-two, digits_of-three, HasDigits-digits_of}
 use Rattle.dob_rank.proofs.Positions.Loops.{digit-at}
 pub use Rattle.dob_rank.proofs.Positions.Blocks.{AreFewOnBoard-digits}
 use Rattle.dob_rank.proofs.Positions.Blocks.{four_small, two_small, most_choices, product-at_most, hand_bases, most_hands, most_squares, most_forms}
 use Rattle.dob_rank.proofs.Positions.Blocks.{hands_at_most, squares_at_most, forms_at_most}
 use Rattle.dob_rank.proofs.Positions.BlockStarts.{same_number}
+use Rattle.dob_rank.specs.declared.runs.RunDigits.{RunDigits}
 
 -- the numbers of a spot's parts, below the products of their bases, and the digits of the whole
 pub record AreParts (set : PieceSet) (ob : List ℕ) (run local forms : ℕ) : Type 0 where
@@ -23,25 +24,19 @@ pub record AreParts (set : PieceSet) (ob : List ℕ) (run local forms : ℕ) : T
 pub parts_are : (set : PieceSet) (ob : List ℕ) (run local forms : ℕ) → run < product (run_bases set ob) → local < product (local_bases ob) →
     forms ≡ product (form_bases ob) → AreParts set ob run local forms
 parts_are set ob run local forms h l f =
-    let run_parts : run < product (hand_bases set ob) * lion_pairs =
-    subst (λ (n : ℕ). run < n) (product-append (hand_bases set ob) (own_squares ∷ enemy_squares ∷ [])) h in
-    let lions_some : 0 < lion_pairs = omega arith in
-    let local_parts : local < product (square_bases ob) * product (form_bases ob) =
-    subst (λ (n : ℕ). local < n) (product-append (square_bases ob) (form_bases ob)) l in
-    let form_some : 0 < product (form_bases ob) = factor_positive local (product (square_bases ob)) (product (form_bases ob)) local_parts in
-    let lions : run % lion_pairs < lion_pairs = mod_below run lion_pairs lions_some in
-    subst (AreParts set ob run local) (sym f) (record {
-      hands_low = div_below run lion_pairs (product (hand_bases set ob)) lions_some run_parts;
+    let run_parts : run < product (hand_bases set ob) * lion_pairs = omega (arith, h, product-append (hand_bases set ob) (own_squares ∷ enemy_squares ∷ [])) in
+    let local_parts : local < product (square_bases ob) * product (form_bases ob) = omega (arith, l, product-append (square_bases ob) (form_bases ob)) in
+    let form_some = factor_positive local (product (square_bases ob)) (product (form_bases ob)) local_parts in
+    rw f (record {
+      hands_low = div_below run lion_pairs (product (hand_bases set ob)) (omega arith) run_parts;
       squares_low = div_below local (product (form_bases ob)) (product (square_bases ob)) form_some local_parts;
       forms_low = mod_below local (product (form_bases ob)) form_some;
       digits_are = digits_of-parts (run_bases set ob) (local_bases ob) run local h l
-          ∙ ap (λ (xs : List ℕ). xs ++ digits_of (local_bases ob) local)
-          (digits_of-append (hand_bases set ob) (own_squares ∷ enemy_squares ∷ []) run h)
-          ∙ ap (λ (xs : List ℕ). (digits_of (hand_bases set ob) (run / lion_pairs) ++ xs) ++ digits_of (local_bases ob) local)
-          (digits_of-two own_squares enemy_squares (run % lion_pairs))
-          ∙ ap (λ (xs : List ℕ). (digits_of (hand_bases set ob) (run / lion_pairs)
-          ++ (run % lion_pairs / enemy_squares ∷ run % lion_pairs % enemy_squares ∷ [])) ++ xs)
-          (digits_of-append (square_bases ob) (form_bases ob) local l);
+          ∙ cc (
+            digits_of-append (hand_bases set ob) (own_squares ∷ enemy_squares ∷ []) run h,
+            digits_of-two own_squares enemy_squares (run % lion_pairs),
+            digits_of-append (square_bases ob) (form_bases ob) local l,
+          );
     })
 
 -- ---- the forms' bases are powers of 2
@@ -56,7 +51,7 @@ pub forms_shifted : (i j k : ℕ) → i ≤ 2 → j ≤ 2 → k ≤ 2 → 1 * 2 
 forms_shifted i j k a b c =
     let first = all_below-at (λ i. all_below (λ j. all_below (shifted i j) 3) 3) 3 i computed (omega arith) in
     let second = all_below-at (λ j. all_below (shifted i j) 3) 3 j first (omega arith) in
-    same_number (1 * 2 ^ (2 * i + j + k) % 2 ^ 64) (4 ^ i * (2 ^ j * (2 ^ k * 1))) (all_below-at (shifted i j) 3 k second (omega arith))
+    same_number _ _ (all_below-at (shifted i j) 3 k second (omega arith))
 
 pub form_bits_are : (i j k : ℕ) → i ≤ 2 → j ≤ 2 → k ≤ 2 → 2 ^ (2 * i + j + k) ≡ 4 ^ i * (2 ^ j * (2 ^ k * 1))
 form_bits_are i j k a b c = sym (one_shl (2 * i + j + k) 64 (omega arith)) ∙ forms_shifted i j k a b c
@@ -65,8 +60,7 @@ pub form_digits_are : (ob : List ℕ) (n rest giraffes chicks elephants : ℕ) �
     rest ≡ n / 2 ^ slice_index ob 2 → giraffes ≡ n % 2 ^ slice_index ob 2 →
     chicks ≡ rest / 2 ^ slice_index ob 1 → elephants ≡ rest % 2 ^ slice_index ob 1 →
     chicks ∷ elephants ∷ giraffes ∷ [] ≡ digits_of (form_bases ob) n
-form_digits_are ob n rest giraffes chicks elephants h r g c e =
-    rw (c, e, g, r) (sym (digits_of-three (4 ^ slice_index ob 0) (2 ^ slice_index ob 1) (2 ^ slice_index ob 2) n h))
+form_digits_are ob n rest giraffes chicks elephants h r g c e = grind (arith, digits_of-three)
 
 -- ---- the parts as the code finds them
 
@@ -76,7 +70,7 @@ pub record AreBasesFound (set : PieceSet) (ob bs : List ℕ) : Type 0 where
   pub squares_are : get_or bs 5 0 ∷ get_or bs 6 0 ∷ get_or bs 7 0 ∷ [] ≡ square_bases ob
 
 pub bases_found : (set : PieceSet) (ob bs : List ℕ) → bs ≡ bases_by set ob → AreBasesFound set ob bs
-bases_found set ob bs e = subst (AreBasesFound set ob) (sym e) (record { hands_are = refl; squares_are = refl })
+bases_found set ob bs e = rw e (record { hands_are = refl; squares_are = refl })
 
 -- how many positions a run has, from the last factor on
 pub record AreFewInRun (ob cs : List ℕ) (forms : ℕ) : Type 0 where
@@ -87,20 +81,17 @@ pub record AreFewInRun (ob cs : List ℕ) (forms : ℕ) : Type 0 where
 
 pub few_in_run : (ob cs : List ℕ) (forms : ℕ) → AreFewOnBoard ob → cs ≡ square_bases ob → forms ≡ product (form_bases ob) → AreFewInRun ob cs forms
 few_in_run ob cs forms few chosen f =
-    let one = choose free_squares (slice_index ob 0) in
-    let two = choose (free_squares - slice_index ob 0) (slice_index ob 1) in
-    let three = choose (free_squares - slice_index ob 0 - slice_index ob 1) (slice_index ob 2) in
-    let all = product (form_bases ob) in
-    let most : all ≤ 256 = product-at_most (form_bases ob) most_forms (forms_at_most ob few) in
+    let most = product-at_most (form_bases ob) most_forms (forms_at_most ob few) in
     let squares = squares_at_most ob few in
-    let one_low : three * all ≤ most_choices * 256 = mul-le three all most_choices 256 squares.1.1.0 most in
-    let two_low : two * (three * all) ≤ most_choices * (most_choices * 256) = mul-le two (three * all) most_choices (most_choices * 256) squares.1.0 one_low in
-    subst (λ (n : ℕ). AreFewInRun ob cs n) (sym f) (subst (λ (xs : List ℕ). AreFewInRun ob xs (product (form_bases ob))) (sym chosen) (record {
+    let one_low = mul-le _ (product (form_bases ob)) most_choices 256 squares.1.1.0 most in
+    let two_low = mul-le _ _ most_choices (most_choices * 256) squares.1.0 one_low in
+    rw (f, chosen) (record {
       one_fits = one_low;
       two_fits = two_low;
-      three_fits = mul-le one (two * (three * all)) most_choices (most_choices * (most_choices * 256)) squares.0 two_low;
+      three_fits = mul-le _ _ most_choices (most_choices * (most_choices * 256)) squares.0
+          two_low;
       size_is = refl;
-    }))
+    })
 
 -- a part of a place that a shift or a mask finds
 pub quotient_is : (local bits forms found : ℕ) → found ≡ local / 2 ^ bits → 2 ^ bits ≡ forms → found ≡ local / forms
@@ -139,17 +130,8 @@ spot_digits set ob (a ∷ b ∷ c ∷ d ∷ e ∷ f ∷ g ∷ h ∷ i ∷ j ∷ 
     let hands = product-at_most (hand_bases set ob) most_hands (hands_at_most set ob) in
     let squares = product-at_most (square_bases ob) most_squares (squares_at_most ob (AreFewOnBoard-digits set ob on)) in
     let run = number_of-append (hand_bases set ob) (own_squares ∷ enemy_squares ∷ []) (a ∷ b ∷ c ∷ []) (d ∷ e ∷ []) refl in
-    record {
-      hands_have = (has.0, (has.1.0, (has.1.1.0, tt)));
-      own_low = has.1.1.1.0;
-      enemy_low = has.1.1.1.1.0;
-      squares_have = (has.1.1.1.1.1.0, (has.1.1.1.1.1.1.0, (has.1.1.1.1.1.1.1.0, tt)));
-      forms_have = has.1.1.1.1.1.1.1.1;
-      hands_small = omega (arith, hands);
-      squares_small = omega (arith, squares);
-      run_is = omega (arith, run);
-      local_is = sym (number_of-append (square_bases ob) (form_bases ob) (f ∷ g ∷ h ∷ []) (i ∷ j ∷ k ∷ []) refl);
-    }
+    let local = number_of-append (square_bases ob) (form_bases ob) (f ∷ g ∷ h ∷ []) (i ∷ j ∷ k ∷ []) refl in
+    grind (arith, hands, squares, run, local)
 spot_digits set ob ds long on has = absurd (omega arith)
 
 -- the number of a run and that of a place in it, as the code finds them
@@ -201,22 +183,8 @@ pub forms_joined : (ob fs : List ℕ) (elephants : ℕ) → length fs ≡ 3 → 
 forms_joined ob fs elephants long few has e =
     let by = number_by_three (form_bases ob) fs refl long has in
     let most = product-at_most (form_bases ob) most_forms (forms_at_most ob few) in
-    let four = four_small (slice_index ob 0) few.chicks in
-    let two = two_small (slice_index ob 1) few.elephants in
-    let last = two_small (slice_index ob 2) few.giraffes in
-    let first : get_or fs 0 0 < 4 ^ slice_index ob 0 = digit-at (form_bases ob) fs 0 has (omega arith) in
-    let second : get_or fs 1 0 < 2 ^ slice_index ob 1 = digit-at (form_bases ob) fs 1 has (omega arith) in
-    let third : get_or fs 2 0 < 2 ^ slice_index ob 2 = digit-at (form_bases ob) fs 2 has (omega arith) in
-    subst (AreFormsJoined ob fs) (sym e) (record {
-      few_elephants = (let small = few.elephants in omega arith);
-      few_giraffes = (let small = few.giraffes in omega arith);
-      first_low = omega (arith, first, four);
-      second_low = omega (arith, second, two);
-      third_low = omega (arith, third, last);
-      joined_low = omega (arith, by.second_low, most);
-      number_is = by.number_is;
-      number_low = omega (arith, by.number_low, most);
-    })
+    let digit = λ (k : ℕ). digit-at (form_bases ob) fs k has in
+    grind (arith, by, most, digit 0, digit 1, digit 2, four_small, two_small)
 
 -- ---- the spot of a place
 
@@ -229,12 +197,76 @@ pub record IsSplit (set : PieceSet) (ob : List ℕ) (place size : ℕ) : Type 0 
 pub split_place : (set : PieceSet) (ob : List ℕ) (place size : ℕ) → place < product (bases_by set ob) → size ≡ product (local_bases ob) →
     IsSplit set ob place size
 split_place set ob place size below is =
-    let both : place < product (run_bases set ob) * product (local_bases ob) =
-    subst (λ (n : ℕ). place < n) (product-append (run_bases set ob) (local_bases ob)) below in
-    let some : 0 < product (local_bases ob) = factor_positive place (product (run_bases set ob)) (product (local_bases ob)) both in
-    subst (IsSplit set ob place) (sym is) (record {
+    let both : place < product (run_bases set ob) * product (local_bases ob) = omega (arith, below, product-append (run_bases set ob) (local_bases ob)) in
+    let some = factor_positive place (product (run_bases set ob)) (product (local_bases ob)) both in
+    rw is (record {
       some = some;
       run_low = div_below place (product (local_bases ob)) (product (run_bases set ob)) some both;
       local_low = mod_below place (product (local_bases ob)) some;
       whole = div-add-mod' place (product (local_bases ob));
     })
+
+-- ---- the digits that the positions of a run have in common, as the code keeps them
+
+-- what the code finds of a run: the hands' number and digits, which are small, and the digits of all
+pub record AreRunParts (set : PieceSet) (ob : List ℕ) (run : ℕ) (hands : List ℕ) : Type 0 where
+  pub chicks_small : get_or hands 0 0 < 256
+  pub elephants_small : get_or hands 1 0 < 256
+  pub giraffes_small : get_or hands 2 0 < 256
+  pub digits_are : get_or hands 0 0 ∷ get_or hands 1 0 ∷ get_or hands 2 0 ∷ run % lion_pairs / enemy_squares ∷ run % lion_pairs % enemy_squares ∷ []
+      ≡ digits_of (run_bases set ob) run
+
+hand_below : (set : PieceSet) (ob : List ℕ) (run : ℕ) → run < product (run_bases set ob) → run / lion_pairs < product (hand_bases set ob)
+hand_below set ob run below = div_below run lion_pairs (product (hand_bases set ob)) (omega arith)
+    (subst (λ (n : ℕ). run < n) (product-append (hand_bases set ob) (own_squares ∷ enemy_squares ∷ [])) below)
+
+pub hands_below : (set : PieceSet) (ob bases : List ℕ) (run : ℕ) → AreBasesFound set ob bases → run < product (run_bases set ob)
+    → run / lion_pairs < product (get_or bases 0 0 ∷ get_or bases 1 0 ∷ get_or bases 2 0 ∷ [])
+hands_below set ob bases run found below =
+    subst (λ (xs : List ℕ). run / lion_pairs < product xs) (sym found.hands_are)
+    (hand_below set ob run below)
+
+pub run_parts : (set : PieceSet) (ob bases hands : List ℕ) (run : ℕ) → AreBasesFound set ob bases → run < product (run_bases set ob)
+    → hands ≡ digits_of (get_or bases 0 0 ∷ get_or bases 1 0 ∷ get_or bases 2 0 ∷ []) (run / lion_pairs) → AreRunParts set ob run hands
+run_parts set ob bases hands run found below is =
+    let has = HasDigits-digits_of (hand_bases set ob) (run / lion_pairs) (hand_below set ob run below) in
+    subst (AreRunParts set ob run) (sym (is ∙ digits_same _ _ _ found.hands_are)) (record {
+      chicks_small = omega (arith, set.few_chicks, has.0);
+      elephants_small = omega (arith, set.few_elephants, has.1.0);
+      giraffes_small = omega (arith, set.few_giraffes, has.1.1.0);
+      digits_are = sym (digits_of-append (hand_bases set ob) (own_squares ∷ enemy_squares ∷ []) run below
+          ∙ ap (λ (xs : List ℕ). digits_of (hand_bases set ob) (run / lion_pairs) ++ xs) (digits_of-two own_squares enemy_squares (run % lion_pairs)));
+    })
+
+-- ---- the digits of a spot
+
+eleven_same : (a b c d e f g h i j k a' b' c' d' e' : ℕ) → a ≡ a' → b ≡ b' → c ≡ c' → d ≡ d' → e ≡ e' →
+    a ∷ b ∷ c ∷ d ∷ e ∷ f ∷ g ∷ h ∷ i ∷ j ∷ k ∷ [] ≡ a' ∷ b' ∷ c' ∷ d' ∷ e' ∷ f ∷ g ∷ h ∷ i ∷ j ∷ k ∷ []
+eleven_same a b c d e f g h i j k a' b' c' d' e' p q r s t = cc
+
+abbrev eleven_by : RunDigits → List ℕ → List ℕ → List ℕ
+eleven_by run squares kinds =
+    run_digits run ++ (get_or squares 0 0 ∷ get_or squares 1 0 ∷ get_or squares 2 0 ∷ get_or kinds 0 0 ∷ get_or kinds 1 0 ∷ get_or kinds 2 0 ∷ [])
+
+pub digits_joined : (set : PieceSet) (ob : List ℕ) (digits : RunDigits) (run local forms : ℕ) (squares kinds : List ℕ) (a b c d e : ℕ)
+    → run < product (run_bases set ob) → local < product (local_bases ob) → forms ≡ product (form_bases ob)
+    → run_digits digits ≡ digits_of (run_bases set ob) run → squares ≡ digits_of (square_bases ob) (local / forms)
+    → kinds ≡ digits_of (form_bases ob) (local % forms)
+    → a ≡ digits.hand.chicks → b ≡ digits.hand.elephants → c ≡ digits.hand.giraffes → d ≡ digits.own → e ≡ digits.enemy
+    → a ∷ b ∷ c ∷ d ∷ e ∷ get_or squares 0 0 ∷ get_or squares 1 0 ∷ get_or squares 2 0 ∷ get_or kinds 0 0 ∷ get_or kinds 1 0 ∷ get_or kinds 2 0 ∷ []
+    ≡ digits_of (bases_by set ob) (run * product (local_bases ob) + local)
+digits_joined set ob digits run local forms squares kinds a b c d e run_low local_low forms_are run_is squares_are kinds_are p q r s t =
+    let all = digits_of-parts (run_bases set ob) (local_bases ob) run local run_low local_low in
+    let parts = digits_of-append (square_bases ob) (form_bases ob) local local_low in
+    rw (
+      p,
+      q,
+      r,
+      s,
+      t,
+      squares_are,
+      kinds_are,
+      forms_are,
+    ) (ap (λ (xs : List ℕ). xs ++ (digits_of (square_bases ob) (local / product (form_bases ob)) ++ digits_of (form_bases ob)
+    (local % product (form_bases ob)))) run_is
+    ∙ ap (λ (xs : List ℕ). digits_of (run_bases set ob) run ++ xs) (sym parts) ∙ sym all)

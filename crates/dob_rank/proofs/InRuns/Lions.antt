@@ -8,7 +8,7 @@ use Rattle.dob_rank.specs.declared.runs.RunKind.{RunKind}
 use Rattle.dob_rank.specs.declared.runs.RunKind.TheVariants.{First, Later, Mixed}
 use Rattle.dob_rank.proofs.Boards.Settled.{hide, AreLayers, hide-hide, choice_hide_next}
 use Rattle.dob_rank.proofs.Boards.FormDigits.{AreLayers-map}
-use Rattle.dob_rank.proofs.Positions.Digits.{HasParts, HasParts-from_position, HasDigits-digits, lions_back}
+use Rattle.dob_rank.proofs.Positions.Digits.{HasParts-from_position, HasDigits-digits, lions_back}
 
 -- ---- layers of the mirror image
 
@@ -43,12 +43,12 @@ image_lions lions = lions_in (mirror_layers (lions_layers lions))
 
 lions_in-hide : (ls : List ℕ) → lions_in (hide (order Chicks) ls) ≡ lions_in ls
 lions_in-hide ls =
-    let own : choice (order OwnLion) (hide (order Chicks) ls) ≡ choice (order OwnLion) ls =
-    sym (choice_hide_next (order OwnLion) (hide (order Chicks) ls) (omega arith))
-    ∙ ap (choice (order OwnLion)) (hide-hide (order EnemyLion) (order Chicks) ls (omega arith) (omega arith))
-    ∙ choice_hide_next (order OwnLion) ls (omega arith) in
-    let enemy : choice (order EnemyLion) (hide (order Chicks) ls) ≡ choice (order EnemyLion) ls = choice_hide_next (order EnemyLion) ls (omega arith) in
-    ap (λ n. n * enemy_squares + choice (order EnemyLion) (hide (order Chicks) ls)) own ∙ ap (λ n. choice (order OwnLion) ls * enemy_squares + n) enemy
+    rw (
+      ← choice_hide_next (order OwnLion) (hide (order Chicks) ls) (omega arith),
+      hide-hide (order EnemyLion) (order Chicks) ls (omega arith) (omega arith),
+      choice_hide_next (order OwnLion) ls (omega arith),
+      choice_hide_next (order EnemyLion) ls (omega arith),
+    ) refl
 
 -- a list of layers that has both lions, on the squares of their number
 pub record HasPair (ls : List ℕ) : Type 0 where
@@ -77,25 +77,21 @@ image-of_pair ls h =
 -- so has each position
 pub HasPair-from_position : (set : PieceSet) (s : Setup) → IsPositionOfSet set s → HasPair (map layer s.board)
 HasPair-from_position set s p =
-    let h : HasParts set s = HasParts-from_position set s p in
+    let h = HasParts-from_position set s p in
     record {
       squares = h.squares;
       layers = AreLayers-map s.board;
       own_lion = h.own_lion;
       enemy_lion = h.other_lion;
-      below = (HasDigits-digits set s h).1.1.1.1.0;
+      below =
+          (HasDigits-digits set s h).1.1.1.1.0;
     }
 
 pub lions_of-mirrored : (set : PieceSet) (s : Setup) → IsPositionOfSet set s → lions_of (mirrored s) ≡ image_lions (lions_of s)
-lions_of-mirrored set s p =
-    ap lions_in (layers-mirrored s p.legal.squares) ∙ image-of_pair (map layer s.board) (HasPair-from_position set s p)
+lions_of-mirrored set s p = ap lions_in (layers-mirrored s p.legal.squares) ∙ image-of_pair (map layer s.board) (HasPair-from_position set s p)
 
 pub lions_of-below : (set : PieceSet) (s : Setup) → IsPositionOfSet set s → lions_of s < lion_pairs
-lions_of-below set s p =
-    let h : HasParts set s = HasParts-from_position set s p in
-    let below : choice (order EnemyLion) (map layer s.board) < enemy_squares = (HasDigits-digits set s h).1.1.1.1.0 in
-    let home : choice (order OwnLion) (map layer s.board) < own_squares = h.home in
-    omega arith
+lions_of-below set s p = (let h = HasParts-from_position set s p in let below = (HasDigits-digits set s h).1.1.1.1.0 in omega (arith, below, h.home))
 
 -- ---- what their columns say
 
@@ -132,22 +128,22 @@ record IsPair (own enemy : ℕ) : Type 0 where
 is_pair : (own enemy : ℕ) → own < own_squares → enemy < enemy_squares → IsPair own enemy
 is_pair own enemy first second =
     let ls = pair_layers own enemy in
-    let row = all_below-at (λ n. all_below (has_its_pair n) enemy_squares) own_squares own all_have first in
-    let has = and_parts (eqb (count (order OwnLion) ls) 1 && eqb (count (order EnemyLion) ls) 1)
-    (eqb (choice (order OwnLion) ls) own && eqb (choice (order EnemyLion) ls) enemy) (all_below-at (has_its_pair own) enemy_squares enemy row second) in
-    let counts = and_parts (eqb (count (order OwnLion) ls) 1) (eqb (count (order EnemyLion) ls) 1) has.0 in
-    let choices = and_parts (eqb (choice (order OwnLion) ls) own) (eqb (choice (order EnemyLion) ls) enemy) has.1 in
-    let own_is : choice (order OwnLion) ls ≡ own = eqb-true (choice (order OwnLion) ls) own choices.0 in
-    let enemy_is : choice (order EnemyLion) ls ≡ enemy = eqb-true (choice (order EnemyLion) ls) enemy choices.1 in
+    let here = all_below-at (has_its_pair own) enemy_squares enemy
+    (all_below-at (λ n. all_below (has_its_pair n) enemy_squares) own_squares own all_have first) second in
+    let sides = and_parts _ _ here in
+    let counts = and_parts _ _ sides.0 in
+    let choices = and_parts _ _ sides.1 in
+    let own_is = eqb-true (choice (order OwnLion) ls) own choices.0 in
+    let enemy_is = eqb-true (choice (order EnemyLion) ls) enemy choices.1 in
     record {
       has = record {
         squares = refl;
         layers = AreLayers-map (board_by (pair_cell own (enemy_square own enemy)));
-        own_lion = eqb-true (count (order OwnLion) ls) 1 counts.0;
-        enemy_lion = eqb-true (count (order EnemyLion) ls) 1 counts.1;
-        below = subst (λ n. n < enemy_squares) (sym enemy_is) second;
+        own_lion = eqb-true _ _ counts.0;
+        enemy_lion = eqb-true _ _ counts.1;
+        below = omega (arith, enemy_is, second);
       };
-      number_is = ap (λ n. n * enemy_squares + choice (order EnemyLion) ls) own_is ∙ ap (λ n. own * enemy_squares + n) enemy_is;
+      number_is = omega (arith, own_is, enemy_is);
     }
 
 -- the lions of a number, as they are settled
@@ -158,8 +154,7 @@ lions_layers-pair own enemy first second =
     ap lions_layers (sym pair.number_is) ∙ lions_layers-of (pair_layers own enemy) pair.has
 
 abbrev told : ℕ → ℕ → Bool
-told own enemy =
-    tells (run_kind (own * enemy_squares + enemy)) (own * enemy_squares + enemy) (lions_in (mirror_layers (pair_layers own enemy)))
+told own enemy = tells (run_kind (own * enemy_squares + enemy)) (own * enemy_squares + enemy) (lions_in (mirror_layers (pair_layers own enemy)))
 
 all_told : all_below (λ own. all_below (told own) enemy_squares) own_squares ≡ true
 all_told = refl
@@ -178,8 +173,7 @@ tells_pair own enemy first second =
 tells_at : (lions : ℕ) (kind : RunKind) → lions < lion_pairs → run_kind lions ≡ kind → tells kind lions (image_lions lions) ≡ true
 tells_at lions kind below is =
     let whole : lions / enemy_squares * enemy_squares + lions % enemy_squares ≡ lions = omega arith in
-    let here = tells_pair (lions / enemy_squares) (lions % enemy_squares) (omega arith) (omega arith) in
-    subst (λ k. tells k lions (image_lions lions) ≡ true) is (subst (λ n. tells (run_kind n) n (image_lions n) ≡ true) whole here)
+    rw (← is) (rw whole at (tells_pair (lions / enemy_squares) (lions % enemy_squares) (omega arith) (omega arith)))
 
 pub first_lions : (lions : ℕ) → lions < lion_pairs → run_kind lions ≡ First → lions < image_lions lions
 first_lions lions below is = ltb-true lions (image_lions lions) (tells_at lions First below is)

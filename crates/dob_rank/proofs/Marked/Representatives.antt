@@ -1,14 +1,14 @@
 -- Each position of a set has one representative and one class number, and numbers stand in the order of the
 -- representatives.
-use Rattle.dob_rank.proofs.Common.{if◌then◌else◌, ◌&&◌, ◌+◌, ◌<◌, ◌∙◌, ◌≡◌, ◌≤◌, Bool, arith, eqb, false, inl, inr, refl, subst, suc, sym, true, zero, ℕ}
-use Rattle.dob_rank.proofs.Common.{cases_eq, cases_lt, eqb-true, mirrored, PieceSet, Setup, marks_below, one_if, rank_of_set, Before, IsEither, IsFirstOfTwo}
-use Rattle.dob_rank.proofs.Common.{IsPositionOfSet, IsRepresentativeOfSet, RepresentativeOf, key}
+use Rattle.dob_rank.proofs.Common.{◌<◌, ◌∙◌, ◌≡◌, ◌≤◌, Bool, arith, inl, inr, refl, subst, suc, sym, true, zero, ℕ, cases_lt, mirrored, PieceSet, Setup}
+use Rattle.dob_rank.proofs.Common.{marks_below, rank_of_set, Before, IsEither, IsFirstOfTwo, IsPositionOfSet, IsRepresentativeOfSet, RepresentativeOf, key}
+use Rattle.dob_rank.proofs.Common.{nat_tests}
 use Rattle.dob_pieces.proofs.Symmetries.{mirrored-mirrored}
 use Rattle.dob_rank.specs.ClassRows.{marked_place}
 use Rattle.dob_rank.proofs.Arithmetic.Order.{Precedes-irreflexive}
 use Rattle.dob_rank.proofs.Positions.Found.{IsPositionOfSet-mirrored}
 use Rattle.dob_rank.proofs.Positions.Numbering.{rank_of_set-rises, rank_of_set-same, Before-from_rank}
-use Rattle.dob_rank.proofs.Marked.Words.{marks_below_more}
+use Rattle.dob_rank.proofs.Marked.Words.{marks_below_more, marks_below_none}
 
 -- no position stands before itself
 pub not_before_itself : (p : Setup) → ¬ Before p p
@@ -35,14 +35,7 @@ has_representative_of_set set p is =
     let image = IsPositionOfSet-mirrored set p is in
     let back = mirrored-mirrored p is.legal.squares in
     elim (cases_lt (rank_of_set set (mirrored p)) (rank_of_set set p)) [
-      | inl below ↦ (
-        mirrored p,
-        (
-          inr refl,
-          first_by_rank set (mirrored p) image
-              (subst (λ q. rank_of_set set (mirrored p) ≤ rank_of_set set q) (sym back) (omega arith)),
-        ),
-      )
+      | inl below ↦ (mirrored p, (inr refl, first_by_rank set (mirrored p) image (rw back (omega arith))))
       | inr upto ↦ (p, (inl refl, first_by_rank set p is upto))
     ]
 
@@ -50,10 +43,8 @@ has_representative_of_set set p is =
 pub both_first : (set : PieceSet) (p : Setup) → IsPositionOfSet set p → IsFirstOfTwo p → IsFirstOfTwo (mirrored p) → p ≡ mirrored p
 both_first set p is first image_first =
     let image = IsPositionOfSet-mirrored set p is in
-    let up : rank_of_set set p ≤ rank_of_set set (mirrored p) = rank_of_first set p is first in
-    let down : rank_of_set set (mirrored p) ≤ rank_of_set set p =
-    subst (λ q. rank_of_set set (mirrored p) ≤ rank_of_set set q) (mirrored-mirrored p is.legal.squares)
-    (rank_of_first set (mirrored p) image image_first) in
+    let up = rank_of_first set p is first in
+    let down = rw (mirrored-mirrored p is.legal.squares) at (rank_of_first set (mirrored p) image image_first) in
     rank_of_set-same set p (mirrored p) is image (omega arith)
 
 -- a representative that is one of another and its mirror image is that other
@@ -68,12 +59,10 @@ pub same_representative_of_set : (set : PieceSet) (p a b : Setup) → IsPosition
 same_representative_of_set set p a b is at_a at_b = elim at_a.0 [
   | inl a_same ↦ elim at_b.0 [
     | inl b_same ↦ a_same ∙ sym b_same
-    | inr b_image ↦ a_same
-        ∙ both_first set p is (subst IsFirstOfTwo a_same at_a.1) (subst IsFirstOfTwo b_image at_b.1) ∙ sym b_image
+    | inr b_image ↦ a_same ∙ both_first set p is (rw a_same at at_a.1) (rw b_image at at_b.1) ∙ sym b_image
   ]
   | inr a_image ↦ elim at_b.0 [
-    | inl b_same ↦ a_image
-        ∙ sym (both_first set p is (subst IsFirstOfTwo b_same at_b.1) (subst IsFirstOfTwo a_image at_a.1)) ∙ sym b_same
+    | inl b_same ↦ a_image ∙ sym (both_first set p is (rw b_same at at_b.1) (rw a_image at at_a.1)) ∙ sym b_same
     | inr b_image ↦ a_image ∙ sym b_image
   ]
 ]
@@ -86,31 +75,6 @@ pub record IsPlaceOf (mark : ℕ → Bool) (number bound place : ℕ) : Type 0 w
   pub marked : mark place ≡ true
   pub before : marks_below mark place ≡ number
 
-one_place : (mark : ℕ → Bool) (number n : ℕ) (on same : Bool) → mark n ≡ on → eqb (marks_below mark n) number ≡ same →
-    number < marks_below mark n + one_if on → (number < marks_below mark n → IsPlaceOf mark number n (marked_place mark number n)) →
-    IsPlaceOf mark number (suc n) (if on && same then n else marked_place mark number n)
-one_place mark number n true true is is_same below earlier = record {
-  below = omega arith;
-  marked = is;
-  before = eqb-true (marks_below mark n) number is_same;
-}
-one_place mark number n true false is is_same below earlier = wider (earlier (elim (cases_eq (marks_below mark n) number) [
-  | inl same ↦ absurd (differ (marks_below mark n) number same is_same)
-  | inr other ↦ omega (arith, below, other)
-]))
-  where
-    differ : (a b : ℕ) → a ≡ b → eqb a b ≡ false → ⊥
-    differ a b same other = search (arith, same, other)
-
-    wider : IsPlaceOf mark number n (marked_place mark number n) → IsPlaceOf mark number (suc n) (marked_place mark number n)
-    wider at = record { below = (let low = at.below in omega arith); marked = at.marked; before = at.before }
-one_place mark number n false same is is_same below earlier =
-    let at = earlier (omega (arith, below)) in
-    record { below = (let low = at.below in omega arith); marked = at.marked; before = at.before }
-
 pub place_found : (mark : ℕ → Bool) (number n : ℕ) → number < marks_below mark n → IsPlaceOf mark number n (marked_place mark number n)
-unfolding marks_below
-place_found mark number zero below = absurd (omega arith)
-place_found mark number (suc n) below =
-    one_place mark number n (mark n) (eqb (marks_below mark n) number) refl refl
-    (let more = marks_below_more mark n in omega (arith, more, below)) (place_found mark number n)
+place_found mark number zero below = absurd (omega (arith, marks_below_none mark, below))
+place_found mark number (suc n) below = grind (arith, nat_tests, place_found mark number n, marks_below_more mark n, below)

@@ -1,19 +1,18 @@
 -- A position's rank in its family, by the start of its block, its hand, its lions, its squares and its forms.
 use Rattle.dob_rank.proofs.Common.{◌%◌, ◌*◌, ◌+◌, ◌-◌, ◌/◌, ◌<◌, ◌^◌, ◌∙◌, ◌∷◌, ◌≡◌, Bool, List, [], ap, arith, map, refl, slice_index, subst, sym, true, ℕ}
-use Rattle.dob_rank.proofs.Common.{add-mul, mul_assoc, div-mul-add, PieceSet, Family, Profile, Setup, IsPositionOf, is_present, rank_of, marks_below, one_if}
+use Rattle.dob_rank.proofs.Common.{add-mul, mul_assoc, div-mul-add, PieceSet, Family, Profile, Setup, IsPositionOf, is_present, rank_of, marks_below}
 use Rattle.dob_rank.proofs.Common.{block_bases, block_of, choice, choose, digits, empty_layers, enemy_squares, forms_number, free_squares, layer, number_of}
-use Rattle.dob_rank.proofs.Common.{on_board, order, product, settle, start_of, sum_below, IsPositionOfSet, form_bases, lion_pairs, lions_of, local_of, run_of}
-use Rattle.dob_rank.proofs.Common.{run_start, runs_in, square_bases, allowed_number, are_allowed, choice_weight, forms_before, forms_on, hand_size}
-use Rattle.dob_rank.proofs.Common.{lions_before, lions_in, may_have, others_forms, others_squares, place_in, weight, Chicks, Elephants, EnemyLion, Giraffes}
-use Rattle.dob_rank.proofs.Common.{OwnLion}
+use Rattle.dob_rank.proofs.Common.{on_board, order, product, settle, start_of, sum_below, IsPositionOfSet, lion_pairs, lions_of, local_of, run_of, run_start}
+use Rattle.dob_rank.proofs.Common.{runs_in, allowed_number, are_allowed, choice_weight, forms_before, forms_on, hand_size, lions_before, lions_in, may_have}
+use Rattle.dob_rank.proofs.Common.{others_forms, others_squares, place_in, weight, Chicks, EnemyLion, OwnLion}
 use Rattle.dob_rank.proofs.Arithmetic.MixedRadix.{number_of-append, number_of-below, digit_below}
-use Rattle.dob_rank.proofs.Positions.Digits.{HasParts-from_position, HasDigits-digits, layers_by-back}
+use Rattle.dob_rank.proofs.Positions.Digits.{HasParts-from_position, HasDigits-digits}
 use Rattle.dob_rank.proofs.Positions.Numbering.{block_of-below, on_board-block}
 use Rattle.dob_rank.proofs.InRuns.RunPlaces.{run_of-lions, hand_of, run_of-below, spot_there}
 use Rattle.dob_rank.proofs.InRuns.Lions.{lions_of-below, lions_layers}
-use Rattle.dob_rank.proofs.ProfileB.RunWeights.{low_alike, settled_later}
+use Rattle.dob_rank.proofs.ProfileB.RunWeights.{low_alike}
 use Rattle.dob_rank.proofs.ProfileB.FormPlaces.{allowed_before}
-use Rattle.dob_rank.proofs.OfFamilies.RunPresent.{lions_by, allowed_by_digits}
+use Rattle.dob_rank.proofs.OfFamilies.RunPresent.{settled_forms, lions_by, allowed_by_digits}
 use Rattle.dob_rank.proofs.OfFamilies.RunCounts.{is_form, present_before}
 use Rattle.dob_rank.proofs.OfFamilies.FamilyRuns.{ob_of, factor_out, spot_in_run, others_forms-some, present_before_run}
 
@@ -33,7 +32,8 @@ pub record IsPlaceIn (family : Family) (block run c q g d f : ℕ) : Type 0 wher
   pub squares_below : q < others_squares (ob_of family block)
   pub form_below : g < 4 ^ slice_index (ob_of family block) 0
   pub forms_below : f < others_forms (ob_of family block)
-  pub forms_are : marks_below (is_form family.profile run (slice_index (ob_of family block) 0) (others_forms (ob_of family block)) c) (g * others_forms (ob_of family block) + f)
+  pub forms_are : marks_below (is_form family.profile run (slice_index (ob_of family block) 0) (others_forms (ob_of family block)) c)
+      (g * others_forms (ob_of family block) + f)
       ≡ d * others_forms (ob_of family block) + f
 
 joined : (a s n q w d r f : ℕ) → a + (s * (n * r) + q * (w * r) + (d * r + f)) ≡ a + ((s * n + q * w + d) * r + f)
@@ -48,7 +48,10 @@ present_at family block run c q g d f at =
     let low : g * others_forms (ob_of family block) + f < 4 ^ slice_index (ob_of family block) 0 * others_forms (ob_of family block)
     = digit_below g (4 ^ slice_index (ob_of family block) 0) (others_forms (ob_of family block)) f at.form_below at.forms_below in
     present_before family block run c q (g * others_forms (ob_of family block) + f) (others_squares (ob_of family block)) (others_forms (ob_of family block))
-    (spot_in_run family block run c q (g * others_forms (ob_of family block) + f) at.block_below at.run_below at.choice_below at.squares_below (omega (arith, low)))
+    (spot_in_run family block run c q (g * others_forms (ob_of family block) + f) at.block_below at.run_below at.choice_below at.squares_below (omega (
+      arith,
+      low,
+    )))
     ∙ ap (λ (x : ℕ). marks_below (is_present family) (run_start family.set block run)
     + (sum_below (λ d. others_squares (ob_of family block)
     * (choice_weight family.profile run (slice_index (ob_of family block) 0) d * others_forms (ob_of family block))) c
@@ -56,7 +59,8 @@ present_at family block run c q g d f at =
     ∙ ap (λ (x : ℕ). marks_below (is_present family) (run_start family.set block run)
     + (x + q * (choice_weight family.profile run (slice_index (ob_of family block) 0) c * others_forms (ob_of family block))
     + (d * others_forms (ob_of family block) + f)))
-    (factor_out (choice_weight family.profile run (slice_index (ob_of family block) 0)) (others_squares (ob_of family block)) (others_forms (ob_of family block)) c)
+    (factor_out (choice_weight family.profile run (slice_index (ob_of family block) 0)) (others_squares (ob_of family block))
+    (others_forms (ob_of family block)) c)
     ∙ joined (marks_below (is_present family) (run_start family.set block run))
     (forms_before family.profile run (slice_index (ob_of family block) 0) c) (others_squares (ob_of family block)) q
     (choice_weight family.profile run (slice_index (ob_of family block) 0) c) d (others_forms (ob_of family block)) f
@@ -69,63 +73,41 @@ own_lions set s p =
     let whole = run_of-lions set s in
     let below = lions_of-below set s p in
     let enemy : choice (order EnemyLion) (map layer s.board) < enemy_squares = (HasDigits-digits set s (HasParts-from_position set s p)).1.1.1.1.0 in
-    ap lions_layers (rest_of (run_of set s) (hand_of set s) (lions_of s) whole below)
-    ∙ parts (choice (order OwnLion) (map layer s.board)) (choice (order EnemyLion) (map layer s.board)) enemy
-  where
-    rest_of : (run hand lions : ℕ) → run ≡ hand * lion_pairs + lions → lions < lion_pairs → run % lion_pairs ≡ lions
-    rest_of run hand lions e low = omega arith
-
-    parts : (own enemy : ℕ) → enemy < enemy_squares → lions_layers (own * enemy_squares + enemy) ≡ lions_by (0 ∷ 0 ∷ 0 ∷ own ∷ enemy ∷ [])
-    parts own enemy low =
-        let first : (own * enemy_squares + enemy) / enemy_squares ≡ own = omega arith in
-        let second : (own * enemy_squares + enemy) % enemy_squares ≡ enemy = omega arith in
-        ap (λ (x : ℕ). settle (order EnemyLion) 1 ((own * enemy_squares + enemy) % enemy_squares) (settle (order OwnLion) 1 x empty_layers)) first
-        ∙ ap (λ (x : ℕ). settle (order EnemyLion) 1 x (settle (order OwnLion) 1 own empty_layers)) second
+    let lions : run_of set s % lion_pairs ≡ lions_of s = omega (arith, whole, below) in
+    let first : lions_of s / enemy_squares ≡ choice (order OwnLion) (map layer s.board) = omega (arith, enemy) in
+    let second : lions_of s % enemy_squares ≡ choice (order EnemyLion) (map layer s.board) = omega (arith, enemy) in
+    ap lions_layers lions ∙ ap (λ (x : ℕ). settle (order EnemyLion) 1 (lions_of s % enemy_squares) (settle (order OwnLion) 1 x empty_layers)) first
+    ∙ ap (λ (x : ℕ). settle (order EnemyLion) 1 x (settle (order OwnLion) 1 (choice (order OwnLion) (map layer s.board)) empty_layers)) second
 
 -- the forms that may stand on a board with these chicks
 abbrev chicks_form : Profile → Setup → ℕ → Bool
 chicks_form profile s n = are_allowed (may_have profile) 4 (order Chicks) n 0 (map layer s.board)
 
 settled_form : (profile : Profile) (set : PieceSet) (s : Setup) → IsPositionOfSet set s → (n : ℕ)
-    → are_allowed (may_have profile) 4 (order Chicks) n 0 (settle (order Chicks) (slice_index (on_board s) 0) (slice_index (digits s) 5) (lions_in (run_of set s)))
+    → are_allowed (may_have profile) 4 (order Chicks) n 0
+    (settle (order Chicks) (slice_index (on_board s) 0) (slice_index (digits s) 5) (lions_in (run_of set s)))
     ≡ chicks_form profile s n
 settled_form profile set s p n =
-    let first = settled_later (may_have profile) 4 (order Chicks) n (order Elephants) 0 (slice_index (on_board s) 1) (slice_index (digits s) 6)
-    (settle (order Chicks) (slice_index (on_board s) 0) (slice_index (digits s) 5) (lions_by (digits s))) (omega arith) (omega arith) in
-    let second = settled_later (may_have profile) 4 (order Chicks) n (order Giraffes) 0 (slice_index (on_board s) 2) (slice_index (digits s) 7)
-    (settle (order Elephants) (slice_index (on_board s) 1) (slice_index (digits s) 6)
-    (settle (order Chicks) (slice_index (on_board s) 0) (slice_index (digits s) 5) (lions_by (digits s)))) (omega arith) (omega arith) in
     ap (λ (ls : List ℕ). are_allowed (may_have profile) 4 (order Chicks) n 0 (settle (order Chicks) (slice_index (on_board s) 0) (slice_index (digits s) 5) ls))
-    (own_lions set s p)
-    ∙ sym first.allowed_is ∙ sym second.allowed_is
-    ∙ ap (are_allowed (may_have profile) 4 (order Chicks) n 0) (layers_by-back set s (HasParts-from_position set s p))
+    (own_lions set s p) ∙ sym (settled_forms profile set s p n)
 
 -- of the forms of the position's run and choice those before its own
 pub own_forms : (family : Family) (s : Setup) (r f : ℕ) → IsPositionOf family s → 0 < r → f < r
-    → marks_below (is_form family.profile (run_of family.set s) (slice_index (on_board s) 0) r (slice_index (digits s) 5)) (forms_number (order Chicks) s.board * r + f)
+    → marks_below (is_form family.profile (run_of family.set s) (slice_index (on_board s) 0) r (slice_index (digits s) 5))
+    (forms_number (order Chicks) s.board * r + f)
     ≡ allowed_number (may_have family.profile) 4 (order Chicks) 0 s.board * r + f
 own_forms family s r f p some low =
-    let high : (n : ℕ) → are_allowed (may_have family.profile) 4 (order Chicks) n 0
-    (settle (order Chicks) (slice_index (on_board s) 0) (slice_index (digits s) 5) (lions_in (run_of family.set s))) ≡ chicks_form family.profile s n
-    = settled_form family.profile family.set s p.of_set in
-    let on : chicks_form family.profile s (forms_number (order Chicks) s.board) ≡ true =
-    sym (high (forms_number (order Chicks) s.board))
-    ∙ ap (λ (ls : List ℕ). are_allowed (may_have family.profile) 4 (order Chicks) (forms_number (order Chicks) s.board) 0
-    (settle (order Chicks) (slice_index (on_board s) 0) (slice_index (digits s) 5) ls)) (own_lions family.set s p.of_set)
-    ∙ sym (allowed_by_digits family.profile family.set s p.of_set) ∙ p.allowed in
-    low_alike (is_form family.profile (run_of family.set s) (slice_index (on_board s) 0) r (slice_index (digits s) 5)) (chicks_form family.profile s) r
-    (forms_number (order Chicks) s.board) f
+    let forms = forms_number (order Chicks) s.board in
+    let high = settled_form family.profile family.set s p.of_set in
+    let on : chicks_form family.profile s forms ≡ true = settled_forms family.profile family.set s p.of_set forms ∙ sym
+    (allowed_by_digits family.profile family.set s p.of_set) ∙ p.allowed in
+    low_alike (is_form family.profile (run_of family.set s) (slice_index (on_board s) 0) r (slice_index (digits s) 5)) (chicks_form family.profile s) r forms f
     (λ q x lq lx. ap (λ (n : ℕ). are_allowed (may_have family.profile) 4 (order Chicks) n 0
     (settle (order Chicks) (slice_index (on_board s) 0) (slice_index (digits s) 5) (lions_in (run_of family.set s)))) (div-mul-add q r x lx) ∙ high q)
     (omega (arith, low))
-    ∙ ap (λ (x : ℕ). x * r + f * one_if (chicks_form family.profile s (forms_number (order Chicks) s.board)))
-    (allowed_before (may_have family.profile) (order Chicks) 0 s.board four_some on)
-    ∙ ap (λ (b : Bool). allowed_number (may_have family.profile) 4 (order Chicks) 0 s.board * r + f * one_if b) on
-    ∙ once (allowed_number (may_have family.profile) 4 (order Chicks) 0 s.board * r) f
+    ∙ rw (on, allowed_before (may_have family.profile) (order Chicks) 0 s.board (omega arith) on)
+    (once (allowed_number (may_have family.profile) 4 (order Chicks) 0 s.board * r) f)
   where
-    four_some : 0 < 4
-    four_some = omega arith
-
     once : (a b : ℕ) → a + b * 1 ≡ a + b
     once a b = omega arith
 
@@ -137,16 +119,14 @@ squares_number s =
     (slice_index (digits s) 6 ∷ slice_index (digits s) 7 ∷ [])
 
 abbrev pub others_number : Setup → ℕ
-others_number s = number_of ((2 ^ slice_index (on_board s) 1) ∷ (2 ^ slice_index (on_board s) 2) ∷ []) (slice_index (digits s) 9 ∷ slice_index (digits s) 10 ∷ [])
+others_number s =
+    number_of ((2 ^ slice_index (on_board s) 1) ∷ (2 ^ slice_index (on_board s) 2) ∷ []) (slice_index (digits s) 9 ∷ slice_index (digits s) 10 ∷ [])
 
 pub local_parts : (s : Setup) → local_of s
     ≡ (slice_index (digits s) 5 * others_squares (on_board s) + squares_number s) * (4 ^ slice_index (on_board s) 0 * others_forms (on_board s))
     + (forms_number (order Chicks) s.board * others_forms (on_board s) + others_number s)
 unfolding local_of
-local_parts s =
-    number_of-append (square_bases (on_board s)) (form_bases (on_board s))
-    (slice_index (digits s) 5 ∷ slice_index (digits s) 6 ∷ slice_index (digits s) 7 ∷ [])
-    (slice_index (digits s) 8 ∷ slice_index (digits s) 9 ∷ slice_index (digits s) 10 ∷ []) refl
+local_parts s = grind (arith, number_of-append)
 
 -- the position's place in its run
 pub own_place : (family : Family) (s : Setup) → IsPositionOf family s
@@ -169,7 +149,8 @@ own_place family s p =
           (slice_index (digits s) 6 ∷ slice_index (digits s) 7 ∷ []) (h.1.1.1.1.1.1.0, (h.1.1.1.1.1.1.1.0, tt)));
       form_below = subst (λ (ob : List ℕ). forms_number (order Chicks) s.board < 4 ^ slice_index ob 0) (sym e) h.1.1.1.1.1.1.1.1.0;
       forms_below = subst (λ (ob : List ℕ). others_number s < others_forms ob) (sym e) forms;
-      forms_are = subst (λ (ob : List ℕ). marks_below (is_form family.profile (run_of family.set s) (slice_index ob 0) (others_forms ob) (slice_index (digits s) 5))
+      forms_are = subst (λ (ob : List ℕ). marks_below
+          (is_form family.profile (run_of family.set s) (slice_index ob 0) (others_forms ob) (slice_index (digits s) 5))
           (forms_number (order Chicks) s.board * others_forms ob + others_number s)
           ≡ allowed_number (may_have family.profile) 4 (order Chicks) 0 s.board * others_forms ob + others_number s) (sym e)
           (own_forms family s (others_forms (on_board s)) (others_number s) p (others_forms-some (on_board s)) forms);
@@ -201,7 +182,8 @@ rank_of-parts family s p =
     let whole = run_of-lions family.set s in
     let few = lions_of-below family.set s p.of_set in
     let below = run_of-below family.set s p.of_set in
-    ap (marks_below (is_present family)) (sym spot.rank_is ∙ ap (λ (x : ℕ). run_start family.set (block_of family.set s) (run_of family.set s) + x) (local_parts s))
+    ap (marks_below (is_present family)) (sym spot.rank_is ∙ ap (λ (x : ℕ). run_start family.set (block_of family.set s) (run_of family.set s) + x)
+    (local_parts s))
     ∙ subst (λ (ob : List ℕ). marks_below (is_present family) (run_start family.set (block_of family.set s) (run_of family.set s)
     + ((slice_index (digits s) 5 * others_squares ob + squares_number s) * (4 ^ slice_index ob 0 * others_forms ob)
     + (forms_number (order Chicks) s.board * others_forms ob + others_number s)))
@@ -219,12 +201,14 @@ rank_of-parts family s p =
     + (hand_of family.set s * lions_before family.profile (slice_index ob 0) lion_pairs + lions_before family.profile (slice_index ob 0) (lions_of s))
     * (others_squares ob * others_forms ob)) e)
     ∙ ap (λ (x : ℕ). marks_below (is_present family) (start_of family.set (block_of family.set s))
-    + (hand_of family.set s * lions_before family.profile (slice_index (on_board s) 0) lion_pairs + lions_before family.profile (slice_index (on_board s) 0) (lions_of s))
+    + (hand_of family.set s * lions_before family.profile (slice_index (on_board s) 0) lion_pairs + lions_before family.profile (slice_index (on_board s) 0)
+    (lions_of s))
     * (others_squares (on_board s) * others_forms (on_board s)) + x)
     (same_weights family.profile (run_of family.set s) (lions_of s) (on_board s) (slice_index (digits s) 5) (others_squares (on_board s)) (squares_number s)
     (allowed_number (may_have family.profile) 4 (order Chicks) 0 s.board) (others_forms (on_board s)) (others_number s) (omega (arith, whole)))
     ∙ gathered (marks_below (is_present family) (start_of family.set (block_of family.set s)))
-    (hand_of family.set s * lions_before family.profile (slice_index (on_board s) 0) lion_pairs + lions_before family.profile (slice_index (on_board s) 0) (lions_of s))
+    (hand_of family.set s * lions_before family.profile (slice_index (on_board s) 0) lion_pairs + lions_before family.profile (slice_index (on_board s) 0)
+    (lions_of s))
     (forms_before family.profile (lions_of s) (slice_index (on_board s) 0) (slice_index (digits s) 5)) (others_squares (on_board s)) (squares_number s)
     (choice_weight family.profile (lions_of s) (slice_index (on_board s) 0) (slice_index (digits s) 5))
     (allowed_number (may_have family.profile) 4 (order Chicks) 0 s.board) (others_forms (on_board s)) (others_number s)

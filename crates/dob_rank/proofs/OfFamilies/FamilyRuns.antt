@@ -4,8 +4,7 @@ use Rattle.dob_rank.proofs.Common.{mul_comm, Family, Profile, sum_alike, sum_blo
 use Rattle.dob_rank.proofs.Common.{choose, digits_of, free_squares, order, product, settle, start_of, sum_below, form_bases, lion_pairs, run_size, run_start}
 use Rattle.dob_rank.proofs.Common.{runs_in, square_bases, choice_weight, forms_in, forms_on, lions_before, others_forms, others_squares, weight, Chicks, drop}
 use Rattle.dob_rank.proofs.Arithmetic.MixedRadix.{product-append}
-use Rattle.dob_rank.proofs.Positions.Blocks.{sum_below_more, few_in_block, hand_bases, positive_product, squares_positive, forms_positive}
-use Rattle.dob_rank.proofs.Positions.Blocks.{AreFewOnBoard-digits}
+use Rattle.dob_rank.proofs.Positions.Blocks.{sum_below_more, few_in_block, hand_bases, positive_product, squares_positive, forms_positive, AreFewOnBoard-digits}
 use Rattle.dob_rank.proofs.InRuns.Lions.{lions_layers}
 use Rattle.dob_rank.proofs.Marked.Words.{marks_below_none}
 use Rattle.dob_rank.proofs.InRuns.RunMarks.{run_start_first, run_start_next, run_start_end}
@@ -17,17 +16,11 @@ use Rattle.dob_rank.proofs.OfFamilies.RunCounts.{IsSpotIn, all_forms, present_be
 
 pub factor_out : (w : ℕ → ℕ) (n r c : ℕ) → sum_below (λ d. n * (w d * r)) c ≡ sum_below w c * (n * r)
 factor_out w n r c =
-    sum_same (λ d. n * (w d * r)) (λ d. n * r * w d) c (λ d low. turned (w d))
+    sum_same (λ d. n * (w d * r)) (λ d. n * r * w d) c (λ d low. rw (mul_comm (w d) r) (sym (mul_assoc n r (w d))))
     ∙ sum_times (n * r) w c ∙ mul_comm (n * r) (sum_below w c)
-  where
-    turned : (x : ℕ) → n * (x * r) ≡ n * r * x
-    turned x = ap (λ (y : ℕ). n * y) (mul_comm x r) ∙ sym (mul_assoc n r x)
 
 last_block : (n m c : ℕ) → (c * suc n + n) * m + m ≡ suc c * suc n * m
-last_block n m c =
-    let next : suc c * suc n ≡ c * suc n + n + 1 = (let more : (c + 1) * suc n ≡ c * suc n + 1 * suc n = add-mul c 1 (suc n) in omega (arith, more)) in
-    let more : (c * suc n + n + 1) * m ≡ (c * suc n + n) * m + 1 * m = add-mul (c * suc n + n) 1 m in
-    sym (ap (λ (x : ℕ). x * m) next ∙ (omega (arith, more)))
+last_block n m c = grind arith
 
 once_more : (n x : ℕ) → n * x + x ≡ suc n * x
 once_more n x = (let more : (n + 1) * x ≡ n * x + 1 * x = add-mul n 1 x in omega (arith, more))
@@ -115,9 +108,14 @@ run_present family block run within below =
         ≡ marks_below (is_present family) (run_start family.set block run)
         + forms_in family.profile (slice_index (ob_of family block) 0) run * (others_squares (ob_of family block) * others_forms (ob_of family block))
     of_counts c n is many =
-        let spot : IsSpotIn family block run c n (4 ^ slice_index (ob_of family block) 0 * others_forms (ob_of family block)) (suc n) (others_forms (ob_of family block))
-        = subst (λ (x : ℕ). IsSpotIn family block run c n (4 ^ slice_index (ob_of family block) 0 * others_forms (ob_of family block)) x (others_forms (ob_of family block))) many
-        (spot_in_run family block run c n (4 ^ slice_index (ob_of family block) 0 * others_forms (ob_of family block)) within below (omega (arith, is)) (omega (arith, many))
+        let spot : IsSpotIn family block run c n (4 ^ slice_index (ob_of family block) 0 * others_forms (ob_of family block)) (suc n)
+        (others_forms (ob_of family block))
+        = subst (λ (x : ℕ). IsSpotIn family block run c n (4 ^ slice_index (ob_of family block) 0 * others_forms (ob_of family block)) x
+        (others_forms (ob_of family block))) many
+        (spot_in_run family block run c n (4 ^ slice_index (ob_of family block) 0 * others_forms (ob_of family block)) within below (omega (
+          arith,
+          is,
+        )) (omega (arith, many))
         (omega arith)) in
         ap (λ (x : ℕ). marks_below (is_present family) (run_start family.set block run + x * others_squares (ob_of family block)
         * (4 ^ slice_index (ob_of family block) 0 * others_forms (ob_of family block)))) is
@@ -127,7 +125,8 @@ run_present family block run within below =
         ∙ ap (λ (x : ℕ). marks_below (is_present family) (run_start family.set block run)
         + sum_below (choice_weight family.profile run (slice_index (ob_of family block) 0)) (suc c) * (x * others_forms (ob_of family block))) (sym many)
         ∙ ap (λ (x : ℕ). marks_below (is_present family) (run_start family.set block run)
-        + sum_below (choice_weight family.profile run (slice_index (ob_of family block) 0)) x * (others_squares (ob_of family block) * others_forms (ob_of family block)))
+        + sum_below (choice_weight family.profile run (slice_index (ob_of family block) 0)) x *
+        (others_squares (ob_of family block) * others_forms (ob_of family block)))
         (sym is)
 
 -- ---- the runs of a block
@@ -136,25 +135,8 @@ pub runs_present : (family : Family) (block run : ℕ) → block < product (bloc
     → marks_below (is_present family) (start_of family.set block)
     + sum_below (forms_in family.profile (slice_index (ob_of family block) 0)) run * (others_squares (ob_of family block) * others_forms (ob_of family block))
     ≡ marks_below (is_present family) (run_start family.set block run)
-runs_present family block zero within upto =
-    no_more (marks_below (is_present family) (start_of family.set block)) (others_squares (ob_of family block) * others_forms (ob_of family block))
-    ∙ ap (marks_below (is_present family)) (sym (run_start_first family.set block))
-  where
-    no_more : (a x : ℕ) → a + 0 * x ≡ a
-    no_more a x = omega arith
-runs_present family block (suc run) within upto =
-    one_more (sum_below (forms_in family.profile (slice_index (ob_of family block) 0)) run) (forms_in family.profile (slice_index (ob_of family block) 0) run)
-    ∙ ap (λ (x : ℕ). x + forms_in family.profile (slice_index (ob_of family block) 0) run * (others_squares (ob_of family block) * others_forms (ob_of family block)))
-    (runs_present family block run within (omega arith))
-    ∙ run_present family block run within (omega (arith, upto))
-    ∙ ap (λ (x : ℕ). marks_below (is_present family) (run_start family.set block x)) (let e : run + 1 ≡ suc run = omega arith in e)
-  where
-    one_more : (a b : ℕ) → marks_below (is_present family) (start_of family.set block) + (a + b) * (others_squares (ob_of family block) * others_forms (ob_of family block))
-        ≡ marks_below (is_present family) (start_of family.set block) + a * (others_squares (ob_of family block) * others_forms (ob_of family block))
-        + b * (others_squares (ob_of family block) * others_forms (ob_of family block))
-    one_more a b =
-        let more = add-mul a b (others_squares (ob_of family block) * others_forms (ob_of family block)) in
-        omega (arith, more)
+runs_present family block zero within upto = grind (arith, run_start_first)
+runs_present family block (suc run) within upto = grind (arith, run_present, (runs_present family block run within (omega arith)))
 
 -- the lions alone say how many a run has
 pub lions_alike : (profile : Profile) (chicks a b : ℕ) → a % lion_pairs ≡ b % lion_pairs → forms_in profile chicks a ≡ forms_in profile chicks b
@@ -181,7 +163,8 @@ by_hands profile chicks hands lions upto =
 pub present_before_run : (family : Family) (block hands lions : ℕ) → block < product (block_bases family.set) → lions ≤ lion_pairs
     → hands * lion_pairs + lions ≤ runs_in family.set block
     → marks_below (is_present family) (start_of family.set block)
-    + (hands * lions_before family.profile (slice_index (ob_of family block) 0) lion_pairs + lions_before family.profile (slice_index (ob_of family block) 0) lions)
+    + (hands * lions_before family.profile (slice_index (ob_of family block) 0) lion_pairs + lions_before family.profile (slice_index (ob_of family block) 0)
+    lions)
     * (others_squares (ob_of family block) * others_forms (ob_of family block))
     ≡ marks_below (is_present family) (run_start family.set block (hands * lion_pairs + lions))
 present_before_run family block hands lions within few upto =

@@ -1,8 +1,8 @@
 -- How many positions of the family a run has before each of its places.
-use Rattle.dob_rank.proofs.Common.{◌%◌, ◌*◌, ◌+◌, ◌-◌, ◌/◌, ◌<◌, ◌^◌, ◌∙◌, ◌∷◌, ◌≡◌, ◌≤◌, Bool, List, [], ap, arith, slice_index, subst, sym, ℕ, div-mul-add}
-use Rattle.dob_rank.proofs.Common.{mod-mul-add, Family, Profile, sum_parts, sum_same, is_present, marks_below, one_if, block_bases, choose, count, digits_of}
-use Rattle.dob_rank.proofs.Common.{free_squares, order, product, settle, sum_below, IsInRun, form_bases, local_bases, run_size, run_start, runs_in}
-use Rattle.dob_rank.proofs.Common.{square_bases, are_allowed, choice_weight, lions_in, may_have, Chicks}
+use Rattle.dob_rank.proofs.Common.{◌*◌, ◌+◌, ◌-◌, ◌/◌, ◌<◌, ◌^◌, ◌∙◌, ◌∷◌, ◌≡◌, ◌≤◌, Bool, List, [], ap, arith, slice_index, sym, ℕ, div-mul-add, mod-mul-add}
+use Rattle.dob_rank.proofs.Common.{Family, Profile, sum_parts, sum_same, is_present, marks_below, one_if, block_bases, choose, count, digits_of, free_squares}
+use Rattle.dob_rank.proofs.Common.{order, product, settle, sum_below, IsInRun, form_bases, run_size, run_start, runs_in, square_bases, are_allowed}
+use Rattle.dob_rank.proofs.Common.{choice_weight, lions_in, may_have, Chicks}
 use Rattle.dob_rank.proofs.Arithmetic.MixedRadix.{product-append, digit_below}
 use Rattle.dob_rank.proofs.ProfileB.Weights.{forms_weigh}
 use Rattle.dob_rank.proofs.ProfileB.RunWeights.{middle_alike, low_alike}
@@ -44,7 +44,8 @@ all_forms profile run chicks r c some is =
 pub record IsSpotIn (family : Family) (block run c s f n r : ℕ) : Type 0 where
   pub block_below : block < product (block_bases family.set)
   pub run_below : run < runs_in family.set block
-  pub n_is : n ≡ product (choose (free_squares - slice_index (digits_of (block_bases family.set) block) 0) (slice_index (digits_of (block_bases family.set) block) 1)
+  pub n_is : n ≡ product (choose (free_squares - slice_index (digits_of (block_bases family.set) block) 0)
+      (slice_index (digits_of (block_bases family.set) block) 1)
       ∷ choose (free_squares - slice_index (digits_of (block_bases family.set) block) 0 - slice_index (digits_of (block_bases family.set) block) 1)
       (slice_index (digits_of (block_bases family.set) block) 2) ∷ [])
   pub r_is : r ≡ product ((2 ^ slice_index (digits_of (block_bases family.set) block) 1) ∷ (2 ^ slice_index (digits_of (block_bases family.set) block) 2) ∷ [])
@@ -64,16 +65,11 @@ in_run family block run c s f n r d t g i ld lt lg =
     let ob : List ℕ = digits_of (block_bases family.set) block in
     let low : d * n + t < choose free_squares (slice_index ob 0) * n
     = digit_below d (choose free_squares (slice_index ob 0)) n t (let a : c < choose free_squares (slice_index ob 0) = i.choice_below in omega arith) lt in
-    let below : (d * n + t) * (4 ^ slice_index ob 0 * r) + g < choose free_squares (slice_index ob 0) * n * (4 ^ slice_index ob 0 * r)
-    = digit_below (d * n + t) (choose free_squares (slice_index ob 0) * n) (4 ^ slice_index ob 0 * r) g low lg in
-    let whole : product (local_bases ob) ≡ choose free_squares (slice_index ob 0) * n * (4 ^ slice_index ob 0 * r)
-    = product-append (square_bases ob) (form_bases ob)
-    ∙ ap (λ (x : ℕ). choose free_squares (slice_index ob 0) * x * product (form_bases ob)) (sym i.n_is)
-    ∙ ap (λ (x : ℕ). choose free_squares (slice_index ob 0) * n * (4 ^ slice_index ob 0 * x)) (sym i.r_is) in
     record {
       block_below = i.block_below;
       run_below = i.run_below;
-      local_below = subst (λ (x : ℕ). (d * n + t) * (4 ^ slice_index ob 0 * r) + g < x) (sym whole) below;
+      local_below = rw (product-append (square_bases ob) (form_bases ob), ← i.n_is, ← i.r_is)
+          (digit_below (d * n + t) (choose free_squares (slice_index ob 0) * n) (4 ^ slice_index ob 0 * r) g low lg);
     }
 
 -- what stands there
@@ -84,45 +80,29 @@ pub form_in_run : (family : Family) (block run c s f n r d t g : ℕ) → IsSpot
 form_in_run family block run c s f n r d t g i ld lt lg =
     let ob : List ℕ = digits_of (block_bases family.set) block in
     let forms : 4 ^ slice_index ob 0 * r ≡ product (form_bases ob) = ap (λ (x : ℕ). 4 ^ slice_index ob 0 * x) i.r_is in
-    let high : ((d * n + t) * (4 ^ slice_index ob 0 * r) + g) / (4 ^ slice_index ob 0 * r) ≡ d * n + t = div-mul-add (d * n + t) (4 ^ slice_index ob 0 * r) g lg in
-    let rest : ((d * n + t) * (4 ^ slice_index ob 0 * r) + g) % (4 ^ slice_index ob 0 * r) ≡ g = mod-mul-add (d * n + t) (4 ^ slice_index ob 0 * r) g lg in
-    allowed_in_run family block run ((d * n + t) * (4 ^ slice_index ob 0 * r) + g) (4 ^ slice_index ob 0 * r) (in_run family block run c s f n r d t g i ld lt lg) forms
-    ∙ ap (λ (x : ℕ). are_allowed (may_have family.profile) 4 (order Chicks)
-    (((d * n + t) * (4 ^ slice_index ob 0 * r) + g) % (4 ^ slice_index ob 0 * r) / x) 0
-    (settle (order Chicks) (slice_index ob 0) (((d * n + t) * (4 ^ slice_index ob 0 * r) + g) / (4 ^ slice_index ob 0 * r)
-    / product (choose (free_squares - slice_index ob 0) (slice_index ob 1) ∷ choose (free_squares - slice_index ob 0 - slice_index ob 1) (slice_index ob 2) ∷ []))
-    (lions_in run))) (sym i.r_is)
-    ∙ ap (λ (x : ℕ). are_allowed (may_have family.profile) 4 (order Chicks)
-    (((d * n + t) * (4 ^ slice_index ob 0 * r) + g) % (4 ^ slice_index ob 0 * r) / r) 0
-    (settle (order Chicks) (slice_index ob 0) (((d * n + t) * (4 ^ slice_index ob 0 * r) + g) / (4 ^ slice_index ob 0 * r) / x) (lions_in run))) (sym i.n_is)
-    ∙ ap (λ (x : ℕ). are_allowed (may_have family.profile) 4 (order Chicks)
-    (((d * n + t) * (4 ^ slice_index ob 0 * r) + g) % (4 ^ slice_index ob 0 * r) / r) 0
-    (settle (order Chicks) (slice_index ob 0) (x / n) (lions_in run))) high
-    ∙ ap (λ (x : ℕ). are_allowed (may_have family.profile) 4 (order Chicks) (x / r) 0 (settle (order Chicks) (slice_index ob 0) ((d * n + t) / n) (lions_in run))) rest
-    ∙ ap (λ (x : ℕ). are_allowed (may_have family.profile) 4 (order Chicks) (g / r) 0 (settle (order Chicks) (slice_index ob 0) x (lions_in run))) (div-mul-add d n t lt)
+    let high = div-mul-add (d * n + t) (4 ^ slice_index ob 0 * r) g lg in
+    let rest = mod-mul-add (d * n + t) (4 ^ slice_index ob 0 * r) g lg in
+    let choice = div-mul-add d n t lt in
+    let is = allowed_in_run family block run ((d * n + t) * (4 ^ slice_index ob 0 * r) + g) (4 ^ slice_index ob 0 * r)
+    (in_run family block run c s f n r d t g i ld lt lg) forms in
+    cc (is, high, rest, choice, i.r_is, i.n_is)
 
 pub present_before : (family : Family) (block run c s f n r : ℕ) → IsSpotIn family block run c s f n r
     → (let i = slice_index (digits_of (block_bases family.set) block) 0 in
     marks_below (is_present family) (run_start family.set block run + ((c * n + s) * (4 ^ i * r) + f))
     ≡ marks_below (is_present family) (run_start family.set block run)
-    + (sum_below (λ d. n * (choice_weight family.profile run i d * r)) c + s * (choice_weight family.profile run i c * r) + marks_below (is_form family.profile run i r c) f))
+    + (sum_below (λ d. n * (choice_weight family.profile run i d * r)) c + s * (choice_weight family.profile run i c * r) + marks_below
+    (is_form family.profile run i r c) f))
 unfolding marks_below
 present_before family block run c s f n r spot =
     let i = slice_index (digits_of (block_bases family.set) block) 0 in
-    sum_parts (λ x. one_if (is_present family x)) (run_start family.set block run)
-    ((c * n + s) * (4 ^ slice_index (digits_of (block_bases family.set) block) 0 * r) + f)
-    ∙ ap (λ (x : ℕ). sum_below (λ y. one_if (is_present family y)) (run_start family.set block run) + x)
-    (middle_alike (λ x. is_present family (run_start family.set block run + x))
-    (is_form family.profile run (slice_index (digits_of (block_bases family.set) block) 0) r) n
-    (4 ^ slice_index (digits_of (block_bases family.set) block) 0 * r) c s f
+    let weight = λ (d : ℕ) (ld : d ≤ c). all_forms family.profile run i r d spot.some (spot.settled d ld) in
+    let sums = sum_same (λ d. n * marks_below (is_form family.profile run i r d) (4 ^ i * r)) (λ d. n * (choice_weight family.profile run i d * r)) c
+    (λ d ld. ap (λ (x : ℕ). n * x) (weight d (omega arith))) in
+    sum_parts (λ x. one_if (is_present family x)) (run_start family.set block run) ((c * n + s) * (4 ^ i * r) + f)
+    ∙ ap (λ (x : ℕ). marks_below (is_present family) (run_start family.set block run) + x)
+    (middle_alike (λ x. is_present family (run_start family.set block run + x)) (is_form family.profile run i r) n (4 ^ i * r) c s f
     (λ d t g ld lt lg. form_in_run family block run c s f n r d t g spot ld lt lg) spot.squares_below spot.forms_below
-    ∙ ap (λ (x : ℕ). x + s * marks_below (is_form family.profile run (slice_index (digits_of (block_bases family.set) block) 0) r c)
-    (4 ^ slice_index (digits_of (block_bases family.set) block) 0 * r)
-    + marks_below (is_form family.profile run (slice_index (digits_of (block_bases family.set) block) 0) r c) f)
-    (sum_same (λ d. n * marks_below (is_form family.profile run (slice_index (digits_of (block_bases family.set) block) 0) r d)
-    (4 ^ slice_index (digits_of (block_bases family.set) block) 0 * r))
-    (λ d. n * (choice_weight family.profile run (slice_index (digits_of (block_bases family.set) block) 0) d * r)) c
-    (λ d ld. ap (λ (x : ℕ). n * x) (all_forms family.profile run (slice_index (digits_of (block_bases family.set) block) 0) r d spot.some (spot.settled d (omega arith)))))
-    ∙ ap (λ (x : ℕ). sum_below (λ d. n * (choice_weight family.profile run (slice_index (digits_of (block_bases family.set) block) 0) d * r)) c + s * x
-    + marks_below (is_form family.profile run (slice_index (digits_of (block_bases family.set) block) 0) r c) f)
-    (all_forms family.profile run (slice_index (digits_of (block_bases family.set) block) 0) r c spot.some (spot.settled c (omega arith))))
+    ∙ ap (λ (x : ℕ). x + s * marks_below (is_form family.profile run i r c) (4 ^ i * r) + marks_below (is_form family.profile run i r c) f) sums
+    ∙ ap (λ (x : ℕ). sum_below (λ d. n * (choice_weight family.profile run i d * r)) c + s * x + marks_below (is_form family.profile run i r c) f)
+    (weight c (omega arith)))

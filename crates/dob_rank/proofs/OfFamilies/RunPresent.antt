@@ -1,9 +1,9 @@
 -- Which places of a run are of the family.
 use Rattle.dob_rank.proofs.Common.{◌%◌, ◌*◌, ◌+◌, ◌-◌, ◌/◌, ◌<◌, ◌^◌, ◌∙◌, ◌∷◌, ◌≡◌, Bool, List, [], ap, arith, map, slice_index, sym, ℕ, is_allowed}
-use Rattle.dob_rank.proofs.Common.{may_all_stand, PieceSet, Family, Profile, Setup, is_present, HasBlock, bases_by, block_bases, block_size, board_of, choose}
-use Rattle.dob_rank.proofs.Common.{digits, digits_of, empty_layers, enemy_squares, free_squares, layer, nth, numbers_by, on_board, order, product, rank_of_set}
-use Rattle.dob_rank.proofs.Common.{settle, setup_in, sum_below, IsPositionOfSet, IsInRun, form_bases, lion_pairs, local_bases, run_size, run_start, runs_in}
-use Rattle.dob_rank.proofs.Common.{are_allowed, may_have, Chicks, Elephants, EnemyLion, Giraffes, OwnLion}
+use Rattle.dob_rank.proofs.Common.{may_all_stand, PieceSet, Family, Profile, Setup, is_present, bases_by, block_bases, block_size, choose, digits, digits_of}
+use Rattle.dob_rank.proofs.Common.{empty_layers, enemy_squares, free_squares, layer, nth, numbers_by, on_board, order, product, settle, setup_in, sum_below}
+use Rattle.dob_rank.proofs.Common.{IsPositionOfSet, IsInRun, form_bases, lion_pairs, local_bases, run_size, run_start, runs_in, are_allowed, may_have, Chicks}
+use Rattle.dob_rank.proofs.Common.{Elephants, EnemyLion, Giraffes, OwnLion}
 use Rattle.dob_pieces.proofs.Allowed.{is_allowed-stand}
 use Rattle.dob_rank.proofs.Boards.FormDigits.{AreLayers-map, board_of-back}
 use Rattle.dob_rank.proofs.Positions.Digits.{HasParts-from_position, HasDigits-digits, layers_by-back, numbers-back}
@@ -11,7 +11,7 @@ use Rattle.dob_rank.proofs.Arithmetic.MixedRadix.{digits_of-number_of}
 use Rattle.dob_rank.proofs.Positions.Numbering.{HasBlock-setup_in, rank_of_set-block, nth-rank_of_set, on_board-block}
 use Rattle.dob_rank.proofs.InRuns.RunPlaces.{place_in_run, run_start-is}
 use Rattle.dob_rank.proofs.InRuns.DigitParts.{parts_are}
-use Rattle.dob_rank.proofs.ProfileB.FarChicks.{board_allowed}
+use Rattle.dob_rank.proofs.ProfileB.Weights.{board_allowed}
 use Rattle.dob_rank.proofs.ProfileB.RunWeights.{settled_later}
 
 abbrev pub lions_by : List ℕ → List ℕ
@@ -22,22 +22,27 @@ abbrev pub chicks_allowed : Profile → List ℕ → List ℕ → Bool
 chicks_allowed profile ob ds =
     are_allowed (may_have profile) 4 (order Chicks) (slice_index ds 8) 0 (settle (order Chicks) (slice_index ob 0) (slice_index ds 5) (lions_by ds))
 
--- a position is allowed just where its digits say so
-pub allowed_by_digits : (profile : Profile) (set : PieceSet) (s : Setup) → IsPositionOfSet set s → is_allowed profile s ≡ chicks_allowed profile (on_board s) (digits s)
-allowed_by_digits profile set s p =
-    let parts = HasParts-from_position set s p in
-    let board : board_of (numbers_by (digits s)) (map layer s.board) ≡ s.board = board_of-back (numbers_by (digits s)) s.board (numbers-back s) in
+-- the allowed forms of a position's chicks are those of its choice, whatever is settled later
+pub settled_forms : (profile : Profile) (set : PieceSet) (s : Setup) → IsPositionOfSet set s → (n : ℕ)
+    → are_allowed (may_have profile) 4 (order Chicks) n 0 (map layer s.board)
+    ≡ are_allowed (may_have profile) 4 (order Chicks) n 0 (settle (order Chicks) (slice_index (on_board s) 0) (slice_index (digits s) 5) (lions_by (digits s)))
+settled_forms profile set s p n =
     let chicks = settle (order Chicks) (slice_index (on_board s) 0) (slice_index (digits s) 5) (lions_by (digits s)) in
-    let first = settled_later (may_have profile) 4 (order Chicks) (slice_index (digits s) 8) (order Elephants) 0 (slice_index (on_board s) 1) (slice_index (digits s) 6)
-    (settle (order Chicks) (slice_index (on_board s) 0) (slice_index (digits s) 5) (lions_by (digits s))) (omega arith) (omega arith) in
-    let second = settled_later (may_have profile) 4 (order Chicks) (slice_index (digits s) 8) (order Giraffes) 0 (slice_index (on_board s) 2) (slice_index (digits s) 7)
-    (settle (order Elephants) (slice_index (on_board s) 1) (slice_index (digits s) 6)
-    (settle (order Chicks) (slice_index (on_board s) 0) (slice_index (digits s) 5) (lions_by (digits s)))) (omega arith) (omega arith) in
+    let elephants = settle (order Elephants) (slice_index (on_board s) 1) (slice_index (digits s) 6) chicks in
+    ap (are_allowed (may_have profile) 4 (order Chicks) n 0) (sym (layers_by-back set s (HasParts-from_position set s p)))
+    ∙ (settled_later (may_have profile) 4 (order Chicks) n (order Giraffes) 0 (slice_index (on_board s) 2) (slice_index (digits s) 7) elephants (omega arith)
+    (omega arith)).allowed_is
+    ∙ (settled_later (may_have profile) 4 (order Chicks) n (order Elephants) 0 (slice_index (on_board s) 1) (slice_index (digits s) 6) chicks (omega arith)
+    (omega arith)).allowed_is
+
+-- a position is allowed just where its digits say so
+pub allowed_by_digits : (profile : Profile) (set : PieceSet) (s : Setup) → IsPositionOfSet set s → is_allowed profile s ≡ chicks_allowed profile (on_board s)
+    (digits s)
+allowed_by_digits profile set s p =
     is_allowed-stand profile s
-    ∙ ap (may_all_stand profile 0) (sym board)
+    ∙ ap (may_all_stand profile 0) (sym (board_of-back (numbers_by (digits s)) s.board (numbers-back s)))
     ∙ board_allowed profile (numbers_by (digits s)) 0 (map layer s.board) (AreLayers-map s.board)
-    ∙ ap (are_allowed (may_have profile) 4 (order Chicks) (slice_index (digits s) 8) 0) (sym (layers_by-back set s parts))
-    ∙ second.allowed_is ∙ first.allowed_is
+    ∙ settled_forms profile set s p (slice_index (digits s) 8)
 
 -- the same of a place in a block
 pub allowed_at : (family : Family) (block place : ℕ) → block < product (block_bases family.set) → place < block_size family.set block
@@ -47,21 +52,16 @@ pub allowed_at : (family : Family) (block place : ℕ) → block < product (bloc
 unfolding is_present
 allowed_at family block place low below =
     let set = family.set in
-    let s : Setup = setup_in family.set block place in
-    let there : HasBlock family.set block place s = HasBlock-setup_in family.set block place (record { block_below = low; place_below = below }) in
-    let number : rank_of_set family.set s ≡ sum_below (block_size family.set) block + place = rank_of_set-block family.set block place s there in
+    let s = setup_in family.set block place in
+    let there = HasBlock-setup_in family.set block place (record { block_below = low; place_below = below }) in
     let it : nth family.set (sum_below (block_size family.set) block + place) ≡ s
-    = ap (nth family.set) (sym number) ∙ nth-rank_of_set family.set s there.position in
-    let ob : digits_of (block_bases family.set) block ≡ on_board s
-    = ap (digits_of (block_bases family.set)) (sym there.block_is) ∙ on_board-block family.set s there.position in
-    let parts = HasParts-from_position family.set s there.position in
-    let ds : digits_of (bases_by family.set (on_board s)) place ≡ digits s
-    = ap (digits_of (bases_by family.set (on_board s))) (sym there.place_is)
-    ∙ digits_of-number_of (bases_by family.set (on_board s)) (digits s) (HasDigits-digits family.set s parts) in
-    ap (is_allowed family.profile) it
-    ∙ allowed_by_digits family.profile family.set s there.position
-    ∙ ap (chicks_allowed family.profile (on_board s)) (sym ds)
-    ∙ ap (λ (xs : List ℕ). chicks_allowed family.profile xs (digits_of (bases_by family.set xs) place)) (sym ob)
+    = ap (nth family.set) (sym (rank_of_set-block family.set block place s there)) ∙ nth-rank_of_set family.set s there.position in
+    let ob = ap (digits_of (block_bases family.set)) (sym there.block_is) ∙ on_board-block family.set s there.position in
+    let ds = ap (digits_of (bases_by family.set (on_board s))) (sym there.place_is)
+    ∙ digits_of-number_of (bases_by family.set (on_board s)) (digits s) (HasDigits-digits family.set s (HasParts-from_position family.set s there.position)) in
+    ap (is_allowed family.profile) it ∙ allowed_by_digits family.profile family.set s there.position
+    ∙ ap (chicks_allowed family.profile (on_board s)) (sym ds) ∙ ap
+    (λ (xs : List ℕ). chicks_allowed family.profile xs (digits_of (bases_by family.set xs) place)) (sym ob)
 
 -- and of a place in a run: the lions and the choice of the chicks' squares say which forms of the chicks are allowed
 pub allowed_in_run : (family : Family) (block run local forms : ℕ) → IsInRun family.set block run local
@@ -74,9 +74,9 @@ pub allowed_in_run : (family : Family) (block run local forms : ℕ) → IsInRun
     (settle (order EnemyLion) 1 (run % lion_pairs % enemy_squares) (settle (order OwnLion) 1 (run % lion_pairs / enemy_squares) empty_layers))))
 unfolding runs_in run_size
 allowed_in_run family block run local forms h f =
-    let parts = parts_are family.set (digits_of (block_bases family.set) block) run local forms h.run_below h.local_below f in
-    ap (is_present family) (ap (λ (x : ℕ). x + local) (run_start-is family.set block run)
-    ∙ (let e : sum_below (block_size family.set) block + run * product (local_bases (digits_of (block_bases family.set) block)) + local
-    ≡ sum_below (block_size family.set) block + (run * product (local_bases (digits_of (block_bases family.set) block)) + local) = omega arith in e))
-    ∙ allowed_at family block (run * product (local_bases (digits_of (block_bases family.set) block)) + local) h.block_below (place_in_run family.set block run local h)
-    ∙ ap (chicks_allowed family.profile (digits_of (block_bases family.set) block)) parts.digits_are
+    let ob = digits_of (block_bases family.set) block in
+    let place = run * product (local_bases ob) + local in
+    ap (is_present family) (let start = run_start-is family.set block run in let e : run_start family.set block run + local ≡ sum_below (block_size family.set)
+    block + place = omega (arith, start) in e)
+    ∙ allowed_at family block place h.block_below (place_in_run family.set block run local h)
+    ∙ ap (chicks_allowed family.profile ob) (parts_are family.set ob run local forms h.run_below h.local_below f).digits_are

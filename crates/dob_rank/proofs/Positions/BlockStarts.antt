@@ -1,8 +1,8 @@
 -- The table of the blocks' starts, profile by profile: what is computed of each set and each block holds of every one. In profile A an entry is the sum
 -- of the blocks before.
-use Rattle.dob_rank.proofs.Common.{◌*◌, ◌+◌, ◌-◌, ◌<◌, ◌^◌, ◌||◌, ◌∙◌, ◌∷◌, ◌≡◌, ◌≤◌, Bool, List, [], arith, false, inl, inr, nat_eq, nat_lt, refl, slice_index}
-use Rattle.dob_rank.proofs.Common.{slice_index_or, subst, sym, true, ℕ, cases_eq, ltb-true, ne_eqb, all_below, all_below-at, PieceSet, sum_same, block_bases}
-use Rattle.dob_rank.proofs.Common.{block_size, choose, digits_of, enemy_squares, free_squares, own_squares, product, sum_below}
+use Rattle.dob_rank.proofs.Common.{◌*◌, ◌+◌, ◌-◌, ◌<◌, ◌^◌, ◌||◌, ◌∙◌, ◌∷◌, ◌≡◌, ◌≤◌, Bool, List, [], arith, false, nat_eq, nat_lt, refl, slice_index}
+use Rattle.dob_rank.proofs.Common.{slice_index_or, sym, true, ℕ, ltb-true, all_below, all_below-at, PieceSet, sum_same, block_bases, block_size, choose}
+use Rattle.dob_rank.proofs.Common.{digits_of, enemy_squares, free_squares, own_squares, product, sum_below, nat_tests}
 use Rattle.dob_rank.specs.declared.starts.TheConstants.{FIRST, STARTS}
 use Rattle.dob_rank.proofs.Positions.Blocks.{block_size-product}
 
@@ -23,16 +23,10 @@ on_all f = all_below (λ c. all_below (on_row f c) 3) 3
 pub at_block : (f : ℕ → ℕ → ℕ → ℕ → Bool) → on_all f ≡ true → (set : PieceSet) (block : ℕ) → block ≤ product (block_bases set)
     → f set.chicks set.elephants set.giraffes block ≡ true
 at_block f all set block upto =
-    let some = all_below-at (λ c. all_below (on_row f c) 3) 3 set.chicks all (small set.chicks set.few_chicks) in
-    let row = all_below-at (on_row f set.chicks) 3 set.elephants some (small set.elephants set.few_elephants) in
-    let here = all_below-at (on_blocks f set.chicks set.elephants) 3 set.giraffes row (small set.giraffes set.few_giraffes) in
-    all_below-at (f set.chicks set.elephants set.giraffes) (product (block_bases set) + 1) block here (within block (product (block_bases set)) upto)
-  where
-    small : (n : ℕ) → n ≤ 2 → n < 3
-    small n h = omega (arith, h)
-
-    within : (a b : ℕ) → a ≤ b → a < b + 1
-    within a b h = omega (arith, h)
+    let some = all_below-at (λ c. all_below (on_row f c) 3) 3 set.chicks all (omega (arith, set.few_chicks)) in
+    let row = all_below-at (on_row f set.chicks) 3 set.elephants some (omega (arith, set.few_elephants)) in
+    let here = all_below-at (on_blocks f set.chicks set.elephants) 3 set.giraffes row (omega (arith, set.few_giraffes)) in
+    all_below-at (f set.chicks set.elephants set.giraffes) (product (block_bases set) + 1) block here (omega (arith, upto))
 
 -- ---- the table's entries
 
@@ -49,17 +43,10 @@ abbrev pub agrees : ℕ → (ℕ → ℕ → ℕ → ℕ → ℕ) → ℕ → �
 agrees profile size c e g block = nat_eq (start_in profile c e g block) (sum_below (size c e g) block)
 
 pub same_number : (a b : ℕ) → nat_eq a b ≡ true → a ≡ b
-same_number a b h = elim (cases_eq a b) [
-  | inl e ↦ e
-  | inr n ↦ (let other : nat_eq a b ≡ false = ne_eqb a b n in absurd (cc))
-]
+same_number a b h = grind (arith, nat_tests)
 
 pub second : (a b : Bool) → (a || b) ≡ true → a ≡ false → b ≡ true
-second true b h e = elim (absurd_bool e) [ ]
-  where
-    absurd_bool : true ≡ false → ⊥
-    absurd_bool q = cc
-second false b h e = h
+second a b h e = grind arith
 
 -- an entry that was computed
 pub entry_is : (profile : ℕ) (size : ℕ → ℕ → ℕ → ℕ → ℕ) → on_all (agrees profile size) ≡ true → (set : PieceSet) (block : ℕ)
@@ -98,5 +85,4 @@ few_all : on_all few_in ≡ true
 few_all = refl
 
 pub start_few : (set : PieceSet) (block : ℕ) → block ≤ product (block_bases set) → sum_below (block_size set) block < 2 ^ 31
-start_few set block upto =
-    subst (λ (n : ℕ). n < 2 ^ 31) (start_is set block upto) (ltb-true (start_at 0 set block) (2 ^ 31) (at_block few_in few_all set block upto))
+start_few set block upto = rw (← start_is set block upto) (ltb-true (start_at 0 set block) (2 ^ 31) (at_block few_in few_all set block upto))

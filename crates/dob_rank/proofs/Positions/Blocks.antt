@@ -1,8 +1,8 @@
 -- Blocks: their bases are positive, and their sizes and number are small.
-use Rattle.dob_rank.proofs.Common.{◌+◌, ◌-◌, ◌<◌, ◌^◌, ◌∷◌, ◌≡◌, ◌≤◌, List, [], ap, arith, inl, inr, refl, slice_index, subst, suc, sym, zero, ℕ, cases_lt}
-use Rattle.dob_rank.proofs.Common.{mul-le, All, PieceSet, sum_below-rises, HasDigits, bases_by, block_bases, block_size, choose, digits_of, enemy_squares}
-use Rattle.dob_rank.proofs.Common.{free_squares, own_squares, product, size_of_set, start_of, sum_below, with_first, AreChoices, run_bases, AreFewOnBoard}
-use Rattle.dob_rank.proofs.Common.{all_below-at, form_bases, leb, local_bases, ltb, ltb-true, mul-pos, square_bases, ◌++◌, leb-true}
+use Rattle.dob_rank.proofs.Common.{◌+◌, ◌-◌, ◌<◌, ◌^◌, ◌∷◌, ◌≡◌, ◌≤◌, List, [], ap, arith, refl, slice_index, subst, suc, sym, zero, ℕ, mul-le, All, PieceSet}
+use Rattle.dob_rank.proofs.Common.{sum_below-rises, HasDigits, bases_by, block_bases, block_size, choose, digits_of, enemy_squares, free_squares, own_squares}
+use Rattle.dob_rank.proofs.Common.{product, size_of_set, start_of, sum_below, AreChoices, run_bases, AreFewOnBoard, all_below-at, form_bases, leb, local_bases}
+use Rattle.dob_rank.proofs.Common.{ltb, ltb-true, mul-pos, square_bases, ◌++◌, leb-true}
 use Rattle.dob_rank.proofs.Arithmetic.MixedRadix.{HasDigits-digits_of}
 use Rattle.dob_rank.proofs.Boards.Choices.{choose-split}
 use Rattle.dob_rank.proofs.Boards.FormDigits.{power_positive}
@@ -32,12 +32,8 @@ append_at_most bs cs ds es h k = absurd h
 -- ---- choices of at most two squares
 
 pub choose-grows : (m n k : ℕ) → m ≤ n → choose m k ≤ choose n k
-choose-grows m zero k h = subst (λ (x : ℕ). choose x k ≤ choose 0 k) (let e : 0 ≡ m = omega arith in e) (omega arith)
-choose-grows m (suc n) k h = elim (cases_lt m (suc n)) [
-  | inl lt ↦ (let rest : choose m k ≤ choose n k = choose-grows m n k (omega arith) in
-      let more : choose (suc n) k ≡ with_first n k + choose n k = choose-split n k in omega arith)
-  | inr le ↦ subst (λ (x : ℕ). choose x k ≤ choose (suc n) k) (let e : suc n ≡ m = omega arith in e) (omega arith)
-]
+choose-grows m zero k h = grind arith
+choose-grows m (suc n) k h = grind (arith, choose-grows m n k, choose-split n k)
 
 -- in how many ways two of the squares that the lions leave are chosen
 abbrev pub most_choices : ℕ
@@ -47,10 +43,7 @@ pub choose_ten : (k : ℕ) → k ≤ 2 → choose free_squares k ≤ most_choice
 choose_ten k h = leb-true (choose free_squares k) most_choices (all_below-at (λ k. leb (choose free_squares k) most_choices) 3 k refl (omega arith))
 
 pub choose-small : (m k : ℕ) → m ≤ free_squares → k ≤ 2 → choose m k ≤ most_choices
-choose-small m k h l =
-    let a : choose m k ≤ choose free_squares k = choose-grows m free_squares k h in
-    let b : choose free_squares k ≤ most_choices = choose_ten k l in
-    omega arith
+choose-small m k h l = grind (arith, choose-grows, choose_ten)
 
 choose_two_of_two : (k : ℕ) → k ≤ 2 → 0 < choose 2 k
 choose_two_of_two k h = ltb-true 0 (choose 2 k) (all_below-at (λ k. ltb 0 (choose 2 k)) 3 k refl (omega arith))
@@ -73,14 +66,7 @@ le_by m d = omega arith
 
 -- at most two of each kind are on the board
 pub AreFewOnBoard-digits : (set : PieceSet) (ob : List ℕ) → HasDigits (block_bases set) ob → AreFewOnBoard ob
-AreFewOnBoard-digits set ob h = record {
-  chicks = few set.chicks (slice_index ob 0) set.few_chicks (digit-at (block_bases set) ob 0 h (le_by 1 2));
-  elephants = few set.elephants (slice_index ob 1) set.few_elephants (digit-at (block_bases set) ob 1 h (le_by 2 1));
-  giraffes = few set.giraffes (slice_index ob 2) set.few_giraffes (digit-at (block_bases set) ob 2 h (le_by 3 0));
-}
-  where
-    few : (c i : ℕ) → c ≤ 2 → i < c + 1 → i ≤ 2
-    few c i h l = omega arith
+AreFewOnBoard-digits set ob h = grind (arith, digit-at, le_by)
 
 abbrev pub hand_bases : PieceSet → List ℕ → List ℕ
 hand_bases set ob = (set.chicks - slice_index ob 0 + 1) ∷ (set.elephants - slice_index ob 1 + 1) ∷ (set.giraffes - slice_index ob 2 + 1) ∷ []
@@ -117,20 +103,13 @@ abbrev pub most_forms : List ℕ
 most_forms = 16 ∷ 4 ∷ 4 ∷ []
 
 pub hands_at_most : (set : PieceSet) (ob : List ℕ) → AreAtMost (hand_bases set ob) most_hands
-hands_at_most set ob =
-    let chicks = in_hand set.chicks (slice_index ob 0) set.few_chicks in
-    let elephants = in_hand set.elephants (slice_index ob 1) set.few_elephants in
-    (chicks, (elephants, (in_hand set.giraffes (slice_index ob 2) set.few_giraffes, tt)))
+hands_at_most set ob = grind (arith, in_hand)
 
 pub squares_at_most : (ob : List ℕ) → AreFewOnBoard ob → AreAtMost (square_bases ob) most_squares
-squares_at_most ob few =
-    let room = less_than_ten (slice_index ob 0) (slice_index ob 1) in
-    let one = choose-small free_squares (slice_index ob 0) (same free_squares) few.chicks in
-    let two = choose-small (free_squares - slice_index ob 0) (slice_index ob 1) room.0 few.elephants in
-    (one, (two, (choose-small (free_squares - slice_index ob 0 - slice_index ob 1) (slice_index ob 2) room.1 few.giraffes, tt)))
+squares_at_most ob few = grind (arith, less_than_ten, choose-small)
 
 pub forms_at_most : (ob : List ℕ) → AreFewOnBoard ob → AreAtMost (form_bases ob) most_forms
-forms_at_most ob few = (four_small (slice_index ob 0) few.chicks, (two_small (slice_index ob 1) few.elephants, (two_small (slice_index ob 2) few.giraffes, tt)))
+forms_at_most ob few = grind (arith, four_small, two_small)
 
 -- and none is 0
 abbrev pub AllPositive : List ℕ → Type 0
@@ -151,36 +130,23 @@ append_positive [] cs h k = k
 append_positive (b ∷ bs) cs h k = (h.0, append_positive bs cs h.1 k)
 
 pub squares_positive : (ob : List ℕ) → AreFewOnBoard ob → AllPositive (square_bases ob)
-squares_positive ob few =
-    let room = room_left (slice_index ob 0) (slice_index ob 1) few.chicks few.elephants in
-    let one = choose-positive free_squares (slice_index ob 0) (le_by 2 8) few.chicks in
-    let two = choose-positive (free_squares - slice_index ob 0) (slice_index ob 1) room.0 few.elephants in
-    (one, (two, (choose-positive (free_squares - slice_index ob 0 - slice_index ob 1) (slice_index ob 2) room.1 few.giraffes, tt)))
+squares_positive ob few = grind (arith, room_left, choose-positive, le_by)
 
 pub forms_positive : (ob : List ℕ) → AllPositive (form_bases ob)
-forms_positive ob =
-    (power_positive 4 (slice_index ob 0) (below 3), (power_positive 2 (slice_index ob 1) (below 1), (power_positive 2 (slice_index ob 2) (below 1), tt)))
+forms_positive ob = grind (arith, power_positive)
 
 bases_small : (set : PieceSet) (ob : List ℕ) → AreFewOnBoard ob → product (bases_by set ob) ≤ 2 ^ 36
-bases_small set ob few = small (product (bases_by set ob))
-    (product-at_most (bases_by set ob) (most_hands ++ (own_squares ∷ enemy_squares ∷ (most_squares ++ most_forms)))
-    (append_at_most (hand_bases set ob) most_hands (own_squares ∷ enemy_squares ∷ local_bases ob) (own_squares ∷ enemy_squares ∷ (most_squares ++ most_forms))
-    (hands_at_most set ob) (
-      same own_squares,
-      (
-        same enemy_squares,
-        append_at_most (square_bases ob) most_squares (form_bases ob) most_forms (squares_at_most ob few) (forms_at_most ob few),
-      ),
-    )))
-  where
-    small : (n : ℕ) → n ≤ product (most_hands ++ (own_squares ∷ enemy_squares ∷ (most_squares ++ most_forms))) → n ≤ 2 ^ 36
-    small n h = omega arith
+bases_small set ob few =
+    let squares = append_at_most (square_bases ob) most_squares (form_bases ob) most_forms (squares_at_most ob few) (forms_at_most ob few) in
+    let all = append_at_most (hand_bases set ob) most_hands (own_squares ∷ enemy_squares ∷ local_bases ob)
+    (own_squares ∷ enemy_squares ∷ (most_squares ++ most_forms))
+    (hands_at_most set ob) (omega arith, (omega arith, squares)) in
+    omega (arith, product-at_most (bases_by set ob) (most_hands ++ (own_squares ∷ enemy_squares ∷ (most_squares ++ most_forms))) all)
 
 -- ---- the number of blocks
 
 pub blocks_small : (set : PieceSet) → product (block_bases set) ≤ 27
-blocks_small set = product-at_most (block_bases set) (3 ∷ 3 ∷ 3 ∷ [])
-    (one_more set.chicks set.few_chicks, (one_more set.elephants set.few_elephants, (one_more set.giraffes set.few_giraffes, tt)))
+blocks_small set = product-at_most (block_bases set) (3 ∷ 3 ∷ 3 ∷ []) (grind (arith, one_more))
 
 pub few_in_block : (set : PieceSet) (block : ℕ) → block < product (block_bases set) → HasDigits (block_bases set) (digits_of (block_bases set) block)
 few_in_block set block h = HasDigits-digits_of (block_bases set) block h
@@ -207,24 +173,18 @@ pub record AreBases (bs : List ℕ) : Type 0 where
   pub small_product : product bs ≤ 2 ^ 36
   pub fits : product bs < 2 ^ 64
 
-fits_word : (n : ℕ) → n ≤ 2 ^ 36 → n < 2 ^ 64
-fits_word n h = omega arith
-
 pub AreBases-by : (set : PieceSet) (ob bs : List ℕ) → HasDigits (block_bases set) ob → bs ≡ bases_by set ob → AreBases bs
 AreBases-by set ob bs h e =
     let few = AreFewOnBoard-digits set ob h in
-    let low : product (bases_by set ob) ≤ 2 ^ 36 = bases_small set ob few in
+    let low = bases_small set ob few in
     let local = append_positive (square_bases ob) (form_bases ob) (squares_positive ob few) (forms_positive ob) in
-    subst AreBases (sym e) (record {
+    rw e (record {
       positive = all_positive (bases_by set ob) (
-        some_in_hand set.chicks (slice_index ob 0),
-        (
-          some_in_hand set.elephants (slice_index ob 1),
-          (some_in_hand set.giraffes (slice_index ob 2), (below 8, (below 10, local))),
-        ),
+        omega arith,
+        (omega arith, (omega arith, (omega arith, (omega arith, local)))),
       );
       small_product = low;
-      fits = fits_word (product (bases_by set ob)) low;
+      fits = omega (arith, low);
     })
 
 pub HasDigits-numbers : (set : PieceSet) (block : ℕ) (xs : List ℕ) → block < product (block_bases set)
@@ -233,32 +193,14 @@ HasDigits-numbers set block xs h e = subst (HasDigits (block_bases set)) (sym e)
 
 -- a block has few runs
 pub run_bases-few : (set : PieceSet) (ob : List ℕ) → product (run_bases set ob) ≤ 2 ^ 12
-run_bases-few set ob = few_hands (product (run_bases set ob)) (product-at_most (run_bases set ob) (most_hands ++ (own_squares ∷ enemy_squares ∷ []))
-    (append_at_most (hand_bases set ob) most_hands (own_squares ∷ enemy_squares ∷ []) (own_squares ∷ enemy_squares ∷ []) (hands_at_most set ob)
-    (same own_squares, (same enemy_squares, tt))))
-  where
-    few_hands : (n : ℕ) → n ≤ product (most_hands ++ (own_squares ∷ enemy_squares ∷ [])) → n ≤ 2 ^ 12
-    few_hands n h = omega arith
+run_bases-few set ob = grind (arith, product-at_most, append_at_most, hands_at_most)
 
 -- digits below their bases are choices of squares
 pub AreChoices-digits : (set : PieceSet) (ob ds : List ℕ) → HasDigits (block_bases set) ob → HasDigits (bases_by set ob) ds → AreChoices ob ds
-AreChoices-digits set ob ds h k =
-    let few = AreFewOnBoard-digits set ob h in
-    record {
-      chicks = few.chicks;
-      elephants = few.elephants;
-      giraffes = few.giraffes;
-      own_lion = digit-at (bases_by set ob) ds 3 k (le_by 4 7);
-      other_lion = digit-at (bases_by set ob) ds 4 k (le_by 5 6);
-      chick_squares = digit-at (bases_by set ob) ds 5 k (le_by 6 5);
-      elephant_squares = digit-at (bases_by set ob) ds 6 k (le_by 7 4);
-      giraffe_squares = digit-at (bases_by set ob) ds 7 k (le_by 8 3);
-    }
+AreChoices-digits set ob ds h k = grind (arith, AreFewOnBoard-digits, digit-at, le_by)
 
 -- a place of a block lies below the size of the set
 pub place_below_size : (set : PieceSet) (block place : ℕ) → block < product (block_bases set)
     → place < block_size set block → start_of set block + place < size_of_set set
 unfolding size_of_set
-place_below_size set block place within below =
-    let upto = sum_below-rises (block_size set) block (product (block_bases set)) within in
-    omega (arith, upto, below)
+place_below_size set block place within below = grind (arith, sum_below-rises)

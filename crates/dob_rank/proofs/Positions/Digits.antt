@@ -1,13 +1,12 @@
 -- The digits of a position of a set: each is below its base, and they give the position back.
-use Rattle.dob_rank.proofs.Common.{◌%◌, ◌+◌, ◌-◌, ◌<◌, ◌^◌, ◌∙◌, ◌∷◌, ◌≡◌, ◌≤◌, List, [], ap, arith, inl, inr, length, map, refl, replicate, subst, suc, sym}
-use Rattle.dob_rank.proofs.Common.{zero, ℕ, mod-eq_of_lt, pow-succ', pow-zero, cases_lt, length-map, count_by, Cell, IsLegal, at, held, holds_kind, holds_lion}
-use Rattle.dob_rank.proofs.Common.{total, HandKind, Enemy, Mover, PieceSet, Setup, HasDigits, base_of, bases_by, block_bases, board_of, choice, choose, count}
-use Rattle.dob_rank.proofs.Common.{count_from, digits, empty_layers, enemy_squares, forms_number, free_squares, layer, layers_by, numbers_by, on_board, order}
-use Rattle.dob_rank.proofs.Common.{own_squares, settle, setup_by, IsPositionOfSet, pieces_of, Chicks, Elephants, Empty, EnemyLion, Giraffes, OwnLion}
-use Rattle.dob_rank.proofs.Common.{form_bases}
+use Rattle.dob_rank.proofs.Common.{◌%◌, ◌+◌, ◌-◌, ◌<◌, ◌^◌, ◌∙◌, ◌∷◌, ◌≡◌, List, [], ap, arith, length, map, refl, replicate, subst, suc, sym, zero, ℕ}
+use Rattle.dob_rank.proofs.Common.{mod-eq_of_lt, pow-succ', pow-zero, length-map, count_by, Cell, IsLegal, at, held, holds_kind, holds_lion, total, HandKind}
+use Rattle.dob_rank.proofs.Common.{Enemy, Mover, PieceSet, Setup, HasDigits, base_of, bases_by, block_bases, board_of, choice, choose, count, count_from}
+use Rattle.dob_rank.proofs.Common.{digits, empty_layers, enemy_squares, forms_number, free_squares, layer, layers_by, numbers_by, on_board, order, own_squares}
+use Rattle.dob_rank.proofs.Common.{settle, setup_by, IsPositionOfSet, pieces_of, Chicks, Elephants, Empty, EnemyLion, Giraffes, OwnLion}
 use Rattle.dob_pieces.specs.declared.kind.HandKind.TheVariants as hand
 use Rattle.dob_rank.proofs.Boards.Choices.{choice-below}
-use Rattle.dob_rank.proofs.Boards.Settled.{hidden, hide, hidden_lower, hidden_later, settle-choice, AreLayers}
+use Rattle.dob_rank.proofs.Boards.Settled.{hide, hidden_lower, hidden_later, settle-choice, AreLayers}
 use Rattle.dob_rank.proofs.Boards.FormDigits.{AreLayers-map, forms_number-below, board_of-back}
 use Rattle.dob_rank.proofs.Boards.LayerCounts.{count_from-next, count_from-zero, lion_at, holds_mover_lion, holds_enemy_lion, holds_kind-layer, count-layer}
 use Rattle.dob_rank.proofs.Boards.LayerCounts.{mover_lion, layer-at}
@@ -24,12 +23,7 @@ pub record HasParts (set : PieceSet) (s : Setup) : Type 0 where
   pub giraffes : count (order Giraffes) (map layer s.board) + s.hands.mover.giraffes + s.hands.enemy.giraffes ≡ set.giraffes
 
 lion_home : (s : Setup) → IsLegal s → count (order OwnLion) (map layer s.board) ≡ 1 → choice (order OwnLion) (map layer s.board) < own_squares
-lion_home s legal one = elim (cases_lt (choice (order OwnLion) (map layer s.board)) own_squares) [
-  | inl lt ↦ lt
-  | inr le ↦ absurd (legal.home (choice (order OwnLion) (map layer s.board)) le
-      (mover_lion (at s (choice (order OwnLion) (map layer s.board)))
-      (sym (layer-at s.board (choice (order OwnLion) (map layer s.board))) ∙ lion_at (map layer s.board) one)))
-]
+lion_home s legal one = grind (arith, legal.home, mover_lion, layer-at, lion_at (map layer s.board) one)
 
 of_kind : (kind : HandKind) (t : ℕ) (set : PieceSet) (s : Setup) → IsPositionOfSet set s
     → ((cells : List Cell) → count_by (holds_kind kind) cells ≡ count t (map layer cells))
@@ -60,16 +54,7 @@ pub record HasRoom (s : Setup) : Type 0 where
       (map layer s.board)
 
 HasRoom-from_parts : (set : PieceSet) (s : Setup) → HasParts set s → HasRoom s
-HasRoom-from_parts set s h =
-    let len : length (map layer s.board) ≡ 12 = h.squares in
-    let a : count (order OwnLion) (map layer s.board) ≡ 1 = h.own_lion in
-    let b : count (order EnemyLion) (map layer s.board) ≡ 1 = h.other_lion in
-    let c0 = count_from-zero (map layer s.board) in
-    let c1 = count_from-next (order OwnLion) (map layer s.board) in
-    let c2 = count_from-next (order EnemyLion) (map layer s.board) in
-    let c3 = count_from-next (order Chicks) (map layer s.board) in
-    let c4 = count_from-next (order Elephants) (map layer s.board) in
-    record { one = omega arith; two = omega arith; three = omega arith; four = omega arith }
+HasRoom-from_parts set s h = grind (arith, count_from-zero, count_from-next)
 
 pub HasDigits-on_board : (set : PieceSet) (s : Setup) → HasParts set s → HasDigits (block_bases set) (on_board s)
 HasDigits-on_board set s h = (omega (arith, h.chicks), (omega (arith, h.elephants), (omega (arith, h.giraffes), tt)))
@@ -83,35 +68,44 @@ choice_below t m ls e = subst (λ (x : ℕ). choice t ls < choose x (count t ls)
 
 pub HasDigits-digits : (set : PieceSet) (s : Setup) → HasParts set s → HasDigits (bases_by set (on_board s)) (digits s)
 HasDigits-digits set s h =
-    let ls : List ℕ = map layer s.board in
-    let r : HasRoom s = HasRoom-from_parts set s h in
-    let enemy : choice (order EnemyLion) (map layer s.board) < choose enemy_squares 1
-    = subst (λ (x : ℕ). choice (order EnemyLion) (map layer s.board) < choose enemy_squares x) h.other_lion
-    (choice_below (order EnemyLion) enemy_squares (map layer s.board) r.one) in
-    let chicks = choice_below (order Chicks) free_squares ls r.two in
-    let elephants = choice_below (order Elephants) (free_squares - count (order Chicks) (map layer s.board)) (map layer s.board) r.three in
-    let giraffes = choice_below (order Giraffes) _ (map layer s.board) r.four in
-    let forms : HasDigits (form_bases (on_board s)) (forms_number (order Chicks) s.board ∷ forms_number (order Elephants) s.board ∷ forms_number (order Giraffes) s.board ∷ [])
-    = (forms_number-below (order Chicks) s.board, (forms_number-below (order Elephants) s.board, (forms_number-below (order Giraffes) s.board, tt))) in
-    let hands = HasDigits-hands set s h in
-    (hands.0, (hands.1.0, (hands.1.1.0, (h.home, (enemy, (chicks, (elephants, (giraffes, forms))))))))
+    let r = HasRoom-from_parts set s h in
+    let ls = map layer s.board in
+    let enemy = rw h.other_lion at (choice_below (order EnemyLion) enemy_squares ls r.one) in
+    let hands = HasDigits-hands set s h in (
+      hands.0,
+      (
+        hands.1.0,
+        (
+          hands.1.1.0,
+          (
+            h.home,
+            (
+              enemy,
+              (
+                choice_below (order Chicks) _ ls r.two,
+                (
+                  choice_below (order Elephants) _ ls r.three,
+                  (
+                    choice_below (order Giraffes) _ ls r.four,
+                    (forms_number-below (order Chicks) s.board, (forms_number-below (order Elephants) s.board, (forms_number-below (order Giraffes) s.board, tt))),
+                  ),
+                ),
+              ),
+            ),
+          ),
+        ),
+      ),
+    )
 
 -- ---- back
 
 pub hide_zero : (ls : List ℕ) → hide (order OwnLion) ls ≡ replicate (length ls) (order Empty)
 hide_zero [] = refl
-hide_zero (l ∷ ls) = (let head : hidden (order OwnLion) l ≡ order Empty
-    = hidden_later (order OwnLion) l (omega arith) in let rest : hide (order OwnLion) ls ≡ replicate (length ls) (order Empty) = hide_zero ls in cc)
+hide_zero (l ∷ ls) = grind (arith, hidden_later, (hide_zero ls))
 
 pub hide_all : (ls : List ℕ) → AreLayers ls → hide (order Empty) ls ≡ ls
 hide_all [] a = refl
-hide_all (l ∷ ls) a = (let head : hidden (order Empty) l ≡ l
-    = elim (cases_lt l (order Empty)) [
-      | inl lt ↦ hidden_lower (order Empty) l lt
-      | inr le ↦ hidden_later (order Empty) l le
-          ∙ (let m : l ≤ order Empty = a.0 in let five : order Empty ≡ l = omega arith in five)
-    ] in
-    let rest : hide (order Empty) ls ≡ ls = hide_all ls a.1 in cc)
+hide_all (l ∷ ls) a = grind (arith, hidden_lower, hidden_later, (hide_all ls a.1))
 
 back : (t p : ℕ) (ls : List ℕ) → t < order Empty → AreLayers ls → count t ls ≡ p → settle t p (choice t ls) (hide t ls) ≡ hide (suc t) ls
 back t p ls h ok e = ap (λ (n : ℕ). settle t n (choice t ls) (hide t ls)) (sym e) ∙ settle-choice t ls h ok
@@ -145,10 +139,7 @@ one_pow zero = pow-zero 1
 one_pow (suc n) = pow-succ' 1 n ∙ (let rest : 1 ^ n ≡ 1 = one_pow n in omega arith)
 
 no_forms : (t : ℕ) (cells : List Cell) → base_of t ≡ 1 → 0 % base_of t ^ count t (map layer cells) ≡ forms_number t cells
-no_forms t cells h =
-    let low : forms_number t cells < base_of t ^ count t (map layer cells) = forms_number-below t cells in
-    let one : base_of t ^ count t (map layer cells) ≡ 1 = ap (λ (b : ℕ). b ^ count t (map layer cells)) h ∙ one_pow (count t (map layer cells)) in
-    mod-eq_of_lt (let p : 0 < base_of t ^ count t (map layer cells) = omega arith in p) ∙ (let e : 0 ≡ forms_number t cells = omega arith in e)
+no_forms t cells h = grind (arith, forms_number-below, one_pow)
 
 pub numbers-back : (s : Setup) (t : ℕ) → numbers_by (digits s) t % base_of t ^ count t (map layer s.board) ≡ forms_number t s.board
 numbers-back s (suc (suc zero)) = mod-eq_of_lt (forms_number-below (order Chicks) s.board)
@@ -163,7 +154,10 @@ setup_by-back set s h =
     let board : board_of (numbers_by (digits s)) (layers_by (on_board s) (digits s)) ≡ s.board
     = ap (board_of (numbers_by (digits s))) (layers_by-back set s h) ∙ board_of-back (numbers_by (digits s)) s.board (numbers-back s) in
     let chicks : set.chicks - count (order Chicks) (map layer s.board) - s.hands.mover.chicks ≡ s.hands.enemy.chicks = omega (arith, h.chicks) in
-    let elephants : set.elephants - count (order Elephants) (map layer s.board) - s.hands.mover.elephants ≡ s.hands.enemy.elephants = omega (arith, h.elephants) in
+    let elephants : set.elephants - count (order Elephants) (map layer s.board) - s.hands.mover.elephants ≡ s.hands.enemy.elephants = omega (
+      arith,
+      h.elephants,
+    ) in
     let giraffes : set.giraffes - count (order Giraffes) (map layer s.board) - s.hands.mover.giraffes ≡ s.hands.enemy.giraffes = omega (arith, h.giraffes) in
     λ i. record {
       board = board i;

@@ -40,9 +40,11 @@ local_is_of s nums ds local a b e = e ∙ ap (λ (xs : List ℕ). local_number x
 run_few : (set : PieceSet) (s : Setup) → IsPositionOfSet set s → number_of (run_bases set (on_board s)) (take 5 (digits s)) < 2 ^ 12
 run_few set s p =
     let h = HasDigits-digits set s (HasParts-from_position set s p) in
-    let below = number_of-below (run_bases set (on_board s)) (take 5 (digits s)) (h.0, (h.1.0, (h.1.1.0, (h.1.1.1.0, (h.1.1.1.1.0, tt))))) in
-    let few = run_bases-few set (on_board s) in
-    omega (arith, below, few)
+    omega (
+      arith,
+      number_of-below (run_bases set (on_board s)) (take 5 (digits s)) (h.0, (h.1.0, (h.1.1.0, (h.1.1.1.0, (h.1.1.1.1.0, tt))))),
+      run_bases-few set (on_board s),
+    )
 
 -- a spot of a block whose numbers on the board are known
 pub spot_small : (set : PieceSet) (s : Setup) (nums : List ℕ) (run local : ℕ) → IsPositionOfSet set s → nums ≡ on_board s →
@@ -50,11 +52,7 @@ pub spot_small : (set : PieceSet) (s : Setup) (nums : List ℕ) (run local : ℕ
 unfolding run_of local_of
 spot_small set s nums run local p e r l =
     let h = HasDigits-digits set s (HasParts-from_position set s p) in
-    let below = run_few set s p in (
-      omega (arith, below, r),
-      subst (λ (xs : List ℕ). local < product (local_bases xs)) (sym e)
-          (subst (λ (n : ℕ). n < product (local_bases (on_board s))) (sym l) (number_of-below (local_bases (on_board s)) (drop 5 (digits s)) h.1.1.1.1.1)),
-    )
+    (omega (arith, run_few set s p, r), rw (e, l) (number_of-below (local_bases (on_board s)) (drop 5 (digits s)) h.1.1.1.1.1))
 
 -- the place that the code makes of a spot
 pub place_is_of : (set : PieceSet) (s : Setup) (nums : List ℕ) (run local place : ℕ) → nums ≡ on_board s → run ≡ run_of set s → local ≡ local_of s →
@@ -64,58 +62,44 @@ place_is_of set s nums run local place e r l is =
     rw (is, e, r, l) (sym (number_of-append (run_bases set (on_board s)) (local_bases (on_board s)) (take 5 (digits s)) (drop 5 (digits s)) refl))
 
 pub block_upto : (set : PieceSet) (s : Setup) (block : ℕ) → IsPositionOfSet set s → block ≡ block_of set s → block ≤ product (block_bases set)
-block_upto set s block p is = at_most block (block_of set s) (product (block_bases set)) is (block_of-below set s p)
-  where
-    at_most : (a b c : ℕ) → a ≡ b → b < c → a ≤ c
-    at_most a b c h k = omega arith
+block_upto set s block p is = omega (arith, is, block_of-below set s p)
 
 pub rank_small : (set : PieceSet) (s : Setup) (start place : ℕ) → IsPositionOfSet set s → start < 2 ^ 31 → place ≡ place_of set s →
     start + place < 2 ^ 64
-rank_small set s start place p h is =
-    sum_small start place (place_of set s) (block_size set (block_of set s)) h is (place_of-below set s p)
-    (block_size-small set (block_of set s) (block_of-below set s p))
-  where
-    sum_small : (start place n p : ℕ) → start < 2 ^ 31 → place ≡ n → n < p → p ≤ 2 ^ 36 → start + place < 2 ^ 64
-    sum_small start place n p h e k l = omega arith
+rank_small set s start place p h is = omega (arith, h, is, place_of-below set s p, block_size-small set (block_of set s) (block_of-below set s p))
 
 pub ranked : (set : PieceSet) (s : Setup) (block place start : ℕ) → block ≡ block_of set s → place ≡ place_of set s →
     start ≡ sum_below (block_size set) block → start + place ≡ rank_of_set set s
-ranked set s block place start block_is place_is g =
-    rw (g, block_is, place_is) (sym (rank_of_set-place set s))
+ranked set s block place start block_is place_is g = rw (g, block_is, place_is) (sym (rank_of_set-place set s))
 
 -- ---- the position of a rank
 
 pub place_in : (set : PieceSet) (block place : ℕ) (nums : List ℕ) → place < block_size set block
     → nums ≡ digits_of (block_bases set) block → place < product (bases_by set nums)
-place_in set block place nums h e =
-    subst (λ (x : ℕ). place < x) (block_size-product set block ∙ ap (λ (xs : List ℕ). product (bases_by set xs)) (sym e)) h
+place_in set block place nums h e = grind (arith, block_size-product set block)
 
 -- the position that the code makes of a place
 pub made_at : (set : PieceSet) (block place : ℕ) (nums bs ds : List ℕ) (s : Setup) → block < product (block_bases set) → place < block_size set block
     → nums ≡ digits_of (block_bases set) block → bs ≡ bases_by set nums → ds ≡ digits_of bs place → s ≡ setup_by set nums ds → HasBlock set block place s
 made_at set block place nums bs ds s a b d e f g =
-    let same : s ≡ setup_in set block place
-    = g ∙ ap (setup_by set nums) (f ∙ ap (λ (xs : List ℕ). digits_of xs place) e)
-    ∙ ap (λ (xs : List ℕ). setup_by set xs (digits_of (bases_by set xs) place)) d in
-    subst (HasBlock set block place) (sym same) (HasBlock-setup_in set block place (record { block_below = a; place_below = b }))
+    let same : s ≡ setup_in set block place = cc (d, e, f, g) in
+    rw same (HasBlock-setup_in set block place (record { block_below = a; place_below = b }))
 
 -- the same of a spot
 pub HasDigits-spot : (set : PieceSet) (ob : List ℕ) (run local : ℕ) (ds : List ℕ) → run < product (run_bases set ob) → local < product (local_bases ob)
     → ds ≡ digits_of (bases_by set ob) (run * product (local_bases ob) + local) → HasDigits (bases_by set ob) ds
 HasDigits-spot set ob run local ds h l e =
-    subst (HasDigits (bases_by set ob)) (sym e)
-    (HasDigits-digits_of (bases_by set ob) (run * product (local_bases ob) + local) (parts-below (run_bases set ob) (local_bases ob) run local h l))
+    rw e (HasDigits-digits_of (bases_by set ob) (run * product (local_bases ob) + local) (parts-below (run_bases set ob) (local_bases ob) run local h l))
 
 pub made_by : (set : PieceSet) (ob : List ℕ) (run local : ℕ) (ds : List ℕ) (s : Setup) → HasDigits (block_bases set) ob
     → run < product (run_bases set ob) → local < product (local_bases ob) → ds ≡ digits_of (bases_by set ob) (run * product (local_bases ob) + local)
     → s ≡ setup_by set ob ds → HasBlock set (number_of (block_bases set) ob) (run * product (local_bases ob) + local) s
 made_by set ob run local ds s on h l e f =
-    let back : digits_of (block_bases set) (number_of (block_bases set) ob) ≡ ob = digits_of-number_of (block_bases set) ob on in
-    let size : block_size set (number_of (block_bases set) ob) ≡ product (bases_by set ob) =
-    block_size-product set (number_of (block_bases set) ob) ∙ ap (λ (xs : List ℕ). product (bases_by set xs)) back in
+    let back = digits_of-number_of (block_bases set) ob on in
     made_at set (number_of (block_bases set) ob) (run * product (local_bases ob) + local) ob (bases_by set ob) ds s (number_of-below (block_bases set) ob on)
-    (subst (λ (n : ℕ). run * product (local_bases ob) + local < n) (sym size) (parts-below (run_bases set ob) (local_bases ob) run local h l))
-    (sym back) refl e f
+    (subst (λ (n : ℕ). run * product (local_bases ob) + local < n)
+    (sym (block_size-product set (number_of (block_bases set) ob) ∙ ap (λ (xs : List ℕ). product (bases_by set xs)) back))
+    (parts-below (run_bases set ob) (local_bases ob) run local h l)) (sym back) refl e f
 
 -- a spot of a block by the numbers on its board
 pub run_in_bases : (set : PieceSet) (block run : ℕ) (nums : List ℕ) → nums ≡ digits_of (block_bases set) block → run < runs_in set block →
@@ -132,10 +116,7 @@ local_in_bases set block local nums e h = subst (λ (xs : List ℕ). local < pro
 pub made_at_place : (set : PieceSet) (block place run local : ℕ) (nums : List ℕ) (s : Setup) → block < product (block_bases set)
     → nums ≡ digits_of (block_bases set) block → run * product (local_bases nums) + local ≡ place
     → HasBlock set (number_of (block_bases set) nums) (run * product (local_bases nums) + local) s → HasBlock set block place s
-made_at_place set block place run local nums s within e is h =
-    subst (λ (n : ℕ). HasBlock set block n s) is
-    (subst (λ (n : ℕ). HasBlock set n (run * product (local_bases nums) + local) s)
-    (ap (number_of (block_bases set)) e ∙ number_of-digits_of (block_bases set) block within) h)
+made_at_place set block place run local nums s within e is h = grind (arith, number_of-digits_of (block_bases set) block within, h)
 
 pub made_in_block : (set : PieceSet) (block run local : ℕ) (nums : List ℕ) (s : Setup) → block < product (block_bases set)
     → nums ≡ digits_of (block_bases set) block → HasBlock set (number_of (block_bases set) nums) (run * product (local_bases nums) + local) s

@@ -1,8 +1,7 @@
 -- The order of keys against the order of digits.
-use Rattle.dob_rank.proofs.Common.{◌++◌, ◌∙◌, ◌∷◌, ◌≡◌, ◌⊎◌, List, [], ap, eqb, inl, inr, map, refl, subst, suc, sym, ℕ, count_by, Cell, holds_kind, holds_lion}
-use Rattle.dob_rank.proofs.Common.{HandKind, Enemy, Mover, PieceSet, Setup, choice, count, digits, forms_number, layer, on_board, order, IsPositionOfSet}
-use Rattle.dob_rank.proofs.Common.{Precedes, form, forms, key, Chicks, Elephants, EnemyLion, Giraffes, OwnLion, Empty, append-nil, arith, slice_index, zero}
-use Rattle.dob_rank.proofs.Common.{◌+◌, ◌<◌, ◌≤◌}
+use Rattle.dob_rank.proofs.Common.{◌++◌, ◌∙◌, ◌∷◌, ◌≡◌, ◌⊎◌, List, [], ap, eqb, inl, inr, map, refl, suc, sym, ℕ, Cell, holds_kind, holds_lion, HandKind, Enemy}
+use Rattle.dob_rank.proofs.Common.{Mover, PieceSet, Setup, choice, count, digits, forms_number, layer, on_board, order, IsPositionOfSet, Precedes, form, forms}
+use Rattle.dob_rank.proofs.Common.{key, Chicks, Elephants, EnemyLion, Giraffes, OwnLion, Empty, append-nil, arith, zero, ◌+◌, ◌<◌, ◌≤◌}
 use Rattle.std.proofs.lemmas.List.Elements.{filter_agree}
 use Rattle.dob_pieces.specs.declared.kind.HandKind.TheVariants as hand
 use Rattle.dob_rank.proofs.Boards.Choices.{Alike, Alike-next, choice-rises, layer_squares}
@@ -48,27 +47,22 @@ kind_forms kind t s h = ap (map form) (filter_agree (holds_kind kind) (λ (cell 
 three_same : (a b c a' b' c' : ℕ) → a ≡ a' → b ≡ b' → c ≡ c' → a ∷ b ∷ c ∷ [] ≡ a' ∷ b' ∷ c' ∷ []
 three_same a b c a' b' c' p q r = cc
 
-join_same : (a b c d : List ℕ) → a ≡ b → c ≡ d → a ++ c ≡ b ++ d
-join_same a b c d p q = cc
-
 pub key-layers : (s : Setup) → key s ≡ on_board s ++ (hand_list s ++ squares_key s)
 unfolding key
-key-layers s =
-    let c : (t : ℕ) (kind : HandKind) → ((cell : Cell) → holds_kind kind cell ≡ eqb (layer cell) t)
-    → count_by (holds_kind kind) s.board ≡ count t (map layer s.board)
-    = λ t kind h. count-layer (holds_kind kind) t h s.board in
-    join_same _ _ _ _ (three_same _ _ _ _ _ _ (c (order Chicks) hand.Chick (holds_kind-layer hand.Chick))
-    (c (order Elephants) hand.Elephant (holds_kind-layer hand.Elephant))
-    (c (order Giraffes) hand.Giraffe (holds_kind-layer hand.Giraffe)))
-    (ap (λ (xs : List ℕ). hand_list s ++ xs)
-    (join_same _ _ _ _ (squares-layer (holds_lion Mover) (order OwnLion) holds_mover_lion 0 s.board)
-    (join_same _ _ _ _ (squares-layer (holds_lion Enemy) (order EnemyLion) holds_enemy_lion 0 s.board)
-    (join_same _ _ _ _ (squares-layer (holds_kind hand.Chick) (order Chicks) (holds_kind-layer hand.Chick) 0 s.board)
-    (join_same _ _ _ _ (squares-layer (holds_kind hand.Elephant) (order Elephants) (holds_kind-layer hand.Elephant) 0 s.board)
-    (join_same _ _ _ _ (squares-layer (holds_kind hand.Giraffe) (order Giraffes) (holds_kind-layer hand.Giraffe) 0 s.board)
-    (join_same _ _ _ _ (kind_forms hand.Chick (order Chicks) s (holds_kind-layer hand.Chick))
-    (join_same _ _ _ _ (kind_forms hand.Elephant (order Elephants) s (holds_kind-layer hand.Elephant))
-    (kind_forms hand.Giraffe (order Giraffes) s (holds_kind-layer hand.Giraffe) ∙ sym (append-nil (layer_forms (order Giraffes) s.board)))))))))))
+key-layers s = rw (
+  count-layer (holds_kind hand.Chick) (order Chicks) (holds_kind-layer hand.Chick) s.board,
+  count-layer (holds_kind hand.Elephant) (order Elephants) (holds_kind-layer hand.Elephant) s.board,
+  count-layer (holds_kind hand.Giraffe) (order Giraffes) (holds_kind-layer hand.Giraffe) s.board,
+  squares-layer (holds_lion Mover) (order OwnLion) holds_mover_lion 0 s.board,
+  squares-layer (holds_lion Enemy) (order EnemyLion) holds_enemy_lion 0 s.board,
+  squares-layer (holds_kind hand.Chick) (order Chicks) (holds_kind-layer hand.Chick) 0 s.board,
+  squares-layer (holds_kind hand.Elephant) (order Elephants) (holds_kind-layer hand.Elephant) 0 s.board,
+  squares-layer (holds_kind hand.Giraffe) (order Giraffes) (holds_kind-layer hand.Giraffe) 0 s.board,
+  kind_forms hand.Chick (order Chicks) s (holds_kind-layer hand.Chick),
+  kind_forms hand.Elephant (order Elephants) s (holds_kind-layer hand.Elephant),
+  kind_forms hand.Giraffe (order Giraffes) s (holds_kind-layer hand.Giraffe),
+  append-nil (layer_forms (order Giraffes) s.board),
+) refl
 
 -- earlier squares are earlier choices, and the same squares the same, of layers alike below t with as many squares
 squares-rise : (n t : ℕ) (xs ys c d c' d' : List ℕ) → Alike t xs ys → ((u : ℕ) → u < order Empty → count u xs ≡ count u ys) → t + n ≤ order Empty
@@ -99,10 +93,8 @@ same_counts : (set : PieceSet) (p q : Setup) → HasParts set p → HasParts set
     → count u (map layer p.board) ≡ count u (map layer q.board)
 same_counts set p q hp hq e zero low = hp.own_lion ∙ sym hq.own_lion
 same_counts set p q hp hq e (suc zero) low = hp.other_lion ∙ sym hq.other_lion
-same_counts set p q hp hq e (suc (suc zero)) low = ap (λ (xs : List ℕ). slice_index xs 0) e
-same_counts set p q hp hq e (suc (suc (suc zero))) low = ap (λ (xs : List ℕ). slice_index xs 1) e
-same_counts set p q hp hq e (suc (suc (suc (suc zero)))) low = ap (λ (xs : List ℕ). slice_index xs 2) e
 same_counts set p q hp hq e (suc (suc (suc (suc (suc u))))) low = absurd (omega arith)
+same_counts set p q hp hq e u low = cc
 
 -- after the numbers on the board a key that is no later has digits that are no later
 digits-upto : (set : PieceSet) (p q : Setup) → HasParts set p → HasParts set q → on_board p ≡ on_board q
@@ -110,16 +102,15 @@ digits-upto : (set : PieceSet) (p q : Setup) → HasParts set p → HasParts set
 digits-upto set p q hp hq e h =
     Upto-rest (hand_list p) (hand_list q) (squares_key p) (squares_key q) (squares_digits p) (squares_digits q) refl
     (squares-rise 5 (order OwnLion) (map layer p.board) (map layer q.board) (forms_at 3 (order Chicks) p.board) (forms_at 3 (order Chicks) q.board)
-    (numbers_at 3 (order Chicks) p.board) (numbers_at 3 (order Chicks) q.board) (Alike-start (map layer p.board) (map layer q.board) (hp.squares ∙ sym hq.squares))
+    (numbers_at 3 (order Chicks) p.board) (numbers_at 3 (order Chicks) q.board)
+    (Alike-start (map layer p.board) (map layer q.board) (hp.squares ∙ sym hq.squares))
     (same_counts set p q hp hq e) (omega arith) (forms-rise 3 (order Chicks) p.board q.board (same_counts set p q hp hq e) (omega arith))) h
 
 -- a position with a key that is no later has earlier numbers on the board, or the same and digits that are no later
 pub key-upto : (set : PieceSet) (p q : Setup) → IsPositionOfSet set p → IsPositionOfSet set q → Upto (key p) (key q)
     → Precedes (on_board p) (on_board q) ⊎ ((on_board p ≡ on_board q) × Upto (digits p) (digits q))
 key-upto set p q hp hq h =
-    elim (Upto-split (on_board p) (on_board q) (hand_list p ++ squares_key p) (hand_list q ++ squares_key q) refl
-    (subst (λ (xs : List ℕ). Upto xs (on_board q ++ (hand_list q ++ squares_key q))) (key-layers p)
-    (subst (λ (xs : List ℕ). Upto (key p) xs) (key-layers q) h))) [
+    elim (Upto-split (on_board p) (on_board q) (hand_list p ++ squares_key p) (hand_list q ++ squares_key q) refl (rw (key-layers p, key-layers q) at h)) [
       | inl lt ↦ inl lt
       | inr r ↦ inr (r.0, digits-upto set p q (HasParts-from_position set p hp) (HasParts-from_position set q hq) r.0 r.1)
     ]

@@ -1,17 +1,16 @@
 -- The setup made of digits that are below their bases: it is a position of the set, and has those digits.
-use Rattle.dob_rank.proofs.Common.{◌%◌, ◌+◌, ◌-◌, ◌<◌, ◌^◌, ◌∙◌, ◌∷◌, ◌≡◌, ◌≤◌, List, [], ap, arith, get_or, length, map, subst, suc, sym, ℕ, mod-eq_of_lt}
-use Rattle.dob_rank.proofs.Common.{length-map, HasLionOffFarRow, HasLions, holds_kind, holds_lion, total, HandKind, Enemy, Mover, PieceSet, Setup, HasDigits}
-use Rattle.dob_rank.proofs.Common.{base_of, block_bases, board_of, choice, count, digits, empty_layers, enemy_squares, forms_number, free_squares, layer}
-use Rattle.dob_rank.proofs.Common.{numbers_by, on_board, order, own_squares, settle, setup_by, IsPositionOfSet, pieces_of, Chicks, Elephants, Empty, EnemyLion}
-use Rattle.dob_rank.proofs.Common.{Giraffes, OwnLion, AreChoices, bases_by, layers_by, slice_index}
+use Rattle.dob_rank.proofs.Common.{◌+◌, ◌-◌, ◌<◌, ◌^◌, ◌∙◌, ◌∷◌, ◌≡◌, ◌≤◌, List, [], ap, arith, get_or, length, map, subst, suc, sym, ℕ, length-map}
+use Rattle.dob_rank.proofs.Common.{HasLionOffFarRow, HasLions, holds_kind, holds_lion, total, HandKind, Enemy, Mover, PieceSet, Setup, HasDigits, base_of}
+use Rattle.dob_rank.proofs.Common.{block_bases, board_of, choice, count, digits, empty_layers, enemy_squares, forms_number, free_squares, layer, numbers_by}
+use Rattle.dob_rank.proofs.Common.{on_board, order, settle, setup_by, IsPositionOfSet, pieces_of, Chicks, Elephants, Empty, EnemyLion, Giraffes, OwnLion}
+use Rattle.dob_rank.proofs.Common.{AreChoices, bases_by, layers_by, slice_index}
 use Rattle.dob_pieces.specs.declared.kind.HandKind.TheVariants as hand
 use Rattle.dob_rank.proofs.Boards.Settled.{hide, hide-hide, AreLayers, IsSettled, choice_hide_next, count_hide_next}
 use Rattle.dob_rank.proofs.Boards.FormDigits.{layers-board_of, forms_number-board_of}
-use Rattle.dob_rank.proofs.Boards.LayerCounts.{AreLayers-shown, lion_only, holds_mover_lion, holds_enemy_lion}
-use Rattle.dob_rank.proofs.Boards.LayerCounts.{holds_kind-layer, count-layer, layer-at}
+use Rattle.dob_rank.proofs.Boards.LayerCounts.{AreLayers-shown, lion_only, holds_mover_lion, holds_enemy_lion, holds_kind-layer, count-layer, layer-at, IsStage}
+use Rattle.dob_rank.proofs.Boards.LayerCounts.{next_stage, first_stage}
 use Rattle.dob_rank.proofs.Positions.Loops.{HasDigits-length, digit-at}
 use Rattle.dob_rank.proofs.Positions.Blocks.{AreChoices-digits}
-use Rattle.dob_rank.proofs.Boards.Stages.{IsStage, next_stage, first_stage}
 
 -- a layer's number of squares and its choice
 record HasLayer (t p n : ℕ) (ls : List ℕ) : Type 0 where
@@ -33,10 +32,7 @@ earlier : (s t : ℕ) (ls rs qs : List ℕ) → s ≤ t → t ≤ order Empty �
 earlier s t ls rs qs h k e f = sym (hide-hide s t ls h k) ∙ ap (hide s) e ∙ f
 
 of_layer : (t p n : ℕ) (ls rs qs : List ℕ) → t < order Empty → hide (suc t) ls ≡ rs → IsSettled t p n qs rs → HasLayer t p n ls
-of_layer t p n ls rs qs h e s = record {
-  count_is = sym (count_hide_next t ls h) ∙ ap (count t) e ∙ s.count_is;
-  choice_is = sym (choice_hide_next t ls h) ∙ ap (choice t) e ∙ s.number_is;
-}
+of_layer t p n ls rs qs h e s = grind (arith, count_hide_next, choice_hide_next)
 
 from_stages : (ob ds r r0 r1 r2 r3 r4 : List ℕ) → IsSettled (order OwnLion) 1 (slice_index ds 3) r r0 → IsSettled (order EnemyLion) 1 (slice_index ds 4) r0 r1
     → IsSettled (order Chicks) (slice_index ob 0) (slice_index ds 5) r1 r2 → IsSettled (order Elephants) (slice_index ob 1) (slice_index ds 6) r2 r3
@@ -48,18 +44,19 @@ from_stages ob ds r r0 r1 r2 r3 r4 s0 s1 s2 s3 s4 len =
     record {
       squares = len;
       layers = AreLayers-shown r4 s4.shown;
-      own_lion = of_layer (order OwnLion) 1 (slice_index ds 3) r4 r0 r (omega arith) h1 s0;
-      other_lion = of_layer (order EnemyLion) 1 (slice_index ds 4) r4 r1 r0 (omega arith) h2 s1;
-      chicks = of_layer (order Chicks) (slice_index ob 0) (slice_index ds 5) r4 r2 r1 (omega arith) h3 s2;
-      elephants = of_layer (order Elephants) (slice_index ob 1) (slice_index ds 6) r4 r3 r2 (omega arith) s4.hide_is s3;
+      own_lion = of_layer _ _ _ r4 r0 r (omega arith) h1 s0;
+      other_lion = of_layer _ _ _ r4 r1 r0 (omega arith) h2 s1;
+      chicks = of_layer _ _ _ r4 r2 r1 (omega arith) h3 s2;
+      elephants = of_layer _ _ _ r4 r3 r2 (omega arith) s4.hide_is s3;
       giraffes = record { count_is = s4.count_is; choice_is = s4.number_is };
     }
 
 chosen : (ob ds ls : List ℕ) → IsStage (order OwnLion) 12 ls → AreChoices ob ds
     → AreChosen ob ds (settle (order Giraffes) (slice_index ob 2) (slice_index ds 7) (settle (order Elephants) (slice_index ob 1) (slice_index ds 6)
-    (settle (order Chicks) (slice_index ob 0) (slice_index ds 5) (settle (order EnemyLion) 1 (slice_index ds 4) (settle (order OwnLion) 1 (slice_index ds 3) ls)))))
+    (settle (order Chicks) (slice_index ob 0) (slice_index ds 5)
+    (settle (order EnemyLion) 1 (slice_index ds 4) (settle (order OwnLion) 1 (slice_index ds 3) ls)))))
 chosen ob ds ls start c =
-    let home : slice_index ds 3 < 12 = (let low : slice_index ds 3 < own_squares = c.own_lion in omega arith) in
+    let home : slice_index ds 3 < 12 = omega (arith, c.own_lion) in
     let one = next_stage (order OwnLion) 1 (slice_index ds 3) 12 ls (omega arith) home start in
     let two = next_stage (order EnemyLion) 1 (slice_index ds 4) enemy_squares _ (omega arith) c.other_lion one.stage in
     let three = next_stage (order Chicks) (slice_index ob 0) (slice_index ds 5) free_squares _ (omega arith) c.chick_squares two.stage in
@@ -87,33 +84,28 @@ made_lions set ob ds s m Enemy = count-layer (holds_lion Enemy) (order EnemyLion
 
 made_pieces : (set : PieceSet) (ob ds : List ℕ) (s : Setup) → IsMade set ob ds s → (kind : HandKind) → total kind s ≡ pieces_of set kind
 unfolding total
-made_pieces set ob ds s m hand.Chick = ap (λ (n : ℕ). n + s.hands.mover.chicks + s.hands.enemy.chicks)
-    (count-layer (holds_kind hand.Chick) (order Chicks) (holds_kind-layer hand.Chick) s.board ∙ m.layers.chicks.count_is) ∙ m.chicks
-made_pieces set ob ds s m hand.Elephant = ap (λ (n : ℕ). n + s.hands.mover.elephants + s.hands.enemy.elephants)
-    (count-layer (holds_kind hand.Elephant) (order Elephants) (holds_kind-layer hand.Elephant) s.board ∙ m.layers.elephants.count_is) ∙ m.elephants
-made_pieces set ob ds s m hand.Giraffe = ap (λ (n : ℕ). n + s.hands.mover.giraffes + s.hands.enemy.giraffes)
-    (count-layer (holds_kind hand.Giraffe) (order Giraffes) (holds_kind-layer hand.Giraffe) s.board ∙ m.layers.giraffes.count_is) ∙ m.giraffes
+made_pieces set ob ds s m hand.Chick =
+    omega (arith, count-layer (holds_kind hand.Chick) (order Chicks) (holds_kind-layer hand.Chick) s.board, m.layers.chicks.count_is, m.chicks)
+made_pieces set ob ds s m hand.Elephant =
+    omega (arith, count-layer (holds_kind hand.Elephant) (order Elephants) (holds_kind-layer hand.Elephant) s.board, m.layers.elephants.count_is, m.elephants)
+made_pieces set ob ds s m hand.Giraffe =
+    omega (arith, count-layer (holds_kind hand.Giraffe) (order Giraffes) (holds_kind-layer hand.Giraffe) s.board, m.layers.giraffes.count_is, m.giraffes)
 
 made_home : (set : PieceSet) (ob ds : List ℕ) (s : Setup) → IsMade set ob ds s → HasLionOffFarRow s
 made_home set ob ds s m square le e =
-    let only : square ≡ choice (order OwnLion) (map layer s.board) =
-    lion_only (map layer s.board) square m.layers.own_lion.count_is (layer-at s.board square ∙ ap layer e) in
-    let number : choice (order OwnLion) (map layer s.board) ≡ slice_index ds 3 = m.layers.own_lion.choice_is in
-    let low : slice_index ds 3 < own_squares = m.choices.own_lion in
-    omega arith
+    let only = lion_only (map layer s.board) square m.layers.own_lion.count_is (layer-at s.board square ∙ ap layer e) in
+    omega (arith, only, m.layers.own_lion.choice_is, m.choices.own_lion, le)
 
 position_made : (set : PieceSet) (ob ds : List ℕ) (s : Setup) → IsMade set ob ds s → IsPositionOfSet set s
-position_made set ob ds s m =
-    let pieces : (kind : HandKind) → total kind s ≡ pieces_of set kind = made_pieces set ob ds s m in
-    record {
-      legal = record {
-        squares = sym (length-map s.board layer) ∙ m.layers.squares;
-        lions = made_lions set ob ds s m;
-        few = λ kind. subst (λ (x : ℕ). x ≤ 2) (sym (pieces kind)) (few_of set kind);
-        home = made_home set ob ds s m;
-      };
-      pieces = pieces;
-    }
+position_made set ob ds s m = record {
+  legal = record {
+    squares = sym (length-map s.board layer) ∙ m.layers.squares;
+    lions = made_lions set ob ds s m;
+    few = λ kind. omega (arith, made_pieces set ob ds s m kind, few_of set kind);
+    home = made_home set ob ds s m;
+  };
+  pieces = made_pieces set ob ds s m;
+}
 
 -- ---- the setup of digits
 
@@ -123,8 +115,7 @@ rejoined c i h a b = omega arith
 -- the forms number of a layer of the board made
 made_forms : (numbers : ℕ → ℕ) (t n : ℕ) (ls : List ℕ) → t < order Empty → AreLayers ls → count t ls ≡ n
     → numbers t < base_of t ^ n → forms_number t (board_of numbers ls) ≡ numbers t
-made_forms numbers t n ls h a c low =
-    forms_number-board_of numbers t ls h a ∙ ap (λ (x : ℕ). numbers t % base_of t ^ x) c ∙ mod-eq_of_lt low
+made_forms numbers t n ls h a c low = grind (arith, forms_number-board_of)
 
 three_same : (a b c : ℕ) (xs : List ℕ) → length xs ≡ 3 → a ≡ slice_index xs 0 → b ≡ slice_index xs 1 → c ≡ slice_index xs 2 → a ∷ b ∷ c ∷ [] ≡ xs
 three_same a b c (x ∷ y ∷ z ∷ []) long p q r = cc

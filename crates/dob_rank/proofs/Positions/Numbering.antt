@@ -1,8 +1,7 @@
 -- Ranks number the positions of a set, in their order.
-use Rattle.dob_rank.proofs.Common.{◌+◌, ◌-◌, ◌<◌, ◌∙◌, ◌≡◌, ◌≤◌, Bool, List, ap, arith, cond, inl, inr, refl, subst, suc, sym, zero, ℕ, cases_lt, le-ltb}
-use Rattle.dob_rank.proofs.Common.{lt-ltb, PieceSet, Setup, same_block, sum_below-rises, HasDigits, bases_by, block_bases, block_of, block_size, digits}
-use Rattle.dob_rank.proofs.Common.{digits_of, find, nth, number_of, on_board, product, rank_of_set, setup_by, setup_in, size_of_set, sum_below, Before}
-use Rattle.dob_rank.proofs.Common.{IsPositionOfSet, key, Precedes}
+use Rattle.dob_rank.proofs.Common.{◌+◌, ◌<◌, ◌∙◌, ◌≡◌, ◌≤◌, List, ap, arith, inl, inr, refl, subst, suc, sym, zero, ℕ, cases_lt, PieceSet, Setup, same_block}
+use Rattle.dob_rank.proofs.Common.{sum_below-rises, HasDigits, bases_by, block_bases, block_of, block_size, digits, digits_of, find, nth, number_of, on_board}
+use Rattle.dob_rank.proofs.Common.{product, rank_of_set, setup_by, setup_in, size_of_set, sum_below, Before, IsPositionOfSet, key, nat_tests}
 pub use Rattle.dob_rank.specs.Numbers.{place_of, HasBlock}
 use Rattle.dob_rank.proofs.Arithmetic.MixedRadix.{number_of-below, number_of-rises, HasDigits-digits_of, number_of-digits_of, digits_of-number_of}
 use Rattle.dob_rank.proofs.Arithmetic.MixedRadix.{number_of-upto}
@@ -33,11 +32,9 @@ place_of-below set s p =
 pub rank_of_set-below : (set : PieceSet) (s : Setup) → IsPositionOfSet set s → rank_of_set set s < size_of_set set
 unfolding size_of_set
 rank_of_set-below set s p =
-    let a : block_of set s < product (block_bases set) = block_of-below set s p in
-    let b : place_of set s < block_size set (block_of set s) = place_of-below set s p in
-    let c : sum_below (block_size set) (block_of set s) + block_size set (block_of set s) ≤ sum_below (block_size set) (product (block_bases set))
-    = sum_below-rises (block_size set) (block_of set s) (product (block_bases set)) a in
-    let d : rank_of_set set s ≡ sum_below (block_size set) (block_of set s) + place_of set s = rank_of_set-place set s in
+    let low = place_of-below set s p in
+    let upto = sum_below-rises (block_size set) (block_of set s) (product (block_bases set)) (block_of-below set s p) in
+    let is = rank_of_set-place set s in
     omega arith
 
 -- the block and place of a position give it back
@@ -123,17 +120,13 @@ rank_of_set-rises set p q hp hq h =
     let upto = rank_of_set-upto set p q hp hq (Upto-from (key p) (key q) h) in
     elim (cases_lt (rank_of_set set p) (rank_of_set set q)) [
       | inl lt ↦ lt
-      | inr ge ↦ absurd (Precedes-irreflexive (key q)
-          (subst (λ (s : Setup). Precedes (key s) (key q)) (rank_of_set-same set p q hp hq (omega (arith, upto, ge))) h))
+      | inr ge ↦ absurd (Precedes-irreflexive (key q) (rw (rank_of_set-same set p q hp hq (omega (arith, upto, ge))) at h))
     ]
 
 -- a lower rank stands before
 pub Before-from_rank : (set : PieceSet) (p q : Setup) → IsPositionOfSet set p → IsPositionOfSet set q → rank_of_set set p < rank_of_set set q → Before p q
 unfolding Before
-Before-from_rank set p q hp hq lt = elim (Precedes-or (key p) (key q)) [
-  | inl h ↦ h
-  | inr u ↦ absurd (let up : rank_of_set set q ≤ rank_of_set set p = rank_of_set-upto set q p hq hp u in omega arith)
-]
+Before-from_rank set p q hp hq lt = elim (Precedes-or (key p) (key q)) [ inl h ↦ h | inr u ↦ absurd (omega (arith, lt, rank_of_set-upto set q p hq hp u)) ]
 
 -- ---- the numbering
 
@@ -144,13 +137,7 @@ record IsFound (f : ℕ → ℕ) (blocks n : ℕ) (at : ℕ × ℕ) : Type 0 whe
 
 find-found : (f : ℕ → ℕ) (blocks n : ℕ) → n < sum_below f blocks → IsFound f blocks n (find f blocks n)
 find-found f zero n h = absurd (omega arith)
-find-found f (suc b) n h = elim (cases_lt n (sum_below f b)) [
-  | inl lt ↦ subst (IsFound f (suc b) n) (ap (λ (t : Bool). cond t (find f b n) (b, n - sum_below f b)) (sym (lt-ltb n (sum_below f b) lt)))
-      (let r : IsFound f b n (find f b n) = find-found f b n lt in
-      record { block_below = (let x : (find f b n).0 < b = r.block_below in omega arith); place_below = r.place_below; whole = r.whole })
-  | inr le ↦ subst (IsFound f (suc b) n) (ap (λ (t : Bool). cond t (find f b n) (b, n - sum_below f b)) (sym (le-ltb n (sum_below f b) le)))
-      (record { block_below = omega arith; place_below = omega arith; whole = omega arith })
-]
+find-found f (suc b) n h = grind (arith, nat_tests, find-found f b n)
 
 pub nth-is : (set : PieceSet) (n : ℕ)
     → nth set n ≡ setup_in set (find (block_size set) (product (block_bases set)) n).0 (find (block_size set) (product (block_bases set)) n).1
@@ -165,22 +152,15 @@ nth-found set n h = find-found (block_size set) (product (block_bases set)) n h
 pub nth-block : (set : PieceSet) (n : ℕ) → n < size_of_set set
     → HasBlock set (find (block_size set) (product (block_bases set)) n).0 (find (block_size set) (product (block_bases set)) n).1 (nth set n)
 nth-block set n h =
-    let r = nth-found set n h in
-    subst (HasBlock set (find (block_size set) (product (block_bases set)) n).0 (find (block_size set) (product (block_bases set)) n).1) (sym (nth-is set n))
-    (HasBlock-setup_in set (find (block_size set) (product (block_bases set)) n).0 (find (block_size set) (product (block_bases set)) n).1
-    (record { block_below = r.block_below; place_below = r.place_below }))
+    let r = nth-found set n h in rw (nth-is set n) (HasBlock-setup_in set _ _ (record { block_below = r.block_below; place_below = r.place_below }))
 
 -- the setup of a place has the rank of that place
-pub rank_of_set-block : (set : PieceSet) (block place : ℕ) (s : Setup) → HasBlock set block place s → rank_of_set set s ≡ sum_below (block_size set) block + place
-rank_of_set-block set block place s h =
-    rank_of_set-place set s ∙ ap (λ (b : ℕ). sum_below (block_size set) b + place_of set s) h.block_is
-    ∙ ap (λ (x : ℕ). sum_below (block_size set) block + x) h.place_is
+pub rank_of_set-block : (set : PieceSet) (block place : ℕ) (s : Setup) → HasBlock set block place s → rank_of_set set s ≡ sum_below (block_size set) block +
+    place
+rank_of_set-block set block place s h = rank_of_set-place set s ∙ rw (h.block_is, h.place_is) refl
 
 pub rank_of_set-nth : (set : PieceSet) (n : ℕ) → n < size_of_set set → rank_of_set set (nth set n) ≡ n
-rank_of_set-nth set n h =
-    rank_of_set-block set (find (block_size set) (product (block_bases set)) n).0
-    (find (block_size set) (product (block_bases set)) n).1 (nth set n) (nth-block set n h)
-    ∙ (nth-found set n h).whole
+rank_of_set-nth set n h = rank_of_set-block set _ _ (nth set n) (nth-block set n h) ∙ (nth-found set n h).whole
 
 pub nth-rank_of_set : (set : PieceSet) (s : Setup) → IsPositionOfSet set s → nth set (rank_of_set set s) ≡ s
 nth-rank_of_set set s p = rank_of_set-same set (nth set (rank_of_set set s)) s (nth-block set (rank_of_set set s) (rank_of_set-below set s p)).position p

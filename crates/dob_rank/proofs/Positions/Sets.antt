@@ -1,6 +1,6 @@
 -- A position and its piece set.
-use Rattle.dob_rank.proofs.Common.{◌+◌, ◌<◌, ◌∙◌, ◌≡◌, ◌≤◌, ap, arith, map, refl, subst, suc, sym, zero, ℕ, IsLegal, total, HandKind, PieceSet, Setup, count}
-use Rattle.dob_rank.proofs.Common.{layer, order, rank_of_set, IsPositionOfSet, pieces_of, Empty, EnemyLion, OwnLion}
+use Rattle.dob_rank.proofs.Common.{◌<◌, ◌∙◌, ◌≡◌, ◌≤◌, ap, arith, map, refl, subst, suc, sym, ℕ, IsLegal, total, HandKind, PieceSet, Setup, count, layer, order}
+use Rattle.dob_rank.proofs.Common.{rank_of_set, IsPositionOfSet, pieces_of, Empty}
 use Rattle.std.proofs.Math.Bridge.{le_prop}
 use Rattle.dob_pieces.specs.declared.kind.HandKind.TheVariants as hand
 use Rattle.dob_rank.proofs.Positions.Digits.{HasParts, HasParts-from_position}
@@ -29,9 +29,6 @@ set_of s legal = record {
 pub IsPositionOfSet-set_of : (s : Setup) (legal : IsLegal s) → IsPositionOfSet (set_of s legal) s
 IsPositionOfSet-set_of s legal = IsPositionOfSet-totals (set_of s legal) s legal refl refl refl
 
-few_left : (n a b c : ℕ) → n + a + b ≡ c → c ≤ 2 → n ≤ 2
-few_left n a b c h l = omega arith
-
 one_few : (n : ℕ) → n ≡ 1 → n ≤ 2
 one_few n h = omega arith
 
@@ -43,12 +40,18 @@ few_in_layer s t legal below = by_layer t below
     parts = HasParts-from_position (set_of s legal) s (IsPositionOfSet-set_of s legal)
 
     by_layer : (t : ℕ) → t < order Empty → count t (map layer s.board) ≤ 2
-    by_layer zero h = one_few (count (order OwnLion) (map layer s.board)) parts.own_lion
-    by_layer (suc zero) h = one_few (count (order EnemyLion) (map layer s.board)) parts.other_lion
-    by_layer (suc (suc zero)) h = few_left _ _ _ _ parts.chicks (legal.few hand.Chick)
-    by_layer (suc (suc (suc zero))) h = few_left _ _ _ _ parts.elephants (legal.few hand.Elephant)
-    by_layer (suc (suc (suc (suc zero)))) h = few_left _ _ _ _ parts.giraffes (legal.few hand.Giraffe)
     by_layer (suc (suc (suc (suc (suc t))))) h = absurd (omega (arith, h))
+    by_layer t h = omega (
+      arith,
+      parts.own_lion,
+      parts.other_lion,
+      parts.chicks,
+      parts.elephants,
+      parts.giraffes,
+      legal.few hand.Chick,
+      legal.few hand.Elephant,
+      legal.few hand.Giraffe,
+    )
 
 -- ---- the pieces of a position give its set
 

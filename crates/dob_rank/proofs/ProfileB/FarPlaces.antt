@@ -1,9 +1,8 @@
 -- A position's place in profile B by what the code finds of it.
-use Rattle.dob_rank.proofs.Common.{◌%◌, ◌*◌, ◌+◌, ◌-◌, ◌/◌, ◌<◌, ◌^◌, ◌∙◌, ◌∷◌, ◌≡◌, ◌≤◌, List, [], ap, arith, get_or, map, refl, slice_index, subst, sym, ℕ}
-use Rattle.dob_rank.proofs.Common.{PieceSet, B, Setup, IsPositionOf, family_of, is_present, rank_of, marks_below, block_bases, block_of, choose, count, digits}
-use Rattle.dob_rank.proofs.Common.{free_squares, layer, on_board, order, product, rank_of_set, size_of_set, start_of, IsPositionOfSet, lion_pairs, lions_of}
-use Rattle.dob_rank.proofs.Common.{local_of, run_number, run_of, allowed_number, may_have, others_by, others_forms, others_squares, place_in, squares_by}
-use Rattle.dob_rank.proofs.Common.{Chicks}
+use Rattle.dob_rank.proofs.Common.{◌%◌, ◌+◌, ◌-◌, ◌/◌, ◌<◌, ◌^◌, ◌∷◌, ◌≡◌, List, [], ap, arith, get_or, map, refl, slice_index, sym, ℕ, PieceSet, B, Setup}
+use Rattle.dob_rank.proofs.Common.{IsPositionOf, family_of, is_present, rank_of, marks_below, block_bases, block_of, choose, count, digits, free_squares, layer}
+use Rattle.dob_rank.proofs.Common.{on_board, order, product, rank_of_set, size_of_set, start_of, IsPositionOfSet, lion_pairs, lions_of, local_of, run_number}
+use Rattle.dob_rank.proofs.Common.{run_of, allowed_number, may_have, others_by, others_forms, others_squares, place_in, squares_by, Chicks}
 use Rattle.dob_rank.proofs.Arithmetic.MixedRadix.{number_of-below}
 use Rattle.dob_rank.proofs.Positions.Digits.{HasParts-from_position, HasDigits-digits}
 use Rattle.dob_rank.proofs.Positions.Numbering.{rank_of_set-below}
@@ -36,10 +35,7 @@ own_parts set s p =
 
 pub far_parts : (set : PieceSet) (s : Setup) (ob ds : List ℕ) (run : ℕ) → IsPositionOfSet set s → ob ≡ on_board s → ds ≡ digits s
     → run ≡ run_number set ob ds → AreFarParts ob ds run
-far_parts set s ob ds run p ob_is ds_is run_is =
-    subst (λ (xs : List ℕ). AreFarParts xs ds run) (sym ob_is)
-    (subst (λ (xs : List ℕ). AreFarParts (on_board s) xs run) (sym ds_is)
-    (subst (AreFarParts (on_board s) (digits s)) (sym (run_is_of set s ob ds run ob_is ds_is run_is)) (own_parts set s p)))
+far_parts set s ob ds run p ob_is ds_is run_is = rw (run_is_of set s ob ds run ob_is ds_is run_is, ob_is, ds_is) (own_parts set s p)
 
 pub chicks_on_board : (s : Setup) (ob : List ℕ) → ob ≡ on_board s → get_or ob 0 0 ≡ count (order Chicks) (map layer s.board)
 chicks_on_board s ob is = ap (λ (xs : List ℕ). get_or xs 0 0) is
@@ -52,37 +48,22 @@ pub far_place_is : (set : PieceSet) (s : Setup) (ob ds : List ℕ) (run forms pl
 far_place_is set s ob ds run forms place p ob_is ds_is run_is forms_is place_is =
     let whole = run_of-lions set s in
     let few = lions_of-below set s p.of_set in
-    let hand : run / lion_pairs ≡ hand_of set s = quotient run (run_of set s) (hand_of set s) (lions_of s) run_is whole few in
-    let lions : run % lion_pairs ≡ lions_of s = rest run (run_of set s) (hand_of set s) (lions_of s) run_is whole few in
-    ap (λ (x : ℕ). marks_below (is_present (family_of set B)) (start_of set (block_of set s)) + x)
-    (place_is
-    ∙ ap (λ (xs : List ℕ). place_in B xs ds (run / lion_pairs) (run % lion_pairs) forms) ob_is
-    ∙ ap (λ (xs : List ℕ). place_in B (on_board s) xs (run / lion_pairs) (run % lion_pairs) forms) ds_is
-    ∙ ap (λ (x : ℕ). place_in B (on_board s) (digits s) x (run % lion_pairs) forms) hand
-    ∙ ap (λ (x : ℕ). place_in B (on_board s) (digits s) (hand_of set s) x forms) lions
-    ∙ ap (place_in B (on_board s) (digits s) (hand_of set s) (lions_of s)) forms_is)
-    ∙ sym (rank_of-parts (family_of set B) s p)
-  where
-    quotient : (run own hand lions : ℕ) → run ≡ own → own ≡ hand * lion_pairs + lions → lions < lion_pairs → run / lion_pairs ≡ hand
-    quotient run own hand lions e f low = omega arith
-
-    rest : (run own hand lions : ℕ) → run ≡ own → own ≡ hand * lion_pairs + lions → lions < lion_pairs → run % lion_pairs ≡ lions
-    rest run own hand lions e f low = omega arith
+    let hand : run / lion_pairs ≡ hand_of set s = omega (arith, run_is, whole, few) in
+    let lions : run % lion_pairs ≡ lions_of s = omega (arith, run_is, whole, few) in
+    rw (place_is, ob_is, ds_is, hand, lions, forms_is) (sym (rank_of-parts (family_of set B) s p))
 
 -- the start of the position's block and its place there
 pub far_rank_is : (set : PieceSet) (s : Setup) (block start place : ℕ) → start ≡ marks_below (is_present (family_of set B)) (start_of set block)
     → block ≡ block_of set s → marks_below (is_present (family_of set B)) (start_of set (block_of set s)) + place ≡ rank_of (family_of set B) s
     → start + place ≡ rank_of (family_of set B) s
-far_rank_is set s block start place start_is block_is place_is =
-    ap (λ (x : ℕ). x + place) (start_is ∙ ap (λ (n : ℕ). marks_below (is_present (family_of set B)) (start_of set n)) block_is) ∙ place_is
+far_rank_is set s block start place start_is block_is place_is = grind (arith, start_is, block_is, place_is)
 
 pub far_rank_small : (set : PieceSet) (s : Setup) → IsPositionOfSet set s → rank_of (family_of set B) s < 2 ^ 42
 unfolding rank_of size_of_set
 far_rank_small set s p =
-    let few = marks_below-le (is_present (family_of set B)) (rank_of_set set s) in
-    let below = rank_of_set-below set s p in
-    let small = start_small set (product (block_bases set)) (all_blocks (product (block_bases set))) in
-    omega (arith, few, below, small)
-  where
-    all_blocks : (n : ℕ) → n ≤ n
-    all_blocks n = omega arith
+    omega (
+      arith,
+      marks_below-le (is_present (family_of set B)) (rank_of_set set s),
+      rank_of_set-below set s p,
+      start_small set (product (block_bases set)) (omega arith),
+    )

@@ -30,14 +30,10 @@ marks_next : (mark : ℕ → Bool) (n : ℕ) → marks_below mark (n + 1) ≡ ma
 marks_next mark n = ap (marks_below mark) (let e : n + 1 ≡ suc n = omega arith in e) ∙ marks_below_more mark n
 
 pub one_counted : (mark : ℕ → Bool) (n before : ℕ) → before ≡ marks_below mark n → mark n ≡ true → before + 1 ≡ marks_below mark (n + 1)
-one_counted mark n before is on =
-    let one : one_if (mark n) ≡ 1 = ap one_if on in
-    omega (arith, is, one, marks_next mark n)
+one_counted mark n before is on = grind (arith, marks_next)
 
 pub none_counted : (mark : ℕ → Bool) (n before : ℕ) → before ≡ marks_below mark n → mark n ≡ false → before ≡ marks_below mark (n + 1)
-none_counted mark n before is off =
-    let none : one_if (mark n) ≡ 0 = ap one_if off in
-    omega (arith, is, none, marks_next mark n)
+none_counted mark n before is off = grind (arith, marks_next)
 
 -- ---- the forms of a choice
 
@@ -73,7 +69,8 @@ pub record AreSpotParts (ob : List ℕ) (lions c q d g f number : ℕ) : Type 0 
   pub forms_below : f < others_forms ob
   pub on : stands lions (slice_index ob 0) c g ≡ true
   pub counted : marks_below (stands lions (slice_index ob 0) c) g ≡ d
-  pub number_is : (forms_before B lions (slice_index ob 0) c * others_squares ob + q * choice_weight B lions (slice_index ob 0) c + d) * others_forms ob + f ≡ number
+  pub number_is : (forms_before B lions (slice_index ob 0) c * others_squares ob + q * choice_weight B lions (slice_index ob 0) c + d) * others_forms ob + f
+      ≡ number
 
 -- lions alone give the weights and the forms
 same_parts : (ob : List ℕ) (run lions c q d g f number : ℕ) → run % lion_pairs ≡ lions % lion_pairs
@@ -84,7 +81,8 @@ same_parts ob run lions c q d g f number e p = record {
   form_below = p.form_below;
   forms_below = p.forms_below;
   on = ap (λ (m : ℕ). are_allowed (may_have B) 4 (order Chicks) g 0 (settle (order Chicks) (slice_index ob 0) c (lions_layers m))) e ∙ p.on;
-  counted = ap (λ (m : ℕ). marks_below (λ n. are_allowed (may_have B) 4 (order Chicks) n 0 (settle (order Chicks) (slice_index ob 0) c (lions_layers m))) g) e ∙ p.counted;
+  counted = ap (λ (m : ℕ). marks_below (λ n. are_allowed (may_have B) 4 (order Chicks) n 0 (settle (order Chicks) (slice_index ob 0) c (lions_layers m))) g) e
+      ∙ p.counted;
   number_is = ap (λ (m : ℕ). (sum_below (weight_by m) c * others_squares ob + q * weight_by m c + d) * others_forms ob + f) e ∙ p.number_is;
 }
   where
@@ -97,30 +95,17 @@ in_run : (set : PieceSet) (block run c q d g f number : ℕ) → block < product
     * (4 ^ slice_index (digits_of (block_bases set) block) 0 * others_forms (digits_of (block_bases set) block))
     + (g * others_forms (digits_of (block_bases set) block) + f))
 in_run set block run c q d g f number within below p =
-    let some : 0 < others_forms (digits_of (block_bases set) block) = others_forms-some (digits_of (block_bases set) block) in
-    let inside : g * others_forms (digits_of (block_bases set) block) + f
-    < 4 ^ slice_index (digits_of (block_bases set) block) 0 * others_forms (digits_of (block_bases set) block)
-    = digit_below g (4 ^ slice_index (digits_of (block_bases set) block) 0) (others_forms (digits_of (block_bases set) block)) f p.form_below p.forms_below in
-    let square : c * others_squares (digits_of (block_bases set) block) + q
-    < choose free_squares (slice_index (digits_of (block_bases set) block) 0) * others_squares (digits_of (block_bases set) block)
-    = digit_below c (choose free_squares (slice_index (digits_of (block_bases set) block) 0)) (others_squares (digits_of (block_bases set) block)) q
-    p.choice_below p.squares_below in
-    let place = digit_below (c * others_squares (digits_of (block_bases set) block) + q)
-    (choose free_squares (slice_index (digits_of (block_bases set) block) 0) * others_squares (digits_of (block_bases set) block))
-    (4 ^ slice_index (digits_of (block_bases set) block) 0 * others_forms (digits_of (block_bases set) block))
-    (g * others_forms (digits_of (block_bases set) block) + f) square inside in
+    let ob = digits_of (block_bases set) block in
+    let inside = digit_below g (4 ^ slice_index ob 0) (others_forms ob) f p.form_below p.forms_below in
+    let square = digit_below c (choose free_squares (slice_index ob 0)) (others_squares ob) q p.choice_below p.squares_below in
     record {
-      local_below = subst (λ (x : ℕ). (c * others_squares (digits_of (block_bases set) block) + q)
-          * (4 ^ slice_index (digits_of (block_bases set) block) 0 * others_forms (digits_of (block_bases set) block))
-          + (g * others_forms (digits_of (block_bases set) block) + f) < x) (sym (run_size-parts (family_of set B) block)) place;
-      present = form_in_run (family_of set B) block run c q (g * others_forms (digits_of (block_bases set) block) + f)
-          (others_squares (digits_of (block_bases set) block)) (others_forms (digits_of (block_bases set) block)) c q
-          (g * others_forms (digits_of (block_bases set) block) + f)
-          (spot_in_run (family_of set B) block run c q (g * others_forms (digits_of (block_bases set) block) + f) within below p.choice_below p.squares_below
-          (let l = inside in omega (arith, l)))
+      local_below = rw (run_size-parts (family_of set B) block)
+          (digit_below (c * others_squares ob + q) (choose free_squares (slice_index ob 0) * others_squares ob)
+          (4 ^ slice_index ob 0 * others_forms ob) (g * others_forms ob + f) square inside);
+      present = form_in_run (family_of set B) block run c q (g * others_forms ob + f) (others_squares ob) (others_forms ob) c q (g * others_forms ob + f)
+          (spot_in_run (family_of set B) block run c q (g * others_forms ob + f) within below p.choice_below p.squares_below (omega (arith, inside)))
           (omega arith) p.squares_below inside
-          ∙ ap (λ (x : ℕ). stands run (slice_index (digits_of (block_bases set) block) 0) c x) (div-mul-add g (others_forms (digits_of (block_bases set) block)) f p.forms_below)
-          ∙ p.on;
+          ∙ ap (λ (x : ℕ). stands run (slice_index ob 0) c x) (div-mul-add g (others_forms ob) f p.forms_below) ∙ p.on;
       before = present_at (family_of set B) block run c q g d f (record {
         block_below = within;
         run_below = below;
@@ -128,21 +113,18 @@ in_run set block run c q d g f number within below p =
         squares_below = p.squares_below;
         form_below = p.form_below;
         forms_below = p.forms_below;
-        forms_are = forms_before_one run (slice_index (digits_of (block_bases set) block) 0) (others_forms (digits_of (block_bases set) block)) c g f d some p.forms_below
-            p.on p.counted;
-      })
-          ∙ ap (λ (x : ℕ). marks_below (is_present (family_of set B)) (run_start set block run) + x) p.number_is;
+        forms_are = forms_before_one run (slice_index ob 0) (others_forms ob) c g f d (others_forms-some ob) p.forms_below p.on p.counted;
+      }) ∙ ap (λ (x : ℕ). marks_below (is_present (family_of set B)) (run_start set block run) + x) p.number_is;
     }
 
 pub place_for : (ob : List ℕ) (lions c q d g f number local : ℕ) → AreSpotParts ob lions c q d g f number
     → local ≡ (c * others_squares ob + q) * (4 ^ slice_index ob 0 * others_forms ob) + (g * others_forms ob + f)
     → lions < lion_pairs → IsPlaceFor ob lions number local
 place_for ob lions c q d g f number local p is low = λ set block run within ob_is below run_is.
-    let same : run % lion_pairs ≡ lions % lion_pairs = omega (arith, run_is, low) in
-    subst (IsPresentAt (family_of set B) block run number)
-    (sym (is ∙ ap (λ (xs : List ℕ). (c * others_squares xs + q) * (4 ^ slice_index xs 0 * others_forms xs) + (g * others_forms xs + f)) ob_is))
+    rw is (subst (λ (xs : List ℕ). IsPresentAt (family_of set B) block run number
+    ((c * others_squares xs + q) * (4 ^ slice_index xs 0 * others_forms xs) + (g * others_forms xs + f))) (sym ob_is)
     (in_run set block run c q d g f number within below
-    (subst (λ (xs : List ℕ). AreSpotParts xs run c q d g f number) ob_is (same_parts ob run lions c q d g f number same p)))
+    (subst (λ (xs : List ℕ). AreSpotParts xs run c q d g f number) ob_is (same_parts ob run lions c q d g f number (omega (arith, run_is, low)) p))))
 
 -- ---- the parts as the code finds them
 
@@ -155,23 +137,27 @@ pub in_choice : (n number sum weight : ℕ) → 0 < n → sum ≤ number / n →
 in_choice n number sum weight some low high =
     let parts = div-add-mod' number n in
     let rest = mod_below number n some in
-    let under : sum * n ≤ number / n * n = mul-le-mul_right n low in
-    let over : (number / n + 1) * n ≤ (sum + weight) * n = mul-le-mul_right n (next (number / n) (sum + weight) high) in
-    let one : (number / n + 1) * n ≡ number / n * n + 1 * n = add-mul (number / n) 1 n in
-    let two : (sum + weight) * n ≡ sum * n + weight * n = add-mul sum weight n in
-    let turn : weight * n ≡ n * weight = mul_comm weight n in
-    record { low = omega (arith, parts, under); left = omega (arith, parts, rest, under, over, one, two, turn) }
-  where
-    next : (a b : ℕ) → a < b → a + 1 ≤ b
-    next a b h = omega (arith, h)
+    let under = mul-le-mul_right n low in
+    let over = mul-le-mul_right n high in
+    record {
+      low = omega (arith, parts, under);
+      left = omega (
+        arith,
+        parts,
+        rest,
+        under,
+        over,
+        add-mul (number / n) 1 n,
+        add-mul sum weight n,
+        mul_comm weight n,
+      );
+    }
 
 pub choice_found : (chicks lions n number c sum weight : ℕ) → 0 < n → forms_before B lions chicks c ≤ number / n
     → number / n < forms_before B lions chicks (c + 1) → sum ≡ forms_before B lions chicks c → weight ≡ choice_weight B lions chicks c
     → IsInChoice n number sum weight
 choice_found chicks lions n number c sum weight some low high sum_is weight_is =
-    in_choice n number sum weight some (subst (λ (x : ℕ). x ≤ number / n) (sym sum_is) low)
-    (subst (λ (x : ℕ). number / n < x) (sum_below_more (choice_weight B lions chicks) c ∙ ap (λ (x : ℕ). x + choice_weight B lions chicks c) (sym sum_is)
-    ∙ ap (λ (x : ℕ). sum + x) (sym weight_is)) high)
+    rw (sum_is, weight_is) (in_choice n number _ _ some low (rw (sum_below_more (choice_weight B lions chicks) c) at high))
 
 pub weight_some : (n left weight : ℕ) → left < n * weight → 0 < weight
 weight_some n left weight h = factor_positive left n weight h
@@ -236,43 +222,23 @@ pub place_found : (ob : List ℕ) (lions n r a number c q g local : ℕ) → n �
     → local ≡ (c * n + q) * (a * r) + (g * r + number % r) → IsPlaceFor ob lions number local
 place_found ob lions n r a number c q g local n_is r_is a_is p low is =
     place_for ob lions c q (marks_below (stands lions (slice_index ob 0) c) g) g (number % r) number local (spot_parts ob lions n r number c q g n_is r_is p)
-    (is ∙ ap (λ (x : ℕ). (c * x + q) * (a * r) + (g * r + number % r)) n_is
-    ∙ ap (λ (x : ℕ). (c * others_squares ob + q) * (x * r) + (g * r + number % r)) a_is
-    ∙ same_forms)
-    low
-  where
-    same_forms : (c * others_squares ob + q) * (4 ^ slice_index ob 0 * r) + (g * r + number % r)
-        ≡ (c * others_squares ob + q) * (4 ^ slice_index ob 0 * others_forms ob) + (g * others_forms ob + number % r)
-    same_forms =
-        ap (λ (x : ℕ). (c * others_squares ob + q) * (4 ^ slice_index ob 0 * x) + (g * r + number % r)) r_is
-        ∙ ap (λ (x : ℕ). (c * others_squares ob + q) * (4 ^ slice_index ob 0 * others_forms ob) + (g * x + number % r)) r_is
+    (rw (← n_is, ← r_is, ← a_is) is) low
 
 -- all these are small
 pub square_small : (c q n m : ℕ) → c < m → m ≤ 45 → q < n → n ≤ 2025 → c * n + q < 45 * 2025
-square_small c q n m low few below most =
-    let under = digit_below c m n q low below in
-    let all : m * n ≤ 45 * 2025 = mul-le-mul few most in
-    omega (arith, under, all)
+square_small c q n m low few below most = grind (arith, digit_below)
 
 pub form_small : (g f a r : ℕ) → g < a → a ≤ 16 → f < r → r ≤ 16 → g * r + f < 256
-form_small g f a r low few below most =
-    let under = digit_below g a r f low below in
-    let all : a * r ≤ 16 * 16 = mul-le-mul few most in
-    omega (arith, under, all)
+form_small g f a r low few below most = grind (arith, digit_below)
 
 pub forms_small : (a r : ℕ) → a ≤ 16 → r ≤ 16 → a * r ≤ 256
 forms_small a r h k = (let all : a * r ≤ 16 * 16 = mul-le-mul h k in omega (arith, all))
 
 pub place_small : (square a : ℕ) → square < 45 * 2025 → a ≤ 256 → square * a ≤ 45 * 2025 * 256
-place_small square a h k = (let all : square * a ≤ 45 * 2025 * 256 = mul-le-mul (weaker square h) k in all)
-  where
-    weaker : (x : ℕ) → x < 45 * 2025 → x ≤ 45 * 2025
-    weaker x h = omega (arith, h)
+place_small square a h k = grind arith
 
 pub forms_out_of : (number sum n r m s : ℕ) → m ≡ n → s ≡ r → 0 < s → number < sum * (n * r) → number / s < sum * m
-forms_out_of number sum n r m s m_is s_is some low =
-    subst (λ (x : ℕ). number / s < sum * x) (sym m_is)
-    (subst (λ (x : ℕ). number / x < sum * n) (sym s_is) (forms_out number sum n r (subst (λ (x : ℕ). 0 < x) s_is some) low))
+forms_out_of number sum n r m s m_is s_is some low = grind (arith, forms_out)
 
 -- the sums and products that the code makes of the parts
 pub record AreSmall (c q g n r a number : ℕ) : Type 0 where
@@ -281,14 +247,16 @@ pub record AreSmall (c q g n r a number : ℕ) : Type 0 where
   pub square : (c * n + q) * (a * r) ≤ 45 * 2025 * 256
   pub form : g * r + number % r < 256
 
-pub small_parts : (chicks lions m number' c q g r number a : ℕ) → a ≡ 4 ^ chicks → chicks ≤ 2 → AreChickParts chicks lions m number' c q g → m ≤ 2025 → 0 < r → r ≤ 16
+pub small_parts : (chicks lions m number' c q g r number a : ℕ) → a ≡ 4 ^ chicks → chicks ≤ 2 → AreChickParts chicks lions m number' c q g → m ≤ 2025 → 0 < r →
+    r ≤ 16
     → AreSmall c q g m r a number
 small_parts chicks lions m number' c q g r number a a_is few p n_few some r_few =
     let choices = square_small c q m (choose free_squares chicks) p.choice_below (choose_ten chicks few) p.squares_below n_few in
-    let all = forms_small (4 ^ chicks) r (four_small chicks few) r_few in
-    subst (λ (n : ℕ). AreSmall c q g m r n number) (sym a_is) (record {
+    let four = four_small chicks few in
+    let all = forms_small (4 ^ chicks) r four r_few in
+    rw a_is (record {
       choices = choices;
       all_forms = all;
       square = place_small (c * m + q) (4 ^ chicks * r) choices all;
-      form = form_small g (number % r) (4 ^ chicks) r p.forms_below (four_small chicks few) (mod_below number r some) r_few;
+      form = form_small g (number % r) (4 ^ chicks) r p.forms_below four (mod_below number r some) r_few;
     })

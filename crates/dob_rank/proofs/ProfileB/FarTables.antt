@@ -1,13 +1,19 @@
--- The tables of profile B are the sums that they stand for, computed for each number of chicks and each shape of the squares that the lions leave.
+-- The tables of profile B are the sums that they stand for, computed for each number of chicks and each shape of the squares that the lions leave. The
+-- table of the blocks' starts is computed for each set and each block.
 use Rattle.dob_rank.proofs.Common.{◌%◌, ◌&&◌, ◌*◌, ◌+◌, ◌/◌, ◌<◌, ◌∙◌, ◌∷◌, ◌≡◌, ◌≤◌, Bool, List, [], ap, arith, false, nat_eq, nat_lt, refl, slice_index_or}
 use Rattle.dob_rank.proofs.Common.{subst, suc, sym, true, zero, ℕ, and_parts, ltb-true, all_below, all_below-at, B, marks_below, choose, enemy_squares}
 use Rattle.dob_rank.proofs.Common.{free_squares, order, own_squares, lion_pairs, choice_weight, chosen, forms_before, forms_on, free_weights, hand_size}
-use Rattle.dob_rank.proofs.Common.{lions_before, lions_in, may_have, weights_of, Chicks, Empty, forms_in, mod-eq_of_lt, sum_below, sum_same}
+use Rattle.dob_rank.proofs.Common.{lions_before, lions_in, may_have, weights_of, Chicks, forms_in, mod-eq_of_lt, sum_below, sum_same, nat_tests, ◌-◌}
+use Rattle.dob_rank.proofs.Common.{slice_index, PieceSet, Profile, A, family_of, is_present, block_bases, digits_of, product, start_of, others_forms}
+use Rattle.dob_rank.proofs.Common.{others_squares}
 use Rattle.dob_rank.specs.declared.far_rows.TheConstants.{SHAPE, BEFORE, LIONS_BEFORE, FORMS_BELOW}
 use Rattle.dob_rank.proofs.Boards.Settled.{hide}
-use Rattle.dob_rank.proofs.Positions.BlockStarts.{same_number}
 use Rattle.dob_rank.proofs.InRuns.Lions.{pair_layers, lions_layers, lions_layers-pair}
 use Rattle.dob_rank.proofs.ProfileB.LionBoards.{weight_chosen, no_chicks}
+use Rattle.dob_rank.proofs.Positions.Blocks.{few_in_block, AreFewOnBoard-digits}
+use Rattle.dob_rank.proofs.Positions.BlockStarts.{bases_of, on_all, agrees, start_at, entry_is, start_is}
+use Rattle.dob_rank.proofs.OfFamilies.Present.{all_present}
+use Rattle.dob_rank.proofs.OfFamilies.FamilyRuns.{present_size, blocks_present}
 
 -- ---- the weights of the squares that two lions leave
 
@@ -22,11 +28,8 @@ same_numbers (x ∷ xs) (y ∷ ys) = nat_eq x y && same_numbers xs ys
 
 same_lists : (xs ys : List ℕ) → same_numbers xs ys ≡ true → xs ≡ ys
 same_lists [] [] h = refl
-same_lists [] (y ∷ ys) h = absurd (let e : false ≡ true = h in cc)
-same_lists (x ∷ xs) [] h = absurd (let e : false ≡ true = h in cc)
-same_lists (x ∷ xs) (y ∷ ys) h =
-    let parts = and_parts (nat_eq x y) (same_numbers xs ys) h in
-    ap (λ (n : ℕ). n ∷ xs) (same_number x y parts.0) ∙ ap (λ (ns : List ℕ). y ∷ ns) (same_lists xs ys parts.1)
+same_lists (x ∷ xs) (y ∷ ys) h = grind (arith, nat_tests, same_lists xs ys, h)
+same_lists xs ys h = absurd (let e : false ≡ true = h in cc)
 
 abbrev is_shape : ℕ → ℕ → Bool
 is_shape own enemy =
@@ -44,9 +47,7 @@ record IsShape (lions : ℕ) : Type 0 where
 shape_at : (own enemy : ℕ) → own < own_squares → enemy < enemy_squares → IsShape (own * enemy_squares + enemy)
 shape_at own enemy first second =
     let here = all_below-at (is_shape own) enemy_squares enemy (all_below-at (λ n. all_below (is_shape n) enemy_squares) own_squares own shapes first) second in
-    let parts = and_parts
-    (same_numbers (free_weights (forms_on B) 0 (hide (order Chicks) (pair_layers own enemy))) (weights_of (shape_of (own * enemy_squares + enemy))))
-    (nat_lt (shape_of (own * enemy_squares + enemy)) 5) here in
+    let parts = and_parts _ _ here in
     record {
       weights = ap (free_weights (forms_on B) 0) (lions_layers-pair own enemy first second) ∙ same_lists _ _ parts.0;
       few = ltb-true (shape_of (own * enemy_squares + enemy)) 5 parts.1;
@@ -63,12 +64,9 @@ shape_few lions below = (shape_is lions below).few
 -- the weight of a choice
 weight_is : (lions chicks c : ℕ) → lions < lion_pairs → choice_weight B lions chicks c ≡ chosen chicks c (weights_of (shape_of lions))
 weight_is lions chicks c below =
-    weight_chosen (forms_on B) (order Chicks) 0 chicks c (lions_in lions) before_empty (no_chicks lions)
+    weight_chosen (forms_on B) (order Chicks) 0 chicks c (lions_in lions) (omega arith) (no_chicks lions)
     ∙ ap (λ (n : ℕ). chosen chicks c (free_weights (forms_on B) 0 (lions_layers n))) (mod-eq_of_lt below)
     ∙ ap (chosen chicks c) (shape_is lions below).weights
-  where
-    before_empty : order Chicks < order Empty
-    before_empty = omega arith
 
 -- ---- rows of sums
 
@@ -85,18 +83,10 @@ abbrev is_row : (ℕ → ℕ) → (ℕ → ℕ) → ℕ → ℕ → Bool
 is_row row more bound n = nat_eq (row 0) 0 && all_below (is_step row more bound) n
 
 row_sum : (row more : ℕ → ℕ) (most n k : ℕ) → is_row row more (most + 1) n ≡ true → k ≤ n → IsEntry (row k) (sum_below more k) most
-row_sum row more most n zero all upto =
-    let none = same_number (row 0) 0 (and_parts (nat_eq (row 0) 0) (all_below (is_step row more (most + 1)) n) all).0 in
-    record { value_is = none; few = omega (arith, none) }
+row_sum row more most n zero all upto = grind (arith, nat_tests, all)
 row_sum row more most n (suc k) all upto =
     let steps = (and_parts (nat_eq (row 0) 0) (all_below (is_step row more (most + 1)) n) all).1 in
-    let step = and_parts (nat_eq (row (suc k)) (row k + more k)) (nat_lt (row (suc k)) (most + 1))
-    (all_below-at (is_step row more (most + 1)) n k steps (omega (arith, upto))) in
-    let low = ltb-true (row (suc k)) (most + 1) step.1 in
-    record {
-      value_is = same_number (row (suc k)) (row k + more k) step.0 ∙ ap (λ (x : ℕ). x + more k) (row_sum row more most n k all (omega (arith, upto))).value_is;
-      few = omega (arith, low);
-    }
+    grind (arith, nat_tests, all_below-at (is_step row more (most + 1)) n k steps (omega (arith, upto)), row_sum row more most n k all)
 
 -- ---- the sums before a choice
 
@@ -122,11 +112,8 @@ pub before_choice : (lions chicks c : ℕ) → chicks ≤ 2 → lions < lion_pai
 before_choice lions chicks c few below upto =
     let row = all_below-at (is_choice_row chicks) 5 (shape_of lions)
     (all_below-at (λ n. all_below (is_choice_row n) 5) 3 chicks summed (few_chicks chicks few)) (shape_few lions below) in
-    let at = row_sum (entry chicks (shape_of lions)) (chosen_by chicks (shape_of lions)) 582 (choose free_squares chicks) c row upto in
-    record {
-      value_is = at.value_is ∙ sum_same (chosen_by chicks (shape_of lions)) (choice_weight B lions chicks) c (λ k low. sym (weight_is lions chicks k below));
-      few = at.few;
-    }
+    rw (← sum_same (chosen_by chicks (shape_of lions)) (choice_weight B lions chicks) c (λ k low. sym (weight_is lions chicks k below)))
+    (row_sum (entry chicks (shape_of lions)) (chosen_by chicks (shape_of lions)) 582 (choose free_squares chicks) c row upto)
 
 -- ---- the sums before two lions
 
@@ -144,22 +131,16 @@ lions_summed = refl
 
 pub before_lions : (chicks lions : ℕ) → chicks ≤ 2 → lions ≤ lion_pairs → IsEntry (lions_entry chicks lions) (lions_before B chicks lions) 54000
 before_lions chicks lions few upto =
-    let at = row_sum (lions_entry chicks) (last_entry chicks) 54000 lion_pairs lions (all_below-at is_lion_row 3 chicks lions_summed (few_chicks chicks few)) upto in
-    record {
-      value_is = at.value_is ∙ sum_same (last_entry chicks) (forms_in B chicks) lions
-          (λ k low. (before_choice k chicks (choose free_squares chicks) few (omega (arith, low, upto)) (same_upto (choose free_squares chicks))).value_is);
-      few = at.few;
-    }
-  where
-    same_upto : (n : ℕ) → n ≤ n
-    same_upto n = omega arith
+    rw (← sum_same (last_entry chicks) (forms_in B chicks) lions (λ k low. (before_choice k chicks (choose free_squares chicks) few (omega (
+      arith,
+      low,
+      upto,
+    )) (omega arith)).value_is))
+    (row_sum (lions_entry chicks) (last_entry chicks) 54000 lion_pairs lions (all_below-at is_lion_row 3 chicks lions_summed (few_chicks chicks few)) upto)
 
 pub hand_size_is : (chicks : ℕ) → chicks ≤ 2 → IsEntry (lions_entry chicks lion_pairs) (hand_size B chicks) 54000
 unfolding hand_size
-hand_size_is chicks few = before_lions chicks lion_pairs few all_lions
-  where
-    all_lions : lion_pairs ≤ lion_pairs
-    all_lions = omega arith
+hand_size_is chicks few = before_lions chicks lion_pairs few (omega arith)
 
 -- there are some
 pub hand_size-some : (chicks : ℕ) → chicks ≤ 2 → 0 < hand_size B chicks
@@ -172,8 +153,7 @@ abbrev pub form_entry : ℕ → ℕ → ℕ
 form_entry square form = slice_index_or (slice_index_or FORMS_BELOW square []) form 0
 
 abbrev is_form_row : ℕ → Bool
-is_form_row square =
-    all_below (λ form. nat_eq (form_entry square form) (marks_below (may_have B square) form) && nat_lt (form_entry square form) 5) 5
+is_form_row square = all_below (λ form. nat_eq (form_entry square form) (marks_below (may_have B square) form) && nat_lt (form_entry square form) 5) 5
 
 forms_counted : all_below is_form_row 12 ≡ true
 unfolding marks_below
@@ -181,11 +161,48 @@ forms_counted = refl
 
 pub forms_below : (square form : ℕ) → square < 12 → form ≤ 4 → IsEntry (form_entry square form) (marks_below (may_have B square) form) 4
 forms_below square form on upto =
-    let parts = and_parts (nat_eq (form_entry square form) (marks_below (may_have B square) form)) (nat_lt (form_entry square form) 5)
-    (all_below-at (λ n. nat_eq (form_entry square n) (marks_below (may_have B square) n) && nat_lt (form_entry square n) 5) 5 form
-    (all_below-at is_form_row 12 square forms_counted on) (omega (arith, upto))) in
-    let low = ltb-true (form_entry square form) 5 parts.1 in
-    record {
-      value_is = same_number (form_entry square form) (marks_below (may_have B square) form) parts.0;
-      few = omega (arith, low);
-    }
+    let here = all_below-at (λ n. nat_eq (form_entry square n) (marks_below (may_have B square) n) && nat_lt (form_entry square n) 5) 5 form
+    (all_below-at is_form_row 12 square forms_counted on) (omega (arith, upto)) in
+    grind (arith, nat_tests, here)
+
+-- ---- the starts of blocks, computed for each set and each block
+
+-- the size of a block by the numbers of the set
+abbrev size_on : ℕ → ℕ → ℕ → List ℕ → ℕ
+size_on c e g ob =
+    product ((c - slice_index ob 0 + 1) ∷ (e - slice_index ob 1 + 1) ∷ (g - slice_index ob 2 + 1) ∷ [])
+    * lions_entry (slice_index ob 0) lion_pairs * (others_squares ob * others_forms ob)
+
+abbrev size_by : ℕ → ℕ → ℕ → ℕ → ℕ
+size_by c e g block = size_on c e g (digits_of (bases_of c e g) block)
+
+computed : on_all (agrees 1 size_by) ≡ true
+computed = refl
+
+size_is : (set : PieceSet) (block : ℕ) → block < product (block_bases set) → size_by set.chicks set.elephants set.giraffes block ≡ present_size
+    (family_of set B) block
+size_is set block within =
+    ap (λ (x : ℕ). product ((set.chicks - slice_index (digits_of (block_bases set) block) 0 + 1) ∷
+    (set.elephants - slice_index (digits_of (block_bases set) block) 1 + 1)
+    ∷ (set.giraffes - slice_index (digits_of (block_bases set) block) 2 + 1) ∷ []) * x
+    * (others_squares (digits_of (block_bases set) block) * others_forms (digits_of (block_bases set) block)))
+    (before_lions (slice_index (digits_of (block_bases set) block) 0) lion_pairs
+    (AreFewOnBoard-digits set (digits_of (block_bases set) block) (few_in_block set block within)).chicks all_lions).value_is
+  where
+    all_lions : lion_pairs ≤ lion_pairs
+    all_lions = omega arith
+
+pub far_start_is : (set : PieceSet) (block : ℕ) → block ≤ product (block_bases set)
+    → start_at 1 set block ≡ marks_below (is_present (family_of set B)) (start_of set block)
+far_start_is set block upto =
+    entry_is 1 size_by computed set block upto
+    ∙ sum_same (size_by set.chicks set.elephants set.giraffes) (present_size (family_of set B)) block (λ k low. size_is set k (omega (arith, low, upto)))
+    ∙ sym (blocks_present (family_of set B) block upto)
+
+-- ---- in either profile
+
+pub start_in_family : (profile : Profile) (set : PieceSet) (place block : ℕ) → (profile ≡ A → place ≡ 0) → (profile ≡ B → place ≡ 1)
+    → block ≤ product (block_bases set) → start_at place set block ≡ marks_below (is_present (family_of set profile)) (start_of set block)
+start_in_family A set place block first second upto =
+    ap (λ (n : ℕ). start_at n set block) (first refl) ∙ start_is set block upto ∙ sym (all_present (family_of set A) (start_of set block) refl)
+start_in_family B set place block first second upto = ap (λ (n : ℕ). start_at n set block) (second refl) ∙ far_start_is set block upto

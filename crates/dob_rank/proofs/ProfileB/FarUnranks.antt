@@ -1,10 +1,9 @@
 -- The position of a rank of profile B: its block, its spot there, and that it is the one of that rank.
-use Rattle.dob_rank.proofs.Common.{◌%◌, ◌*◌, ◌+◌, ◌-◌, ◌/◌, ◌<◌, ◌^◌, ◌∙◌, ◌≡◌, ◌≤◌, List, ap, arith, refl, slice_index, subst, sym, true, ℕ, mul-le-mul}
-use Rattle.dob_rank.proofs.Common.{mul-pos, mul_comm, div-add-mod', div_below, is_allowed, PieceSet, Family, Profile, A, B, Setup, HasRank, IsPositionOf}
-use Rattle.dob_rank.proofs.Common.{IsRanked, family_of, is_present, rank_of, size_of, marks_below, HasBlock, block_bases, digits_of, nth, number_of, product}
-use Rattle.dob_rank.proofs.Common.{rank_of_set, size_of_set, start_of, IsPositionOfSet, IsPlaceFor, IsPresentIn, IsSpotFor, AreFewOnBoard, lion_pairs}
-use Rattle.dob_rank.proofs.Common.{local_bases, run_size, run_start, runs_in, forms_in, hand_size, lions_before, others_forms, others_squares, drop}
-use Rattle.dob_rank.proofs.Common.{square_bases}
+use Rattle.dob_rank.proofs.Common.{◌%◌, ◌*◌, ◌+◌, ◌-◌, ◌/◌, ◌<◌, ◌^◌, ◌∙◌, ◌≡◌, ◌≤◌, List, ap, arith, refl, slice_index, subst, sym, ℕ, mul-le-mul, mul-pos}
+use Rattle.dob_rank.proofs.Common.{mul_comm, div-add-mod', div_below, is_allowed, PieceSet, Family, Profile, A, B, Setup, IsPositionOf, IsRanked, family_of}
+use Rattle.dob_rank.proofs.Common.{is_present, size_of, marks_below, HasBlock, block_bases, digits_of, nth, number_of, product, rank_of_set, size_of_set}
+use Rattle.dob_rank.proofs.Common.{start_of, IsPositionOfSet, IsPlaceFor, IsPresentIn, IsSpotFor, AreFewOnBoard, lion_pairs, local_bases, run_size, run_start}
+use Rattle.dob_rank.proofs.Common.{runs_in, forms_in, hand_size, lions_before, others_forms, others_squares, drop, square_bases}
 use Rattle.dob_rank.proofs.Positions.Blocks.{sum_below_more, hand_bases, positive_product, squares_positive}
 use Rattle.dob_rank.proofs.Marked.Words.{marks_below-le}
 use Rattle.dob_rank.proofs.InRuns.RunMarks.{start_small}
@@ -31,17 +30,13 @@ pub before_run : (chicks lions number others hand before_lions : ℕ) → 0 < ot
 before_run chicks lions number others hand before_lions some some_hand hand_is low high is =
     let parts = div-add-mod' (number / others) hand in
     let more = sum_below_more (forms_in B chicks) lions in
-    let at = in_choice others number (number / others / hand * hand + before_lions) (forms_in B chicks lions) some
-    (under (number / others) (number / others / hand * hand) (number / others % hand) (lions_before B chicks lions) before_lions parts is low)
-    (over (number / others) (number / others / hand * hand) (number / others % hand) (lions_before B chicks (lions + 1)) (lions_before B chicks lions)
-    (forms_in B chicks lions) before_lions parts is more high) in
-    record { low = at.low; left = subst (λ (x : ℕ). number - (number / others / hand * hand + before_lions) * others < x) (mul_comm others (forms_in B chicks lions)) at.left }
-  where
-    under : (chosen whole rest sum before : ℕ) → whole + rest ≡ chosen → before ≡ sum → sum ≤ rest → whole + before ≤ chosen
-    under chosen whole rest sum before e f h = omega (arith, e, f, h)
-
-    over : (chosen whole rest next sum forms before : ℕ) → whole + rest ≡ chosen → before ≡ sum → next ≡ sum + forms → rest < next → chosen < whole + before + forms
-    over chosen whole rest next sum forms before e f g h = omega (arith, e, f, g, h)
+    let at = in_choice others number (number / others / hand * hand + before_lions) (forms_in B chicks lions) some (omega (
+      arith,
+      parts,
+      is,
+      low,
+    )) (omega (arith, parts, is, more, high)) in
+    record { low = at.low; left = omega (arith, at.left, mul_comm others (forms_in B chicks lions)) }
 
 less : (start number next size : ℕ) → start + number < next → start + size ≡ next → number < size
 less start number next size h e = omega (arith, h, e)
@@ -54,13 +49,12 @@ hand_within : (set : PieceSet) (block number others hand : ℕ) → block < prod
     → number / others / hand < product (hand_bases set (digits_of (block_bases set) block))
 hand_within set block number others hand within others_is some hand_is some_hand low =
     let whole = block_present (family_of set B) block within in
-    let below : number < product (hand_bases set (digits_of (block_bases set) block)) * hand * others
-    = subst (λ (x : ℕ). number < product (hand_bases set (digits_of (block_bases set) block)) * hand * x) (sym others_is)
-    (subst (λ (x : ℕ). number < product (hand_bases set (digits_of (block_bases set) block)) * x
-    * (others_squares (digits_of (block_bases set) block) * others_forms (digits_of (block_bases set) block))) (sym hand_is)
-    (less (marks_below (is_present (family_of set B)) (start_of set block)) number _ _ low whole)) in
-    div_below (number / others) hand (product (hand_bases set (digits_of (block_bases set) block))) some_hand
-    (div_below number others (product (hand_bases set (digits_of (block_bases set) block)) * hand) some below)
+    let all = product (hand_bases set (digits_of (block_bases set) block)) in
+    let below : number < all * hand * others = rw (
+      others_is,
+      hand_is,
+    ) (less (marks_below (is_present (family_of set B)) (start_of set block)) number _ _ low whole) in
+    div_below (number / others) hand all some_hand (div_below number others (all * hand) some below)
 
 in_runs : (hands all lions runs : ℕ) → hands < all → lions < lion_pairs → runs ≡ all * lion_pairs → hands * lion_pairs + lions < runs
 in_runs hands all lions runs h k e = omega (arith, h, k, e)
@@ -87,27 +81,24 @@ spot_in : (set : PieceSet) (block lions number others hand before local : ℕ) �
     → marks_below (is_present (family_of set B)) (start_of set block) + number < marks_below (is_present (family_of set B)) (start_of set (block + 1))
     → IsPresentIn (family_of set B) block number (number / others / hand * lion_pairs + lions) local
 spot_in set block lions number others hand before local within few others_is some hand_is some_hand before_is upto place low =
+    let ob = digits_of (block_bases set) block in
     let hands = hand_within set block number others hand within others_is some hand_is some_hand low in
-    let all = runs_by_hand set block in
-    let below : number / others / hand * lion_pairs + lions < runs_in set block
-    = in_runs (number / others / hand) (product (hand_bases set (digits_of (block_bases set) block))) lions (runs_in set block) hands few all in
-    let own : (number / others / hand * lion_pairs + lions) % lion_pairs ≡ lions = rest (number / others / hand) lions few in
-    let at = place set block (number / others / hand * lion_pairs + lions) within refl below own in
+    let below = in_runs (number / others / hand) (product (hand_bases set ob)) lions (runs_in set block) hands few (runs_by_hand set block) in
+    let at = place set block (number / others / hand * lion_pairs + lions) within refl below (rest (number / others / hand) lions few) in
     let start = present_before_run (family_of set B) block (number / others / hand) lions within (weaker lions few) (weaker_runs _ _ below) in
     let known : marks_below (is_present (family_of set B)) (start_of set block) + (number / others / hand * hand + before) * others
-    ≡ marks_below (is_present (family_of set B)) (run_start set block (number / others / hand * lion_pairs + lions))
-    = ap (λ (x : ℕ). marks_below (is_present (family_of set B)) (start_of set block) + (number / others / hand * x + before) * others) hand_is
-    ∙ ap (λ (x : ℕ). marks_below (is_present (family_of set B)) (start_of set block)
-    + (number / others / hand * lions_before B (slice_index (digits_of (block_bases set) block) 0) lion_pairs + x) * others) before_is
-    ∙ ap (λ (x : ℕ). marks_below (is_present (family_of set B)) (start_of set block)
-    + (number / others / hand * lions_before B (slice_index (digits_of (block_bases set) block) 0) lion_pairs
-    + lions_before B (slice_index (digits_of (block_bases set) block) 0) lions) * x) others_is
-    ∙ start in
+    ≡ marks_below (is_present (family_of set B)) (run_start set block (number / others / hand * lion_pairs + lions)) = cc (
+      hand_is,
+      before_is,
+      others_is,
+      start,
+    ) in
     record {
       run_below = below;
       local_below = at.local_below;
       present = at.present;
-      before = at.before ∙ whole (marks_below (is_present (family_of set B)) (start_of set block)) ((number / others / hand * hand + before) * others) number _ known upto;
+      before = at.before ∙ whole (marks_below (is_present (family_of set B)) (start_of set block)) ((number / others / hand * hand + before) * others) number _
+          known upto;
     }
 
 pub spot_for : (ob : List ℕ) (lions number others hand before local run : ℕ) → lions < lion_pairs → others ≡ others_squares ob * others_forms ob → 0 < others
@@ -132,28 +123,25 @@ pub far_ranked : (set : PieceSet) (block number rank run local : ℕ) (ob : List
 far_ranked set block number rank run local ob s within ob_is at is made =
     let here = made_in_block set block run local ob s within ob_is made in
     let start = run_start-is set block run in
-    let rank_is : rank_of_set set s ≡ run_start set block run + local
-    = rank_of_set-block set block (run * run_size set block + local) s here ∙ joined _ _ _ _ start in
+    let rank_is : rank_of_set set s ≡ run_start set block run + local = rank_of_set-block set block (run * run_size set block + local) s here ∙ omega (
+      arith,
+      start,
+    ) in
     let below = in_set set block run local (record { block_below = within; run_below = at.run_below; local_below = at.local_below }) in
     let back : nth set (run_start set block run + local) ≡ s = ap (nth set) (sym rank_is) ∙ nth-rank_of_set set s here.position in
-    subst (λ (x : Setup). IsRanked (family_of set B) x rank) back
-    (subst (IsRanked (family_of set B) (nth set (run_start set block run + local))) (at.before ∙ is)
-    (ranked_at (family_of set B) (run_start set block run + local) below at.present))
-  where
-    joined : (sum part local start : ℕ) → start ≡ sum + part → sum + (part + local) ≡ start + local
-    joined sum part local start e = omega (arith, e)
+    rw (back, at.before ∙ is) at (ranked_at (family_of set B) (run_start set block run + local) below at.present)
 
 -- ---- the two profiles
 
 pub below_in_A : (family : Family) (rank : ℕ) → family.profile ≡ A → rank < size_of family → rank < size_of_set family.set
 below_in_A family rank a low = subst (λ (n : ℕ). rank < n) (size_of-whole family a) low
 
-pub ranked_in_A : (family : Family) (rank : ℕ) (s : Setup) → family.profile ≡ A → IsPositionOfSet family.set s → rank_of_set family.set s ≡ rank → IsRanked family s rank
+pub ranked_in_A : (family : Family) (rank : ℕ) (s : Setup) → family.profile ≡ A → IsPositionOfSet family.set s → rank_of_set family.set s ≡ rank → IsRanked
+    family s rank
 ranked_in_A family rank s a p is =
-    let allowed : is_allowed family.profile s ≡ true = ap (λ (q : Profile). is_allowed q s) a in
-    let here : IsPositionOf family s = record { of_set = p; allowed = allowed } in
-    let rank_is : rank_of family s ≡ rank = rank_of-whole family s a ∙ is in
-    record { position = here; rank_is = rank_is; count = subst (HasRank family s) rank_is (HasRank-rank_of family s here) }
+    let here : IsPositionOf family s = record { of_set = p; allowed = ap (λ (q : Profile). is_allowed q s) a } in
+    let rank_is = rank_of-whole family s a ∙ is in
+    record { position = here; rank_is = rank_is; count = rw rank_is at (HasRank-rank_of family s here) }
 
 same_family : (family : Family) → family.profile ≡ B → family_of family.set B ≡ family
 same_family family b = ap (family_of family.set) (sym b)
@@ -167,39 +155,30 @@ ranked_in_B family rank s b at = subst (λ (f : Family). IsRanked f s rank) (sam
 -- ---- what the code finds
 
 pub product_is : (a b x y : ℕ) → a ≡ x → b ≡ y → a * b ≡ x * y
-product_is a b x y e f = ap (λ (n : ℕ). n * b) e ∙ ap (λ (n : ℕ). x * n) f
+product_is a b x y e f = rw (e, f) refl
 
 pub product_some : (a b x y : ℕ) → a ≡ x → b ≡ y → 0 < x → 0 < y → 0 < a * b
-product_some a b x y e f h k = subst (λ (n : ℕ). 0 < n) (sym (product_is a b x y e f)) (mul-pos h k)
+product_some a b x y e f h k = rw (e, f) (mul-pos h k)
 
 pub product_small : (a b x y : ℕ) → a ≡ x → b ≡ y → x ≤ 2025 → y ≤ 16 → a * b ≤ 2025 * 16
-product_small a b x y e f h k = subst (λ (n : ℕ). n ≤ 2025 * 16) (sym (product_is a b x y e f)) (mul-le-mul h k)
+product_small a b x y e f h k = rw (e, f) (mul-le-mul h k)
 
 pub squares_some : (ob : List ℕ) → AreFewOnBoard ob → 0 < others_squares ob
 squares_some ob few = positive_product (drop 1 (square_bases ob)) (squares_positive ob few).1
 
 size_small : (set : PieceSet) → size_of (family_of set B) < 2 ^ 42
 unfolding size_of size_of_set
-size_small set =
-    let few = marks_below-le (is_present (family_of set B)) (size_of_set set) in
-    let small = start_small set (product (block_bases set)) (all_blocks (product (block_bases set))) in
-    omega (arith, few, small)
-  where
-    all_blocks : (n : ℕ) → n ≤ n
-    all_blocks n = omega arith
+size_small set = grind (arith, marks_below-le, start_small)
 
 -- the number of a rank is below all ranks
 pub number_small : (set : PieceSet) (start number rank : ℕ) → start + number ≡ rank → rank < size_of (family_of set B) → number < 2 ^ 42
-number_small set start number rank is below =
-    let few = size_small set in
-    omega (arith, is, below, few)
+number_small set start number rank is below = grind (arith, size_small)
 
 pub spot_within : (set : PieceSet) (block number rank : ℕ) (ob : List ℕ) (run local : ℕ) → block < product (block_bases set)
     → ob ≡ digits_of (block_bases set) block → marks_below (is_present (family_of set B)) (start_of set block) + number ≡ rank
     → rank < marks_below (is_present (family_of set B)) (start_of set (block + 1)) → IsSpotFor ob number run local
     → IsPresentIn (family_of set B) block number run local
-spot_within set block number rank ob run local within ob_is is below at =
-    at set block within ob_is (subst (λ (x : ℕ). x < marks_below (is_present (family_of set B)) (start_of set (block + 1))) (sym is) below)
+spot_within set block number rank ob run local within ob_is is below at = grind arith
 
 pub below_same : (n a b : ℕ) → a ≡ b → n < a → n < b
 below_same n a b e h = subst (λ (x : ℕ). n < x) e h

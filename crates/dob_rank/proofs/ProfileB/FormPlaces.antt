@@ -1,13 +1,12 @@
 -- How many allowed numbers of forms stand before that of a board's pieces.
 use Rattle.dob_rank.proofs.Common.{◌&&◌, ◌*◌, ◌+◌, ◌-◌, ◌<◌, ◌^◌, ◌∙◌, ◌∷◌, ◌≡◌, Bool, List, None, [], ap, arith, bit_and, get_or, inl, inr, length, map, refl}
 use Rattle.dob_rank.proofs.Common.{subst, suc, sym, true, ℕ, and_parts, cases_eq, eq-eqb, ne_eqb, Cell, sum_blocks, sum_same, marks_below, one_if, layer_mask}
-use Rattle.dob_rank.proofs.Common.{base_of, count, forms_number, layer, sum_below, form, allowed_number, are_allowed, weight}
+use Rattle.dob_rank.proofs.Common.{base_of, count, forms_number, layer, sum_below, form, allowed_number, are_allowed, weight, nat_tests}
 use Rattle.dob_rank.proofs.Marked.Words.{marks_below_none}
 use Rattle.dob_rank.proofs.InRuns.RunMarks.{marks_agree}
-use Rattle.dob_rank.proofs.Boards.Choices.{count_other, count_rest, no_first}
 use Rattle.dob_rank.proofs.Boards.FormDigits.{form-below, forms_number-below, forms_number_same, forms_number_other}
 use Rattle.dob_rank.proofs.Boards.Planes.{lowest, first_square, second_square, first_found, second_found}
-use Rattle.dob_rank.proofs.ProfileB.Weights.{one_more, allowed_other, forms_weigh, weight_other, lower_forms}
+use Rattle.dob_rank.proofs.ProfileB.Weights.{one_more, allowed_other, forms_weigh, lower_forms}
 
 -- ---- the allowed numbers before one
 
@@ -41,7 +40,8 @@ pub allowed_before : (ok : ℕ → ℕ → Bool) (t s : ℕ) (cells : List Cell)
 allowed_before ok t s [] some all = marks_below_none (λ n. are_allowed ok (base_of t) t n s [])
 allowed_before ok t s (cell ∷ cells) some all = elim (cases_eq (layer cell) t) [
   | inl e ↦
-      let number : forms_number t (cell ∷ cells) ≡ form cell * base_of t ^ count t (map layer cells) + forms_number t cells = forms_number_same t cell cells e in
+      let number : forms_number t (cell ∷ cells) ≡ form cell * base_of t ^ count t (map layer cells) + forms_number t cells = forms_number_same t cell cells e
+      in
       let low : form cell < base_of t = subst (λ (x : ℕ). form cell < base_of x) e (form-below cell) in
       let rest : forms_number t cells < base_of t ^ count t (map layer cells) = forms_number-below t cells in
       let whole : are_allowed ok (base_of t) t (form cell * base_of t ^ count t (map layer cells) + forms_number t cells) s (t ∷ map layer cells) ≡ true
@@ -70,7 +70,7 @@ allowed_before ok t s (cell ∷ cells) some all = elim (cases_eq (layer cell) t)
 
 weight_none : (w : ℕ → ℕ) (t s : ℕ) (ls : List ℕ) → count t ls ≡ 0 → weight w t s ls ≡ 1
 weight_none w t s [] none = refl
-weight_none w t s (l ∷ ls) none = (let rest = no_first t l ls none in weight_other w t s l ls rest.0 ∙ weight_none w t (suc s) ls rest.1)
+weight_none w t s (l ∷ ls) none = grind (arith, nat_tests, weight_none w t (suc s) ls)
 
 next_square : (s k : ℕ) → suc s + k ≡ s + suc k
 next_square s k = omega arith
@@ -83,15 +83,11 @@ at_zero k = omega arith
 
 weight_one : (w : ℕ → ℕ) (t s : ℕ) (ls : List ℕ) → count t ls ≡ 1 → weight w t s ls ≡ w (s + first_square t ls)
 weight_one w t s [] one = absurd (omega arith)
-weight_one w t s (l ∷ ls) one = elim (cases_eq l t) [
-  | inl e ↦ rw (eq-eqb l t e, weight_none w t (suc s) ls (count_rest t l 0 ls e one), at_start s) (omega arith)
-  | inr n ↦ rw (weight_other w t s l ls n, ne_eqb l t n, ← next_square s (first_square t ls)) (weight_one w t (suc s) ls (sym (count_other t l ls n) ∙ one))
-]
+weight_one w t s (l ∷ ls) one = grind (arith, nat_tests, weight_none w t (suc s) ls, weight_one w t (suc s) ls)
 
 pub no_number : (ok : ℕ → ℕ → Bool) (base t s : ℕ) (cells : List Cell) → count t (map layer cells) ≡ 0 → allowed_number ok base t s cells ≡ 0
 no_number ok base t s [] none = refl
-no_number ok base t s (cell ∷ cells) none =
-    let rest = no_first t (layer cell) (map layer cells) none in allowed_other_cell ok base t s cell cells rest.0 ∙ no_number ok base t (suc s) cells rest.1
+no_number ok base t s (cell ∷ cells) none = grind (arith, nat_tests, no_number ok base t (suc s) cells)
 
 -- how many allowed forms are before that of the piece on a square
 abbrev pub form_place : (ℕ → ℕ → Bool) → ℕ → List Cell → ℕ → ℕ
@@ -100,51 +96,29 @@ form_place ok s cells k = marks_below (ok (s + k)) (form (get_or cells k None))
 pub number_of_one : (ok : ℕ → ℕ → Bool) (base t s : ℕ) (cells : List Cell) → count t (map layer cells) ≡ 1
     → allowed_number ok base t s cells ≡ form_place ok s cells (first_square t (map layer cells))
 number_of_one ok base t s [] one = absurd (omega arith)
-number_of_one ok base t s (cell ∷ cells) one = elim (cases_eq (layer cell) t) [
-  | inl e ↦
-      let none = count_rest t (layer cell) 0 (map layer cells) e one in
-      rw (
-        eq-eqb (layer cell) t e,
-        weight_none (λ square. marks_below (ok square) base) t (suc s) (map layer cells) none,
-        no_number ok base t (suc s) cells none,
-        at_start s,
-      ) (omega arith)
-  | inr n ↦
-      rw (allowed_other_cell ok base t s cell cells n, ne_eqb (layer cell) t n, ← next_square s (first_square t (map layer cells)))
-      (number_of_one ok base t (suc s) cells (sym (count_other t (layer cell) (map layer cells) n) ∙ one))
-]
+number_of_one ok base t s (cell ∷ cells) one =
+    grind (arith, nat_tests, weight_none, no_number, number_of_one ok base t (suc s) cells, next_square, at_start)
 
 pub number_of_two : (ok : ℕ → ℕ → Bool) (base t s : ℕ) (cells : List Cell) → count t (map layer cells) ≡ 2
     → allowed_number ok base t s cells
     ≡ form_place ok s cells (first_square t (map layer cells)) * marks_below (ok (s + second_square t (map layer cells))) base
     + form_place ok s cells (second_square t (map layer cells))
 number_of_two ok base t s [] two = absurd (omega arith)
-number_of_two ok base t s (cell ∷ cells) two = elim (cases_eq (layer cell) t) [
-  | inl e ↦
-      let one = count_rest t (layer cell) 1 (map layer cells) e two in
-      rw (
-        eq-eqb (layer cell) t e,
-        weight_one (λ square. marks_below (ok square) base) t (suc s) (map layer cells) one,
-        number_of_one ok base t (suc s) cells one,
-        next_square s (first_square t (map layer cells)),
-        at_start s,
-      ) refl
-  | inr n ↦
-      rw (
-        allowed_other_cell ok base t s cell cells n,
-        ne_eqb (layer cell) t n,
-        ← next_square s (first_square t (map layer cells)),
-        ← next_square s (second_square t (map layer cells)),
-      )
-      (number_of_two ok base t (suc s) cells (sym (count_other t (layer cell) (map layer cells) n) ∙ two))
-]
+number_of_two ok base t s (cell ∷ cells) two =
+    grind (arith, nat_tests, weight_one, number_of_one, number_of_two ok base t (suc s) cells, next_square, at_start)
 
 -- ---- the same by the squares that a mask has
 
 pub one_found : (ok : ℕ → ℕ → Bool) (base t : ℕ) (cells : List Cell) (mask place : ℕ) → length cells ≡ 12 → mask ≡ layer_mask t (map layer cells)
     → count t (map layer cells) ≡ 1 → place ≡ marks_below (ok (lowest mask)) (form (get_or cells (lowest mask) None)) → place ≡ allowed_number ok base t 0 cells
 one_found ok base t cells mask place long is one found =
-    rw (found, first_found t cells mask long is (omega (arith, one))) (sym (rw (at_zero (first_square t (map layer cells))) at (number_of_one ok base t 0 cells one)))
+    rw (
+      found,
+      first_found t cells mask long is (omega (
+        arith,
+        one,
+      )),
+    ) (sym (rw (at_zero (first_square t (map layer cells))) at (number_of_one ok base t 0 cells one)))
 
 pub two_found : (ok : ℕ → ℕ → Bool) (base t : ℕ) (cells : List Cell) (mask less first forms second : ℕ) → length cells ≡ 12
     → mask ≡ layer_mask t (map layer cells) → less ≡ mask - 1 → count t (map layer cells) ≡ 2

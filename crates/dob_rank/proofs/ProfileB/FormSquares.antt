@@ -1,12 +1,10 @@
 -- Which forms the chicks of a choice may have, by the squares that it takes.
-use Rattle.dob_rank.proofs.Common.{◌%◌, ◌&&◌, ◌*◌, ◌+◌, ◌/◌, ◌<◌, ◌^◌, ◌∙◌, ◌∷◌, ◌≡◌, ◌≤◌, Bool, List, [], ap, arith, false, inl, inr, length, refl, subst, suc}
-use Rattle.dob_rank.proofs.Common.{sym, true, zero, ℕ, pow-succ', pow-zero, cases_eq, B, choose, count, empty_layers, enemy_squares, free_squares, order}
-use Rattle.dob_rank.proofs.Common.{settle, first_place, higher_of, lower_of, past, second_place, lion_pairs, are_allowed, forms_stand, lions_in, may_have}
-use Rattle.dob_rank.proofs.Common.{Chicks, Empty, EnemyLion, OwnLion}
+use Rattle.dob_rank.proofs.Common.{◌%◌, ◌&&◌, ◌+◌, ◌/◌, ◌<◌, ◌^◌, ◌∙◌, ◌∷◌, ◌≡◌, ◌≤◌, Bool, List, [], ap, arith, false, length, refl, subst, suc, sym, true}
+use Rattle.dob_rank.proofs.Common.{zero, ℕ, pow-succ', pow-zero, B, choose, count, enemy_squares, free_squares, order, settle, first_place, higher_of, lower_of}
+use Rattle.dob_rank.proofs.Common.{past, second_place, lion_pairs, are_allowed, forms_stand, lions_in, may_have, Chicks, Empty, nat_tests, EnemyLion, OwnLion}
+use Rattle.dob_rank.proofs.Common.{empty_layers}
 use Rattle.std.proofs.Math.ListN.{set}
-use Rattle.dob_rank.proofs.Boards.Choices.{count_same, count_other, no_first, count_at}
-use Rattle.dob_rank.proofs.ProfileB.Weights.{allowed_other, allowed_same}
-use Rattle.dob_rank.proofs.Boards.EmptySquares.{empty_place, empty_place-below, kept, settle_none, settle_one, settle_two, choose_one}
+use Rattle.dob_rank.proofs.Boards.EmptySquares.{empty_place, empty_place-below, settle_none, settle_one, settle_two, choose_one}
 use Rattle.dob_rank.proofs.Boards.Placed.{choice_of, lions_stand}
 use Rattle.dob_rank.proofs.ProfileB.LionBoards.{lion_board, no_chicks}
 
@@ -14,16 +12,12 @@ use Rattle.dob_rank.proofs.ProfileB.LionBoards.{lion_board, no_chicks}
 
 pub allowed_none : (ok : ℕ → ℕ → Bool) (base t n s : ℕ) (ls : List ℕ) → count t ls ≡ 0 → are_allowed ok base t n s ls ≡ true
 allowed_none ok base t n s [] none = refl
-allowed_none ok base t n s (l ∷ ls) none =
-    let rest = no_first t l ls none in
-    allowed_other ok base t n s l ls rest.0 ∙ allowed_none ok base t n (suc s) ls rest.1
+allowed_none ok base t n s (l ∷ ls) none = grind (arith, nat_tests, allowed_none ok base t n (suc s) ls)
 
 one_set : (t k : ℕ) (ls : List ℕ) → count t ls ≡ 0 → k < length ls → count t (set ls k t) ≡ 1
 one_set t k [] none low = absurd (omega (arith, low))
-one_set t zero (l ∷ ls) none low = count_same t ls ∙ ap suc (no_first t l ls none).1
-one_set t (suc k) (l ∷ ls) none low =
-    let rest = no_first t l ls none in
-    count_other t l (set ls k t) rest.0 ∙ one_set t k ls rest.1 (omega (arith, low))
+one_set t zero (l ∷ ls) none low = grind (arith, nat_tests)
+one_set t (suc k) (l ∷ ls) none low = grind (arith, nat_tests, one_set t k ls)
 
 next_square : (s k : ℕ) → suc s + k ≡ s + suc k
 next_square s k = omega arith
@@ -39,45 +33,26 @@ always true = refl
 always false = refl
 
 lowest_digit : (base n c : ℕ) → c ≡ 0 → n / base ^ c % base ≡ n % base
-lowest_digit base n c e = ap (λ (x : ℕ). n / base ^ x % base) e ∙ ap (λ (x : ℕ). n / x % base) (pow-zero base) ∙ ap (λ (x : ℕ). x % base) (whole n)
-  where
-    whole : (n : ℕ) → n / 1 ≡ n
-    whole n = omega arith
+lowest_digit base n c e = grind (arith, pow-zero base)
 
 next_digit : (base n c : ℕ) → c ≡ 1 → n / base ^ c % base ≡ n / base % base
-next_digit base n c e =
-    ap (λ (x : ℕ). n / base ^ x % base) e ∙ ap (λ (x : ℕ). n / x % base) (pow-succ' base 0 ∙ ap (λ (x : ℕ). base * x) (pow-zero base) ∙ once base)
-  where
-    once : (n : ℕ) → n * 1 ≡ n
-    once n = omega arith
+next_digit base n c e = grind (arith, pow-zero base, pow-succ' base 0)
 
 pub allowed_one : (ok : ℕ → ℕ → Bool) (base t n s k : ℕ) (ls : List ℕ) → count t ls ≡ 0 → k < length ls
     → are_allowed ok base t n s (set ls k t) ≡ ok (s + k) (n % base)
 allowed_one ok base t n s k [] none low = absurd (omega (arith, low))
 allowed_one ok base t n s zero (l ∷ ls) none low =
-    let rest = no_first t l ls none in
-    allowed_same ok base t n s ls
-    ∙ rw (lowest_digit base n (count t ls) rest.1, allowed_none ok base t n (suc s) ls rest.1, at_start s) (always (ok s (n % base)))
-allowed_one ok base t n s (suc k) (l ∷ ls) none low =
-    let rest = no_first t l ls none in
-    allowed_other ok base t n s l (set ls k t) rest.0 ∙ allowed_one ok base t n (suc s) k ls rest.1 (omega (arith, low))
-    ∙ ap (λ (x : ℕ). ok x (n % base)) (next_square s k)
+    grind (arith, nat_tests, lowest_digit base n (count t ls), allowed_none ok base t n (suc s) ls, at_start s, always (ok s (n % base)))
+allowed_one ok base t n s (suc k) (l ∷ ls) none low = grind (arith, nat_tests, allowed_one ok base t n (suc s) k ls, next_square s k)
 
 pub allowed_two : (ok : ℕ → ℕ → Bool) (base t n s a b : ℕ) (ls : List ℕ) → count t ls ≡ 0 → a < b → b < length ls
     → are_allowed ok base t n s (set (set ls b t) a t) ≡ ok (s + a) (n / base % base) && ok (s + b) (n % base)
 allowed_two ok base t n s a b [] none less low = absurd (omega (arith, low))
 allowed_two ok base t n s a zero (l ∷ ls) none less low = absurd (omega (arith, less))
 allowed_two ok base t n s zero (suc b) (l ∷ ls) none less low =
-    let rest = no_first t l ls none in
-    let under : b < length ls = omega (arith, low) in
-    allowed_same ok base t n s (set ls b t)
-    ∙ rw (next_digit base n (count t (set ls b t)) (one_set t b ls rest.1 under), allowed_one ok base t n (suc s) b ls rest.1 under, next_square s b, at_start s) refl
+    grind (arith, nat_tests, next_digit base n (count t (set ls b t)), one_set t b ls, allowed_one ok base t n (suc s) b ls, next_square s b, at_start s)
 allowed_two ok base t n s (suc a) (suc b) (l ∷ ls) none less low =
-    let rest = no_first t l ls none in
-    allowed_other ok base t n s l (set (set ls b t) a t) rest.0
-    ∙ allowed_two ok base t n (suc s) a b ls rest.1 (omega (arith, less)) (omega (arith, low))
-    ∙ ap (λ (x : ℕ). ok x (n / base % base) && ok (suc s + b) (n % base)) (next_square s a)
-    ∙ ap (λ (x : ℕ). ok (s + suc a) (n / base % base) && ok x (n % base)) (next_square s b)
+    grind (arith, nat_tests, allowed_two ok base t n (suc s) a b ls, next_square s a, next_square s b)
 
 -- ---- the squares of a choice where two lions stand
 
@@ -112,16 +87,9 @@ lions_left lions chicks c low few below =
 
 empty_rises : (a b : ℕ) (ls : List ℕ) → a < b → b < count (order Empty) ls → empty_place ls a < empty_place ls b
 empty_rises a b [] less low = absurd (omega (arith, low))
-empty_rises a b (l ∷ ls) less low = elim (cases_eq l (order Empty)) [
-  | inl e ↦ rw e (of_empty a b less (rw (count_at (order Empty) l ls e) at low) (λ i j less' low'. empty_rises i j ls less' low'))
-  | inr ne ↦ (let rest = empty_rises a b ls less (rw (count_other (order Empty) l ls ne) at low) in omega (arith, rest, kept l ls a ne, kept l ls b ne))
-]
-  where
-    of_empty : (a b : ℕ) → a < b → b < suc (count (order Empty) ls) → ((i j : ℕ) → i < j → j < count (order Empty) ls → empty_place ls i < empty_place ls j)
-        → empty_place (order Empty ∷ ls) a < empty_place (order Empty ∷ ls) b
-    of_empty a zero less low again = absurd (omega (arith, less))
-    of_empty zero (suc b) less low again = omega arith
-    of_empty (suc a) (suc b) less low again = (let rest = again a b (omega (arith, less)) (omega (arith, low)) in omega (arith, rest))
+empty_rises a zero (l ∷ ls) less low = absurd (omega (arith, less))
+empty_rises zero (suc b) (l ∷ ls) less low = grind (arith, nat_tests, empty_rises 0 (suc b) ls)
+empty_rises (suc a) (suc b) (l ∷ ls) less low = grind (arith, nat_tests, empty_rises (suc a) (suc b) ls, empty_rises a b ls)
 
 -- the forms that chicks on the squares of a choice may have
 pub chick_squares_are : (lions chicks c first second : ℕ) → lions < lion_pairs → chicks ≤ 2 → c < choose free_squares chicks

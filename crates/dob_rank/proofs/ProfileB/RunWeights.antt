@@ -1,11 +1,7 @@
 -- How many of a run's places are of the family, before each of them.
-use Rattle.dob_rank.proofs.Common.{◌*◌, ◌+◌, ◌-◌, ◌<◌, ◌∙◌, ◌∷◌, ◌≡◌, ◌≤◌, Bool, List, [], ap, arith, cond, eqb, inl, inr, refl, suc, sym, ℕ, mul_comm}
-use Rattle.dob_rank.proofs.Common.{cases_eq, cases_lt, sum_alike, sum_blocks, sum_same, sum_times, marks_below, one_if, count, order, settle, sum_below}
-use Rattle.dob_rank.proofs.Common.{with_first, are_allowed, Empty}
+use Rattle.dob_rank.proofs.Common.{◌*◌, ◌+◌, ◌-◌, ◌<◌, ◌∙◌, ◌∷◌, ◌≡◌, ◌≤◌, Bool, List, [], ap, arith, refl, suc, ℕ, mul_comm, sum_alike, sum_blocks, sum_same}
+use Rattle.dob_rank.proofs.Common.{sum_times, marks_below, one_if, count, order, settle, sum_below, with_first, are_allowed, Empty, nat_tests}
 use Rattle.dob_rank.proofs.Arithmetic.MixedRadix.{digit_below}
-use Rattle.dob_rank.proofs.Boards.Choices.{count_other}
-use Rattle.dob_rank.proofs.Boards.Settled.{settle_kept, settle_taken, settle_left}
-use Rattle.dob_rank.proofs.ProfileB.Weights.{allowed_other}
 
 -- ---- marks that a part of the place gives
 
@@ -16,13 +12,11 @@ unfolding marks_below
 low_alike mark high n a b h le =
     sum_blocks (λ r. one_if (mark r)) n a b
     ∙ ap (λ (x : ℕ). x + sum_below (λ r. one_if (mark (a * n + r))) b)
-    (sum_same (λ q. sum_below (λ r. one_if (mark (q * n + r))) n) (λ q. n * one_if (high q)) a
-    (λ q lq. sum_same (λ r. one_if (mark (q * n + r))) (λ r. one_if (high q)) n
+    (sum_same _ (λ q. n * one_if (high q)) a (λ q lq. sum_same _ (λ r. one_if (high q)) n
     (λ r lr. ap one_if (h q r (let first = digit_below q a n r lq lr in omega arith) lr)) ∙ sum_alike (one_if (high q)) n)
     ∙ sum_times n (λ q. one_if (high q)) a ∙ mul_comm n (sum_below (λ q. one_if (high q)) a))
     ∙ ap (λ (x : ℕ). sum_below (λ q. one_if (high q)) a * n + x)
-    (sum_same (λ r. one_if (mark (a * n + r))) (λ r. one_if (high a)) b
-    (λ r lr. ap one_if (h a r (omega arith) (omega arith))) ∙ sum_alike (one_if (high a)) b)
+    (sum_same _ (λ r. one_if (high a)) b (λ r lr. ap one_if (h a r (omega arith) (omega arith))) ∙ sum_alike (one_if (high a)) b)
 
 -- The part between doesn't matter: of each c there are n blocks of m places each, marked alike.
 pub middle_alike : (mark : ℕ → Bool) (ok : ℕ → ℕ → Bool) (n m c s f : ℕ)
@@ -53,26 +47,10 @@ pub record LeavesLayer (ok : ℕ → ℕ → Bool) (base t n s : ℕ) (ls rs : L
   pub counted : count t rs ≡ count t ls
   pub allowed_is : are_allowed ok base t n s rs ≡ are_allowed ok base t n s ls
 
-kept_layer : (ok : ℕ → ℕ → Bool) (base t n s l : ℕ) (ls rs : List ℕ) → LeavesLayer ok base t n (suc s) ls rs → LeavesLayer ok base t n s (l ∷ ls) (l ∷ rs)
-kept_layer ok base t n s l ls rs rest = record { counted = ap (λ (x : ℕ). cond (eqb l t) 1 0 + x) rest.counted; allowed_is = rw (rest.counted, rest.allowed_is) refl }
-
 pub settled_later : (ok : ℕ → ℕ → Bool) (base t n u s pieces number : ℕ) (ls : List ℕ) → t < u → u < order Empty
     → LeavesLayer ok base t n s ls (settle u pieces number ls)
 settled_later ok base t n u s pieces number [] h k = record { counted = refl; allowed_is = refl }
-settled_later ok base t n u s pieces number (l ∷ ls) h k = elim (cases_eq l (order Empty)) [
-  | inl e ↦ rw e
-      (let free : order Empty ≡ t → ⊥ = (λ (q : order Empty ≡ t). (let same : order Empty ≡ t = q in omega arith)) in
-      let other : u ≡ t → ⊥ = omega arith in
-      elim (cases_lt number (with_first (count (order Empty) ls) pieces)) [
-        | inl lt ↦ (let rest = settled_later ok base t n u (suc s) (pieces - 1) number ls h k in
-            rw (settle_taken u pieces number ls lt) (record {
-              counted = count_other t u (settle u (pieces - 1) number ls) other ∙ rest.counted ∙ sym (count_other t (order Empty) ls free);
-              allowed_is = allowed_other ok base t n s u (settle u (pieces - 1) number ls) other ∙ rest.allowed_is
-                  ∙ sym (allowed_other ok base t n s (order Empty) ls free);
-            }))
-        | inr le ↦ rw (settle_left u pieces number ls le)
-            (kept_layer ok base t n s (order Empty) ls (settle u pieces (number - with_first (count (order Empty) ls) pieces) ls)
-            (settled_later ok base t n u (suc s) pieces (number - with_first (count (order Empty) ls) pieces) ls h k))
-      ])
-  | inr full ↦ rw (settle_kept u pieces number l ls full) (kept_layer ok base t n s l ls (settle u pieces number ls) (settled_later ok base t n u (suc s) pieces number ls h k))
-]
+settled_later ok base t n u s pieces number (l ∷ ls) h k =
+    let taken = settled_later ok base t n u (suc s) (pieces - 1) number ls h k in
+    let left = settled_later ok base t n u (suc s) pieces (number - with_first (count (order Empty) ls) pieces) ls h k in
+    grind (arith, nat_tests, settled_later ok base t n u (suc s) pieces number ls h k, taken, left)

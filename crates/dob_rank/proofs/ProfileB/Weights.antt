@@ -1,17 +1,17 @@
--- Weighted counts: the weight of a choice, and how many numbers stand for allowed forms.
+-- Weighted counts: the weight of a choice, and how many numbers stand for allowed forms. A profile allows a board by the forms of its chicks.
 use Rattle.dob_rank.proofs.Common.{◌%◌, ◌&&◌, ◌*◌, ◌+◌, ◌/◌, ◌<◌, ◌^◌, ◌∙◌, ◌∷◌, ◌≡◌, Bool, List, [], ap, arith, false, inl, inr, refl, subst, suc, sym, true}
 use Rattle.dob_rank.proofs.Common.{ℕ, mod-mul, mod-eq_of_lt, mul_comm, pow-succ', pow-zero, cases_eq, eq-eqb, ne_eqb, div-mul-add, mod-mul-add, mod_below}
-use Rattle.dob_rank.proofs.Common.{same_from_place, sum_blocks, sum_same, sum_times, marks_below, one_if, count, sum_below, are_allowed, weight, ◌≤◌}
-use Rattle.dob_rank.proofs.Boards.Choices.{count_same, count_other, count_at}
+use Rattle.dob_rank.proofs.Common.{same_from_place, sum_blocks, sum_same, sum_times, marks_below, one_if, count, sum_below, are_allowed, weight, ◌≤◌, nat_tests}
+use Rattle.dob_rank.proofs.Common.{zero, may_all_stand, Profile, B, base_of, board_of, cell_of, order, may_have, Chicks, Empty}
+use Rattle.dob_rank.proofs.Boards.Choices.{count_same}
 use Rattle.dob_rank.proofs.Boards.FormDigits.{power_positive}
+use Rattle.dob_pieces.specs.Profiles.{may_stand}
+use Rattle.dob_rank.proofs.Boards.Settled.{AreLayers}
 
 -- ---- choices
 
 pub weight_same : (w : ℕ → ℕ) (t s : ℕ) (ls : List ℕ) → weight w t s (t ∷ ls) ≡ w s * weight w t (suc s) ls
 weight_same w t s ls = rw (eq-eqb t t refl) refl
-
-pub weight_other : (w : ℕ → ℕ) (t s l : ℕ) (ls : List ℕ) → (l ≡ t → ⊥) → weight w t s (l ∷ ls) ≡ weight w t (suc s) ls
-weight_other w t s l ls h = rw (ne_eqb l t h) (omega arith)
 
 -- ---- forms
 
@@ -27,10 +27,6 @@ low_digits n m b w hb hw e = same_from_place (n / w % b) (n % w) (m / w % b) (m 
 more_digits : (base t : ℕ) (ls : List ℕ) → base ^ count t (t ∷ ls) ≡ base * base ^ count t ls
 more_digits base t ls = ap (λ (x : ℕ). base ^ x) (count_same t ls) ∙ pow-succ' base (count t ls)
 
-pub allowed_same : (ok : ℕ → ℕ → Bool) (base t n s : ℕ) (ls : List ℕ)
-    → are_allowed ok base t n s (t ∷ ls) ≡ ok s (n / base ^ count t ls % base) && are_allowed ok base t n (suc s) ls
-allowed_same ok base t n s ls = rw (eq-eqb t t refl) refl
-
 pub allowed_other : (ok : ℕ → ℕ → Bool) (base t n s l : ℕ) (ls : List ℕ) → (l ≡ t → ⊥) → are_allowed ok base t n s (l ∷ ls) ≡ are_allowed ok base t n (suc s) ls
 allowed_other ok base t n s l ls h = rw (ne_eqb l t h) refl
 
@@ -38,38 +34,30 @@ allowed_other ok base t n s l ls h = rw (ne_eqb l t h) refl
 pub allowed_low : (ok : ℕ → ℕ → Bool) (base t n m s : ℕ) (ls : List ℕ) → 0 < base → n % base ^ count t ls ≡ m % base ^ count t ls
     → are_allowed ok base t n s ls ≡ are_allowed ok base t m s ls
 allowed_low ok base t n m s [] h e = refl
-allowed_low ok base t n m s (l ∷ ls) h e = elim (cases_eq l t) [
-  | inl i ↦ (let two = low_digits n m base (base ^ count t ls) h (power_positive base (count t ls) h)
-      (rw (count_at t l ls i, pow-succ' base (count t ls)) at e) in
-      rw (eq-eqb l t i, two.0, allowed_low ok base t n m (suc s) ls h two.1) refl)
-  | inr o ↦ rw (ne_eqb l t o) (allowed_low ok base t n m (suc s) ls h (rw (count_other t l ls o) at e))
-]
+allowed_low ok base t n m s (l ∷ ls) h e =
+    let two = low_digits n m base (base ^ count t ls) h (power_positive base (count t ls) h) in
+    grind (arith, nat_tests, two, pow-succ' base (count t ls), allowed_low ok base t n m (suc s) ls h)
 
 -- of one more piece its own form and those of the others
 pub one_more : (ok : ℕ → ℕ → Bool) (base t q r s : ℕ) (ls : List ℕ) → 0 < base → q < base → r < base ^ count t ls
     → are_allowed ok base t (q * base ^ count t ls + r) s (t ∷ ls) ≡ ok s q && are_allowed ok base t r (suc s) ls
-one_more ok base t q r s ls h lq lr =
-    rw (
-      allowed_same ok base t (q * base ^ count t ls + r) s ls,
-      div-mul-add q (base ^ count t ls) r lr,
-      mod-eq_of_lt lq,
-      allowed_low ok base t (q * base ^ count t ls + r) r (suc s) ls h (mod-mul-add q (base ^ count t ls) r lr ∙ sym (mod-eq_of_lt lr)),
-    ) refl
+one_more ok base t q r s ls h lq lr = rw (
+  eq-eqb t t refl,
+  div-mul-add q (base ^ count t ls) r lr,
+  mod-eq_of_lt lq,
+  allowed_low ok base t (q * base ^ count t ls + r) r (suc s) ls h (mod-mul-add q (base ^ count t ls) r lr ∙ sym (mod-eq_of_lt lr)),
+) refl
 
 -- the allowed numbers whose first piece has a lower form
 pub lower_forms : (ok : ℕ → ℕ → Bool) (base t q s : ℕ) (ls : List ℕ) → 0 < base → q ≤ base
     → sum_below (λ p. sum_below (λ k. one_if (are_allowed ok base t (p * base ^ count t ls + k) s (t ∷ ls))) (base ^ count t ls)) q
     ≡ sum_below (λ p. one_if (ok s p)) q * sum_below (λ (k : ℕ). one_if (are_allowed ok base t k (suc s) ls)) (base ^ count t ls)
 lower_forms ok base t q s ls h upto =
-    sum_same (λ p. sum_below (λ k. one_if (are_allowed ok base t (p * base ^ count t ls + k) s (t ∷ ls))) (base ^ count t ls))
-    (λ p. sum_below (λ (k : ℕ). one_if (are_allowed ok base t k (suc s) ls)) (base ^ count t ls) * one_if (ok s p)) q
-    (λ p lp. sum_same (λ k. one_if (are_allowed ok base t (p * base ^ count t ls + k) s (t ∷ ls)))
-    (λ k. one_if (ok s p) * one_if (are_allowed ok base t k (suc s) ls)) (base ^ count t ls)
+    sum_same _ (λ p. sum_below (λ (k : ℕ). one_if (are_allowed ok base t k (suc s) ls)) (base ^ count t ls) * one_if (ok s p)) q
+    (λ p lp. sum_same _ (λ k. one_if (ok s p) * one_if (are_allowed ok base t k (suc s) ls)) (base ^ count t ls)
     (λ k lk. ap one_if (one_more ok base t p k s ls h (omega (arith, lp, upto)) lk) ∙ one_if-and (ok s p) (are_allowed ok base t k (suc s) ls))
-    ∙ sum_times (one_if (ok s p)) (λ k. one_if (are_allowed ok base t k (suc s) ls)) (base ^ count t ls)
-    ∙ mul_comm (one_if (ok s p)) (sum_below (λ (k : ℕ). one_if (are_allowed ok base t k (suc s) ls)) (base ^ count t ls)))
-    ∙ sum_times (sum_below (λ (k : ℕ). one_if (are_allowed ok base t k (suc s) ls)) (base ^ count t ls)) (λ p. one_if (ok s p)) q
-    ∙ mul_comm (sum_below (λ (k : ℕ). one_if (are_allowed ok base t k (suc s) ls)) (base ^ count t ls)) (sum_below (λ p. one_if (ok s p)) q)
+    ∙ sum_times (one_if (ok s p)) _ (base ^ count t ls) ∙ mul_comm (one_if (ok s p)) _)
+    ∙ sum_times _ (λ p. one_if (ok s p)) q ∙ mul_comm _ (sum_below (λ p. one_if (ok s p)) q)
 
 -- how many of the numbers of forms are allowed
 pub forms_weigh : (ok : ℕ → ℕ → Bool) (base t s : ℕ) (ls : List ℕ) → 0 < base
@@ -85,13 +73,27 @@ forms_weigh ok base t s (l ∷ ls) h =
           (ap (λ (x : ℕ). sum_below (λ (n : ℕ). one_if (are_allowed ok base t n s (t ∷ ls))) x)
           (more_digits base t ls ∙ (let z : base * base ^ count t ls ≡ base * base ^ count t ls + 0 = omega arith in z))
           ∙ sum_blocks (λ (n : ℕ). one_if (are_allowed ok base t n s (t ∷ ls))) (base ^ count t ls) base 0
-          ∙ ap (λ (x : ℕ). x + 0) (lower_forms ok base t base s ls h (omega arith))
-          ∙ (let z : sum_below (λ q. one_if (ok s q)) base * sum_below (λ (r : ℕ). one_if (are_allowed ok base t r (suc s) ls)) (base ^ count t ls) + 0
-          ≡ sum_below (λ q. one_if (ok s q)) base * sum_below (λ (r : ℕ). one_if (are_allowed ok base t r (suc s) ls)) (base ^ count t ls) = omega arith in z)
+          ∙ omega (arith, lower_forms ok base t base s ls h (omega arith))
           ∙ ap (λ (x : ℕ). sum_below (λ q. one_if (ok s q)) base * x) rest
           ∙ sym (weight_same (λ square. sum_below (λ (r : ℕ). one_if (ok square r)) base) t s ls))
-      | inr o ↦ ap (λ (x : ℕ). sum_below (λ (n : ℕ). one_if (are_allowed ok base t n s (l ∷ ls))) (base ^ x)) (count_other t l ls o)
-          ∙ sum_same (λ (n : ℕ). one_if (are_allowed ok base t n s (l ∷ ls))) (λ (n : ℕ). one_if (are_allowed ok base t n (suc s) ls)) (base ^ count t ls)
-          (λ n ln. ap one_if (allowed_other ok base t n s l ls o))
-          ∙ rest ∙ sym (weight_other (λ square. sum_below (λ (r : ℕ). one_if (ok square r)) base) t s l ls o)
+      | inr o ↦ rw (ne_eqb l t o) (grind (arith, rest))
     ]
+
+-- ---- boards by the forms of their chicks
+
+-- what isn't a chick may stand anywhere
+others_stand : (profile : Profile) (square l form : ℕ) → l ≤ order Empty → (l ≡ order Chicks → ⊥) → may_stand profile square (cell_of l form) ≡ true
+others_stand B square (suc (suc zero)) form h n = absurd (n refl)
+others_stand B square (suc (suc (suc zero))) (suc form) h n = refl
+others_stand B square (suc (suc (suc (suc zero)))) (suc form) h n = refl
+others_stand B square (suc (suc (suc (suc (suc (suc l)))))) form h n = absurd (omega arith)
+others_stand profile square l form h n = refl
+
+-- a board is allowed just where its chicks' forms are
+pub board_allowed : (profile : Profile) (numbers : ℕ → ℕ) (square : ℕ) (ls : List ℕ) → AreLayers ls
+    → may_all_stand profile square (board_of numbers ls)
+    ≡ are_allowed (may_have profile) (base_of (order Chicks)) (order Chicks) (numbers (order Chicks)) square ls
+board_allowed profile numbers square [] a = refl
+board_allowed profile numbers square (l ∷ ls) a =
+    let other = others_stand profile square l (numbers l / base_of l ^ count l ls % base_of l) a.0 in
+    grind (arith, nat_tests, board_allowed profile numbers (suc square) ls a.1, other)

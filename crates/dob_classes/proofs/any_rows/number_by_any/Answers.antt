@@ -25,6 +25,4 @@ returns c = λ row.
     c.before_run-runs.result c.classes_in_run-places.result at
     (c.before_run-runs.ensures family block at.in_run.block_below (omega (arith, below)) (c.row_at.ensures family block here))
     c.classes_in_run-places.ensures in
-    let few = whole.few in
-    let sum = whole.sum_is in
-    omega (arith, few, sum)
+    omega (arith, whole.few, whole.sum_is)

@@ -8,6 +8,4 @@ returns c =
     let there = is_there c.args.family c.args.block c.args.run in
     let none = ap (marks_below mark) (c.walk_from-walk.ensures.walk.number_is ∙ ap (marks_below there) c.walk_from-walk.ensures.place ∙ marks_below_none there)
     ∙ marks_below_none mark in
-    let all = ap (marks_below mark) (c.walk_to.ensures.walk.number_is ∙ ap (marks_below there) c.walk_to.ensures.place) in
-    let count = c.walk_to.ensures.count in
-    omega (arith, none, all, count)
+    omega (arith, none, ap (marks_below mark) (c.walk_to.ensures.walk.number_is ∙ ap (marks_below there) c.walk_to.ensures.place), c.walk_to.ensures.count)

@@ -8,9 +8,7 @@ pub loop-run-init : goal.loop-run-init
 loop-run-init c = none_before c.args.family c.args.block
 
 pub classes_in_run-count-requires-clause-run : goal.classes_in_run-count-requires-clause-run
-classes_in_run-count-requires-clause-run c =
-    let all = all_lions c.args.family c.args.block c.requires.block in
-    omega (arith, all, c.requires.lions, c.loop-run-test.true)
+classes_in_run-count-requires-clause-run c = omega (arith, all_lions c.args.family c.args.block c.requires.block, c.requires.lions, c.loop-run-test.true)
 
 pub overflow_add-count : goal.overflow_add-count
 overflow_add-count c =

@@ -21,10 +21,7 @@ opened : (row : List ℕ) (f : ℕ → ℕ) (s before : ℕ) → length row ≡ 
     → s + get_or (slice_set (slice_set row 100 before) 0 0) k e ≡ f k
 opened row f s before len first k e low =
     let same : k ≡ 0 = omega (arith, low) in
-    let long : length (slice_set row 100 before) ≡ length row = length-set row 100 before in
-    ap (λ (v : ℕ). s + v) (ap (λ (j : ℕ). get_or (slice_set (slice_set row 100 before) 0 0) j e) same
-    ∙ get_or-set_same (slice_set row 100 before) 0 0 e (omega (arith, long, len)))
-    ∙ first ∙ ap f (sym same)
+    rw (same, get_or-set_same (slice_set row 100 before) 0 0 e (omega (arith, length-set row 100 before, len))) first
 
 pub loop-run-init : goal.loop-run-init
 loop-run-init c = (
@@ -37,10 +34,7 @@ loop-run-init c = (
 )
 
 pub classes_in_run-count-requires-clause-run : goal.classes_in_run-count-requires-clause-run
-classes_in_run-count-requires-clause-run c =
-    let all = all_lions c.args.family c.args.block c.requires.block in
-    let low = c.loop-run-test.true in
-    omega (arith, all, low)
+classes_in_run-count-requires-clause-run c = omega (arith, all_lions c.args.family c.args.block c.requires.block, c.loop-run-test.true)
 
 more : (c : After-classes_in_run-count) → classes_to_block c.args.family c.args.block + (c.loop-run.count + c.classes_in_run-count.result)
     ≡ classes_to_run c.args.family c.args.block (c.loop-run.run + 1)
@@ -49,11 +43,13 @@ more c = one_run_more c.args.family c.args.block c.loop-run.run c.run_size_in-si
 
 pub overflow_add-count : goal.overflow_add-count
 overflow_add-count c =
-    let sum = more (goal.at.overflow_add-count c).After-classes_in_run-count in
     let all = all_lions c.args.family c.args.block c.requires.block in
     let low = c.loop-run-test.true in
-    let small = marks_small c.args.family c.args.block (c.loop-run.run + 1) c.requires.block (omega (arith, all, low)) in
-    omega (arith, sum, small)
+    omega (
+      arith,
+      more (goal.at.overflow_add-count c).After-classes_in_run-count,
+      marks_small c.args.family c.args.block (c.loop-run.run + 1) c.requires.block (omega (arith, all, low)),
+    )
 
 pub loop-run-preserved : goal.loop-run-preserved
 loop-run-preserved c =

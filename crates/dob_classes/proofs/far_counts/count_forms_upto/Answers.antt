@@ -15,9 +15,7 @@ pub overflow_add-result : goal.overflow_add-result
 overflow_add-result c = (let few = (counted (goal.at.overflow_add-result c).After-count_forms).upto in omega (arith, few, c.requires.last))
 
 pub overflow_add-result-then-may_have_forms : goal.overflow_add-result-then-may_have_forms
-overflow_add-result-then-may_have_forms c =
-    let few = (counted (goal.at.overflow_add-result-then-may_have_forms c).After-count_forms).upto in
-    omega (arith, few, c.requires.last)
+overflow_add-result-then-may_have_forms c = omega (arith, (counted (goal.at.overflow_add-result-then-may_have_forms c).After-count_forms).upto, c.requires.last)
 
 pub returns-then-may_have_forms : goal.returns-then-may_have_forms
 returns-then-may_have_forms c =

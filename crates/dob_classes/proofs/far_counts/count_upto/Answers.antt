@@ -75,9 +75,7 @@ overflow_mul-before-2 c =
 pub overflow_add-before : goal.overflow_add-before
 overflow_add-before c =
     let few = small (goal.at.overflow_add-before c).After-weight_of in
-    let low = few.own in
-    let first = few.before in
-    omega (arith, low, first)
+    omega (arith, few.own, few.before)
 
 pub chick_squares-chosen-requires : goal.chick_squares-chosen-requires
 chick_squares-chosen-requires c =

@@ -24,15 +24,11 @@ told c =
 
 pub overflow_add-result : goal.overflow_add-result
 overflow_add-result c =
-    let less = div-le_self c.args.local c.width_of-width.result in
-    let small = run_size-small c.args.set c.args.block c.requires.block in
-    omega (arith, less, small, c.requires.local)
+    omega (arith, div-le_self c.args.local c.width_of-width.result, run_size-small c.args.set c.args.block c.requires.block, c.requires.local)
 
 pub overflow_mul-result : goal.overflow_mul-result
 overflow_mul-result c =
-    let within = (told (goal.at.overflow_mul-result c).After-width_of-width).within in
-    let small = run_size-small c.args.set c.args.block c.requires.block in
-    omega (arith, within, small)
+    omega (arith, (told (goal.at.overflow_mul-result c).After-width_of-width).within, run_size-small c.args.set c.args.block c.requires.block)
 
 pub returns : goal.returns
 returns c = (let at = told (goal.at.returns c).After-width_of-width in record { some = at.some; within = at.within; marks = at.marks })

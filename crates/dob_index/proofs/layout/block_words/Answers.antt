@@ -4,12 +4,8 @@ use Rattle.dob_index.proofs.Places.{block_few, nine_mixed}
 use Rattle.dob_index.proofs.layout.block_words.Goals as goal
 
 pub returns : goal.returns
-returns c =
-    let nine = nine_mixed c.args.set c.args.block in
-    omega (arith, nine, c.entries_in.ensures)
+returns c = omega (arith, nine_mixed c.args.set c.args.block, c.entries_in.ensures)
 
 pub overflow_mul-result : goal.overflow_mul-result
 overflow_mul-result c =
-    let nine = nine_mixed c.args.set c.args.block in
-    let few = block_few c.args.set c.args.block lion_pairs c.requires (omega arith) in
-    omega (arith, nine, c.entries_in.ensures, few)
+    omega (arith, nine_mixed c.args.set c.args.block, c.entries_in.ensures, block_few c.args.set c.args.block lion_pairs c.requires (omega arith))

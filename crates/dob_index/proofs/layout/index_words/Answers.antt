@@ -7,14 +7,16 @@ pub overflow_add-count : goal.overflow_add-count
 overflow_add-count c =
     let low = c.loop-block-test.true in
     let blocks = c.count_blocks-blocks.ensures in
-    let upto = run_within c.args.set c.loop-block.block 99 (omega (arith, low, blocks)) (omega arith) in
-    let few = words_few c.args.set in
-    omega (arith, upto, few, c.loop-block.invariant, c.block_words-count.ensures)
+    omega (
+      arith,
+      run_within c.args.set c.loop-block.block 99 (omega (arith, low, blocks)) (omega arith),
+      words_few c.args.set,
+      c.loop-block.invariant,
+      c.block_words-count.ensures,
+    )
 
 pub loop-block-preserved : goal.loop-block-preserved
-loop-block-preserved c =
-    let next = block_more c.args.set c.loop-block.block in
-    omega (arith, next, c.loop-block.invariant, c.block_words-count.ensures)
+loop-block-preserved c = omega (arith, block_more c.args.set c.loop-block.block, c.loop-block.invariant, c.block_words-count.ensures)
 
 pub row_at-count-requires : goal.row_at-count-requires
 row_at-count-requires c = (let few = blocks_small c.args.set in let is = c.count_blocks-blocks.ensures in omega (arith, few, is))

@@ -6,9 +6,7 @@ use Rattle.dob_index.proofs.look_up.before_in_entry.Goals as goal
 use Rattle.dob_index.proofs.look_up.before_in_entry.Goals.{After-walk_to}
 
 both_few : (c : After-walk_to) → c.word-before.result + c.walk_to.result ≤ 2 ^ 54
-both_few c =
-    let few = walked_few c.args.run c.walk_to.new.walk c.walk_to.ensures.walk in
-    omega (arith, few, c.walk_to.ensures.count, c.word-before.ensures.bound)
+both_few c = omega (arith, walked_few c.args.run c.walk_to.new.walk c.walk_to.ensures.walk, c.walk_to.ensures.count, c.word-before.ensures.bound)
 
 pub overflow_add-result : goal.overflow_add-result
 overflow_add-result c = (let few = both_few (goal.at.overflow_add-result c).After-walk_to in omega (arith, few))

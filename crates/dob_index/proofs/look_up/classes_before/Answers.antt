@@ -10,10 +10,7 @@ at c =
     c.spot_of-block.ensures.block c.spot_of-block.ensures.run c.spot_of-block.ensures.local
 
 pub row_of-requires : goal.row_of-requires
-row_of-requires c =
-    let below = (at (goal.at.row_of-requires c).After-spot_of-block).in_run.block_below in
-    let few = blocks_small c.args.family.set in
-    omega (arith, below, few)
+row_of-requires c = omega (arith, (at (goal.at.row_of-requires c).After-spot_of-block).in_run.block_below, blocks_small c.args.family.set)
 
 pub before_place-places-requires : goal.before_place-places-requires
 before_place-places-requires c =
@@ -30,6 +27,4 @@ returns c = λ is.
     c.before_run-runs.result c.before_place-places.result there
     (c.before_run-runs.ensures family block there.in_run.block_below (omega (arith, below)) (c.row_of.ensures family there.in_run.block_below is))
     (c.before_place-places.ensures.right is) in
-    let few = whole.few in
-    let sum = whole.sum_is in
-    omega (arith, few, sum)
+    omega (arith, whole.few, whole.sum_is)

@@ -3,8 +3,8 @@ use Rattle.dob_index.proofs.Common.{◌+◌, ◌∙◌, ◌≡◌, ◌≤◌, ap
 use Rattle.dob_index.proofs.Common.{none_before, one_run_more, classes_to_block, classes_to_run, marks_small, row_at, where_mixed}
 use Rattle.dob_index.proofs.Places.{run_more, run_fits, behind_rows, words_few}
 use Rattle.dob_index.proofs.Kept.{AreAllRuns, row_opened, one_run, runs_stay, all_runs, outside, both_sides}
-use Rattle.dob_index.proofs.write.write_block.Goals as goal
 use Rattle.dob_index.proofs.write.write_block.Goals.{After-count_runs, After-write_run-count}
+use Rattle.dob_index.proofs.write.write_block.Goals as goal
 
 pub loop-lions-init : goal.loop-lions-init
 loop-lions-init c =
@@ -37,17 +37,21 @@ counted c =
 
 pub overflow_add-count : goal.overflow_add-count
 overflow_add-count c =
-    let sum = counted (goal.at.overflow_add-count c).After-write_run-count in
     let all = all_lions c.args.family c.args.block c.requires.block in
-    let few = marks_small c.args.family c.args.block (c.loop-lions.lions + 1) c.requires.block (omega (arith, all, c.loop-lions-test.true)) in
-    omega (arith, sum, few)
+    omega (
+      arith,
+      counted (goal.at.overflow_add-count c).After-write_run-count,
+      marks_small c.args.family c.args.block (c.loop-lions.lions + 1) c.requires.block (omega (arith, all, c.loop-lions-test.true)),
+    )
 
 pub overflow_add-at : goal.overflow_add-at
 overflow_add-at c =
-    let words = c.run_words-at.ensures ∙ ap (where_mixed (run_kind c.loop-lions.lions)) c.entries_in-entries.ensures in
-    let fits = run_fits c.args.family.set c.args.block c.loop-lions.lions c.loop-lions.at c.requires.block c.loop-lions-test.true c.loop-lions.invariant.at in
-    let few = words_few c.args.family.set in
-    omega (arith, words, fits, few)
+    omega (
+      arith,
+      c.run_words-at.ensures ∙ ap (where_mixed (run_kind c.loop-lions.lions)) c.entries_in-entries.ensures,
+      run_fits c.args.family.set c.args.block c.loop-lions.lions c.loop-lions.at c.requires.block c.loop-lions-test.true c.loop-lions.invariant.at,
+      words_few c.args.family.set,
+    )
 
 pub loop-lions-preserved : goal.loop-lions-preserved
 loop-lions-preserved c =

@@ -19,8 +19,7 @@ loop-entry-init c =
 
 pub overflow_add-count : goal.overflow_add-count
 overflow_add-count c =
-    let few = walked_few c.args.run c.walk_to-count.new.walk c.walk_to-count.ensures.walk in
-    omega (arith, few, c.loop-entry.invariant.count, c.walk_to-count.ensures.count)
+    omega (arith, walked_few c.args.run c.walk_to-count.new.walk c.walk_to-count.ensures.walk, c.loop-entry.invariant.count, c.walk_to-count.ensures.count)
 
 pub loop-entry-preserved : goal.loop-entry-preserved
 loop-entry-preserved c =
@@ -45,9 +44,7 @@ loop-entry-preserved c =
     }
 
 pub overflow_add-result : goal.overflow_add-result
-overflow_add-result c =
-    let few = walked_few c.args.run c.walk_to.new.walk c.walk_to.ensures.walk in
-    omega (arith, few, c.loop-entry.invariant.count, c.walk_to.ensures.count)
+overflow_add-result c = omega (arith, walked_few c.args.run c.walk_to.new.walk c.walk_to.ensures.walk, c.loop-entry.invariant.count, c.walk_to.ensures.count)
 
 pub returns-clause-count : goal.returns-clause-count
 returns-clause-count c =

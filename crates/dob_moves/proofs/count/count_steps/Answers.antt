@@ -9,8 +9,7 @@ loop-left-init c = λ setup are. count_start setup c.args.masks.now.own are.own_
 pub overflow_add-count : goal.overflow_add-count
 overflow_add-count c =
     let now = c.loop-left.invariant c.requires.0 c.requires.1 in
-    let few = now.few in let bound = now.walk.bound in let more = c.count_steps_from-count.ensures.few in
-    record { fits = omega (arith, few, bound, more) }
+    record { fits = omega (arith, now.few, now.walk.bound, c.count_steps_from-count.ensures.few) }
 
 pub loop-left-smaller : goal.loop-left-smaller
 loop-left-smaller c =

@@ -1,7 +1,6 @@
 -- The parts of the spot are below the products of their bases, and their digits are those of the spot.
 use Rattle.dob_rank.proofs.Common.{◌<◌, ◌∙◌, ap, arith, refl, subst, sym, ℕ, digits_of, product, form_bases, square_bases, ◌%◌, ◌/◌, ◌≡◌}
-use Rattle.dob_rank.proofs.InRuns.DigitParts.{parts_are, below_same, digits_same, quotient_is, rest_is, AreFewOnBoard-digits, AreParts}
-use Rattle.dob_rank.proofs.InRuns.KeptDigits.{digits_joined}
+use Rattle.dob_rank.proofs.InRuns.DigitParts.{parts_are, below_same, digits_same, quotient_is, rest_is, AreFewOnBoard-digits, AreParts, digits_joined}
 use Rattle.dob_rank.proofs.block.digits_with.Goals as goal
 use Rattle.dob_rank.proofs.block.digits_with.Goals.{After-form_bits, After-split_by_power-square}
 

@@ -4,8 +4,7 @@ use Rattle.dob_rank.proofs.block.place_of.Goals as goal
 
 pub overflow_mul-result : goal.overflow_mul-result
 overflow_mul-result c =
-    let small = mul-le c.args.spot.run c.size_of_runs.result (2 ^ 12) (2 ^ 25) (omega (arith, c.requires.run)) c.size_of_runs.ensures.bound in
-    omega (arith, small)
+    omega (arith, mul-le c.args.spot.run c.size_of_runs.result (2 ^ 12) (2 ^ 25) (omega (arith, c.requires.run)) c.size_of_runs.ensures.bound)
 
 pub overflow_add-result : goal.overflow_add-result
 overflow_add-result c =

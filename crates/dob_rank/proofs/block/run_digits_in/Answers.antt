@@ -1,13 +1,13 @@
 -- The hands' digits are small, and so are the lions'.
 use Rattle.std.proofs.Common.{arith}
-use Rattle.dob_rank.proofs.InRuns.DigitParts.{bases_found}
-use Rattle.dob_rank.proofs.InRuns.KeptDigits.{AreRunParts, hands_below, run_parts}
+use Rattle.dob_rank.proofs.InRuns.DigitParts.{bases_found, AreRunParts, hands_below, run_parts}
 use Rattle.dob_rank.proofs.block.run_digits_in.Goals as goal
 use Rattle.dob_rank.proofs.block.run_digits_in.Goals.{After-three_digits-hands}
 
 pub three_digits-hands-requires : goal.three_digits-hands-requires
 three_digits-hands-requires c =
-    hands_below c.args.set c.args.on_board.now c.bases_in-bases.result c.args.run (bases_found c.args.set c.args.on_board.now _ c.bases_in-bases.ensures) c.requires.run
+    hands_below c.args.set c.args.on_board.now c.bases_in-bases.result c.args.run (bases_found c.args.set c.args.on_board.now _ c.bases_in-bases.ensures)
+    c.requires.run
 
 parts : (c : After-three_digits-hands) → AreRunParts c.args.set c.args.on_board.now c.args.run c.three_digits-hands.result
 parts c = run_parts c.args.set c.args.on_board.now c.bases_in-bases.result c.three_digits-hands.result c.args.run

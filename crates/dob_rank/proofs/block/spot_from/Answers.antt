@@ -21,34 +21,26 @@ local_in c =
     local_found c.args.set c.args.on_board.now c.args.digits.now _ _ (bases_found c.args.set c.args.on_board.now _ c.bases_in-bases.ensures)
     (spot_digits c.args.set c.args.on_board.now c.args.digits.now c.told-digits c.requires.on_board c.requires.digits) c.number_of-squares.ensures
 
-pub number_of-hands-requires-clause-below : goal.number_of-hands-requires-clause-below
-number_of-hands-requires-clause-below c =
-    let are = digits_in (goal.at.number_of-hands-requires-clause-below c).After-bases_in-bases in
-    digits_below _ _ (get_or c.args.digits.now 0 0 ∷ get_or c.args.digits.now 1 0 ∷ get_or c.args.digits.now 2 0 ∷ [])
-    (bases_in (goal.at.number_of-hands-requires-clause-below c).After-bases_in-bases).hands_are are.hands_have
+pub number_of-hands-requires : goal.number_of-hands-requires
+number_of-hands-requires c =
+    let at = (goal.at.number_of-hands-requires c).After-bases_in-bases in
+    record {
+      below = digits_below _ _ (get_or c.args.digits.now 0 0 ∷ get_or c.args.digits.now 1 0 ∷ get_or c.args.digits.now 2 0 ∷ []) (bases_in at).hands_are
+          (digits_in at).hands_have;
+      fits = omega (arith, ap product (bases_in at).hands_are, (digits_in at).hands_small);
+    }
 
-pub number_of-hands-requires-clause-fits : goal.number_of-hands-requires-clause-fits
-number_of-hands-requires-clause-fits c =
-    let are = digits_in (goal.at.number_of-hands-requires-clause-fits c).After-bases_in-bases in
-    let same = ap product (bases_in (goal.at.number_of-hands-requires-clause-fits c).After-bases_in-bases).hands_are in
-    omega (arith, same, are.hands_small)
-
-pub number_of-squares-requires-clause-below : goal.number_of-squares-requires-clause-below
-number_of-squares-requires-clause-below c =
-    let are = digits_in (goal.at.number_of-squares-requires-clause-below c).After-bases_in-bases in
-    digits_below _ _ (get_or c.args.digits.now 5 0 ∷ get_or c.args.digits.now 6 0 ∷ get_or c.args.digits.now 7 0 ∷ [])
-    (bases_in (goal.at.number_of-squares-requires-clause-below c).After-bases_in-bases).squares_are are.squares_have
-
-pub number_of-squares-requires-clause-fits : goal.number_of-squares-requires-clause-fits
-number_of-squares-requires-clause-fits c =
-    let are = digits_in (goal.at.number_of-squares-requires-clause-fits c).After-bases_in-bases in
-    let same = ap product (bases_in (goal.at.number_of-squares-requires-clause-fits c).After-bases_in-bases).squares_are in
-    omega (arith, same, are.squares_small)
+pub number_of-squares-requires : goal.number_of-squares-requires
+number_of-squares-requires c =
+    let at = (goal.at.number_of-squares-requires c).After-bases_in-bases in
+    record {
+      below = digits_below _ _ (get_or c.args.digits.now 5 0 ∷ get_or c.args.digits.now 6 0 ∷ get_or c.args.digits.now 7 0 ∷ []) (bases_in at).squares_are
+          (digits_in at).squares_have;
+      fits = omega (arith, ap product (bases_in at).squares_are, (digits_in at).squares_small);
+    }
 
 pub overflow_mul-lions : goal.overflow_mul-lions
-overflow_mul-lions c =
-    let are = digits_in (goal.at.overflow_mul-lions c).After-bases_in-bases in
-    omega (arith, are.own_low)
+overflow_mul-lions c = omega (arith, (digits_in (goal.at.overflow_mul-lions c).After-bases_in-bases).own_low)
 
 pub overflow_add-lions : goal.overflow_add-lions
 overflow_add-lions c =
@@ -59,17 +51,15 @@ pub form_number-forms-requires-clause-few : goal.form_number-forms-requires-clau
 form_number-forms-requires-clause-few c = AreFewOnBoard-digits c.args.set c.args.on_board.now c.requires.on_board
 
 pub form_number-forms-requires-clause-forms : goal.form_number-forms-requires-clause-forms
-form_number-forms-requires-clause-forms c =
-    (digits_in (goal.at.form_number-forms-requires-clause-forms c).After-bases_in-bases).forms_have
+form_number-forms-requires-clause-forms c = (digits_in (goal.at.form_number-forms-requires-clause-forms c).After-bases_in-bases).forms_have
 
 pub form_bits-requires : goal.form_bits-requires
 form_bits-requires c = AreFewOnBoard-digits c.args.set c.args.on_board.now c.requires.on_board
 
 pub overflow_mul-run : goal.overflow_mul-run
 overflow_mul-run c =
-    let are = digits_in (goal.at.overflow_mul-run c).After-bases_in-bases in
-    let run = run_in (goal.at.overflow_mul-run c).After-number_of-hands in
-    omega (arith, run.hands_low, are.hands_small)
+    let at = goal.at.overflow_mul-run c in
+    omega (arith, (run_in at.After-number_of-hands).hands_low, (digits_in at.After-bases_in-bases).hands_small)
 
 pub overflow_add-run : goal.overflow_add-run
 overflow_add-run c =
@@ -88,8 +78,7 @@ join_by_power-local-requires c =
     }
 
 pub returns-clause-run : goal.returns-clause-run
-returns-clause-run c =
-    (run_in (goal.at.returns-clause-run c).After-number_of-hands).run_is
+returns-clause-run c = (run_in (goal.at.returns-clause-run c).After-number_of-hands).run_is
 
 pub returns-clause-local : goal.returns-clause-local
 returns-clause-local c =

@@ -21,7 +21,8 @@ small : (c : After-power-3) → AreSmall c.parts_at-parts.result.choice c.parts_
 small c =
     let of_squares = others_squares_are c.args.on_board.now [] c.choices_in-choices.result c.requires.few c.choices_in-choices.ensures in
     let of_forms = others_forms_are c.args.on_board.now [] c.power.result c.power-2.result c.requires.few c.power.ensures c.power-2.ensures in
-    small_parts _ c.args.lions _ _ _ _ _ (c.power.result * c.power-2.result) c.args.number c.power-3.result c.power-3.ensures c.requires.few.chicks c.parts_at-parts.ensures
+    small_parts _ c.args.lions _ _ _ _ _ (c.power.result * c.power-2.result) c.args.number c.power-3.result c.power-3.ensures c.requires.few.chicks
+    c.parts_at-parts.ensures
     (subst (λ n. n ≤ 2025) (sym of_squares.count_is) of_squares.count_few)
     (subst (λ n. 0 < n) (sym of_forms.count_is) (others_forms-some c.args.on_board.now)) (subst (λ n. n ≤ 16) (sym of_forms.count_is) of_forms.count_few)
 
@@ -38,13 +39,12 @@ parts_at-parts-requires-clause-others c =
 pub parts_at-parts-requires-clause-number : goal.parts_at-parts-requires-clause-number
 parts_at-parts-requires-clause-number c =
     let at = goal.at.parts_at-parts-requires-clause-number c in
-    forms_out_of c.args.number (forms_in B (slice_index c.args.on_board.now 0) c.args.lions) (others_squares c.args.on_board.now) (others_forms c.args.on_board.now) _ _
+    forms_out_of c.args.number (forms_in B (slice_index c.args.on_board.now 0) c.args.lions) (others_squares c.args.on_board.now)
+    (others_forms c.args.on_board.now) _ _
     (squares_in at.After-choices_in-choices).count_is (forms_in_all at.After-power-2).count_is (some_forms at.After-power-2) c.requires.number
 
 pub overflow_mul-all_forms : goal.overflow_mul-all_forms
-overflow_mul-all_forms c =
-    let low = (small (goal.at.overflow_mul-all_forms c).After-power-3).all_forms in
-    omega (arith, low)
+overflow_mul-all_forms c = omega (arith, (small (goal.at.overflow_mul-all_forms c).After-power-3).all_forms)
 
 pub overflow_mul-result : goal.overflow_mul-result
 overflow_mul-result c = let low = (small (goal.at.overflow_mul-result c).After-power-3).choices in omega (arith, low)
@@ -53,9 +53,7 @@ pub overflow_add-result : goal.overflow_add-result
 overflow_add-result c = let low = (small (goal.at.overflow_add-result c).After-power-3).choices in omega (arith, low)
 
 pub overflow_mul-result-2 : goal.overflow_mul-result-2
-overflow_mul-result-2 c =
-    let low = (small (goal.at.overflow_mul-result-2 c).After-power-3).square in
-    omega (arith, low)
+overflow_mul-result-2 c = omega (arith, (small (goal.at.overflow_mul-result-2 c).After-power-3).square)
 
 pub overflow_mul-result-3 : goal.overflow_mul-result-3
 overflow_mul-result-3 c = let low = (small (goal.at.overflow_mul-result-3 c).After-power-3).form in omega (arith, low)

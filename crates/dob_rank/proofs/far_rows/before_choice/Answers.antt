@@ -13,9 +13,7 @@ pub bounds-shape : goal.bounds-shape
 bounds-shape c = shape_few c.args.lions c.requires.lions
 
 pub bounds-choice : goal.bounds-choice
-bounds-choice c =
-    let few = choose_ten c.args.chicks c.requires.chicks in
-    omega (arith, few, c.requires.choice)
+bounds-choice c = omega (arith, choose_ten c.args.chicks c.requires.chicks, c.requires.choice)
 
 pub offset_bounds-chicks-choice : goal.offset_bounds-chicks-choice
 offset_bounds-chicks-choice c =

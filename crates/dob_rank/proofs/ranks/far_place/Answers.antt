@@ -6,54 +6,43 @@ use Rattle.dob_rank.proofs.ProfileB.FarPlaces.{far_parts, far_place_is, chicks_o
 use Rattle.dob_rank.proofs.ProfileB.PlaceParts.{place_in_block}
 use Rattle.dob_rank.proofs.ranks.far_place.Goals as goal
 
-pub spot_from-run-requires-clause-on_board : goal.spot_from-run-requires-clause-on_board
-spot_from-run-requires-clause-on_board c = HasDigits-board c.args.set c.args.position.now.setup _ c.requires.position c.requires.on_board
+pub spot_from-run-requires : goal.spot_from-run-requires
+spot_from-run-requires c = record {
+  on_board = HasDigits-board c.args.set c.args.position.now.setup _ c.requires.position c.requires.on_board;
+  digits = HasDigits-place c.args.set c.args.position.now.setup _ _ _ c.requires.position c.requires.on_board refl c.digits_of-digits.ensures;
+}
 
-pub spot_from-run-requires-clause-digits : goal.spot_from-run-requires-clause-digits
-spot_from-run-requires-clause-digits c =
-    HasDigits-place c.args.set c.args.position.now.setup _ _ _ c.requires.position c.requires.on_board refl c.digits_of-digits.ensures
+pub allowed_forms-forms-requires : goal.allowed_forms-forms-requires
+allowed_forms-forms-requires c = record {
+  few = (AreFewOnBoard-digits c.args.set _ (HasDigits-board c.args.set c.args.position.now.setup _ c.requires.position c.requires.on_board)).chicks;
+  mask = c.requires.masks.chicks;
+  pieces = chicks_on_board c.args.position.now.setup _ c.requires.on_board;
+}
 
-pub allowed_forms-forms-requires-clause-few : goal.allowed_forms-forms-requires-clause-few
-allowed_forms-forms-requires-clause-few c =
-    (AreFewOnBoard-digits c.args.set _ (HasDigits-board c.args.set c.args.position.now.setup _ c.requires.position c.requires.on_board)).chicks
+pub chosen_before-chosen-requires : goal.chosen_before-chosen-requires
+chosen_before-chosen-requires c =
+    let parts = far_parts c.args.set c.args.position.now.setup _ _ _ c.requires.position c.requires.on_board c.digits_of-digits.ensures
+    c.spot_from-run.ensures.run in
+    record {
+      chicks = (AreFewOnBoard-digits c.args.set _ (HasDigits-board c.args.set c.args.position.now.setup _ c.requires.position c.requires.on_board)).chicks;
+      hands = omega (arith, parts.run_few);
+      lions = omega arith;
+      choice = parts.choice_below;
+    }
 
-pub allowed_forms-forms-requires-clause-mask : goal.allowed_forms-forms-requires-clause-mask
-allowed_forms-forms-requires-clause-mask c = c.requires.masks.chicks
-
-pub allowed_forms-forms-requires-clause-pieces : goal.allowed_forms-forms-requires-clause-pieces
-allowed_forms-forms-requires-clause-pieces c = chicks_on_board c.args.position.now.setup _ c.requires.on_board
-
-pub place_behind-requires-clause-few : goal.place_behind-requires-clause-few
-place_behind-requires-clause-few c =
-    AreFewOnBoard-digits c.args.set _ (HasDigits-board c.args.set c.args.position.now.setup _ c.requires.position c.requires.on_board)
-
-pub chosen_before-chosen-requires-clause-chicks : goal.chosen_before-chosen-requires-clause-chicks
-chosen_before-chosen-requires-clause-chicks c =
-    (AreFewOnBoard-digits c.args.set _ (HasDigits-board c.args.set c.args.position.now.setup _ c.requires.position c.requires.on_board)).chicks
-
-pub chosen_before-chosen-requires-clause-hands : goal.chosen_before-chosen-requires-clause-hands
-chosen_before-chosen-requires-clause-hands c =
-    let few = (far_parts c.args.set c.args.position.now.setup _ _ _ c.requires.position c.requires.on_board c.digits_of-digits.ensures c.spot_from-run.ensures.run).run_few in
-    omega (arith, few)
-
-pub chosen_before-chosen-requires-clause-choice : goal.chosen_before-chosen-requires-clause-choice
-chosen_before-chosen-requires-clause-choice c =
-    (far_parts c.args.set c.args.position.now.setup _ _ _ c.requires.position c.requires.on_board c.digits_of-digits.ensures c.spot_from-run.ensures.run).choice_below
-
-pub place_behind-requires-clause-choice : goal.place_behind-requires-clause-choice
-place_behind-requires-clause-choice c =
-    (far_parts c.args.set c.args.position.now.setup _ _ _ c.requires.position c.requires.on_board c.digits_of-digits.ensures c.spot_from-run.ensures.run).choice_below
-
-pub place_behind-requires-clause-squares : goal.place_behind-requires-clause-squares
-place_behind-requires-clause-squares c =
-    (far_parts c.args.set c.args.position.now.setup _ _ _ c.requires.position c.requires.on_board c.digits_of-digits.ensures c.spot_from-run.ensures.run).squares_below
-
-pub place_behind-requires-clause-others : goal.place_behind-requires-clause-others
-place_behind-requires-clause-others c =
-    (far_parts c.args.set c.args.position.now.setup _ _ _ c.requires.position c.requires.on_board c.digits_of-digits.ensures c.spot_from-run.ensures.run).others_below
-
-pub place_behind-requires-clause-forms : goal.place_behind-requires-clause-forms
-place_behind-requires-clause-forms c = c.allowed_forms-forms.ensures.bound
+pub place_behind-requires : goal.place_behind-requires
+place_behind-requires c =
+    let parts = far_parts c.args.set c.args.position.now.setup _ _ _ c.requires.position c.requires.on_board c.digits_of-digits.ensures
+    c.spot_from-run.ensures.run in
+    record {
+      few = AreFewOnBoard-digits c.args.set _ (HasDigits-board c.args.set c.args.position.now.setup _ c.requires.position c.requires.on_board);
+      lions = omega arith;
+      choice = parts.choice_below;
+      squares = parts.squares_below;
+      others = parts.others_below;
+      chosen = c.chosen_before-chosen.ensures.bound;
+      forms = c.allowed_forms-forms.ensures.bound;
+    }
 
 pub returns : goal.returns
 returns c =

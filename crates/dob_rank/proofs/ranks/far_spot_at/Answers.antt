@@ -48,16 +48,13 @@ overflow_mul-others c =
     omega (arith, few)
 
 pub nonzero_div-chosen : goal.nonzero_div-chosen
-nonzero_div-chosen c =
-    some_others (goal.at.nonzero_div-chosen c).After-power-2
+nonzero_div-chosen c = some_others (goal.at.nonzero_div-chosen c).After-power-2
 
 pub nonzero_div-hands : goal.nonzero_div-hands
-nonzero_div-hands c =
-    some_in_hand (goal.at.nonzero_div-hands c).After-hand_size-in_hand
+nonzero_div-hands c = some_in_hand (goal.at.nonzero_div-hands c).After-hand_size-in_hand
 
 pub nonzero_rem-chosen : goal.nonzero_rem-chosen
-nonzero_rem-chosen c =
-    some_in_hand (goal.at.nonzero_rem-chosen c).After-hand_size-in_hand
+nonzero_rem-chosen c = some_in_hand (goal.at.nonzero_rem-chosen c).After-hand_size-in_hand
 
 pub lions_at-lions-requires-clause-number : goal.lions_at-lions-requires-clause-number
 lions_at-lions-requires-clause-number c =

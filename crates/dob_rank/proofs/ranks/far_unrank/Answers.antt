@@ -20,8 +20,7 @@ far_spot_at-spot-requires-clause-small c =
     number_small c.args.set _ c.find_block-block.result.1 c.args.rank c.find_block-block.ensures.number c.requires
 
 pub position_by-requires-clause-on_board : goal.position_by-requires-clause-on_board
-position_by-requires-clause-on_board c =
-    HasDigits-numbers c.args.set _ _ c.find_block-block.ensures.block c.numbers_in-on_board.ensures
+position_by-requires-clause-on_board c = HasDigits-numbers c.args.set _ _ c.find_block-block.ensures.block c.numbers_in-on_board.ensures
 
 spot : (c : After-far_spot_at-spot) → IsPresentIn (family_of c.args.set B) c.find_block-block.result.0 c.find_block-block.result.1
     c.far_spot_at-spot.result.run c.far_spot_at-spot.result.local

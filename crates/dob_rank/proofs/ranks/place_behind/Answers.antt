@@ -16,7 +16,8 @@ weighed c =
     few_squares _ _ _ c.weight_of.result is.number_is c.requires.squares is.count_few c.weight_of.ensures.bound
 
 forms_in : (c : After-power) → AreOthersForms c.args.on_board.now c.args.digits.now c.power.result c.power-giraffes.result
-forms_in c = others_forms_are c.args.on_board.now c.args.digits.now c.power.result c.power-giraffes.result c.requires.few c.power.ensures c.power-giraffes.ensures
+forms_in c =
+    others_forms_are c.args.on_board.now c.args.digits.now c.power.result c.power-giraffes.result c.requires.few c.power.ensures c.power-giraffes.ensures
 
 number_few : (c : After-choices_in-choices) → get_or c.args.digits.now 6 0 * get_or c.choices_in-choices.result 2 0 + get_or c.args.digits.now 7 0 ≤ 2025
 number_few c = omega (arith, (squares_in c).number_is, (squares_in c).count_few, c.requires.squares)
@@ -37,22 +38,16 @@ pub overflow_mul-choices : goal.overflow_mul-choices
 overflow_mul-choices c = omega (arith, count_few (goal.at.overflow_mul-choices c).After-choices_in-choices)
 
 pub overflow_mul-squares-2 : goal.overflow_mul-squares-2
-overflow_mul-squares-2 c =
-    let few = weighed (goal.at.overflow_mul-squares-2 c).After-weight_of in
-    omega (arith, few)
+overflow_mul-squares-2 c = omega (arith, weighed (goal.at.overflow_mul-squares-2 c).After-weight_of)
 
 pub overflow_add-squares-2 : goal.overflow_add-squares-2
-overflow_add-squares-2 c =
-    let few = weighed (goal.at.overflow_add-squares-2 c).After-weight_of in
-    omega (arith, few, c.requires.forms)
+overflow_add-squares-2 c = omega (arith, weighed (goal.at.overflow_add-squares-2 c).After-weight_of, c.requires.forms)
 
 pub add_product-placed-requires-clause-b : goal.add_product-placed-requires-clause-b
 add_product-placed-requires-clause-b c = omega (arith, count_few (goal.at.add_product-placed-requires-clause-b c).After-choices_in-choices)
 
 pub add_product-placed-requires-clause-c : goal.add_product-placed-requires-clause-c
-add_product-placed-requires-clause-c c =
-    let few = weighed (goal.at.add_product-placed-requires-clause-c c).After-weight_of in
-    omega (arith, few, c.requires.forms)
+add_product-placed-requires-clause-c c = omega (arith, weighed (goal.at.add_product-placed-requires-clause-c c).After-weight_of, c.requires.forms)
 
 pub overflow_mul-digits : goal.overflow_mul-digits
 overflow_mul-digits c = omega (arith, digits_few (goal.at.overflow_mul-digits c).After-power)

@@ -1,6 +1,6 @@
 -- With a lesser distance at an entry, the run counts one win less in the one and one more in the other.
-use Rattle.std.proofs.Common.{◌<◌, length, arith}
-use Rattle.dob_share.proofs.Tallies.{wins_better}
+use Rattle.std.proofs.Common.{◌<◌, arith, length}
+use Rattle.dob_share.proofs.Keeping.{wins_better}
 use Rattle.dob_share.proofs.cells.count_better.Goals as goal
 
 pub returns-clause-wins : goal.returns-clause-wins

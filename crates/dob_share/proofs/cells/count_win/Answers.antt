@@ -1,5 +1,5 @@
 -- With one entry more in use, the run counts one win more in its distance.
-use Rattle.dob_share.proofs.Tallies.{wins_more}
+use Rattle.dob_share.proofs.Keeping.{wins_more}
 use Rattle.dob_share.proofs.cells.count_win.Goals as goal
 
 pub returns-clause-wins : goal.returns-clause-wins

@@ -1,6 +1,6 @@
 -- At the run's end, the greatest distance so far is the greatest that the whole run counts.
-use Rattle.dob_share.proofs.Common.{◌≡◌, arith, subst, ℕ, IsGreatestIn, moves_at, tally}
-use Rattle.dob_share.proofs.Tallies.{greatest_in}
+use Rattle.dob_share.proofs.Common.{◌≡◌, IsGreatestIn, arith, moves_at, subst, tally, ℕ}
+use Rattle.dob_share.proofs.Keeping.{greatest_in}
 use Rattle.dob_share.proofs.cells.greatest_win.Goals as goal
 
 pub returns : goal.returns

@@ -1,6 +1,6 @@
 -- The bits before a place are those of a remainder.
-use Rattle.dob_share.proofs.Common.{◌-◌, ◌∙◌, ap, bit_and, ℕ, and_mask, one_shl, ones}
-use Rattle.dob_share.proofs.Bits.{ones_below}
+use Rattle.dob_share.proofs.Common.{◌-◌, ◌∙◌, and_mask, ap, bit_and, one_shl, ones, ℕ}
+use Rattle.dob_share.proofs.Words.{ones_below}
 use Rattle.dob_share.proofs.statuses.ones_before.Goals as goal
 
 pub returns : goal.returns

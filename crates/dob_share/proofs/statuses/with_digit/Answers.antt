@@ -1,6 +1,6 @@
 -- The digit is written above the others.
-use Rattle.dob_share.proofs.Common.{◌+◌, ◌<◌, ◌^◌, ◌∙◌, ap, subst, sym, ℕ, bit}
-use Rattle.dob_share.proofs.Bits.{digit_is, digit_there, digit_before, digit_low}
+use Rattle.dob_share.proofs.Common.{◌+◌, ◌<◌, ◌^◌, ◌∙◌, ap, bit, subst, sym, ℕ}
+use Rattle.dob_share.proofs.Words.{digit_is, digit_there, digit_before, digit_low}
 use Rattle.dob_share.proofs.statuses.with_digit.Goals as goal
 
 pub returns-clause-here : goal.returns-clause-here

@@ -1,5 +1,5 @@
 -- The words so far, and one more.
-use Rattle.dob_share.proofs.Common.{◌%◌, ◌+◌, ◌∙◌, ap, arith, length, subst, ℕ, length_push, IsStatusOf, status_listed, word_of}
+use Rattle.dob_share.proofs.Common.{◌%◌, ◌+◌, ◌∙◌, IsStatusOf, ap, arith, length, length_push, status_listed, subst, word_of, ℕ}
 use Rattle.dob_share.proofs.Words.{words_more, listed_status}
 use Rattle.dob_share.proofs.statuses.words_of.Goals as goal
 

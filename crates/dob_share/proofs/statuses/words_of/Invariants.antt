@@ -1,5 +1,5 @@
 -- The words so far are those of the places before.
-use Rattle.dob_share.proofs.Common.{◌%◌, ◌*◌, ◌<◌, ◌≡◌, ◌≤◌, length, ℕ, AreCounted, IsStatusOf, opens_below, status_listed, word_of}
+use Rattle.dob_share.proofs.Common.{◌%◌, ◌*◌, ◌<◌, ◌≡◌, ◌≤◌, AreCounted, IsStatusOf, length, opens_below, status_listed, word_of, ℕ}
 use Rattle.dob_share.proofs.statuses.words_of.Given as goal
 
 abbrev pub invariant-loop-number : goal.invariant-loop-number

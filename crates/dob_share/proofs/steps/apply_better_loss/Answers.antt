@@ -1,9 +1,8 @@
 -- Better news of a loss of the enemy.
-use Rattle.std.proofs.Common.{refl, arith}
-use Rattle.dob_share.proofs.Applied.{is_read}
-use Rattle.dob_share.proofs.Rows.{few_plies, loss_not_known, better_loss_applied}
-use Rattle.dob_share.proofs.steps.apply_better_loss.Goals as goal
+use Rattle.std.proofs.Common.{arith, refl}
+use Rattle.dob_share.proofs.Applied.{is_read, few_plies, loss_not_known, better_loss_applied}
 use Rattle.dob_share.proofs.steps.apply_better_loss.Goals.{then-slot-eq0-via-then-slot-eq0, then-slot-eq0-via-else-slot-eq0+then-slot-was}
+use Rattle.dob_share.proofs.steps.apply_better_loss.Goals as goal
 
 pub returns-then-slot-eq0 : goal.returns-then-slot-eq0
 returns-then-slot-eq0 c = λ pool pooled. loss_not_known (is_read c.args.place pooled c.requires.place c.index-slot.ensures) c.args.to

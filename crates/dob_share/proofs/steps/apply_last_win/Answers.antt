@@ -1,9 +1,8 @@
 -- The last move's win of the enemy: the cell's value becomes a loss, or is too deep.
-use Rattle.dob_share.proofs.Common.{◌+◌, ◌<◌, ◌∙◌, ◌≡◌, ◌≤◌, Ok, Some, ap, arith, refl, subst, sym, ℕ, set, greater_of, Draw, Loss, Win, IsApplied}
-use Rattle.dob_share.proofs.Applied.{IsRead, is_read, slot_is, run_within, entry_free}
-use Rattle.dob_share.proofs.Rows.{win_too_deep, last_win_applied}
-use Rattle.dob_share.proofs.steps.apply_last_win.Goals as goal
+use Rattle.dob_share.proofs.Common.{◌+◌, ◌<◌, ◌∙◌, ◌≡◌, ◌≤◌, Draw, IsApplied, Loss, Ok, Some, Win, ap, arith, greater_of, refl, set, subst, sym, ℕ}
+use Rattle.dob_share.proofs.Applied.{IsRead, is_read, slot_is, run_within, entry_free, win_too_deep, last_win_applied}
 use Rattle.dob_share.proofs.steps.apply_last_win.Goals.{After-later-greatest}
+use Rattle.dob_share.proofs.steps.apply_last_win.Goals as goal
 
 here : (c : After-later-greatest) → IsRead c.args.slots.now c.args.pool.now c.args.place c.index-slot.result.now
 here c = is_read c.args.place c.requires.pooled c.requires.place c.index-slot.ensures

@@ -1,13 +1,13 @@
 -- The first news of a loss of the enemy.
+use Rattle.dob_share.proofs.Common.{Draw, Loss}
 use Rattle.std.proofs.lemmas.Grind.{common_steps}
-use Rattle.std.proofs.Common.{refl, ◌-◌, arith}
-use Rattle.dob_share.proofs.Applied.{is_read}
-use Rattle.dob_share.proofs.Rows.{few_plies, no_move_left_to_win, loss_too_deep, loss_applied}
+use Rattle.std.proofs.Common.{◌-◌, arith, refl}
+use Rattle.dob_share.proofs.Applied.{is_read, few_plies, misfit_here, loss_too_deep, loss_applied}
 use Rattle.dob_share.proofs.steps.apply_loss.Goals as goal
 
 pub returns-then-slot-eq0 : goal.returns-then-slot-eq0
-returns-then-slot-eq0 c = λ pool pooled. no_move_left_to_win (is_read c.args.place pooled c.requires.place c.index-slot.ensures) c.args.to
-    c.args.plies (omega arith)
+returns-then-slot-eq0 c = λ pool pooled. misfit_here (is_read c.args.place pooled c.requires.place c.index-slot.ensures) c.args.to
+    Draw (Loss c.args.plies) (λ takes. absurd (omega arith))
 
 pub returns-then-plies-ge-MAX_DISTANCE : goal.returns-then-plies-ge-MAX_DISTANCE
 returns-then-plies-ge-MAX_DISTANCE c = λ pool pooled. loss_too_deep (is_read c.args.place pooled c.requires.place c.index-slot.ensures) c.args.to

@@ -1,11 +1,11 @@
 -- The first news of a win of the enemy: one more is counted, and the value stays but where it was the last move's.
-use Rattle.dob_share.proofs.Common.{◌+◌, ◌<◌, ◌≡◌, arith, inl, inr, length, refl, subst, sym, ℕ, more_at, ChangesRun, wins_in}
-use Rattle.dob_share.proofs.Applied.{is_read, entry_free, start_told}
-use Rattle.dob_share.proofs.Rows.{no_move_left, win_applied}
+use Rattle.dob_share.proofs.Common.{◌+◌, ◌<◌, ◌≡◌, ChangesRun, Draw, Win, arith, inl, inr, length, more_at, refl, subst, sym, wins_in, ℕ}
+use Rattle.dob_share.proofs.Applied.{is_read, entry_free, start_told, misfit_here, win_applied}
 use Rattle.dob_share.proofs.steps.apply_win.Goals as goal
 
 pub returns-then-slot-eq0 : goal.returns-then-slot-eq0
-returns-then-slot-eq0 c = no_move_left (is_read c.args.seen.place c.requires.pooled c.requires.place c.index-slot.ensures) c.args.to c.args.plies (omega arith)
+returns-then-slot-eq0 c = misfit_here (is_read c.args.seen.place c.requires.pooled c.requires.place c.index-slot.ensures) c.args.to Draw
+    (Win c.args.plies) (λ takes. absurd (omega arith))
 
 pub returns-then-slot-eq0-2 : goal.returns-then-slot-eq0-2
 returns-then-slot-eq0-2 c = c.apply_last_win.ensures c.args.to

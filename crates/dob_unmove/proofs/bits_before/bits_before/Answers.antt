@@ -1,6 +1,6 @@
 -- by the way
 use Rattle.dob_unmove.proofs.Common.{◌<◌, subst, sym, held, Hands, AreBitboards, CanUndo, earlier, Undo}
-use Rattle.dob_unmove.proofs.Hands.{few_held}
+use Rattle.dob_unmove.proofs.Undone.{few_held}
 use Rattle.dob_unmove.proofs.bits_before.bits_before.Goals as goal
 
 pub bits_before_step-requires : goal.bits_before_step-requires

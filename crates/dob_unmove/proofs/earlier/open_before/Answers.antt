@@ -1,7 +1,8 @@
 -- The position before a move is legal where its lion is at home.
 use Rattle.std.proofs.Common.{rules, arith}
 use Rattle.std.proofs.lemmas.Grind.{common_steps}
-use Rattle.dob_unmove.proofs.Kept.{few_turned, legal_before}
+use Rattle.dob_unmove.proofs.Kept.{legal_before}
+use Rattle.dob_unmove.proofs.Undone.{few_turned}
 use Rattle.dob_unmove.proofs.earlier.open_before.Goals as goal
 
 pub earlier-setup-requires-clause-few : goal.earlier-setup-requires-clause-few

@@ -31,8 +31,8 @@ returns-in-None c =
 pub class_if_representative-requires : goal.class_if_representative-requires
 class_if_representative-requires c =
     let p = c.in-Some.position in
-    position_before c.args.classes.now.family c.args.after.now p.setup c.args.undo c.requires.can
-    (sym c.may_give_back.ensures ∙ c.if-may_give_back.true) c.requires.of_set c.in-Some.ensures.0 p.legal
+    position_before c.args.classes.now.family c.args.after.now c.args.undo c.requires.can c.requires.of_set p.setup
+    (sym c.may_give_back.ensures ∙ c.if-may_give_back.true) c.in-Some.ensures.0 p.legal
 
 pub returns-in-Some : goal.returns-in-Some
 returns-in-Some c =

@@ -9,7 +9,6 @@ gather-requires-clause-representative c = (c.shown_at.ensures.representative, c.
 
 pub returns : goal.returns
 returns c =
-    let both = sorted_answer c.args.classes.now.family c.args.class c.shown_at.result.position.setup c.in_ok-numbers.numbers.items
-    c.sort_unstable.new.self.items (c.shown_at.ensures.representative, c.shown_at.ensures.class) c.in_ok-numbers.ensures c.sort_unstable.ensures.permutation
-    (IsNonDecreasingBy-from_sort (λ (x : ℕ). x) c.sort_unstable.new.self.items c.sort_unstable.ensures.sorted) c.requires in
+    let both = sorted_answer c.args.classes.now.family c.args.class _ _ _ (c.shown_at.ensures.representative, c.shown_at.ensures.class)
+    c.in_ok-numbers.ensures c.sort_unstable.ensures.permutation (IsNonDecreasingBy-from_sort (λ (x : ℕ). x) _ c.sort_unstable.ensures.sorted) c.requires in
     record { counts = both.0; list = both.1 }

@@ -14,13 +14,13 @@ loop-played-init c =
 
 pub number_after-number-requires-clause-open : goal.number_after-number-requires-clause-open
 number_after-number-requires-clause-open c =
-    (move_goes c.args.classes.now.family.profile c.args.position.now.setup c.deref-played-items.result.now c.loop-played.played-index c.played-item.result
-    (legal_are (goal.at.number_after-number-requires-clause-open c).After-deref-played-items) c.loop-played-test.true c.played-item.is).0
+    (move_goes _ _ _ _ c.played-item.result (legal_are (goal.at.number_after-number-requires-clause-open c).After-deref-played-items)
+    c.loop-played-test.true c.played-item.is).0
 
 pub number_after-number-requires-clause-can_go : goal.number_after-number-requires-clause-can_go
 number_after-number-requires-clause-can_go c =
-    (move_goes c.args.classes.now.family.profile c.args.position.now.setup c.deref-played-items.result.now c.loop-played.played-index c.played-item.result
-    (legal_are (goal.at.number_after-number-requires-clause-can_go c).After-deref-played-items) c.loop-played-test.true c.played-item.is).1
+    (move_goes _ _ _ _ c.played-item.result (legal_are (goal.at.number_after-number-requires-clause-can_go c).After-deref-played-items)
+    c.loop-played-test.true c.played-item.is).1
 
 pub loop-played-preserved : goal.loop-played-preserved
 loop-played-preserved c =

@@ -5,37 +5,36 @@ use Rattle.dob_value.proofs.sweep.next_value.Goals as goal
 
 pub has_lost-requires : goal.has_lost-requires
 has_lost-requires c =
-    subst (λ xs. All (λ number. number < length c.args.values.now) xs) (sym c.successors_of-successors.ensures)
-    (have_entries c.args.graph.now.family.profile c.args.depth c.args.values.now _ _ _ c.requires.told)
+    subst (λ xs. All (λ number. number < length c.args.values.now) xs) (sym c.successors_of-successors.ensures) (have_entries c.args.values.now c.requires.told)
 
 pub are_won-requires : goal.are_won-requires
 are_won-requires c =
-    subst (λ xs. All (λ number. number < length c.args.values.now) xs) (sym c.successors_of-successors.ensures)
-    (have_entries c.args.graph.now.family.profile c.args.depth c.args.values.now _ _ _ c.requires.told)
+    subst (λ xs. All (λ number. number < length c.args.values.now) xs) (sym c.successors_of-successors.ensures) (have_entries c.args.values.now c.requires.told)
 
 pub returns-in-Caught : goal.returns-in-Caught
 returns-in-Caught c =
-    let win = value_at_catch c.args.graph.now.family.profile c.args.depth c.args.values.now _ _ _ c.requires.told c.requires.not_won (sym c.status_of-status.ensures ∙ c.in-Caught.is) in
+    let win = value_at_catch c.args.values.now c.requires.told c.requires.not_won (sym c.status_of-status.ensures ∙ c.in-Caught.is) in
     record { cut_off = (omega arith, win); distance = λ _. inl win }
 
 pub returns-in-Tried : goal.returns-in-Tried
-returns-in-Tried c = absurd (not_over c.args.graph.now.family.profile c.args.depth c.args.values.now _ _ _ c.requires.told c.requires.not_lost
-    c.status_of-status.result c.status_of-status.ensures c.in-Tried.is)
+returns-in-Tried c = absurd (not_over c.args.values.now c.requires.told c.requires.not_lost c.status_of-status.result c.status_of-status.ensures c.in-Tried.is)
 
 pub returns-then-has_lost : goal.returns-then-has_lost
 returns-then-has_lost c =
-    let win = value_of_win c.args.graph.now.family.profile c.args.depth c.args.values.now _ _ _ c.requires.told (sym c.status_of-status.ensures ∙ c.in-Open.is) c.successors_of-successors.result.now c.successors_of-successors.ensures
-    c.requires.not_won c.has_lost.result c.has_lost.ensures c.if-has_lost.true in
+    let win = value_of_win c.args.values.now c.requires.told (sym c.status_of-status.ensures ∙ c.in-Open.is) c.successors_of-successors.result.now
+    c.successors_of-successors.ensures c.requires.not_won (sym c.has_lost.ensures ∙ c.if-has_lost.true) in
     record { cut_off = (omega arith, win); distance = λ _. inl win }
 
 pub returns-then-are_won : goal.returns-then-are_won
 returns-then-are_won c =
-    let loss = value_of_loss c.args.graph.now.family.profile c.args.depth c.args.values.now _ _ _ c.requires.told (sym c.status_of-status.ensures ∙ c.in-Open.is) c.successors_of-successors.result.now c.successors_of-successors.ensures
-    c.requires.not_lost c.are_won.result c.are_won.ensures c.if-are_won.true in
+    let loss = value_of_loss c.args.values.now c.requires.told (sym c.status_of-status.ensures ∙ c.in-Open.is) c.successors_of-successors.result.now
+    c.successors_of-successors.ensures c.requires.not_lost (sym c.are_won.ensures ∙ c.if-are_won.true) in
     record { cut_off = (omega arith, loss); distance = λ _. inr loss }
 
 pub returns-else-are_won-clause-cut_off : goal.returns-else-are_won-clause-cut_off
 returns-else-are_won-clause-cut_off c = (
-  still_not_won c.args.graph.now.family.profile c.args.depth c.args.values.now _ _ _ c.requires.told (sym c.status_of-status.ensures ∙ c.in-Open.is) c.successors_of-successors.result.now c.successors_of-successors.ensures c.has_lost.result c.has_lost.ensures c.if-has_lost.false,
-  still_not_lost c.args.graph.now.family.profile c.args.depth c.args.values.now _ _ _ c.requires.told (sym c.status_of-status.ensures ∙ c.in-Open.is) c.successors_of-successors.result.now c.successors_of-successors.ensures c.are_won.result c.are_won.ensures c.if-are_won.false,
+  still_not_won c.args.values.now c.requires.told (sym c.status_of-status.ensures ∙ c.in-Open.is) c.successors_of-successors.result.now
+      c.successors_of-successors.ensures (sym c.has_lost.ensures ∙ c.if-has_lost.false),
+  still_not_lost c.args.values.now c.requires.told (sym c.status_of-status.ensures ∙ c.in-Open.is) c.successors_of-successors.result.now
+      c.successors_of-successors.ensures (sym c.are_won.ensures ∙ c.if-are_won.false),
 )

@@ -1,8 +1,7 @@
 -- Each run's entry and its words go to the ends of the tables.
 use Rattle.dob_classes.proofs.Common.{◌+◌, ◌∙◌, ◌≡◌, ap, arith, subst, sym, vec_len, AreFewOnBoard-digits, run_start_end, run_start_first, HasDigits-numbers}
 use Rattle.dob_classes.proofs.Common.{run_in_bases, is_marked, marks_below, digits_of, run_bases, runs_in, AreRuns, classes_to_run}
-use Rattle.dob_classes.proofs.Tables.RunTables.{AreRuns-none, AreRuns-push, marks_small}
-use Rattle.dob_classes.proofs.Tables.IndexedRuns.{first_run}
+use Rattle.dob_classes.proofs.Tables.RunTables.{AreRuns-none, AreRuns-push, marks_small, first_run}
 use Rattle.dob_classes.proofs.block_classes.BlockClasses.open.Goals as goal
 
 pub choices_in-choices-requires : goal.choices_in-choices-requires
@@ -33,10 +32,12 @@ count_marks-count-requires-clause-table c =
 pub overflow_add-count : goal.overflow_add-count
 overflow_add-count c =
     let within = c.count_runs-run-end.ensures.value in
-    let few = marks_small c.args.family c.args.number (c.loop-run.run + 1) c.requires.within (omega (arith, within, c.loop-run-test.true)) in
-    let sum = c.count_marks-count.ensures in
-    let before = c.loop-run.invariant.count_is in
-    omega (arith, few, sum, before)
+    omega (
+      arith,
+      marks_small c.args.family c.args.number (c.loop-run.run + 1) c.requires.within (omega (arith, within, c.loop-run-test.true)),
+      c.count_marks-count.ensures,
+      c.loop-run.invariant.count_is,
+    )
 
 pub loop-run-preserved : goal.loop-run-preserved
 loop-run-preserved c =

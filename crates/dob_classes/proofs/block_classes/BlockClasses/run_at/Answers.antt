@@ -1,5 +1,5 @@
 -- The index leads to the last run with no more classes before it.
-use Rattle.dob_classes.proofs.Tables.IndexedRuns.{run_found}
+use Rattle.dob_classes.proofs.Tables.RunTables.{run_found}
 use Rattle.dob_classes.proofs.block_classes.BlockClasses.run_at.Goals as goal
 
 pub run_at-requires-clause-index : goal.run_at-requires-clause-index

@@ -1,6 +1,6 @@
 -- A step adds the representatives among the positions that it passes, where these are marked.
-use Rattle.dob_classes.proofs.Common.{◌∙◌, arith, refl, local_marks_in, IsStretchIn, marks_before}
-use Rattle.dob_classes.proofs.MarksOfRuns.StretchLists.{counted_on, counted_off}
+use Rattle.dob_classes.proofs.Common.{◌∙◌, arith, false, refl, true, local_marks_in, IsStretchIn, marks_before}
+use Rattle.dob_classes.proofs.MarksOfRuns.StretchLists.{counted}
 use Rattle.dob_classes.proofs.Counting.WalkMarks.{passed}
 use Rattle.dob_classes.proofs.class_walks.MixedRun.step.Goals as goal
 use Rattle.dob_classes.proofs.class_walks.MixedRun.step.Goals.{After-count_before-number}
@@ -19,14 +19,14 @@ pub returns-then-is_marked-clause-count : goal.returns-then-is_marked-clause-cou
 returns-then-is_marked-clause-count c =
     let at = c.args.self.now in
     let by = added (goal.at.returns-then-is_marked-clause-count c).After-count_before-number in
-    counted_on (local_marks_in at.family at.block at.run) c.args.walk.number c.count_before-number.result (marks_before at c.args.walk.number)
+    counted (local_marks_in at.family at.block at.run) true c.args.walk.number c.count_before-number.result (marks_before at c.args.walk.number)
     by.further refl (λ k a b. by.same k a b ∙ c.if-is_marked.true)
 
 pub returns-else-is_marked-clause-count : goal.returns-else-is_marked-clause-count
 returns-else-is_marked-clause-count c =
     let at = c.args.self.now in
     let by = added (goal.at.returns-else-is_marked-clause-count c).After-count_before-number in
-    let same = counted_off (local_marks_in at.family at.block at.run) c.args.walk.number c.count_before-number.result (marks_before at c.args.walk.number)
+    let same = counted (local_marks_in at.family at.block at.run) false c.args.walk.number c.count_before-number.result (marks_before at c.args.walk.number)
     by.further refl (λ k a b. by.same k a b ∙ c.if-is_marked.false) in
     omega (arith, same)
 

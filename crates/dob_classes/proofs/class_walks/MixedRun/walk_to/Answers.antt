@@ -5,7 +5,5 @@ use Rattle.dob_classes.proofs.class_walks.MixedRun.walk_to.Goals as goal
 
 pub overflow_add-count : goal.overflow_add-count
 overflow_add-count c =
-    let few = walked_few c.args.self.now c.step-more.result.0 c.step-more.ensures.walk in
     let count = c.loop-at.invariant.count in
-    let more = c.step-more.ensures.count in
-    omega (arith, few, count, more)
+    omega (arith, walked_few c.args.self.now c.step-more.result.0 c.step-more.ensures.walk, count, c.step-more.ensures.count)

@@ -7,8 +7,4 @@ use Rattle.dob_classes.proofs.rows.Row.before_run.Goals as goal
 pub returns : goal.returns
 returns c = λ family block within upto is.
     let sums = by_hands family block c.args.run (c.args.run / 99) (c.args.run % 99) c.args.self.hand c.args.self.run within upto refl refl is.hand_is is.run_is in
-    let few = sums.few in
-    let sum = sums.sum_is in
-    let before = is.before_is in
-    let small = marks_small family block c.args.run within upto in
-    omega (arith, few, sum, before, small)
+    omega (arith, sums.few, sums.sum_is, is.before_is, marks_small family block c.args.run within upto)

@@ -1,5 +1,5 @@
 -- Each class that is a step further gets an entry.
-use Rattle.dob_classes.proofs.Tables.IndexedRuns.{entries_more, next_class}
+use Rattle.dob_classes.proofs.Tables.RunTables.{entries_more, next_class}
 use Rattle.std.proofs.Common.{◌^◌, arith}
 use Rattle.dob_classes.proofs.run_index.RunIndex.open.Goals as goal
 

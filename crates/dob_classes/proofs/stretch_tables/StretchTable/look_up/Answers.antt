@@ -15,10 +15,13 @@ found c =
 pub overflow_add-result : goal.overflow_add-result
 overflow_add-result c =
     let at = c.args.self.now in
-    let sum = (found (goal.at.overflow_add-result c).After-index-stretch).marked_before c.if-stretch.true in
-    let few = marks_below-le (local_marks_in at.family at.block at.run) c.args.number in
-    let small = run_size_in-small at.family at.block at.run at.within in
-    omega (arith, sum, few, small, c.requires)
+    omega (
+      arith,
+      (found (goal.at.overflow_add-result c).After-index-stretch).marked_before c.if-stretch.true,
+      marks_below-le (local_marks_in at.family at.block at.run) c.args.number,
+      run_size_in-small at.family at.block at.run at.within,
+      c.requires,
+    )
 
 pub returns-then-stretch : goal.returns-then-stretch
 returns-then-stretch c =

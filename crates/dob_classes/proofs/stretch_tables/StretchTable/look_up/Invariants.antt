@@ -1,10 +1,11 @@
 -- The number stands between the two entries, which come closer.
 use Rattle.std.proofs.Common.{◌-◌}
+use Rattle.dob_classes.specs.declared.stretches.Stretch.{Stretch}
 use Rattle.dob_classes.proofs.MarksOfRuns.StretchLists.{IsBetween}
 use Rattle.dob_classes.proofs.stretch_tables.StretchTable.look_up.Given as goal
 
 abbrev pub invariant-loop-high : goal.invariant-loop-high
-invariant-loop-high l = IsBetween l.self.list.items l.low l.high l.number
+invariant-loop-high l = IsBetween (λ (s : Stretch). s.start) l.self.list.items l.low l.high l.number
 
 abbrev pub decreases-loop-high : goal.decreases-loop-high
 decreases-loop-high l = l.high - l.low

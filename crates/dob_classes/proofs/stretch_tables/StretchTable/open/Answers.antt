@@ -17,9 +17,7 @@ loop-walk-init c =
     }
 
 pub overflow_add-count : goal.overflow_add-count
-overflow_add-count c =
-    let few = walked_few _ _ c.step-marks.ensures.walk in
-    omega (arith, few, c.step-marks.ensures.count, c.loop-walk.invariant.counted)
+overflow_add-count c = omega (arith, walked_few _ _ c.step-marks.ensures.walk, c.step-marks.ensures.count, c.loop-walk.invariant.counted)
 
 pub loop-walk-preserved : goal.loop-walk-preserved
 loop-walk-preserved c =

@@ -1,7 +1,7 @@
 -- The openings of its classes are those listed.
 use Rattle.dob_share.proofs.Common.{IsNewShare}
 use Rattle.std.proofs.lemmas.Result.{IfOk-weaker}
-use Rattle.dob_share.proofs.OwnOpened.{placed_itself}
+use Rattle.dob_share.proofs.Opened.{placed_itself}
 use Rattle.dob_share.proofs.share.Share.open.Goals as goal
 
 pub returns : goal.returns

@@ -1,7 +1,7 @@
 -- The openings of its classes are those of the one owner of what is listed.
 use Rattle.std.proofs.lemmas.Result.{IfOk-weaker}
 use Rattle.dob_share.specs.Shares.{IsNewByOwn}
-use Rattle.dob_share.proofs.OwnOpened.{placed_own}
+use Rattle.dob_share.proofs.Opened.{placed_own}
 use Rattle.dob_share.proofs.share.Share.open_own.Goals as goal
 
 pub returns : goal.returns

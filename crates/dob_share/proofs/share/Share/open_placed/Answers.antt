@@ -1,15 +1,13 @@
 -- One class more is opened, with its slot and run where it is open; the share owns those listed, with their statuses and fresh cells.
-use Rattle.dob_share.proofs.Common.{◌%◌, ◌*◌, ◌+◌, ◌<◌, ◌^◌, ◌∙◌, ◌≡◌, ◌≤◌, List, ap, arith, refl, subst, sym, ℕ, arc_value, AreOpened, opening_of}
-use Rattle.dob_share.proofs.Common.{settled_among, settles, class_of_place, IsStatusOf, StatusesView, word_of, Opening, StatusWord}
-use Rattle.dob_share.proofs.Opened.{pooled_open, settles_most, settled_more}
-use Rattle.dob_share.proofs.OwnOpened.{AreSlotsBelow, is_new, places_few, slots_none, slots_more}
-use Rattle.dob_share.proofs.share.Share.open_placed.Goals as goal
+use Rattle.dob_share.proofs.Common.{◌%◌, ◌+◌, ◌<◌, ◌^◌, ◌∙◌, ◌≡◌, ◌≤◌, AreOpened, IsStatusOf, List, Opening, StatusWord, StatusesView, ap, arc_value, arith}
+use Rattle.dob_share.proofs.Common.{class_of_place, opening_of, refl, settled_among, settles, subst, sym, word_of, ℕ}
+use Rattle.dob_share.proofs.Opened.{pooled_open, settles_most, settled_more, AreSlotsBelow, is_new, places_few, slots_none, slots_more}
 use Rattle.dob_share.proofs.share.Share.open_placed.Goals.{In_ok-pool}
+use Rattle.dob_share.proofs.share.Share.open_placed.Goals as goal
 
 pub loop-place-init : goal.loop-place-init
 loop-place-init c = record {
-  slots = slots_none (arc_value c.statuses.inside.words) (λ place. opening_of c.args.listed.now (class_of_place c.args.step c.args.first place))
-      c.new-slots.result c.new-slots.ensures;
+  slots = slots_none c.new-slots.ensures;
   moves = omega arith;
   settled = refl;
   few = omega arith;
@@ -28,8 +26,7 @@ loop-place-preserved c =
     = c.opening_at-opening.ensures ∙ ap (λ (k : ℕ). opening_of c.args.listed.now (class_of_place k c.args.first l.place)) c.get.ensures.value in
     record {
       slots = subst (λ (k : ℕ). AreSlotsBelow words listed (l.place + 1) c.push_slot.new.slots (l.moves + k)) (sym out.moves)
-          (slots_more words listed l.place l.moves l.slots l.invariant.slots c.opening_at-opening.result c.push_slot.new.slots opening_is status_is out.few
-          out.slots);
+          (slots_more l.invariant.slots c.opening_at-opening.result c.push_slot.new.slots opening_is status_is out.few out.slots);
       moves = subst (λ (k : ℕ). l.moves + k < 2 ^ 33) (sym out.moves) out.small;
       settled = settled_more (λ place. (listed place).status) l.place l.settled c.settlements_of-settled.result l.invariant.settled
           (c.settlements_of-settled.ensures ∙ ap (λ o. settles o.status) opening_is);
@@ -66,8 +63,7 @@ returns c = λ openings are.
     let listed : ℕ → Opening = λ place. opening_of c.args.listed.now (class_of_place c.args.step c.args.first place) in
     let all = c.in_ok-statuses.ensures.places in
     let end : c.loop-place.place ≡ c.places_among-places.result = omega arith in
-    let inside = λ (place : ℕ) (low : place < c.in_ok-statuses.statuses.places). (c.places_among-places.ensures place).0
-    (subst (λ (k : ℕ). place < k) all low) in
+    let inside = λ (place : ℕ) (low : place < c.in_ok-statuses.statuses.places). (c.places_among-places.ensures place).0 (rw all at low) in
     is_new _ listed c.loop-place.moves (record {
       statuses = λ place low. c.in_ok-statuses.ensures.statuses place (subst (λ (k : ℕ). place < k) all low);
       slots = subst (λ (k : ℕ). AreSlotsBelow c.in_ok-statuses.statuses.words listed k c.loop-place.slots c.loop-place.moves) (sym all)
@@ -76,9 +72,7 @@ returns c = λ openings are.
       settled = c.loop-place.invariant.settled ∙ ap (settled_among (λ place. (listed place).status)) (end ∙ sym all);
     })
     openings (λ place. (
-      λ low. (are.places place).0 (subst (λ (k : ℕ). place * c.args.step + c.args.first < k) c.len-count.ensures.count (inside place low)),
-      λ low. subst (λ (k : ℕ). place < k) (sym all) ((c.places_among-places.ensures place).1
-          (subst (λ (k : ℕ). place * c.args.step + c.args.first < k) (sym c.len-count.ensures.count) ((are.places place).1 low))),
+      λ low. (are.places place).0 (rw c.len-count.ensures.count at (inside place low)),
+      λ low. rw all ((c.places_among-places.ensures place).1 (rw c.len-count.ensures.count ((are.places place).1 low))),
     ))
-    (λ place low. are.each place ((are.places place).0 (subst (λ (k : ℕ). place * c.args.step + c.args.first < k) c.len-count.ensures.count
-    (inside place low))))
+    (λ place low. are.each place ((are.places place).0 (rw c.len-count.ensures.count at (inside place low))))

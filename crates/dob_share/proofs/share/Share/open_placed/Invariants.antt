@@ -1,6 +1,6 @@
 -- The open classes so far have slots, for a pool of as many free entries as they have moves; the settlements of the others are counted.
-use Rattle.dob_share.proofs.Common.{◌<◌, ◌^◌, ◌≡◌, ◌≤◌, arc_value, opening_of, settled_among, class_of_place}
-use Rattle.dob_share.proofs.OwnOpened.{AreSlotsBelow}
+use Rattle.dob_share.proofs.Common.{◌<◌, ◌^◌, ◌≡◌, ◌≤◌, arc_value, class_of_place, opening_of, settled_among}
+use Rattle.dob_share.proofs.Opened.{AreSlotsBelow}
 use Rattle.dob_share.proofs.share.Share.open_placed.Given as goal
 
 abbrev pub invariant-loop-place : goal.invariant-loop-place

@@ -1,9 +1,9 @@
 -- The value of the cell that is read.
-use Rattle.dob_share.proofs.Common.{◌∙◌, ap, subst, ℕ, CellValue, cell_in}
+use Rattle.dob_share.proofs.Common.{◌∙◌, CellValue, ap, cell_in, subst, ℕ}
 use Rattle.dob_share.proofs.Applied.{IsRead, is_read, cell_same, run_within, short_here}
 use Rattle.dob_share.proofs.Owning.{cell_within}
-use Rattle.dob_share.proofs.share.Share.open_value.Goals as goal
 use Rattle.dob_share.proofs.share.Share.open_value.Goals.{After-index}
+use Rattle.dob_share.proofs.share.Share.open_value.Goals as goal
 
 pub index-requires : goal.index-requires
 index-requires c = cell_within c.args.self.now c.args.place c.opens_before-number.result c.requires.place c.requires.bit c.opens_before-number.ensures

@@ -1,5 +1,5 @@
 -- An open class has the value of its cell.
-use Rattle.dob_share.proofs.Common.{◌/◌, ◌∙◌, ap, refl, subst, sym, ℕ, CellValue, IsOwnOpen, open_number, status_at, cell_in, opens_below, status_in}
+use Rattle.dob_share.proofs.Common.{◌/◌, ◌∙◌, CellValue, IsOwnOpen, ap, cell_in, open_number, opens_below, refl, status_at, status_in, subst, sym, ℕ}
 use Rattle.dob_share.proofs.Owning.{value_there}
 use Rattle.dob_share.proofs.share.Share.value.Goals as goal
 

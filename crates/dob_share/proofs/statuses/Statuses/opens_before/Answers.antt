@@ -1,6 +1,6 @@
 -- What the word says and the bits before the place.
-use Rattle.dob_share.proofs.Common.{◌+◌, ◌/◌, ◌<◌, ◌^◌, ◌∙◌, ◌≡◌, ◌≤◌, List, Some, ap, arith, slice_get, subst, arc_value, StatusesView, opens_below}
-use Rattle.dob_share.proofs.Common.{StatusWord}
+use Rattle.dob_share.proofs.Common.{◌+◌, ◌/◌, ◌<◌, ◌^◌, ◌∙◌, ◌≡◌, ◌≤◌, List, Some, StatusWord, StatusesView, ap, arc_value, arith, opens_below, slice_get}
+use Rattle.dob_share.proofs.Common.{subst}
 use Rattle.std.proofs.Math.Facts.{Fits-of_lt}
 use Rattle.dob_share.proofs.Words.{rank_read, opens_few}
 use Rattle.dob_share.proofs.statuses.Statuses.opens_before.Goals as goal

@@ -1,6 +1,6 @@
 -- the mask of the enemy lion has its square alone
 use Rattle.dob_unmove.proofs.Common.{lion_at, lion_mask, Enemy}
-use Rattle.dob_unmove.proofs.Threats.{turned_squares, turned_lions}
+use Rattle.dob_unmove.proofs.Undone.{turned_squares, turned_lions}
 use Rattle.dob_unmove.proofs.attackers.Threat.by.Goals as goal
 
 pub lowest_square-lion-requires-clause-some : goal.lowest_square-lion-requires-clause-some

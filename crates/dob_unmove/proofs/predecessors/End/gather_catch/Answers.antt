@@ -1,7 +1,6 @@
 -- the lion before the catch
-use Rattle.dob_unmove.proofs.Common.{◌≡◌, Some, rules, holds_caught}
-use Rattle.dob_unmove.proofs.Kept.{legal_turned}
-use Rattle.dob_unmove.proofs.LionsBefore.{step_home}
+use Rattle.dob_unmove.proofs.Common.{◌≡◌, Some, rules, holds_caught, Unstep}
+use Rattle.dob_unmove.proofs.Dead.{home_before}
 use Rattle.dob_unmove.proofs.predecessors.End.gather_catch.Goals as goal
 use Rattle.dob_unmove.proofs.predecessors.End.gather_catch.Goals.{After-holds_caught}
 
@@ -16,9 +15,6 @@ gather_one-requires-clause-can c =
 
 pub gather_one-requires-clause-home : goal.gather_one-requires-clause-home
 gather_one-requires-clause-home c =
-    let end = c.args.self.now in
-    let after = end.walk.now.after.value in
-    let w = c.requires.end.walk in
     let holds = held (goal.at.gather_one-requires-clause-home c).After-holds_caught in
-    step_home after end.walk.now.ways.now.threat (legal_turned end.walk.now.classes.now.family after w.of_set) w.ways_are.threat_is
-    c.args.kind c.args.from end.to (Some c.args.caught) (search rules) c.requires.end.home c.requires.comes
+    home_before c.args.self.now.walk.now c.requires.end.walk (Unstep c.args.kind c.args.from c.args.self.now.to (Some c.args.caught)) (search rules)
+    c.requires.end.home c.requires.comes

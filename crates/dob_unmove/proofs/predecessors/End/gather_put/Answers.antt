@@ -1,16 +1,12 @@
 -- the drop alone
-use Rattle.dob_unmove.proofs.Kept.{legal_turned}
-use Rattle.dob_unmove.proofs.LionsBefore.{drop_home}
+use Rattle.dob_unmove.proofs.Common.{Unput}
+use Rattle.dob_unmove.proofs.Dead.{home_before}
 use Rattle.dob_unmove.proofs.Standing.{way_of_drop}
 use Rattle.dob_unmove.proofs.predecessors.End.gather_put.Goals as goal
 
 pub gather_one-requires-clause-home : goal.gather_one-requires-clause-home
 gather_one-requires-clause-home c =
-    let end = c.args.self.now in
-    let after = end.walk.now.after.value in
-    let w = c.requires.end.walk in
-    drop_home after end.walk.now.ways.now.threat (legal_turned end.walk.now.classes.now.family after w.of_set) w.ways_are.threat_is
-    c.args.kind end.to c.requires.stands c.requires.end.home
+    home_before c.args.self.now.walk.now c.requires.end.walk (Unput c.args.kind c.args.self.now.to) c.requires.stands c.requires.end.home tt
 
 pub returns : goal.returns
 returns c =

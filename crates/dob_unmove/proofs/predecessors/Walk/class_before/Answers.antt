@@ -1,8 +1,9 @@
 -- The sets show the position before the move, which was open, where the piece that was caught may stand again.
 use Rattle.dob_unmove.proofs.Common.{◌∙◌, refl, sym, IsShown, RepresentsClass, earlier}
 use Rattle.dob_unmove.proofs.Gathering.{finds_from}
-use Rattle.dob_unmove.proofs.Kept.{barred, few_turned, legal_turned, shown_before}
-use Rattle.dob_unmove.proofs.Threats.{was_open, turned_squares}
+use Rattle.dob_unmove.proofs.Kept.{barred, legal_turned, shown_before}
+use Rattle.dob_unmove.proofs.Threats.{was_open}
+use Rattle.dob_unmove.proofs.Undone.{turned_squares, few_turned}
 use Rattle.dob_unmove.proofs.predecessors.Walk.class_before.Goals as goal
 use Rattle.dob_unmove.proofs.predecessors.Walk.class_before.Goals.{After-bits_before}
 
@@ -17,8 +18,8 @@ shown : (c : After-bits_before) → IsShown c.args.self.now.classes.now.family (
 shown c =
     let walk = c.args.self.now in
     let w = c.requires.walk in
-    shown_before walk.classes.now.family walk.after.value c.args.undo _ _ c.requires.can (sym c.may_give_back.ensures ∙ c.if-may_give_back.true)
-    w.of_set c.requires.home w.ways_are.bits_are c.bits_before.ensures
+    shown_before walk.classes.now.family walk.after.value c.args.undo c.requires.can w.of_set _ _ (sym c.may_give_back.ensures ∙ c.if-may_give_back.true)
+    c.requires.home w.ways_are.bits_are c.bits_before.ensures
 
 pub class_if_shown-requires : goal.class_if_shown-requires
 class_if_shown-requires c = (earlier c.args.self.now.after.value c.args.undo, shown (goal.at.class_if_shown-requires c).After-bits_before)

@@ -1,10 +1,9 @@
 -- The squares of the mask are gone over from the lowest on, and the ways of the others are dead.
 use Rattle.dob_unmove.proofs.Common.{arith, RepresentsClass, undoes, undoes_at, may_have_ended}
 use Rattle.dob_unmove.proofs.Gathered.{gathered_start, gathered_less, passes_lowest, gathered_next, gathered_end}
-use Rattle.dob_unmove.proofs.Dead.{ends_dead, calm_end}
+use Rattle.dob_unmove.proofs.Dead.{ends_dead, calm_end, end_home}
 use Rattle.dob_unmove.proofs.Kept.{legal_turned}
-use Rattle.dob_unmove.proofs.LionsBefore.{end_home}
-use Rattle.dob_unmove.proofs.Threats.{turned_lions}
+use Rattle.dob_unmove.proofs.Undone.{turned_lions}
 use Rattle.dob_unmove.proofs.predecessors.Walk.gather_all.Goals as goal
 
 pub loop-left-init : goal.loop-left-init
