@@ -1,23 +1,15 @@
 -- One node that owns all classes, as it is opened: it is lawful.
-use Rattle.dob_node.proofs.Common.{◌*◌, ◌++◌, ◌+◌, ◌<◌, ◌∙◌, ◌≡◌, Err, IfOk, List, Ok, Result, [], ap, arith, get_or, inr, length, refl, subst, suc}
-use Rattle.dob_node.proofs.Common.{sym, zero, ℕ, slice_get-get_or, All, Family, one_status, moves_of, HasStatus, Status, Open, Stuck}
-use Rattle.dob_node.proofs.Common.{class_setup, classes_of, IsEntry, Draw, predecessors, CellValue-same, SameCell, fresh, opening_of, owner_of}
-use Rattle.dob_node.proofs.Common.{IsOwn, places_of, Item, Settlement, Opening, items_from, HasCome, HasMade, IsAlone, alone_applied}
-use Rattle.dob_node.proofs.Common.{alone_history, cells_below, HaveFalls, IsFirst, IsChained, value_of, AreLawfulNodes, known_of, NodeView}
-use Rattle.dob_node.proofs.Common.{IsOpened, IsSound, opening_settlements, opening_status, opening_value, AreOpenings, IsOpening}
+use Rattle.dob_node.proofs.Common.{◌*◌, ◌+◌, ◌<◌, ◌∙◌, ◌≡◌, All, AreLawfulNodes, AreOpenings, CellValue-same, Draw, Family, HasCome, HasMade, HasStatus}
+use Rattle.dob_node.proofs.Common.{HaveFalls, IsAlone, IsChained, IsEntry, IsFirst, IsOpened, IsOpening, IsOwn, IsSound, List, NodeView, Open, Opening}
+use Rattle.dob_node.proofs.Common.{SameCell, Settlement, Status, [], alone_applied, alone_history, ap, arith, cells_below, class_setup, classes_of, fresh}
+use Rattle.dob_node.proofs.Common.{inr, items_from, known_of, length, moves_of, one_status, opening_of, opening_settlements, opening_status, opening_value}
+use Rattle.dob_node.proofs.Common.{owner_of, places_of, predecessors, refl, subst, suc, sym, value_of, zero, ℕ}
 use Rattle.dob_node.proofs.Beginnings.{or_else, closed_follows, opened_value, opened_chained, opened_entries}
 use Rattle.dob_node.proofs.ValuesFollow.{SumsUp-same}
 use Rattle.dob_node.proofs.Totals.{start_sums}
-use Rattle.dob_node.proofs.AloneParts.{cell_below, one_owner}
+use Rattle.dob_node.proofs.AloneSteps.{cell_below, one_owner}
 use Rattle.dob_node.proofs.Rises.{opened_first, fresh_within, falls_start}
-
--- ---- what is listed
-
-pub listed_opening : (family : Family) (openings : List Opening) (class : ℕ) → AreOpenings family openings → class < classes_of family →
-    IsOpening family.profile (class_setup family class) (opening_of openings class)
-listed_opening family openings class are low =
-    let none : Opening = record { status = Stuck; moves = 0 } in
-    are.each class (get_or openings class none) (slice_get-get_or openings class none (subst (λ (n : ℕ). class < n) (sym are.whole) low))
+pub use Rattle.dob_node.proofs.Opens.{listed_opening}
 
 -- ---- the settlements of the opening are those of a node that is the only one
 
@@ -62,9 +54,6 @@ module _ (family : Family) (openings : List Opening) (node : NodeView) (are : Ar
   value_is p s low is = value_opened status classes p low
       ∙ ap (λ st. or_else (opening_value st) Draw) (one_status family.profile (class_setup family p) (status p) s (is_opening p low).status is)
 
-  none_applied : (i : ℕ) → alone_applied [] i 0 ≡ []
-  none_applied i = grind arith
-
   at_zero : (P : ℕ → List Settlement → Type 0) → P 0 h → (i : ℕ) → i < 1 → P i (alone_history h i)
   at_zero P base zero low = base
   at_zero P base (suc i) low = absurd (omega arith)
@@ -78,24 +67,22 @@ module _ (family : Family) (openings : List Opening) (node : NodeView) (are : Ar
       (at_zero (λ i xs. All (λ (s : Settlement). IsFirst s.now) xs) (opened_first status 1 0 classes))
       (λ class low. fresh_within classes (length (moves_of family.profile (class_setup family class))) (cells_below classes node.share class) (cell_is class low))
 
+  none_at : (i j : ℕ) → alone_applied [] i j ≡ []
+  none_at i j = grind arith
+
   lawful : AreLawfulNodes family 1 (alone_history h) (alone_applied []) (cells_below classes node.share) (value_of h)
   lawful = record {
     chained = chained;
     entries = at_zero (λ i xs. All (λ (s : Settlement). IsEntry s.now) xs) (opened_entries 1 0 (omega arith) status classes);
-    begun = begun;
+    begun = λ i j low_i low_j. (items_from (predecessors family) 1 j (alone_history h i), rw (none_at i j) refl);
     sums = λ p low is. SumsUp-same (known_of family 1 (alone_history h) (alone_applied []) p) (cells_below classes node.share p)
         (fresh (length (moves_of family.profile (class_setup family p)))) (cell_is p low)
-        (start_sums family p low 1 (alone_history h) (λ i. alone_applied [] i (owner_of 1 p)) (λ i. rw (one_owner p) (none_applied i)));
+        (start_sums family p low 1 (alone_history h) (λ i. alone_applied [] i (owner_of 1 p)) (λ i. none_at i (owner_of 1 p)));
     cell_values = λ p low is. rw (value_is p Open low is) (CellValue-same (cells_below classes node.share p) _ Draw (cell_is p low)
         (refl, inr (λ plies. refl)));
     over = λ p s low is closed. rw (value_is p s low is) (closed_follows s closed);
     values = λ p low. ap (λ k. value_of (alone_history h k) p) (sym (one_owner p));
   }
-    where
-      begun : (i j : ℕ) → i < 1 → j < 1 → (rest : List Item) × (items_from (predecessors family) 1 j (alone_history h i) ≡ alone_applied [] i j ++ rest)
-      begun zero zero low_i low_j = (items_from (predecessors family) 1 0 h, refl)
-      begun zero (suc j) low_i low_j = absurd (omega arith)
-      begun (suc i) j low_i low_j = absurd (omega arith)
 
   pub alone_opened : IsAlone node []
   alone_opened = record {
@@ -114,9 +101,3 @@ module _ (family : Family) (openings : List Opening) (node : NodeView) (are : Ar
     ap (λ (k : ℕ). k + 0) opened.nothing.0,
     subst (λ st. HasCome st 0 node) (sym opened.of.0) (openings, are, opened, sound),
   )
-
--- it is so of the node that an opening gives, where it gives one
-pub made_none_ok : {E : Type 0} (family : Family) (openings : List Opening) (given : Result NodeView E) → AreOpenings family openings →
-    IfOk given (λ node. IsOpened openings family 0 1 node) → IfOk given (λ node. IsSound node) → IfOk given (λ node. HasMade 0 node)
-made_none_ok family openings (Ok node) are opened sound = made_none family openings node are opened sound
-made_none_ok family openings (Err why) are opened sound = tt

@@ -1,9 +1,8 @@
 -- The histories of nodes at their opening.
-use Rattle.dob_node.proofs.Common.{nat_tests}
-use Rattle.dob_node.proofs.Common.{◌%◌, ◌*◌, ◌++◌, ◌+◌, ◌<◌, ◌∙◌, ◌≡◌, ◌≢◌, ◌≤◌, Bool, List, None, Option, Some, [], ap, arith, cond, eqb, inl, inr}
-use Rattle.dob_node.proofs.Common.{length, refl, subst, suc, sym, zero, ℕ, mod-eq_of_lt, mul-add-mod_self_right, cases_eq, eq-eqb, ne_eqb}
-use Rattle.dob_node.proofs.Common.{append-nil, same_from_place, All, Status, Open, IsEntry, Value, Draw, Better, Settlement, IsChained}
-use Rattle.dob_node.proofs.Common.{value_of, opening_settlement, opening_settlements, opening_value, FollowsAtStatus}
+use Rattle.dob_node.proofs.Common.{◌%◌, ◌*◌, ◌++◌, ◌+◌, ◌<◌, ◌∙◌, ◌≡◌, ◌≢◌, ◌≤◌, All, Better, Bool, Draw, FollowsAtStatus, IsChained, IsEntry, List, None}
+use Rattle.dob_node.proofs.Common.{Open, Option, Settlement, Some, Status, Value, [], ap, append-nil, arith, cases_eq, cond, eq-eqb, eqb, inl, inr, length}
+use Rattle.dob_node.proofs.Common.{mod-eq_of_lt, mul-add-mod_self_right, nat_tests, ne_eqb, opening_settlement, opening_settlements, opening_value, refl}
+use Rattle.dob_node.proofs.Common.{same_from_place, subst, suc, sym, value_of, zero, ℕ}
 use Rattle.dob_node.proofs.Opens.{all_started}
 use Rattle.dob_node.proofs.Settles.{chained_more, chained_none, value_of-more}
 
@@ -36,33 +35,27 @@ module _ (n id : ℕ) (one_of_n : id < n) (status : ℕ → Status) where
   apart : (a b : ℕ) → a ≢ b → class a ≢ class b
   apart a b other same = other (same_from_place a id b id n one_of_n one_of_n same).0
 
+  abbrev chosen : ℕ → ℕ → Bool → Value
+  chosen k q b = cond b (or_else (opening_value (status (class k))) (value_of (settled k) (class q))) (value_of (settled k) (class q))
+
+  one_place : (k q : ℕ) → value_of (settled (suc k)) (class q) ≡ chosen k q (eqb (class k) (class q))
+  one_place k q = one_more (settled k) (length (settled k)) (class k) (class q) (opening_value (status (class k)))
+
   -- of the classes at later places nothing is said
   pub later_draw : (k q : ℕ) → k ≤ q → value_of (settled k) (class q) ≡ Draw
   later_draw zero q later = refl
   later_draw (suc k) q later =
-      one_more (settled k) (length (settled k)) (class k) (class q) (opening_value (status (class k)))
-      ∙ ap (λ b. cond b (or_else (opening_value (status (class k))) (value_of (settled k) (class q))) (value_of (settled k) (class q)))
-      (ne_eqb (class k) (class q) (apart k q (λ same. omega arith)))
-      ∙ later_draw k q (omega arith)
-
-  abbrev chosen : ℕ → ℕ → Bool → Value
-  chosen k q b = cond b (or_else (opening_value (status (class k))) (value_of (settled k) (class q))) (value_of (settled k) (class q))
+      one_place k q ∙ ap (λ b. chosen k q b) (ne_eqb (class k) (class q) (apart k q (λ same. omega arith))) ∙ later_draw k q (omega arith)
 
   -- the classes at the places have the values of their statuses
   pub opened_value : (k q : ℕ) → q < k → value_of (settled k) (class q) ≡ or_else (opening_value (status (class q))) Draw
   opened_value zero q low = absurd (omega arith)
-  opened_value (suc k) q low =
-      one_more (settled k) (length (settled k)) (class k) (class q) (opening_value (status (class k)))
-      ∙ at (λ less. opened_value k q less)
-    where
-      at : (q < k → value_of (settled k) (class q) ≡ or_else (opening_value (status (class q))) Draw) →
-          chosen k q (eqb (class k) (class q)) ≡ or_else (opening_value (status (class q))) Draw
-      at earlier = elim (cases_eq q k) [
-        | inl same ↦ ap (λ b. chosen k q b) (eq-eqb (class k) (class q) (ap class (sym same)))
-            ∙ ap (λ p. or_else (opening_value (status (class p))) (value_of (settled k) (class q))) (sym same)
-            ∙ ap (λ v. or_else (opening_value (status (class q))) v) (later_draw k q (omega arith))
-        | inr other ↦ ap (λ b. chosen k q b) (ne_eqb (class k) (class q) (apart k q (λ same. other (sym same)))) ∙ earlier (omega arith)
-      ]
+  opened_value (suc k) q low = elim (cases_eq q k) [
+    | inl same ↦ rw same (one_place k k ∙ ap (λ b. chosen k k b) (eq-eqb (class k) (class k) refl)
+        ∙ ap (λ v. or_else (opening_value (status (class k))) v) (later_draw k k (omega arith)))
+    | inr other ↦ one_place k q ∙ ap (λ b. chosen k q b) (ne_eqb (class k) (class q) (apart k q (λ same. other (sym same))))
+        ∙ opened_value k q (omega arith)
+  ]
 
   pub opened_chained : (classes k : ℕ) → ((q : ℕ) → q < k → class q < classes) → IsChained classes n id (settled k)
   opened_chained classes zero low = chained_none classes n id

@@ -1,16 +1,14 @@
 -- The names that the proofs here use most, from other crates and the definitions of this one.
-pub use Rattle.std.proofs.Common.{if◌then◌else◌, ◌%◌, ◌&&◌, ◌*◌, ◌++◌, ◌+◌, ◌-◌, ◌/◌, ◌<◌, ◌==◌, ◌^◌, ◌↔◌, ◌∙◌, ◌∷◌, ◌≡◌, ◌≢◌, ◌≤◌, ◌⊎◌, Bool, Contains, Err}
-pub use Rattle.std.proofs.Common.{IfOk, IsTrue, List, MatchOption, None, Ok, Option, Result, Some, [], add-one, ap, append_assoc, arith, cond, drop, eqb, false}
-pub use Rattle.std.proofs.Common.{get_or, inl, inr, length, lit<, lit≤, ltb, map, max, nat_lt, refl, rules, set, slice_get, slice_set, subst, suc, sym, take}
-pub use Rattle.std.proofs.Common.{true, vec_len, zero, ℕ}
+pub use Rattle.std.proofs.Common.{◌%◌, ◌&&◌, ◌*◌, ◌++◌, ◌+◌, ◌-◌, ◌/◌, ◌<◌, ◌==◌, ◌^◌, ◌↔◌, ◌∙◌, ◌∷◌, ◌≡◌, ◌≢◌, ◌≤◌, ◌⊎◌, Bool, Contains, Err, List}
+pub use Rattle.std.proofs.Common.{MatchOption, None, Ok, Option, Result, Some, [], add-one, ap, append_assoc, arith, cond, drop, eqb, false, get_or, inl, inr}
+pub use Rattle.std.proofs.Common.{length, lit<, ltb, map, max, nat_lt, refl, rules, set, slice_get, slice_set, subst, suc, sym, take, true, zero, ℕ}
 pub use Rattle.std.proofs.Math.ListN.{get_or-eq_default}
 pub use Rattle.std.proofs.Math.Nat.{div-add-mod, div-le_self, mod-eq_of_lt, mul-add-mod_self_right, mul_comm}
 pub use Rattle.std.proofs.Math.Seq.{drop-append_seam, drop-cons, drop-nil, take-append_seam, take-suc}
-pub use Rattle.std.proofs.lemmas.Bool.{and_left, and_right, both_ways, cases_Bool, cases_eq, cases_lt, cases_order, cond_both, eq-eqb, eqb-true, false≢true}
-pub use Rattle.std.proofs.lemmas.Bool.{le-ltb, lt-ltb, ltb-true, ne_eqb}
+pub use Rattle.std.proofs.lemmas.Bool.{and_right, cases_Bool, cases_eq, cases_lt, cond_both, eq-eqb, eqb-true, false≢true, le-ltb, lt-ltb, ltb-true, ne_eqb}
 pub use Rattle.std.proofs.lemmas.Bool.Decides.{nat_tests}
-pub use Rattle.std.proofs.lemmas.List.{append-nil, get_or-set_other, get_or-set_same, get_or_append_left, get_or_default, length-append, length-map, length-set}
-pub use Rattle.std.proofs.lemmas.List.{same_lists, take-append-drop, take-append-le, take_all}
+pub use Rattle.std.proofs.lemmas.List.{append-nil, get_or-set_other, get_or-set_same, get_or_append_left, get_or_default, length-append, length-map}
+pub use Rattle.std.proofs.lemmas.List.{length-set, same_lists, take-append-drop, take-append-le, take_all}
 pub use Rattle.std.proofs.lemmas.List.Elements.{All-append, All-cons, All-contains, All-contains_itself, All-drop, All-head, All-nil, All-tail, All-take}
 pub use Rattle.std.proofs.lemmas.List.Elements.{Contains-append_cases, Contains-append_left, Contains-append_right}
 pub use Rattle.std.proofs.lemmas.Nat.{div-mul-add, mod-mul-add, same_from_place}
@@ -33,13 +31,13 @@ pub use Rattle.dob_moves.specs.declared.game_move.Move.{Move}
 pub use Rattle.dob_moves.specs.declared.position_status.Status.{Status}
 pub use Rattle.dob_moves.specs.declared.position_status.Status.TheVariants.{Caught, Open, Stuck, Tried}
 pub use Rattle.dob_rank.proofs.OfFamilies.Present.{HasClasses-classes_of}
-pub use Rattle.dob_rank.specs.Families.{HasClasses, IsPositionOf, RepresentsClass, class_number, class_setup, classes_of}
+pub use Rattle.dob_rank.specs.Families.{HasClasses, RepresentsClass, class_number, class_setup, classes_of}
 pub use Rattle.dob_classes.proofs.OfFamilies.FamilyRepresentatives.{class_setup_is, class_setup_only}
 pub use Rattle.dob_value.proofs.Consistency.{consistent_is_right, not_draw_loss, not_draw_win}
 pub use Rattle.dob_value.proofs.Successors.{moves_keep_the_family}
 pub use Rattle.dob_value.specs.Bounds.{plies_of}
 pub use Rattle.dob_value.specs.Codes.{IsShort, value_of_code}
-pub use Rattle.dob_value.specs.Distances.{IsLeastLoss, lesser_of}
+pub use Rattle.dob_value.specs.Distances.{IsLeastLoss}
 pub use Rattle.dob_value.specs.Entries.{is_draw}
 pub use Rattle.dob_value.specs.Follows.{AreGiven, FollowsAt, FollowsFromSuccessors, HasInTable, HasSuccessor, IsConsistent, IsEntry, IsValueTable}
 pub use Rattle.dob_value.specs.declared.value.Value.{Value}
@@ -50,8 +48,8 @@ pub use Rattle.dob_share.proofs.Applied.{CellValue-same}
 pub use Rattle.dob_share.proofs.Learning.{counted, counts, takes_next}
 pub use Rattle.dob_share.proofs.Owning.{cell_short}
 pub use Rattle.dob_share.proofs.Sums.{sums_up_after}
-pub use Rattle.dob_share.specs.Cells.{Cell, CellCanTake, CellValue, Changes, IsGreatest, KnowsLossWithin, SameCell, SumsUp, changed, fresh, less_at}
-pub use Rattle.dob_share.specs.Openings.{AreOwn, cell_moves, moves_where, opening_of, settled_among, settles}
+pub use Rattle.dob_share.specs.Cells.{Cell, CellCanTake, CellValue, Changes, IsGreatest, KnowsLossWithin, SameCell, SumsUp, changed, fresh}
+pub use Rattle.dob_share.specs.Openings.{AreOwn, moves_where, opening_of, settled_among, settles}
 pub use Rattle.dob_share.specs.Owners.{class_of_place, owner_of}
 pub use Rattle.dob_share.specs.Shares.{HasSettled, HasValueNow, IsApplication, IsNewShare, IsSeen, IsValue, SameClasses, cell_at}
 unfoldable pub use Rattle.dob_share.specs.Shares.{Fits, GoesTooDeep, IsOwn, places_of, status_at}
@@ -65,7 +63,7 @@ pub use Rattle.dob_share.specs.declared.share.Share.{Share}
 pub use Rattle.dob_update.specs.Batches.{BatchView, HasOneMore, IsCut, OutboxView, added, empty_outbox}
 pub use Rattle.dob_update.specs.Items.{item_for, items_from, items_of}
 pub use Rattle.dob_stops.specs.declared.cause.Cause.{Cause}
-pub use Rattle.dob_node.specs.Alone.{HasCome, HasMade, HasStoppedAlone, IsAlone, IsAloneStep, IsDone, IsTooDeepWithin, IsUnderWay, alone_applied, alone_history}
+pub use Rattle.dob_node.specs.Alone.{HasCome, HasMade, HasStoppedAlone, IsAlone, IsDone, IsTooDeepWithin, IsUnderWay, alone_applied, alone_history}
 pub use Rattle.dob_node.specs.Alone.{alone_items, cells_below}
 pub use Rattle.dob_node.specs.Falls.{Falls, HaveFalls, IsCellWithin, IsFall, IsFirst, IsSettlement, RestsOn}
 pub use Rattle.dob_node.specs.Histories.{AreValuesBelow, IsChained, IsNext, copies, items_to, known, last_now, value_of}

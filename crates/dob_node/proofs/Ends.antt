@@ -1,37 +1,25 @@
 -- Lawful nodes that have applied all their items hold the value table.
-use Rattle.dob_node.proofs.Common.{◌<◌, ◌∙◌, ◌∷◌, ◌≡◌, List, Some, [], ap, arith, eqb, get_or, length, refl, slice_get, subst, sym, ℕ, take_all, same_Some}
-use Rattle.dob_node.proofs.Common.{slice_get-get_or, Family, HasStatus, Status, Caught, Open, Stuck, Tried, HasClasses-classes_of, class_setup, classes_of}
-use Rattle.dob_node.proofs.Common.{class_setup_only, IsEntry, Value, Draw, representative_below, predecessors, Cell, owner_of, Item, Settlement, Opening}
-use Rattle.dob_node.proofs.Common.{items_from, value_of, AreLawfulNodes, known_of, AreOpenings, IsOpening, AreGathered, FollowsAtStatus, IsQuiet}
+use Rattle.dob_node.proofs.Common.{◌<◌, ◌∙◌, ◌≡◌, AreGathered, AreLawfulNodes, AreOpenings, Cell, Draw, Family, FollowsAtStatus, HasClasses-classes_of}
+use Rattle.dob_node.proofs.Common.{HasStatus, IsEntry, IsQuiet, Item, List, Open, Opening, Settlement, Some, Status, Value, ap, arith, class_setup}
+use Rattle.dob_node.proofs.Common.{class_setup_only, classes_of, eqb, get_or, items_from, known_of, length, opening_status, owner_of, predecessors, refl}
+use Rattle.dob_node.proofs.Common.{representative_below, same_Some, slice_get, slice_get-get_or, subst, sym, take_all, value_of, ℕ}
+use Rattle.dob_node.proofs.Opens.{listed_opening}
 use Rattle.dob_node.specs.Laws.{LawfulIsRight}
 use Rattle.dob_node.proofs.Rest.{below_owner, quiet_is_right}
 use Rattle.dob_node.proofs.Kept.{last_now-entry}
 use Rattle.dob_node.proofs.ValuesFollow.{value_follows}
 use Rattle.dob_node.proofs.Totals.{some_known}
 
-some_opening : (family : Family) (openings : List Opening) (class : ℕ) → AreOpenings family openings → class < classes_of family →
-    (given : Opening) × IsOpening family.profile (class_setup family class) given
-some_opening family openings class are below = at openings (subst (λ n. class < n) (sym are.whole) below) are.each
-  where
-    at : (openings : List Opening) → class < length openings →
-        ((class : ℕ) (given : Opening) → slice_get openings class ≡ Some given → IsOpening family.profile (class_setup family class) given) →
-        (given : Opening) × IsOpening family.profile (class_setup family class) given
-    at [] within each = absurd (omega arith)
-    at (o ∷ openings) within each =
-        (get_or (o ∷ openings) class o, each class (get_or (o ∷ openings) class o) (slice_get-get_or (o ∷ openings) class o within))
-
 module _ (family : Family) (n : ℕ) (histories : ℕ → List Settlement) (applied : ℕ → ℕ → List Item) (cell : ℕ → Cell) (value : ℕ → Value)
     (openings : List Opening) (some : 0 < n) (are : AreOpenings family openings) (lawful : AreLawfulNodes family n histories applied cell value)
     (all : (i j : ℕ) → i < n → j < n → applied i j ≡ items_from (predecessors family) n j (histories i)) where
   open_follows : (class : ℕ) → class < classes_of family → (status : Status) → HasStatus family.profile (class_setup family class) status →
       FollowsAtStatus status (known_of family n histories applied class) (value_of (histories (owner_of n class)) class)
-  open_follows class below Caught is = sym (lawful.values class below) ∙ lawful.over class Caught below is (λ same. cc)
-  open_follows class below Tried is = sym (lawful.values class below) ∙ lawful.over class Tried below is (λ same. cc)
-  open_follows class below Stuck is = sym (lawful.values class below) ∙ lawful.over class Stuck below is (λ same. cc)
   open_follows class below Open is =
       subst (λ v. FollowsAtStatus Open (known_of family n histories applied class) v) (lawful.values class below)
       (value_follows (known_of family n histories applied class) (cell class) (value class) (lawful.sums class below is)
       (some_known family class below n histories (λ i. applied i (owner_of n class)) is) (lawful.cell_values class below is))
+  open_follows class below status is = sym (lawful.values class below) ∙ lawful.over class status below is (λ same. cc)
 
   quiet : IsQuiet family (predecessors family) n histories (λ i. length (histories i)) (λ i j. items_from (predecessors family) n j (histories i)) applied
   quiet = record {
@@ -41,11 +29,11 @@ module _ (family : Family) (n : ℕ) (histories : ℕ → List Settlement) (appl
     nothing_waits = all;
     values = λ p class represents.
         let below = representative_below family p class represents in
-        let given = some_opening family openings class are below in
+        let opening = listed_opening family openings class are below in
         let same = class_setup_only family p class (classes_of family) (HasClasses-classes_of family) below represents.0 represents.1 in (
-          given.0.status,
-          subst (λ s. HasStatus family.profile s given.0.status) (sym same) given.1.status,
-          open_follows class below given.0.status given.1.status,
+          opening_status openings class,
+          rw same opening.status,
+          open_follows class below (opening_status openings class) opening.status,
         );
   }
 

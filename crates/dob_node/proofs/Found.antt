@@ -1,13 +1,12 @@
--- Each position has one status, and so each family has openings, whether they were listed or not; those of an owner's classes are among them.
-use Rattle.dob_node.proofs.Common.{◌*◌, ◌++◌, ◌+◌, ◌<◌, ◌∙◌, ◌∷◌, ◌≡◌, ◌≤◌, ◌⊎◌, Bool, List, MatchOption, None, Option, Some, [], arith, false, inl, inr}
-use Rattle.dob_node.proofs.Common.{length, refl, subst, suc, sym, true, zero, ℕ, slice_get-get_or, slice_get_within, at_end, head_in, none_in_empty, Family}
-use Rattle.dob_node.proofs.Common.{Profile, Setup, one_status, AreMoves-moves_of, not_tried_at, tried_at, has_tried, moves_of, AreMoves, CanCatch, HasStatus}
-use Rattle.dob_node.proofs.Common.{HasTried, IsFirstCatch, Move, Status, Caught, Open, Stuck, Tried, class_setup, classes_of, AreOwn, opening_of}
-use Rattle.dob_node.proofs.Common.{class_of_place, Opening, AreOpenings, AreOpeningsBelow, AreOwnOpenings, AreOwnSoFar, IsOpening}
-use Rattle.std.specs.Prelude.{slice_get}
+-- Each position has one status, and so each family has openings, those of the classes so far and one more, whether they were listed or not; those of an
+-- owner's classes are among them.
+use Rattle.dob_node.proofs.Common.{◌++◌, ◌+◌, ◌<◌, ◌∙◌, ◌∷◌, ◌≡◌, ◌≤◌, ◌⊎◌, AreMoves, AreMoves-moves_of, AreOpenings, AreOpeningsBelow, AreOwn}
+use Rattle.dob_node.proofs.Common.{AreOwnOpenings, AreOwnSoFar, Bool, CanCatch, Caught, Family, HasStatus, HasTried, IsFirstCatch, IsOpening, List}
+use Rattle.dob_node.proofs.Common.{MatchOption, Move, None, Open, Opening, Option, Profile, Setup, Some, Status, Stuck, Tried, [], ap, arith, at_end}
+use Rattle.dob_node.proofs.Common.{class_of_place, class_setup, classes_of, false, has_tried, head_in, inl, inr, length, length-append, moves_of}
+use Rattle.dob_node.proofs.Common.{none_in_empty, not_tried_at, one_status, opening_of, refl, slice_get_within, subst, suc, sym, tried_at, true, zero, ℕ}
 use Rattle.dob_moves.proofs.Verdicts.{catch_answer}
-use Rattle.dob_node.proofs.Starts.{openings_more}
-use Rattle.dob_node.proofs.Opens.{twelve_squares}
+use Rattle.dob_node.proofs.Opens.{opening_listed, twelve_squares}
 
 -- ---- the status of a position
 
@@ -30,6 +29,23 @@ pub has_status : (profile : Profile) (p : Setup) → length p.board ≡ 12 → (
 has_status profile p twelve = by_tests profile p twelve (by_catch p _ (catch_answer p _ twelve refl)) (has_tried p) refl
 
 -- ---- the openings of a family
+
+-- the opening of one more class
+pub openings_more : (family : Family) (upto : ℕ) (openings : List Opening) (given : Opening) → AreOpeningsBelow family upto openings →
+    IsOpening family.profile (class_setup family upto) given → AreOpeningsBelow family (upto + 1) (openings ++ given ∷ [])
+openings_more family upto openings given before is = record {
+  whole = length-append openings (given ∷ []) ∙ ap (λ n. n + 1) before.whole;
+  each = λ class other there. elim (at_end openings given other class there) [
+    | inl earlier ↦ before.each class other earlier
+    | inr last ↦ rw (← last.1, last.0, before.whole) is
+  ];
+}
+
+pub openings_none : (family : Family) → AreOpeningsBelow family 0 []
+openings_none family = record {
+  whole = refl;
+  each = λ class given there. let none : class < 0 = slice_get_within [] class given there in absurd (omega arith);
+}
 
 -- a class has a status and moves
 an_opening : (profile : Profile) (p : Setup) → (s : Status) × HasStatus profile p s → (given : Opening) × IsOpening profile p given
@@ -55,19 +71,12 @@ one_opening profile p one other is is_other = λ i. record {
   moves = (is.moves ∙ sym is_other.moves) i;
 }
 
--- what is listed of a class is its opening
-opening_listed : (openings : List Opening) (place : ℕ) → place < length openings → slice_get openings place ≡ Some (opening_of openings place)
-opening_listed openings place low = slice_get-get_or openings place (record { status = Stuck; moves = 0 }) low
-
 pub own_are : (family : Family) (openings own : List Opening) (n id : ℕ) → AreOpenings family openings → AreOwnOpenings family n id own → AreOwn openings n id own
 own_are family openings own n id all are = record {
-  places = λ place. (
-    λ low. subst (λ (count : ℕ). place * n + id < count) (sym all.whole) ((are.places place).0 low),
-    λ low. (are.places place).1 (subst (λ (count : ℕ). place * n + id < count) all.whole low),
-  );
+  places = λ place. rw all.whole (are.places place);
   each = λ place low.
       let class : ℕ = class_of_place n id place in
-      let inside : class < length openings = subst (λ (count : ℕ). class < count) (sym all.whole) ((are.places place).0 low) in
+      let inside : class < length openings = rw all.whole ((are.places place).0 low) in
       one_opening family.profile (class_setup family class) (opening_of own place) (opening_of openings class)
       (are.each place (opening_of own place) (opening_listed own place low))
       (all.each class (opening_of openings class) (opening_listed openings class inside));
@@ -80,6 +89,5 @@ pub own_more : (family : Family) (n id : ℕ) (own : List Opening) (given : Open
     IsOpening family.profile (class_setup family (class_of_place n id (length own))) given → AreOwnSoFar family n id (own ++ given ∷ [])
 own_more family n id own given before is place other there = elim (at_end own given other place there) [
   | inl earlier ↦ before place other earlier
-  | inr last ↦ subst (λ (o : Opening). IsOpening family.profile (class_setup family (class_of_place n id place)) o) last.1
-      (subst (λ (k : ℕ). IsOpening family.profile (class_setup family (class_of_place n id k)) given) (sym last.0) is)
+  | inr last ↦ rw (← last.1, last.0) is
 ]

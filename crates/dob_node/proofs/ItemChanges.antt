@@ -1,8 +1,7 @@
 -- What an item that a share takes changes: the value of its class, told by the settlement that is listed, and no other value.
-use Rattle.dob_node.proofs.Common.{◌++◌, ◌∙◌, ◌∷◌, ◌≡◌, ◌≢◌, Bool, List, None, Option, Some, [], ap, arith, cond, eqb, inl, inr}
-use Rattle.dob_node.proofs.Common.{length, subst, sym, true, ℕ, eq-eqb, ne_eqb, append-nil, Status, Open, Value, Cell}
-use Rattle.dob_node.proofs.Common.{CellValue, SameCell, Fits, HasSettled, HasValueNow, IsValue, cell_at, status_at, Better, NoWorse, Item}
-use Rattle.dob_node.proofs.Common.{Settlement, Share, value_of, HistoryView, IsTaken, listed}
+use Rattle.dob_node.proofs.Common.{◌++◌, ◌∙◌, ◌∷◌, ◌≡◌, ◌≢◌, Better, Bool, Cell, CellValue, Fits, HasSettled, HasValueNow, HistoryView, IsTaken, IsValue}
+use Rattle.dob_node.proofs.Common.{Item, List, NoWorse, None, Open, Option, SameCell, Settlement, Share, Some, Status, Value, [], ap, append-nil, arith}
+use Rattle.dob_node.proofs.Common.{cell_at, cond, eq-eqb, eqb, inl, inr, length, listed, nat_tests, refl, status_at, subst, sym, true, value_of, ℕ}
 use Rattle.dob_node.proofs.Settles.{value_of-more}
 use Rattle.dob_node.proofs.Kept.{better_apart}
 use Rattle.dob_node.proofs.Stored.{same_settlement}
@@ -33,10 +32,8 @@ fits_open share item fits = fits.1
 -- of the other classes it says what it said
 pub value_elsewhere : (share after : Share) (to : ℕ) (before grown : List Settlement) (given : Option Settlement) → HasSettled share after to given →
     grown ≡ before ++ listed given → (p : ℕ) → p ≢ to → value_of grown p ≡ value_of before p
-value_elsewhere share after to before grown None settled is p other = ap (λ xs. value_of xs p) (is ∙ append-nil before)
-value_elsewhere share after to before grown (Some s) settled is p other =
-    ap (λ xs. value_of xs p) is ∙ value_of-more before s p
-    ∙ ap (λ b. cond b s.now (value_of before p)) (ne_eqb s.class p (λ e. other (sym e ∙ settled.2)))
+value_elsewhere share after to before grown None settled is p other = rw (is, append-nil before) refl
+value_elsewhere share after to before grown (Some s) settled is p other = rw is (grind (arith, nat_tests, value_of-more before s p, settled.2))
 
 -- What has changed is the settlement that is listed, if there is one: where the value is another there is one, and else none.
 pub record Change (item : Item) (after : Share) (before grown : List Settlement) : Type 0 where
@@ -67,24 +64,21 @@ module _ (item : Item) (share after : Share) (history grown : HistoryView) (take
   change : (given : Option Settlement) → HasSettled share after item.to given → g ≡ h ++ listed given → Change item after h g
   change None settled is =
       let same : g ≡ h = is ∙ append-nil h in
-      let v = settled.1 in
-      let value : v ≡ value_of h item.to = was_is v settled.2 in
-      let now : value_of g item.to ≡ value_of h item.to = ap (λ xs. value_of xs item.to) same in
       record {
-        gives = subst (λ w. CellValue (cell_at after item.to) w) (value ∙ sym now) (value_after v settled.3);
-        better = inl (sym now);
+        gives = rw (same, ← was_is settled.1 settled.2) (value_after settled.1 settled.3);
+        better = rw same (inl refl);
         others = value_elsewhere share after item.to h g None settled is;
         same = λ e. same;
-        more = λ differs. absurd (differs (sym now));
+        more = λ differs. absurd (differs (rw same refl));
       }
   change (Some s) settled is =
       let was : s.was ≡ value_of h item.to = was_is s.was settled.3 in
       let here : eqb s.class item.to ≡ true = eq-eqb s.class item.to settled.2 in
       let now : value_of g item.to ≡ s.now =
       ap (λ xs. value_of xs item.to) is ∙ value_of-more h s item.to ∙ ap (λ b. cond b s.now (value_of h item.to)) here in
-      let better : Better (value_of h item.to) (value_of g item.to) = subst (λ v. Better v (value_of g item.to)) was (subst (λ w. Better s.was w) (sym now) settled.5) in
+      let better : Better (value_of h item.to) (value_of g item.to) = rw (now, ← was) settled.5 in
       record {
-        gives = subst (λ w. CellValue (cell_at after item.to) w) (sym now) (value_after s.now settled.4);
+        gives = rw now (value_after s.now settled.4);
         better = inr better;
         others = value_elsewhere share after item.to h g (Some s) settled is;
         same = λ e. absurd (better_apart (value_of h item.to) (value_of g item.to) better e);

@@ -1,23 +1,16 @@
 -- What the copies know, where histories or the items applied are the same, and which values they can know.
-use Rattle.dob_node.proofs.Common.{◌&&◌, ◌<◌, ◌∙◌, ◌∷◌, ◌≡◌, Bool, Contains, List, [], ap, arith, cond, eqb, ltb, subst, ℕ, cond_both, All-head}
-use Rattle.dob_node.proofs.Common.{All-tail, All, each_below, IsShort, IsEntry, Value, Draw, Loss, Win, owner_of, Better, Item, Settlement, all_known, copies}
-use Rattle.dob_node.proofs.Common.{items_to, known, last_now, FollowsFromKnown}
-use Rattle.dob_node.proofs.Runs.{each_below-same, from_each_below, only_one}
+use Rattle.dob_node.proofs.Common.{◌&&◌, ◌<◌, ◌∷◌, ◌≡◌, All, All-head, All-tail, Better, Bool, Contains, Draw, FollowsFromKnown, IsEntry, IsShort, Item, List}
+use Rattle.dob_node.proofs.Common.{Loss, Settlement, Value, Win, [], all_known, arith, cond, cond_both, eqb, items_to, known, last_now, ltb, owner_of, refl}
+use Rattle.dob_node.proofs.Common.{subst, ℕ}
+use Rattle.dob_node.proofs.Copies.{all_known-each, known_by}
 use Rattle.dob_node.proofs.Rest.{below_owner}
 
 -- the same histories and the same items applied teach the same
 pub all_known-same : (targets : ℕ → List ℕ) (classes n : ℕ) (histories after : ℕ → List Settlement) (applied items : ℕ → List Item) (p : ℕ) →
     ((k : ℕ) → after k ≡ histories k) → ((k : ℕ) → items k ≡ applied k) →
     all_known targets classes n after items p ≡ all_known targets classes n histories applied p
-unfolding all_known
 all_known-same targets classes n histories after applied items p same_h same_a =
-    each_below-same (λ (q : ℕ). each_below (λ (copy : ℕ). known (after (owner_of n q)) (items (owner_of n q)) p q copy ∷ []) (copies targets p q))
-    (λ (q : ℕ). each_below (λ (copy : ℕ). known (histories (owner_of n q)) (applied (owner_of n q)) p q copy ∷ []) (copies targets p q)) classes
-    (λ q below. each_below-same (λ (copy : ℕ). known (after (owner_of n q)) (items (owner_of n q)) p q copy ∷ [])
-    (λ (copy : ℕ). known (histories (owner_of n q)) (applied (owner_of n q)) p q copy ∷ []) (copies targets p q)
-    (λ copy low. ap (λ v. v ∷ []) (
-    ap (λ h. known h (items (owner_of n q)) p q copy) (same_h (owner_of n q))
-    ∙ ap (λ a. known (histories (owner_of n q)) a p q copy) (same_a (owner_of n q)))))
+    all_known-each targets classes n histories after applied items p (λ q copy. rw (same_h (owner_of n q), same_a (owner_of n q)) refl)
 
 -- ---- values that a table can have
 
@@ -32,15 +25,10 @@ last_now-entry test v (s ∷ ss) is all =
 pub known_entries : (targets : ℕ → List ℕ) (classes n : ℕ) (histories : ℕ → List Settlement) (applied : ℕ → List Item) (p : ℕ) → 0 < n →
     ((i : ℕ) → i < n → All (λ (s : Settlement). IsEntry s.now) (histories i)) → (v : Value) →
     Contains (all_known targets classes n histories applied p) v → IsEntry v
-unfolding all_known
 known_entries targets classes n histories applied p some entries v there =
-    let at = from_each_below (λ (q : ℕ). each_below (λ (copy : ℕ). known (histories (owner_of n q)) (applied (owner_of n q)) p q copy ∷ [])
-    (copies targets p q)) classes v there in
-    let q = at.0 in
-    let row = from_each_below (λ (copy : ℕ). known (histories (owner_of n q)) (applied (owner_of n q)) p q copy ∷ []) (copies targets p q) v at.2 in
-    subst IsEntry (only_one (known (histories (owner_of n q)) (applied (owner_of n q)) p q row.0) v row.2)
-    (last_now-entry (λ s. eqb s.class q && ltb row.0 (items_to (applied (owner_of n q)) s.number p)) Draw (histories (owner_of n q)) tt
-    (entries (owner_of n q) (below_owner n q some)))
+    let at = known_by targets classes n histories applied p v there in
+    subst IsEntry at.4 (last_now-entry (λ s. eqb s.class at.0 && ltb at.2 (items_to (applied (owner_of n at.0)) s.number p)) Draw
+    (histories (owner_of n at.0)) tt (entries (owner_of n at.0) (below_owner n at.0 some)))
 
 -- a value that follows from such values, and is short, is one
 pub follows_entry : (known : List Value) (v : Value) → ((u : Value) → Contains known u → IsEntry u) → FollowsFromKnown known v → IsShort v → IsEntry v

@@ -1,11 +1,11 @@
 -- What an item taken makes of a node's cells and of its history.
-use Rattle.dob_node.proofs.Common.{◌%◌, ◌++◌, ◌+◌, ◌/◌, ◌<◌, ◌^◌, ◌∙◌, ◌≡◌, ◌≤◌, List, None, Ok, Option, Some, [], ap, arith, inl, inr, length}
-use Rattle.dob_node.proofs.Common.{subst, sym, take, ℕ, div-le_self, cases_eq, append-nil, length-append, All-append, All-cons, All-nil, All, Family}
-use Rattle.dob_node.proofs.Common.{Status, Open, classes_of, IsEntry, Value, Draw, Loss, Win, Cell, CellCanTake, KnowsLossWithin, changed}
-use Rattle.dob_node.proofs.Common.{owner_of, Fits, HasSettled, IsApplication, IsOwn, SameClasses, cell_at, places_of, status_at, StatusesView, Item, Settlement}
-use Rattle.dob_node.proofs.Common.{Share, HistoryView, starts_count, AreKept, HasItemEntries, HasParities, IsTaken, listed, Stored}
+use Rattle.dob_node.proofs.Common.{◌%◌, ◌++◌, ◌+◌, ◌/◌, ◌<◌, ◌^◌, ◌∙◌, ◌≡◌, ◌≤◌, All, All-append, All-cons, All-nil, AreKept, Cell, CellCanTake, Draw, Family}
+use Rattle.dob_node.proofs.Common.{Fits, HasItemEntries, HasParities, HasSettled, HistoryView, IsApplication, IsEntry, IsOwn, IsTaken, Item, KnowsLossWithin}
+use Rattle.dob_node.proofs.Common.{List, Loss, None, Ok, Open, Option, SameClasses, Settlement, Share, Some, Status, StatusesView, Stored, Value, Win, [], ap}
+use Rattle.dob_node.proofs.Common.{append-nil, arith, cases_eq, cell_at, classes_of, div-le_self, inl, inr, length, length-append, listed, owner_of}
+use Rattle.dob_node.proofs.Common.{places_of, starts_count, status_at, subst, sym, take, ℕ}
 use Rattle.dob_node.proofs.Stored.{seen, count_is}
-use Rattle.dob_node.proofs.Parity.{parities_same, parities_changed, entry_now}
+use Rattle.dob_node.proofs.Opens.{parities_same, parities_changed, entry_now}
 
 -- ---- what is not refused fits
 
@@ -46,11 +46,7 @@ same_history history = ap (λ (xs : List Settlement). record history { settlemen
 
 same_owned : (old new : Share) → SameClasses old new → (class : ℕ) → IsOwn new class → IsOwn old class
 unfolding IsOwn places_of
-same_owned old new same class own =
-    let n_is : new.nodes ≡ old.nodes = same.nodes in (
-      subst (λ (m : ℕ). class % m ≡ old.id) n_is (own.0 ∙ same.id),
-      subst (λ (m : ℕ). class / m < old.statuses.places) n_is (subst (λ (m : ℕ). class / new.nodes < m) same.places own.1),
-    )
+same_owned old new same class own = rw (same.nodes, same.id, same.places) at own
 
 -- ---- an item that is applied is taken
 
@@ -73,10 +69,11 @@ pub record IsNews (n id number : ℕ) (s : Settlement) : Type 0 where
   pub now : IsEntry s.now
 
 -- it is stored behind those that are there
-pub news_seen : (n id room count : ℕ) (starts : StatusesView) (stored : List Stored) (view : HistoryView) (s : Settlement) → count + room ≤ length stored →
-    seen n id room starts (take count stored) ≡ view → IsNews view.n view.id (length view.settlements) s → IsNews n id (starts_count starts + count) s
-news_seen n id room count starts stored view s all is news =
-    subst (λ (k : ℕ). IsNews n id k s) (sym (count_is n id room count starts stored view all is))
+pub news_seen : (n id room count : ℕ) (starts : StatusesView) (stored : List Stored) {view : HistoryView} → count + room ≤ length stored →
+    seen n id room starts (take count stored) ≡ view → (s : Settlement) → IsNews view.n view.id (length view.settlements) s →
+    IsNews n id (starts_count starts + count) s
+news_seen n id room count starts stored {view = view} all is s news =
+    subst (λ (k : ℕ). IsNews n id k s) (sym (count_is n id room count starts stored all is))
     (subst (λ (v : HistoryView). IsNews v.n v.id (length view.settlements) s) (sym is) news)
 
 module _ (family : Family) (n id : ℕ) (share after : Share) (history grown : HistoryView) (item : Item) (kept : AreKept family n id share history)
@@ -88,25 +85,22 @@ module _ (family : Family) (n id : ℕ) (share after : Share) (history grown : H
   mine = (kept.owned item.to).0 own
 
   parities_there : HasParities (cell_at after item.to)
-  parities_there = parities_same (cell_at after item.to) (changed item.was item.now (cell_at share item.to)) taken.cell
-      (parities_changed item.was item.now (cell_at share item.to) entries.0 entries.1 (kept.parities item.to own))
+  parities_there = parities_same taken.cell (parities_changed item.was item.now (cell_at share item.to) entries.0 entries.1 (kept.parities item.to own))
 
   parities_all : (class : ℕ) → IsOwn after class → HasParities (cell_at after class)
   parities_all class own_after = elim (cases_eq class item.to) [
-    | inl is ↦ subst (λ (k : ℕ). HasParities (cell_at after k)) (sym is) parities_there
+    | inl is ↦ rw is parities_there
     | inr other ↦
         let before : IsOwn share class = same_owned share after taken.classes class own_after in
-        parities_same (cell_at after class) (cell_at share class) (taken.others class before other) (kept.parities class before)
+        parities_same (taken.others class before other) (kept.parities class before)
   ]
 
   -- what is asked of a settlement
   pub news_is : (s : Settlement) → HasSettled share after item.to (Some s) → IsNews history.n history.id (length history.settlements) s
   news_is s settled = record {
     number_is = settled.1 ∙ kept.counted;
-    own = subst (λ (k : ℕ). owner_of history.n k ≡ history.id) (sym settled.2)
-        (subst (λ (m : ℕ). owner_of m item.to ≡ history.id) (sym kept.history_is.0) (mine.0 ∙ sym kept.history_is.1));
-    place =
-        omega (arith, mine.1, kept.few, div-le_self s.class history.n, settled.2);
+    own = rw (settled.2, kept.history_is.0, kept.history_is.1) mine.0;
+    place = omega (arith, mine.1, kept.few, div-le_self s.class history.n, settled.2);
     was = entry_now share item.to s.was own (kept.parities item.to own) settled.3;
     now = entry_now after item.to s.now (taken.classes.owned item.to own) parities_there settled.4;
   }
@@ -119,8 +113,7 @@ module _ (family : Family) (n id : ℕ) (share after : Share) (history grown : H
   settled_classes : (given : Option Settlement) → HasSettled share after item.to given →
       All (λ (s : Settlement). s.class < classes_of family) (listed given)
   settled_classes None settled = All-nil (λ (s : Settlement). s.class < classes_of family)
-  settled_classes (Some s) settled = All-cons (λ (s : Settlement). s.class < classes_of family) s []
-      (subst (λ (k : ℕ). k < classes_of family) (sym settled.2) mine.1) (All-nil (λ (s : Settlement). s.class < classes_of family))
+  settled_classes (Some s) settled = All-cons (λ (s : Settlement). s.class < classes_of family) s [] (rw settled.2 mine.1) (All-nil _)
 
   pub kept_still : AreKept family n id after grown
   kept_still = subst (λ (view : HistoryView). AreKept family n id after view) (sym taken.settled.2) (record {

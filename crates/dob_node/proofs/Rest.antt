@@ -1,10 +1,10 @@
 -- Quiet nodes hold the value table.
-use Rattle.dob_node.proofs.Common.{◌<◌, ◌∙◌, ◌∷◌, ◌≡◌, ◌⊎◌, Contains, List, Some, [], ap, arith, inl, inr, length, refl, slice_get, subst, sym, take, ℕ}
-use Rattle.dob_node.proofs.Common.{take_all, same_Some, slice_get_within, each_below, Family, Setup, HasStatus, Move, Status, Caught, Open, Stuck, Tried}
-use Rattle.dob_node.proofs.Common.{HasClasses-classes_of, HasClasses, IsPositionOf, classes_of, consistent_is_right, moves_keep_the_family, FollowsAt}
-use Rattle.dob_node.proofs.Common.{FollowsFromSuccessors, HasInTable, HasSuccessor, IsConsistent, Value, Draw, Loss, Win, ArePredecessors-predecessors}
-use Rattle.dob_node.proofs.Common.{predecessors, owner_of, Item, Settlement, items_from, all_known, copies, known, value_of, AreGathered, FollowsAtStatus}
-use Rattle.dob_node.proofs.Common.{FollowsFromKnown, IsQuiet, QuietIsRight}
+use Rattle.dob_node.proofs.Common.{◌<◌, ◌∙◌, ◌∷◌, ◌≡◌, ◌⊎◌, AreGathered, ArePredecessors-predecessors, Contains, Draw, Family, FollowsAt, FollowsAtStatus}
+use Rattle.dob_node.proofs.Common.{FollowsFromKnown, FollowsFromSuccessors, HasClasses, HasClasses-classes_of, HasInTable, HasStatus, HasSuccessor}
+use Rattle.dob_node.proofs.Common.{IsConsistent, IsQuiet, Item, List, Loss, Move, Open, QuietIsRight, Settlement, Setup, Some, Status, Value, Win, []}
+use Rattle.dob_node.proofs.Common.{all_known, ap, arith, classes_of, consistent_is_right, copies, each_below, inl, inr, items_from, known, length}
+use Rattle.dob_node.proofs.Common.{moves_keep_the_family, owner_of, predecessors, refl, same_Some, slice_get, slice_get_within, subst, sym, take, take_all}
+use Rattle.dob_node.proofs.Common.{value_of, ℕ}
 use Rattle.dob_pieces.specs.Setups.{mirrored}
 use Rattle.dob_pieces.proofs.Symmetries.{mirrored-mirrored}
 use Rattle.dob_moves.specs.Moves.{Goes}
@@ -12,9 +12,8 @@ use Rattle.dob_value.specs.ClassRows.{class_setup}
 use Rattle.dob_value.proofs.ClassNumbers.{has_entry, one_entry, representative_is}
 use Rattle.dob_value.proofs.Rows.{class_setup_is}
 use Rattle.dob_unmove.specs.Classes.{RepresentsClass}
-use Rattle.dob_unmove.specs.Unmoves.{ArePredecessors, IsEither, LeadsInto}
-use Rattle.dob_node.proofs.Runs.{in_each_below, from_each_below, only_one, the_one}
-use Rattle.dob_node.proofs.Copies.{all_applied}
+use Rattle.dob_unmove.specs.Unmoves.{ArePredecessors, LeadsInto}
+use Rattle.dob_node.proofs.Copies.{in_each_below, the_one, known_by, all_applied}
 
 -- what a list of an edge's moves has
 pub some_of : {X : Type 0} (xs : List X) (number : ℕ) → length xs ≡ number → 0 < number → (x : X) × Contains xs x
@@ -26,6 +25,13 @@ none_of xs number x whole there = let below : there.0 < length xs = there.1 in o
 
 pub below_owner : (n class : ℕ) → 0 < n → owner_of n class < n
 below_owner n class some = omega arith
+
+-- of two positions each is the other, or its mirror image
+turn : (a b : Setup) → length a.board ≡ 12 → (b ≡ a) ⊎ (b ≡ mirrored a) → (a ≡ b) ⊎ (a ≡ mirrored b)
+turn a b twelve either = elim either [
+  | inl same ↦ inl (sym same)
+  | inr image ↦ inr (sym (mirrored-mirrored a twelve) ∙ ap mirrored (sym image))
+]
 
 -- each class has its predecessors as targets
 abbrev pub AreTargets : Family → (ℕ → List ℕ) → Type 0
@@ -85,27 +91,22 @@ module _ (family : Family) (targets : ℕ → List ℕ) (n : ℕ) (histories : �
         leads.1.1,
         record {
           class = q;
-          number = record { position = moves_keep_the_family family p move.0 o represents.0.0 leads.0 leads.1.1; representative = rep; stands = (turn rep o is.0.0 leads.1.2, is.0.1); before = is.1 };
+          number = record {
+            position = moves_keep_the_family family p move.0 o represents.0.0 leads.0 leads.1.1;
+            representative = rep;
+            stands = (turn rep o is.0.0.of_set.legal.squares leads.1.2, is.0.1);
+            before = is.1;
+          };
           entry = gathered.each q below ∙ ap Some (sym same);
         },
       )
-    where
-      turn : (rep o : Setup) → IsPositionOf family rep → IsEither rep o → (rep ≡ o) ⊎ (rep ≡ mirrored o)
-      turn rep o is either = elim either [
-        | inl same ↦ inl (sym same)
-        | inr image ↦ inr (sym (mirrored-mirrored rep is.of_set.legal.squares) ∙ ap mirrored (sym image))
-      ]
 
   -- what a copy knows is the value of a successor
   heard : (p : Setup) (a : ℕ) → RepresentsClass family p a → (u : Value) → Contains (knows a) u → HasSuccessor family.profile Has p u
-  unfolding all_known
   heard p a represents u there =
-      let at = from_each_below (λ (q : ℕ). each_below (λ (copy : ℕ). copy_of a q copy ∷ []) (copies targets a q)) (classes_of family) u there in
-      let q = at.0 in
-      let row = from_each_below (λ (copy : ℕ). copy_of a q copy ∷ []) (copies targets a q) u at.2 in
-      let is : copy_of a q row.0 ≡ u = only_one (copy_of a q row.0) u row.2 in
-      let below : row.0 < copies targets a q = row.1 in
-      successor p a represents q u at.1 (omega arith) (sym is ∙ copy_knows a q row.0 below)
+      let at = known_by targets (classes_of family) n histories (λ i. applied i (owner_of n a)) a u there in
+      let below : at.2 < copies targets a at.0 = at.3 in
+      successor p a represents at.0 u at.1 (omega arith) (sym at.4 ∙ copy_knows a at.0 at.2 below)
 
   -- and the value of each successor is known to a copy
   emitted : (p : Setup) (a : ℕ) → RepresentsClass family p a → HasStatus family.profile p Open → (move : Move) (o : Setup) → Goes family.profile p move o → (u : Value) → Has o u →
@@ -118,17 +119,11 @@ module _ (family : Family) (targets : ℕ → List ℕ) (n : ℕ) (histories : �
       let position = moves_keep_the_family family p move o represents.0.0 goes_on goes in
       let is_rep = representative_is family o rep position has.number.stands in
       let edge = (are_targets rep q (is_rep, has.number.before)).counts.edges p a represents in
-      let leads : LeadsInto family.profile p rep move = (goes_on, (o, goes, turn rep o is_rep.0 position has.number.stands.0)) in
+      let leads : LeadsInto family.profile p rep move = (goes_on, (o, goes, turn o rep position.of_set.legal.squares has.number.stands.0)) in
       let above : 0 < copies targets a q = none_of edge.moves (copies targets a q) move edge.counted (edge.whole move leads) in
       in_each_below (λ (q : ℕ). each_below (λ (copy : ℕ). copy_of a q copy ∷ []) (copies targets a q)) (classes_of family) q u there.0
       (in_each_below (λ (copy : ℕ). copy_of a q copy ∷ []) (copies targets a q) 0 u above
       (the_one (copy_of a q 0) u (copy_knows a q 0 above ∙ sym there.1)))
-    where
-      turn : (rep o : Setup) → IsPositionOf family rep → IsPositionOf family o → (rep ≡ o) ⊎ (rep ≡ mirrored o) → IsEither rep o
-      turn rep o is position either = elim either [
-        | inl same ↦ inl (sym same)
-        | inr image ↦ inr (sym (mirrored-mirrored o position.of_set.legal.squares) ∙ ap mirrored (sym image))
-      ]
 
   follows_known : (p : Setup) (a : ℕ) → RepresentsClass family p a → HasStatus family.profile p Open → (v : Value) → FollowsFromKnown (knows a) v →
       FollowsFromSuccessors family.profile Has p v
@@ -158,10 +153,8 @@ module _ (family : Family) (targets : ℕ → List ℕ) (n : ℕ) (histories : �
 
   at_status : (p : Setup) (a : ℕ) → RepresentsClass family p a → (status : Status) → HasStatus family.profile p status → (v : Value) →
       FollowsAtStatus status (knows a) v → FollowsAt family.profile Has p status v
-  at_status p a represents Caught is v follows = follows
-  at_status p a represents Tried is v follows = follows
-  at_status p a represents Stuck is v follows = follows
   at_status p a represents Open is v follows = follows_known p a represents is v follows
+  at_status p a represents status is v follows = follows
 
   consistent : IsConsistent family values
   consistent = record {

@@ -1,9 +1,9 @@
--- The outboxes of a node: empty ones, and what one settlement more adds to them.
-use Rattle.dob_node.proofs.Common.{◌++◌, ◌+◌, ◌<◌, ◌==◌, ◌∙◌, ◌∷◌, ◌≡◌, ◌≢◌, ◌≤◌, List, None, Option, Some, [], ap, arith, get_or, inl, inr, length, refl, set}
-use Rattle.dob_node.proofs.Common.{subst, sym, ℕ, get_or-eq_default, drop-nil, cases_eq, cases_lt, get_or-set_other, get_or-set_same}
-use Rattle.dob_node.proofs.Common.{get_or_append_left, get_or_default, length-append, length-set, All-append, All-drop, All-nil, All-take, All, filter, IfSome}
-use Rattle.dob_node.proofs.Common.{IsNone, Family, IsEntry, predecessors, owner_of, Item, Settlement, BatchView, IsCut, OutboxView, added, empty_outbox}
-use Rattle.dob_node.proofs.Common.{items_of, AreAdded, IsCutFrom, IsOutboxTo, outbox_in, HasItemEntries, NodeView, IsSound}
+-- The outboxes of a node: empty ones, what one settlement more adds to them, and what it is to take that back.
+use Rattle.dob_node.proofs.Common.{◌++◌, ◌+◌, ◌<◌, ◌==◌, ◌∙◌, ◌∷◌, ◌≡◌, ◌≢◌, ◌≤◌, All, All-append, All-drop, All-nil, All-take, AreAdded, BatchView, Family}
+use Rattle.dob_node.proofs.Common.{HasItemEntries, HasOneMore, HaveOneMore, IfSome, IsCut, IsCutFrom, IsEntry, IsNone, IsOutboxTo, IsSound, Item, List}
+use Rattle.dob_node.proofs.Common.{NodeView, None, Option, OutboxView, Settlement, Some, [], added, ap, arith, cases_eq, cases_lt, drop-nil, empty_outbox}
+use Rattle.dob_node.proofs.Common.{filter, get_or, get_or-eq_default, get_or-set_other, get_or-set_same, get_or_append_left, get_or_default, inl, inr}
+use Rattle.dob_node.proofs.Common.{items_of, length, length-append, length-set, outbox_in, owner_of, predecessors, refl, same_lists, set, subst, sym, ℕ}
 use Rattle.std.proofs.lemmas.List.{get_or_push}
 use Rattle.dob_node.proofs.Sounds.{entries_of}
 
@@ -17,22 +17,16 @@ empties_more family n from k xs new count empty is to =
 
 -- ---- one settlement more
 
-module _ (targets : List ℕ) (settlement : Settlement) (n from k : ℕ) (old mid : List OutboxView)
-    (so_far : AreAdded targets settlement n from k old mid) where
+module _ {targets : List ℕ} {settlement : Settlement} {n from k : ℕ} {old mid : List OutboxView} (so_far : AreAdded targets settlement n from k old mid) where
   -- the node's own outbox is left out
   pub added_own : k ≡ from → AreAdded targets settlement n from (k + 1) old mid
-  added_own own = record {
-    whole = so_far.whole;
-    sent = λ to default low other. so_far.sent to default (omega arith) other;
-    unsent = so_far.unsent;
-    later = λ to default high. so_far.later to default (omega arith);
-  }
+  added_own own = grind (arith, so_far.sent, so_far.later, so_far.unsent)
 
   -- that for the node k has it more, of as many outboxes
-  pub added_one : (many : ℕ) (any : OutboxView) (new : List OutboxView) → n ≡ length old → many ≡ length mid → k ≢ from → k < n →
+  pub added_one : {many : ℕ} {new : List OutboxView} (any : OutboxView) → n ≡ length old → many ≡ length mid → k ≢ from → k < n →
       ((default : OutboxView) → new ≡ set mid k (added (get_or mid k default) settlement (items_of (λ _. targets) many k settlement))) →
       AreAdded targets settlement n from (k + 1) old new
-  added_one many any new count many_is other low is = record {
+  added_one {many = many} any count many_is other low is = record {
     whole = grind (arith, is any, length-set, so_far.whole);
     sent = λ to default below apart. grind (arith, is default, same, get_or-set_same, get_or-set_other, so_far.sent to default, so_far.later to default);
     unsent = λ default. grind (arith, is default, get_or-set_other, so_far.unsent default);
@@ -44,34 +38,25 @@ module _ (targets : List ℕ) (settlement : Settlement) (n from k : ℕ) (old mi
 
 -- none is added yet
 pub added_none : (targets : List ℕ) (settlement : Settlement) (n from : ℕ) (old : List OutboxView) → AreAdded targets settlement n from 0 old old
-added_none targets settlement n from old = record {
-  whole = refl;
-  sent = λ to default low other. absurd (omega arith);
-  unsent = λ default. refl;
-  later = λ to default high. refl;
-}
+added_none targets settlement n from old = grind arith
 
 -- what is asked of the items for an outbox to a node
-pub asked_of : (targets : List ℕ) (settlement : Settlement) (n from k : ℕ) (family : Family) (o : OutboxView) (items : List Item) → IsOutboxTo family n from k o →
-    targets ≡ predecessors family settlement.class → items ≡ items_of (λ _. targets) n k settlement → items ≡ items_of (predecessors o.family) o.n o.to settlement
-asked_of targets settlement n from k family o items is same are =
-    rw (is.of.0, is.of.1, is.of.3, ← same) are
+pub asked_of : {targets : List ℕ} (settlement : Settlement) {n from k : ℕ} {family : Family} {o : OutboxView} {items : List Item} →
+    IsOutboxTo family n from k o → targets ≡ predecessors family settlement.class → items ≡ items_of (λ _. targets) n k settlement →
+    items ≡ items_of (predecessors o.family) o.n o.to settlement
+asked_of settlement is same are = rw (is.of.0, is.of.1, is.of.3, ← same) are
 
 -- an outbox that has nothing of the settlement yet is of n nodes, and for the node of its number
-pub addressed_still : (targets : List ℕ) (settlement : Settlement) (n from k many : ℕ) (old mid : List OutboxView) →
+pub addressed_still : {targets : List ℕ} {settlement : Settlement} {n from k many : ℕ} {old mid : List OutboxView} →
     AreAdded targets settlement n from k old mid → n ≡ length old → many ≡ length mid →
     (let each = length old in
     (family : Family) × (targets ≡ predecessors family settlement.class) × ((to : ℕ) → IsOutboxTo family each from to (outbox_in family each from old to))) →
     k < n → (default : OutboxView) →
     ((get_or mid k default).n ≡ many) × ((get_or mid k default).to ≡ k) × (targets ≡ predecessors (get_or mid k default).family settlement.class)
-addressed_still targets settlement n from k many old mid so_far count many_is of low default =
+addressed_still {from = from} {k = k} {many = many} {old = old} so_far count many_is of low default =
     let whom = (of.2 k).of in
-    let there = so_far.later k default (omega arith) ∙ get_or_default old k default (empty_outbox of.0 (length old) from k) (omega arith) in (
-      grind (arith, there, whom, so_far.whole),
-      grind (arith, there, whom),
-      of.1 ∙ ap (λ st. predecessors st settlement.class)
-          (sym (ap (λ (o : OutboxView). o.family) there ∙ whom.0)),
-    )
+    let there = so_far.later k default (omega arith) ∙ get_or_default old k default (empty_outbox of.0 (length old) from k) (omega arith) in
+    (grind (arith, there, whom, so_far.whole), grind (arith, there, whom), rw (there, whom.0) of.1)
 
 -- ---- what the outboxes are for
 
@@ -93,9 +78,8 @@ pub addressed_added : (family : Family) (targets : List ℕ) (s : Settlement) (n
 addressed_added family targets s n from old new was now are all to = elim (cases_eq to from) [
   | inl own ↦ rw (own, are.unsent (empty_outbox family n from from)) (all from)
   | inr apart ↦ elim (cases_lt to n) [
-    | inl low ↦ rw (are.sent to (empty_outbox family n from to) low apart) (added_to family n from to (outbox_in family n from old to) s targets was now
-        (all to))
-    | inr high ↦ rw (are.later to (empty_outbox family n from to) high) (all to)
+    | inl low ↦ rw (are.sent to _ low apart) (added_to family n from to (outbox_in family n from old to) s targets was now (all to))
+    | inr high ↦ rw (are.later to _ high) (all to)
   ]
 ]
 
@@ -109,8 +93,7 @@ all_empty xs all family n from to = elim (cases_lt to (length xs)) [
 
 pub empty_all : (xs : List OutboxView) (family : Family) (n from : ℕ) → ((to : ℕ) → (outbox_in family n from xs to).items ≡ []) →
     All (λ (o : OutboxView). o.items ≡ []) xs
-empty_all xs family n from empty = λ to default low.
-    ap (λ (o : OutboxView). o.items) (get_or_default xs to default (empty_outbox family n from to) low) ∙ empty to
+empty_all xs family n from empty = λ to default low. rw (get_or_default xs to default (empty_outbox family n from to) low) (empty to)
 
 -- ---- a batch cut
 
@@ -135,31 +118,25 @@ cut_read to size (Some batch) old read cut low is given = cut_there to size batc
     (λ default. subst (λ (o : OutboxView). IsCut o size batch cut) (is ∙ get_or_default old to read default low) given) refl
 
 -- what is left has the same values, and so has what is cut
-cut_to : (family : Family) (n from to size : ℕ) (batch : BatchView) (old new : OutboxView) → IsCut old size batch new → IsOutboxTo family n from to old →
-    IsOutboxTo family n from to new
-cut_to family n from to size batch old new cut is = record {
-  of = (cut.same_link.0 ∙ is.of.0, cut.same_link.1 ∙ is.of.1, cut.same_link.2 ∙ is.of.2, cut.same_link.3 ∙ is.of.3);
-  entries = subst (λ xs. All HasItemEntries xs) (sym cut.left) (All-drop HasItemEntries size old.items is.entries);
-}
+module _ {family : Family} {n from to size : ℕ} {batch : BatchView} {old new : OutboxView} (cut : IsCut old size batch new)
+    (is : IsOutboxTo family n from to old) where
+  cut_to : IsOutboxTo family n from to new
+  cut_to = record {
+    of = (cut.same_link.0 ∙ is.of.0, cut.same_link.1 ∙ is.of.1, cut.same_link.2 ∙ is.of.2, cut.same_link.3 ∙ is.of.3);
+    entries = rw cut.left (All-drop HasItemEntries size old.items is.entries);
+  }
 
-pub cut_entries : (family : Family) (n from to size : ℕ) (batch : BatchView) (old new : OutboxView) → IsCut old size batch new → IsOutboxTo family n from to old →
-    All HasItemEntries batch.items
-cut_entries family n from to size batch old new cut is = subst (λ xs. All HasItemEntries xs) (sym cut.items) (All-take HasItemEntries size old.items is.entries)
+  pub cut_entries : All HasItemEntries batch.items
+  cut_entries = rw cut.items (All-take HasItemEntries size old.items is.entries)
 
--- the batch is of the same link
-pub cut_of : (family : Family) (n from to size : ℕ) (batch : BatchView) (old new : OutboxView) → IsCut old size batch new → IsOutboxTo family n from to old →
-    (batch.family ≡ family) × (batch.n ≡ n) × (batch.from ≡ from) × (batch.to ≡ to)
-cut_of family n from to size batch old new cut is = (
-  cut.of_link.0 ∙ is.of.0,
-  cut.of_link.1 ∙ is.of.1,
-  cut.of_link.2 ∙ is.of.2,
-  cut.of_link.3 ∙ is.of.3,
-)
+  -- the batch is of the same link
+  pub cut_of : (batch.family ≡ family) × (batch.n ≡ n) × (batch.from ≡ from) × (batch.to ≡ to)
+  cut_of = (cut.of_link.0 ∙ is.of.0, cut.of_link.1 ∙ is.of.1, cut.of_link.2 ∙ is.of.2, cut.of_link.3 ∙ is.of.3)
 
 pub addressed_cut : (family : Family) (n from to size : ℕ) (batch : BatchView) (old new : List OutboxView) → IsCutFrom to size batch old new →
     ((k : ℕ) → IsOutboxTo family n from k (outbox_in family n from old k)) → (k : ℕ) → IsOutboxTo family n from k (outbox_in family n from new k)
 addressed_cut family n from to size batch old new cut all k = elim (cases_eq k to) [
-  | inl same ↦ rw same (cut_to family n from to size batch (outbox_in family n from old to) _ (cut.cut (empty_outbox family n from to)) (all to))
+  | inl same ↦ rw same (cut_to (cut.cut (empty_outbox family n from to)) (all to))
   | inr apart ↦ rw (cut.others k (empty_outbox family n from k) apart) (all k)
 ]
 
@@ -173,11 +150,11 @@ nothing_cut family n from own to size batch old new cut none = elim (cases_eq ow
 -- ---- a node that stays sound
 
 -- with one more settlement expanded
-pub sound_expanded : (node : NodeView) (targets : List ℕ) (s : Settlement) (own : List Item) (outboxes : List OutboxView) → IsSound node →
+pub sound_expanded : {node : NodeView} {targets : List ℕ} {s : Settlement} {own : List Item} {outboxes : List OutboxView} → IsSound node →
     node.expanded + 1 ≤ length node.history.settlements → All HasItemEntries own → IsEntry s.was → IsEntry s.now →
     AreAdded targets s (length node.outboxes) node.id (length node.outboxes) node.outboxes outboxes →
     IsSound (record node { expanded = node.expanded + 1; own = own; outboxes = outboxes })
-sound_expanded node targets s own outboxes sound emitted entries was now are = record {
+sound_expanded {node = node} {targets = targets} {s = s} {outboxes = outboxes} sound emitted entries was now are = record {
   kept = sound.kept;
   emitted = emitted;
   entries = entries;
@@ -198,3 +175,52 @@ sound_cut node to size (Some batch) outboxes sound cut some = record {
   addressed = addressed_cut node.family node.n node.id to size batch node.outboxes outboxes cut sound.addressed;
   nothing_to_self = nothing_cut node.family node.n node.id node.id to size batch node.outboxes outboxes cut sound.nothing_to_self;
 }
+
+-- ---- a settlement is taken back
+
+-- the outboxes for the nodes so far have a settlement more, where nothing else has changed since
+pub one_more_each : {targets : List ℕ} {settlement : Settlement} {n from k : ℕ} {old mid new : List OutboxView} → n ≡ length old →
+    AreAdded targets settlement n from k old mid → new ≡ mid →
+    (let many = length old in
+    (family : Family) × (targets ≡ predecessors family settlement.class) × ((to : ℕ) → IsOutboxTo family many from to (outbox_in family many from old to))) →
+    HaveOneMore targets from k old new
+one_more_each {settlement = settlement} count so_far same of =
+    record { family = of.0; settlement = settlement; targets_are = of.1; addressed = of.2; are_added = rw (same, ← count) so_far }
+
+-- the outboxes for the nodes so far are those before, the others as they were
+pub record AreBack (upto : ℕ) (before outboxes now : List OutboxView) : Type 0 where
+  pub whole : length now ≡ length before
+  pub back : (to : ℕ) (default : OutboxView) → to < upto → get_or now to default ≡ get_or before to default
+  pub later : (to : ℕ) (default : OutboxView) → upto ≤ to → get_or now to default ≡ get_or outboxes to default
+
+module _ {targets : List ℕ} {from upto : ℕ} {before outboxes : List OutboxView} (more : HaveOneMore targets from upto before outboxes) where
+  pub back_none : AreBack 0 before outboxes outboxes
+  back_none = grind (arith, more.are_added.whole)
+
+  -- the outbox for the next node, of as many, has one settlement more
+  pub one_more : {k many count : ℕ} {now : List OutboxView} (default : OutboxView) → AreBack k before outboxes now → k < upto → upto ≤ many →
+      many ≡ length outboxes → k ≢ from → count ≡ length (items_of (λ _. targets) many k more.settlement) →
+      HasOneMore (get_or before k default) count (get_or now k default)
+  one_more {k = k} default so_far low within many_is other count_is =
+      let inside : k < length before = omega (arith, low, within, many_is, more.are_added.whole) in record {
+        settlement = more.settlement;
+        items = items_of (λ _. targets) (length before) k more.settlement;
+        items_are = asked_of more.settlement
+            (rw (get_or_default before k (empty_outbox more.family (length before) from k) default inside) at (more.addressed k)) more.targets_are refl;
+        many = rw (← more.are_added.whole, ← many_is) (sym count_is);
+        outbox_is = so_far.later k default (omega arith) ∙ more.are_added.sent k default low other;
+      }
+
+  pub back_one : {k : ℕ} {now new : List OutboxView} → AreBack k before outboxes now → k < length before →
+      ((default : OutboxView) → new ≡ set now k (get_or before k default)) → AreBack (k + 1) before outboxes new
+  back_one so_far within is = grind (arith, is (empty_outbox more.family 0 0 0), is, length-set, get_or-set_same, get_or-set_other, so_far.whole)
+
+  -- nothing was added to the node's own outbox
+  pub back_own : {k : ℕ} {now : List OutboxView} → AreBack k before outboxes now → k ≡ from → AreBack (k + 1) before outboxes now
+  back_own so_far own = grind (arith, so_far.later from, more.are_added.unsent, so_far.later, so_far.back)
+
+  pub back_all : {now : List OutboxView} → AreBack upto before outboxes now → now ≡ before
+  back_all {now = now} so_far = same_lists now before so_far.whole (λ k default low. elim (cases_lt k upto) [
+    | inl less ↦ so_far.back k default less
+    | inr high ↦ so_far.later k default high ∙ more.are_added.later k default high
+  ])

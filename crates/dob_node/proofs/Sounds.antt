@@ -1,18 +1,20 @@
 -- A node stays sound.
-use Rattle.dob_node.proofs.Common.{◌*◌, ◌++◌, ◌+◌, ◌<◌, ◌∙◌, ◌∷◌, ◌≡◌, ◌≤◌, List, Some, [], ap, arith, length, map, slice_get, subst, sym, ℕ, length-append}
-use Rattle.dob_node.proofs.Common.{All-append, All-cons, All-nil, mod-mul-add, get_or_from_slice_get, slice_get_within, All, Family, classes_of, IsEntry}
-use Rattle.dob_node.proofs.Common.{owner_of, Item, Settlement, Share, item_for, HistoryView, AreKept, HasItemEntries, IsTaken, StayKept, listed}
+use Rattle.dob_node.proofs.Common.{◌++◌, ◌+◌, ◌<◌, ◌∙◌, ◌∷◌, ◌≡◌, ◌≤◌, All, All-append, All-cons, All-nil, AreKept, Family, HasItemEntries, HistoryView}
+use Rattle.dob_node.proofs.Common.{IsEntry, IsTaken, Item, List, Settlement, Share, Some, StayKept, [], ap, arith, classes_of, get_or_from_slice_get}
+use Rattle.dob_node.proofs.Common.{item_for, length, length-append, listed, map, slice_get, slice_get_within, subst, sym, ℕ}
 
 -- by the share's own numbers
-pub kept_own : (family : Family) (n id : ℕ) (share : Share) (history : HistoryView) → AreKept family n id share history →
+pub kept_own : {family : Family} {n id : ℕ} {share : Share} {history : HistoryView} → AreKept family n id share history →
     AreKept family share.nodes share.id share history
-kept_own family n id share history kept = subst (λ (m : ℕ). AreKept family m share.id share history) (sym kept.share_is.0)
+kept_own {family = family} {n = n} {share = share} {history = history} kept =
+    subst (λ (m : ℕ). AreKept family m share.id share history) (sym kept.share_is.0)
     (subst (λ (k : ℕ). AreKept family n k share history) (sym kept.share_is.1) kept)
 
-pub kept_back : (family : Family) (n id : ℕ) (share after : Share) (history grown : HistoryView) → AreKept family n id share history →
+pub kept_back : {family : Family} {n id : ℕ} {share after : Share} {history grown : HistoryView} → AreKept family n id share history →
     StayKept share history after grown → AreKept family n id after grown
-kept_back family n id share after history grown kept still = subst (λ (m : ℕ). AreKept family m id after grown) kept.share_is.0
-    (subst (λ (k : ℕ). AreKept family share.nodes k after grown) kept.share_is.1 (still family (kept_own family n id share history kept)))
+kept_back {family = family} {id = id} {share = share} {after = after} {grown = grown} kept still =
+    subst (λ (m : ℕ). AreKept family m id after grown) kept.share_is.0
+    (subst (λ (k : ℕ). AreKept family share.nodes k after grown) kept.share_is.1 (still family (kept_own kept)))
 
 -- what is expanded is less than a longer history
 pub emitted_still : (item : Item) (share after : Share) (history grown : HistoryView) (expanded : ℕ) → IsTaken item share after history grown →
@@ -30,8 +32,7 @@ next_emitted expanded all count emitted is other = omega arith
 pub class_low : (family : Family) (n id : ℕ) (share : Share) (history : HistoryView) (number : ℕ) (s : Settlement) →
     AreKept family n id share history → slice_get history.settlements number ≡ Some s → s.class < classes_of family
 class_low family n id share history number s kept there =
-    subst (λ (r : Settlement). r.class < classes_of family) (get_or_from_slice_get history.settlements number s s there)
-    (kept.classes number s (slice_get_within history.settlements number s there))
+    rw (get_or_from_slice_get history.settlements number s s there) at (kept.classes number s (slice_get_within history.settlements number s there))
 
 -- the items of a settlement have its values
 pub entries_of : (s : Settlement) → IsEntry s.was → IsEntry s.now → (targets : List ℕ) → All HasItemEntries (map (item_for s) targets)
@@ -43,10 +44,3 @@ pub entries_more : (s : Settlement) (own new items : List Item) (targets : List 
     items ≡ map (item_for s) targets → new ≡ own ++ items → All HasItemEntries new
 entries_more s own new items targets was now entries are is = subst (λ xs. All HasItemEntries xs) (sym (is ∙ ap (λ xs. own ++ xs) are))
     (All-append HasItemEntries own (map (item_for s) targets) entries (entries_of s was now targets))
-
--- ---- openings
-
--- the class at a place is the owner's
-pub own_there : (view : HistoryView) (n id place : ℕ) (xs : List Settlement) → id < n → view ≡ record { id = id; n = n; settlements = xs; room = 0 } →
-    owner_of view.n (place * n + id) ≡ view.id
-own_there view n id place xs some is = ap (λ (v : HistoryView). owner_of v.n (place * n + id)) is ∙ mod-mul-add place n id some ∙ sym (ap (λ (v : HistoryView). v.id) is)

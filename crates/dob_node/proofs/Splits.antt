@@ -1,7 +1,9 @@
 -- Where an item stands among the items of a history: the settlement that made it, and what was made before.
-use Rattle.dob_node.proofs.Common.{◌++◌, ◌+◌, ◌∙◌, ◌∷◌, ◌≡◌, ◌≤◌, ◌⊎◌, Bool, List, [], ap, append_assoc, arith, cond, eqb, false, inl, inr, length, map, refl}
-use Rattle.dob_node.proofs.Common.{subst, suc, sym, true, ℕ, eqb-true, filter, owner_of, Item, Settlement, item_for, items_from, items_of, IsChained, items_to}
-use Rattle.dob_node.proofs.Counts.{block, items_to-append, no_other}
+use Rattle.dob_node.proofs.Common.{◌++◌, ◌+◌, ◌∙◌, ◌∷◌, ◌≡◌, ◌≤◌, ◌⊎◌, All, All-contains, Contains, Contains-append_right, IsChained, Item, List, Settlement}
+use Rattle.dob_node.proofs.Common.{[], ap, append_assoc, arith, eqb, eqb-true, filter, head_in, inl, inr, item_for, items_from, items_of, items_to, length}
+use Rattle.dob_node.proofs.Common.{length-append, owner_of, refl, subst, suc, sym, ℕ}
+use Rattle.std.proofs.lemmas.List.Elements.{All-map, filter_passes}
+use Rattle.dob_node.proofs.Copies.{items_to-append, no_other}
 
 -- ---- two ways to divide a list
 
@@ -9,19 +11,13 @@ use Rattle.dob_node.proofs.Counts.{block, items_to-append, no_other}
 pub append_split : {X : Type 0} (xs ys ls : List X) (x : X) (rest : List X) → xs ++ ys ≡ ls ++ x ∷ rest →
     ((left : List X) × (xs ≡ ls ++ x ∷ left) × (rest ≡ left ++ ys)) ⊎ ((more : List X) × (ls ≡ xs ++ more) × (ys ≡ more ++ x ∷ rest))
 append_split [] ys ls x rest same = inr (ls, refl, same)
-append_split (y ∷ xs) ys [] x rest same =
-    let head : y ≡ x = cc in
-    let tail : xs ++ ys ≡ rest = cc in
-    inl (xs, ap (λ z. z ∷ xs) head, sym tail)
-append_split {X = X} (y ∷ xs) ys (a ∷ ls) x rest same =
-    let head : y ≡ a = cc in
-    let tail : xs ++ ys ≡ ls ++ x ∷ rest = cc in
-    elim (append_split xs ys ls x rest tail) [
-      | inl there ↦ (let e : xs ≡ ls ++ x ∷ there.0 = there.1 in let both : y ∷ xs ≡ (a ∷ ls) ++ x ∷ there.0 = cc in inl (there.0, both, there.2))
-      | inr later ↦ (let e : ls ≡ xs ++ later.0 = later.1 in let both : a ∷ ls ≡ (y ∷ xs) ++ later.0 = cc in inr (later.0, both, later.2))
-    ]
+append_split (y ∷ xs) ys [] x rest same = inl (xs, (cc), (cc))
+append_split {X = X} (y ∷ xs) ys (a ∷ ls) x rest same = elim (append_split xs ys ls x rest (cc)) [
+  | inl there ↦ inl (there.0, cc (there.1, same), there.2)
+  | inr later ↦ inr (later.0, cc (later.1, same), later.2)
+]
 
-nothing_in : {X : Type 0} (ls : List X) (x : X) (rest : List X) → [] ≡ ls ++ x ∷ rest → ⊥
+pub nothing_in : {X : Type 0} (ls : List X) (x : X) (rest : List X) → [] ≡ ls ++ x ∷ rest → ⊥
 nothing_in [] x rest same = cc
 nothing_in (a ∷ ls) x rest same = cc
 
@@ -75,31 +71,14 @@ pub record IsFrom (n node : ℕ) (s : Settlement) (item : Item) : Type 0 where
   pub is : item ≡ item_for s item.to
   pub own : owner_of n item.to ≡ node
 
-in_block : (n node : ℕ) (s : Settlement) (ts : List ℕ) (part : List Item) (item : Item) (rest : List Item) →
-    block (λ to. eqb (owner_of n to) node) s ts ≡ part ++ item ∷ rest → IsFrom n node s item
-in_block n node s [] part item rest same = absurd (nothing_in part item rest same)
-in_block n node s (t ∷ ts) part item rest same =
-    at (eqb (owner_of n t) node) refl (λ tail tail_is. in_block n node s ts tail item rest tail_is) part same
-  where
-    at : (b : Bool) → eqb (owner_of n t) node ≡ b →
-        ((tail : List Item) → block (λ to. eqb (owner_of n to) node) s ts ≡ tail ++ item ∷ rest → IsFrom n node s item) → (part : List Item) →
-        map (item_for s) (cond b (t ∷ filter (λ to. eqb (owner_of n to) node) ts) (filter (λ to. eqb (owner_of n to) node) ts)) ≡ part ++ item ∷ rest →
-        IsFrom n node s item
-    at true is further [] same =
-        let made : item_for s t ≡ item = cc in
-        let to : t ≡ item.to = ap (λ (i : Item). i.to) made in
-        record {
-          is = sym made ∙ ap (item_for s) to;
-          own = subst (λ k. owner_of n k ≡ node) to (eqb-true (owner_of n t) node is);
-        }
-    at true is further (l ∷ ls) same =
-        let tail : block (λ to. eqb (owner_of n to) node) s ts ≡ ls ++ item ∷ rest = cc in
-        further ls tail
-    at false is further part same = further part same
-
 pub made_from : (targets : ℕ → List ℕ) (n node : ℕ) (s : Settlement) (part : List Item) (item : Item) (rest : List Item) →
     items_of targets n node s ≡ part ++ item ∷ rest → IsFrom n node s item
-made_from targets n node s part item rest same = in_block n node s (targets s.class) part item rest same
+made_from targets n node s part item rest same = All-contains (IsFrom n node s) (items_of targets n node s) item
+    (All-map (IsFrom n node s) (item_for s) (filter (λ to. eqb (owner_of n to) node) (targets s.class)) all)
+    (subst (λ xs. Contains xs item) (sym same) (Contains-append_right part (item ∷ rest) item (head_in item rest)))
+  where
+    all : All (λ (to : ℕ). IsFrom n node s (item_for s to)) (filter (λ to. eqb (owner_of n to) node) (targets s.class))
+    all k d below = record { is = refl; own = eqb-true _ node (filter_passes (λ to. eqb (owner_of n to) node) (targets s.class) k d below) }
 
 -- ---- numbers
 
@@ -123,13 +102,9 @@ numbered_behind : (classes n node : ℕ) (history before behind : List Settlemen
 numbered_behind classes n node history before [] chained is = tt
 numbered_behind classes n node history before (s ∷ ss) chained is = (
   (chained before s ss is).number,
-  subst (λ k. AreNumbered k ss) (one_more before s)
+  subst (λ k. AreNumbered k ss) (let e : length (before ++ s ∷ []) ≡ suc (length before) = omega (arith, length-append before (s ∷ [])) in e)
       (numbered_behind classes n node history (before ++ s ∷ []) ss chained (is ∙ sym (append_assoc before (s ∷ []) ss))),
 )
-  where
-    one_more : (xs : List Settlement) (x : Settlement) → length (xs ++ x ∷ []) ≡ suc (length xs)
-    one_more [] x = refl
-    one_more (y ∷ xs) x = ap suc (one_more xs x)
 
 -- a chained history is numbered
 pub chained_numbered : (classes n node : ℕ) (history : List Settlement) → IsChained classes n node history → AreNumbered 0 history

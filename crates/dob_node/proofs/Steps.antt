@@ -1,14 +1,16 @@
 -- What is lawful stays so: the next item fits its cell, and after it the cells and histories are lawful again.
-use Rattle.dob_node.proofs.Common.{◌++◌, ◌<◌, ◌∙◌, ◌∷◌, ◌≡◌, ◌≢◌, ◌⊎◌, List, [], ap, append_assoc, arith, cond, eqb, inl, inr, length, refl, subst, sym, ℕ}
-use Rattle.dob_node.proofs.Common.{cases_eq, eq-eqb, eqb-true, ne_eqb, All-append, All-cons, All-contains, All-nil, All, Family, Setup, one_status, HasStatus}
-use Rattle.dob_node.proofs.Common.{Open, HasClasses-classes_of, RepresentsClass, class_setup, classes_of, class_setup_is, IsEntry, Value}
-use Rattle.dob_node.proofs.Common.{ArePredecessors-predecessors, representative_below, predecessors, CellValue-same, counted, takes_next, sums_up_after, Cell}
-use Rattle.dob_node.proofs.Common.{CellValue, Changes, SumsUp, changed, owner_of, Better, Item, Settlement, items_from, IsChained, IsNext, all_known, copies}
-use Rattle.dob_node.proofs.Common.{value_of, AreAfter, AreLawfulNodes, AreSettled, CanApply, IsNextItem, IsOneMore, known_of, FollowsAtStatus}
+use Rattle.dob_node.proofs.Common.{◌++◌, ◌<◌, ◌∙◌, ◌∷◌, ◌≡◌, ◌≢◌, All, All-append, All-cons, All-contains, All-nil, AreAfter, AreLawfulNodes}
+use Rattle.dob_node.proofs.Common.{ArePredecessors-predecessors, AreSettled, Better, CanApply, Cell, CellValue, CellValue-same, Changes, Family}
+use Rattle.dob_node.proofs.Common.{FollowsAtStatus, HasClasses-classes_of, HasStatus, IsChained, IsEntry, IsNext, IsNextItem, IsOneMore, Item, List, Open}
+use Rattle.dob_node.proofs.Common.{RepresentsClass, Settlement, Setup, SumsUp, Value, [], all_known, ap, append_assoc, arith, cases_eq, changed, class_setup}
+use Rattle.dob_node.proofs.Common.{class_setup_is, classes_of, cond, copies, counted, eq-eqb, eqb, eqb-true, inl, inr, items_from, known, known_of, length}
+use Rattle.dob_node.proofs.Common.{nat_tests, ne_eqb, one_status, owner_of, predecessors, refl, representative_below, subst, sums_up_after, sym, takes_next}
+use Rattle.dob_node.proofs.Common.{value_of, ℕ}
 use Rattle.dob_node.proofs.Rest.{some_of, below_owner}
 use Rattle.dob_node.proofs.Splits.{IsMade, IsFrom, split, made_from}
 use Rattle.dob_node.proofs.Learns.{has_copy, learnt, nothing_learnt}
-use Rattle.dob_node.proofs.Settles.{chained_more, value_of-more, still_begun, known_still}
+use Rattle.dob_node.proofs.Settles.{chained_more, value_of-more, still_begun, known_more}
+use Rattle.dob_node.proofs.Copies.{all_known-each}
 use Rattle.dob_node.proofs.Totals.{some_known}
 use Rattle.dob_node.proofs.Kept.{all_known-same, known_entries, follows_entry, better_apart}
 use Rattle.dob_node.proofs.ValuesFollow.{value_follows, SumsUp-same}
@@ -91,19 +93,13 @@ module _ (family : Family) (n : ℕ) (histories : ℕ → List Settlement) (appl
   module _ (after : ℕ → ℕ → List Item) (is_applied : IsOneMore i j item applied after) where
     -- the class of the item learns what it says
     pub learns_here : Changes (known_of family n histories applied item.to) (known_of family n histories after item.to) item.was item.now
-    learns_here =
-        subst (λ known. Changes (known_of family n histories applied item.to) known item.was item.now) (sym (known_here after))
-        (subst (λ known. Changes known (all_known targets classes n histories (λ k. after k j) item.to) item.was item.now) (sym (known_here applied))
-        (class_learns (λ k. after k j) is_applied.one_more is_applied.same_sender))
+    learns_here = rw (known_here applied, known_here after) (class_learns (λ k. after k j) is_applied.one_more is_applied.same_sender)
 
     -- no other class learns anything
     pub still : (p : ℕ) → p ≢ item.to → known_of family n histories after p ≡ known_of family n histories applied p
     still p other = elim (cases_eq (owner_of n p) j) [
-      | inl own ↦
-          ap (λ m. all_known targets classes n histories (λ k. after k m) p) own
-          ∙ sym (nothing_learnt targets classes n histories items (λ k. after k j) i j item (lawful.chained i low_i) made is_applied.one_more
-          is_applied.same_sender p own other)
-          ∙ sym (ap (λ m. all_known targets classes n histories (λ k. applied k m) p) own)
+      | inl own ↦ rw own (sym (nothing_learnt targets classes n histories items (λ k. after k j) i j item (lawful.chained i low_i) made is_applied.one_more
+          is_applied.same_sender p own other))
       | inr elsewhere ↦ all_known-same targets classes n histories histories (λ k. applied k (owner_of n p)) (λ k. after k (owner_of n p)) p
           (λ k. refl) (λ k. is_applied.same_receiver k (owner_of n p) elsewhere)
     ]
@@ -157,87 +153,59 @@ module _ (family : Family) (n : ℕ) (histories : ℕ → List Settlement) (appl
         (some_known family to there_is.0 n histories (λ k. after k (owner_of n to)) there_is.1) are_after.gives)
         are_after.short
 
-    -- the histories are the same, or one has the settlement
-    abbrev Kept : Type 0
-    Kept = ((k : ℕ) → grown k ≡ histories k) × (value to ≡ worth to)
-
-    abbrev Settles : Type 0
-    Settles = (grown j ≡ histories j ++ news ∷ []) × Better (value to) (worth to)
-
-    which : Kept ⊎ Settles
-    which = elim are_after.better [
-      | inl same ↦ inl (all_same same, same)
-      | inr is_better ↦ inr (settled.more (λ same. better_apart (value to) (worth to) is_better same), is_better)
-    ]
-      where
-        all_same : value to ≡ worth to → (k : ℕ) → grown k ≡ histories k
-        all_same same k = elim (cases_eq k j) [
-          | inl own ↦ subst (λ m. grown m ≡ histories m) (sym own) (settled.same same)
-          | inr other ↦ settled.others k other
-        ]
-
     -- what holds of each history as it was, and of that of node j with the settlement, holds of each now
-    for_each : (P : ℕ → List Settlement → Type 0) → ((k : ℕ) → k < n → P k (histories k)) → (Settles → P j (histories j ++ news ∷ [])) →
-        (k : ℕ) → k < n → P k (grown k)
-    for_each P before more k low = elim which [
-      | inl kept ↦ subst (P k) (sym (kept.0 k)) (before k low)
-      | inr settles ↦ elim (cases_eq k j) [
-        | inl own ↦ subst (λ m. P m (grown m)) (sym own) (subst (P j) (sym settles.0) (more settles))
-        | inr other ↦ subst (P k) (sym (settled.others k other)) (before k low)
+    for_each : (P : ℕ → List Settlement → Type 0) → ((k : ℕ) → k < n → P k (histories k)) →
+        (Better (value to) (worth to) → P j (histories j ++ news ∷ [])) → (k : ℕ) → k < n → P k (grown k)
+    for_each P before more k low = elim (cases_eq k j) [
+      | inl own ↦ elim are_after.better [
+        | inl same ↦ rw (own, settled.same same) (before j low_j)
+        | inr is_better ↦ rw (own, settled.more (better_apart (value to) (worth to) is_better)) (more is_better)
       ]
+      | inr other ↦ rw (settled.others k other) (before k low)
     ]
 
     known_same : (p : ℕ) → known_of family n grown after p ≡ known_of family n histories after p
-    known_same p = elim which [
-      | inl kept ↦ all_known-same targets classes n histories grown (λ k. after k (owner_of n p)) (λ k. after k (owner_of n p)) p kept.0 (λ k. refl)
-      | inr settles ↦ known_still targets classes n histories grown (λ k. after k (owner_of n p)) j (owner_of n p) news
-          (begun_now j (owner_of n p) low_j (below_owner n p some)).0 p (lawful.chained j low_j) (news_next settles.1)
-          (begun_now j (owner_of n p) low_j (below_owner n p some)).1 settles.0 settled.others
-    ]
+    known_same p =
+        let m = owner_of n p in
+        let begun = begun_now j m low_j (below_owner n p some) in
+        all_known-each targets classes n histories grown (λ k. after k m) (λ k. after k m) p (λ q copy.
+        for_each (λ k h. known h (after k m) p q copy ≡ known (histories k) (after k m) p q copy) (λ k low. refl)
+        (λ is_better. known_more targets classes n j m (histories j) news (after j m) begun.0 p q copy (lawful.chained j low_j) (news_next is_better) begun.1)
+        (owner_of n q) (below_owner n q some))
 
     value_now : (p : ℕ) → p < classes → worth p ≡ value_of (grown (owner_of n p)) p
     value_now p low = elim (cases_eq p to) [
-      | inl same ↦ subst (λ k. worth k ≡ value_of (grown (owner_of n k)) k) (sym same) (at_class from.own)
+      | inl same ↦ rw (same, from.own) at_class
       | inr other ↦ (are_after.others p other).1 ∙ lawful.values p low ∙ sym (elsewhere other)
     ]
       where
-        at_class : owner_of n to ≡ j → worth to ≡ value_of (grown (owner_of n to)) to
-        at_class own = elim which [
-          | inl kept ↦ sym kept.1 ∙ lawful.values to there_is.0 ∙ ap (λ h. value_of h to) (sym (kept.0 (owner_of n to)))
-          | inr settles ↦
-              ap (λ b. cond b (worth to) (value_of (histories j) to)) (sym (eq-eqb to to refl))
-              ∙ sym (value_of-more (histories j) news to)
-              ∙ ap (λ h. value_of h to) (sym settles.0)
-              ∙ ap (λ k. value_of (grown k) to) (sym own)
+        at_class : worth to ≡ value_of (grown j) to
+        at_class = elim are_after.better [
+          | inl same ↦ sym same ∙ value_is ∙ ap (λ h. value_of h to) (sym (settled.same same))
+          | inr is_better ↦ grind (arith, nat_tests, value_of-more (histories j) news to, settled.more (better_apart (value to) (worth to) is_better))
         ]
 
         elsewhere : p ≢ to → value_of (grown (owner_of n p)) p ≡ value_of (histories (owner_of n p)) p
         elsewhere other = for_each (λ k h. value_of h p ≡ value_of (histories k) p) (λ k low. refl)
-            (λ settles. value_of-more (histories j) news p
-            ∙ ap (λ b. cond b (worth to) (value_of (histories j) p)) (ne_eqb to p (λ same. other (sym same))))
-            (owner_of n p) (below_owner n p some)
+            (λ is_better. grind (arith, nat_tests, value_of-more (histories j) news p, other)) (owner_of n p) (below_owner n p some)
 
     -- the nodes are lawful again
     pub lawful_after : AreLawfulNodes family n grown after cells worth
     lawful_after = record {
       chained = for_each (λ k h. IsChained classes n k h) lawful.chained
-          (λ settles. chained_more classes n j (histories j) news (lawful.chained j low_j) (news_next settles.1));
+          (λ is_better. chained_more classes n j (histories j) news (lawful.chained j low_j) (news_next is_better));
       entries = for_each (λ k h. All (λ (s : Settlement). IsEntry s.now) h) lawful.entries
-          (λ settles. All-append (λ (s : Settlement). IsEntry s.now) (histories j) (news ∷ []) (lawful.entries j low_j)
+          (λ is_better. All-append (λ (s : Settlement). IsEntry s.now) (histories j) (news ∷ []) (lawful.entries j low_j)
           (All-cons (λ (s : Settlement). IsEntry s.now) news [] news_entry (All-nil (λ (s : Settlement). IsEntry s.now))));
-      begun = λ k m low_k low_m. for_each
-          (λ l h. l ≡ k → (rest : List Item) × (items_from targets n m h ≡ after k m ++ rest))
-          (λ l low_l same. subst (λ r. (rest : List Item) × (items_from targets n m (histories r) ≡ after k m ++ rest)) (sym same) (begun_now k m low_k low_m))
-          (λ settles same.
-          let before = begun_now j m low_j low_m in
-          subst (λ r. (rest : List Item) × (items_from targets n m (histories j ++ news ∷ []) ≡ after r m ++ rest)) same (
+      begun = λ k m low_k low_m. for_each (λ l h. (rest : List Item) × (items_from targets n m h ≡ after l m ++ rest)) (λ l low_l. begun_now l m low_l low_m)
+          (λ is_better. let before = begun_now j m low_j low_m in (
             before.0 ++ items_from targets n m (news ∷ []),
             still_begun targets n m (histories j) (news ∷ []) (after j m) before.0 before.1,
           ))
-          k low_k refl;
-      sums = λ p low is_open. subst (λ known. SumsUp known (cells p)) (sym (known_same p)) (known_now p low is_open);
+          k low_k;
+      sums = λ p low is_open. rw (known_same p) (known_now p low is_open);
       cell_values = λ p low is_open. elim (cases_eq p to) [
-        | inl same ↦ subst (λ k. CellValue (cells k) (worth k)) (sym same) are_after.gives
+        | inl same ↦ rw same are_after.gives
         | inr other ↦ subst (λ v. CellValue (cells p) v) (sym (are_after.others p other).1)
             (CellValue-same (cells p) (cell p) (value p) (are_after.others p other).0 (lawful.cell_values p low is_open))
       ];

@@ -1,10 +1,10 @@
 -- What is stored and read again.
-use Rattle.dob_node.proofs.Common.{◌%◌, ◌*◌, ◌++◌, ◌+◌, ◌-◌, ◌/◌, ◌<◌, ◌∙◌, ◌∷◌, ◌≡◌, ◌≤◌, List, Some, [], ap, arith, get_or, length, refl, set, slice_get}
-use Rattle.dob_node.proofs.Common.{subst, suc, sym, take, zero, ℕ, div-add-mod, mul_comm, length-append, get_or_from_slice_get, slice_get-get_or}
-use Rattle.dob_node.proofs.Common.{slice_get_within, value_of_code, IsEntry, Value, Draw, settled_among, class_of_place, StatusesView, Settlement}
-use Rattle.dob_node.proofs.Common.{opening_value, HistoryView, settlement_of, settlements_from, settlements_of, start_status, starts_count, starts_of, Stored}
+use Rattle.dob_node.proofs.Common.{◌%◌, ◌*◌, ◌++◌, ◌+◌, ◌-◌, ◌/◌, ◌<◌, ◌∙◌, ◌∷◌, ◌≡◌, ◌≤◌, Draw, HistoryView, IsEntry, List, Settlement, Some, StatusesView}
+use Rattle.dob_node.proofs.Common.{Stored, Value, [], ap, arith, class_of_place, div-add-mod, get_or, get_or_from_slice_get, length, length-append, mul_comm}
+use Rattle.dob_node.proofs.Common.{opening_value, refl, set, settled_among, settlement_of, settlements_from, settlements_of, slice_get, slice_get-get_or}
+use Rattle.dob_node.proofs.Common.{slice_get_within, start_status, starts_count, starts_of, subst, suc, sym, take, value_of_code, zero, ℕ}
 use Rattle.std.proofs.lemmas.List.{append_assoc, get_or-append-add, length-take-le, get_or-take, take_more_set}
-use Rattle.dob_node.proofs.StartLists.{starts_length, start_found, start_entry}
+use Rattle.dob_node.proofs.Opens.{starts_length, start_found, start_entry}
 
 pub length-settlements_from : (n id number : ℕ) (stored : List Stored) → length (settlements_from n id number stored) ≡ length stored
 length-settlements_from n id number [] = refl
@@ -59,30 +59,6 @@ class_again class n id some own =
 abbrev pub seen : ℕ → ℕ → ℕ → StatusesView → List Stored → HistoryView
 seen n id room starts stored = record { id = id; n = n; settlements = settlements_of n id starts stored; room = room }
 
--- as many as are settled at the start, and those stored
-pub seen_length : (n id room : ℕ) (starts : StatusesView) (stored : List Stored) (view : HistoryView) → seen n id room starts stored ≡ view →
-    starts_count starts + length stored ≡ length view.settlements
-seen_length n id room starts stored view is =
-    omega (
-      arith,
-      length-append (starts_of n id starts) (settlements_from n id (length (starts_of n id starts)) stored),
-      starts_length n id starts,
-      length-settlements_from n id (length (starts_of n id starts)) stored,
-      ap (λ (v : HistoryView). length v.settlements) is,
-    )
-
-pub seen_at : (n id room k number : ℕ) (starts : StatusesView) (stored : List Stored) (view : HistoryView) (s : Stored) (given : Settlement) →
-    seen n id room starts stored ≡ view → number ≡ starts_count starts + k → slice_get stored k ≡ Some s →
-    settlement_of n id number s ≡ given → slice_get view.settlements number ≡ Some given
-seen_at n id room k number starts stored view s given is number_is there same =
-    let first : List Settlement = starts_of n id starts in
-    let place : length first + k ≡ number = ap (λ (m : ℕ). m + k) (starts_length n id starts) ∙ sym number_is in
-    ap (λ (v : HistoryView). slice_get v.settlements number) (sym is)
-    ∙ subst (λ (m : ℕ). slice_get (settlements_of n id starts stored) m ≡ Some (settlement_of n id m s)) place
-    (get_behind first (settlements_from n id (length first) stored) k (settlement_of n id (length first + k) s)
-    (settlements_from-at n id (length first) k stored s there))
-    ∙ ap Some same
-
 pub same_settlement : (a b c d : ℕ) (u v w x : Value) → a ≡ b → c ≡ d → u ≡ v → w ≡ x →
     (let s : Settlement = record { number = a; class = c; was = u; now = w } in s) ≡ record { number = b; class = d; was = v; now = x }
 same_settlement a b c d u v w x number class was now = cc
@@ -95,23 +71,10 @@ stored_again n id number given was now some own number_is is_was is_now =
     same_settlement number given.number (given.class / n * n + id) given.class (value_of_code was) given.was (value_of_code now) given.now
     number_is (class_again given.class n id some own) is_was is_now
 
--- ---- the first so many of those stored
-
-pub all_there : (count room : ℕ) (stored : List Stored) → count + room ≤ length stored → count ≤ length stored
-all_there count room stored all = omega arith
-
-pub count_is : (n id room count : ℕ) (starts : StatusesView) (stored : List Stored) (view : HistoryView) → count + room ≤ length stored →
-    seen n id room starts (take count stored) ≡ view → starts_count starts + count ≡ length view.settlements
-count_is n id room count starts stored view all is =
-    ap (λ (m : ℕ). starts_count starts + m) (sym (length-take-le count stored (all_there count room stored all)))
-    ∙ seen_length n id room starts (take count stored) view is
-
-pub got_within : (count k : ℕ) (stored : List Stored) (s : Stored) → k < count → count ≤ length stored → slice_get stored k ≡ Some s →
-    slice_get (take count stored) k ≡ Some s
-got_within count k stored s low all there =
-    let long : length (take count stored) ≡ count = length-take-le count stored all in
-    slice_get-get_or (take count stored) k s (omega arith)
-    ∙ ap Some (get_or-take count stored k s low ∙ get_or_from_slice_get stored k s s there)
+-- the settlement is stored behind that many, whoever owns it and whatever number the first of them has
+abbrev pub NextIs : ℕ → ℕ → List Stored → List Stored → Settlement → Type 0
+NextIs n count more new given = (owner first : ℕ) → given.class % n ≡ owner → given.number ≡ first + count →
+    settlements_from n owner first (take (count + 1) new) ≡ settlements_from n owner first (take count more) ++ given ∷ []
 
 -- ---- what is read of a history
 
@@ -121,34 +84,80 @@ pub record IsGot (settlements : List Settlement) (number : ℕ) (given : Settlem
   pub was : IsEntry given.was
   pub now : IsEntry given.now
 
--- one of the start
-pub got_start : (n id room number place : ℕ) (starts : StatusesView) (list : List Stored) (view : HistoryView) (now : Value) (given : Settlement) →
-    seen n id room starts list ≡ view → place < starts.places → settled_among (start_status starts) place ≡ number →
-    opening_value (start_status starts place) ≡ Some now → given ≡ record { number = number; class = class_of_place n id place; was = Draw; now = now } →
-    IsGot view.settlements number given
-got_start n id room number place starts list view now given is low count value given_is =
-    subst (λ (s : Settlement). IsGot view.settlements number s) (sym given_is) (record {
-      get = ap (λ (v : HistoryView). slice_get v.settlements number) (sym is)
-          ∙ start_found n id number place starts now (settlements_from n id (length (starts_of n id starts)) list) low count value;
-      was = tt;
-      now = start_entry (start_status starts place) now value;
-    })
+module _ (n id room count : ℕ) (starts : StatusesView) (stored : List Stored) {view : HistoryView} (all : count + room ≤ length stored)
+    (is : seen n id room starts (take count stored) ≡ view) where
+  abbrev first_ones : List Settlement
+  first_ones = starts_of n id starts
 
--- one behind those of the start, of which there are `first`
-module _ (n id room count : ℕ) (starts : StatusesView) (stored : List Stored) (view : HistoryView) (all : count + room ≤ length stored)
-    (is : seen n id room starts (take count stored) ≡ view) (number first : ℕ) (low : number < length view.settlements)
-    (first_is : first ≡ starts_count starts) (behind : first ≤ number) where
-  counted : number - first < count
-  counted = let counts = count_is n id room count starts stored view all is in omega (arith, counts, low, first_is, behind)
+  abbrev list : List Stored
+  list = take count stored
 
-  pub stored_there : number - first < length stored
-  stored_there = let there = all_there count room stored all in omega (arith, counted, there)
+  long : length list ≡ count
+  long = length-take-le count stored (omega arith)
 
-  pub got_stored : (s : Stored) (given : Settlement) → slice_get stored (number - first) ≡ Some s → settlement_of n id number s ≡ given →
-      slice_get view.settlements number ≡ Some given
-  got_stored s given there same = seen_at n id room (number - first) number starts (take count stored) view s given is
-      (let sum : number ≡ starts_count starts + (number - first) = omega (arith, first_is, behind) in sum)
-      (got_within count (number - first) stored s counted (all_there count room stored all) there) same
+  -- as many as are settled at the start, and those counted
+  pub count_is : starts_count starts + count ≡ length view.settlements
+  count_is = omega (
+    arith,
+    long,
+    length-append first_ones (settlements_from n id (length first_ones) list),
+    starts_length n id starts,
+    length-settlements_from n id (length first_ones) list,
+    ap (λ (v : HistoryView). length v.settlements) is,
+  )
+
+  -- one of the start
+  pub got_start : (number place : ℕ) (now : Value) (given : Settlement) → place < starts.places → settled_among (start_status starts) place ≡ number →
+      opening_value (start_status starts place) ≡ Some now →
+      given ≡ record { number = number; class = class_of_place n id place; was = Draw; now = now } → IsGot view.settlements number given
+  got_start number place now given low many value given_is = subst (λ (s : Settlement). IsGot view.settlements number s) (sym given_is) (record {
+    get = ap (λ (v : HistoryView). slice_get v.settlements number) (sym is)
+        ∙ start_found n id number place starts now (settlements_from n id (length first_ones) list) low many value;
+    was = tt;
+    now = start_entry (start_status starts place) now value;
+  })
+
+  -- one behind those of the start, of which there are `first`
+  module _ (number first : ℕ) (low : number < length view.settlements) (first_is : first ≡ starts_count starts) (behind : first ≤ number) where
+    counted : number - first < count
+    counted = omega (arith, count_is)
+
+    pub stored_there : number - first < length stored
+    stored_there = omega (arith, counted)
+
+    pub got_stored : (s : Stored) (given : Settlement) → slice_get stored (number - first) ≡ Some s → settlement_of n id number s ≡ given →
+        slice_get view.settlements number ≡ Some given
+    got_stored s given there same =
+        let k : ℕ = number - first in
+        let inside : slice_get list k ≡ Some s = slice_get-get_or list k s (omega (arith, counted, long))
+        ∙ ap Some (get_or-take count stored k s counted ∙ get_or_from_slice_get stored k s s there) in
+        let place : length first_ones + k ≡ number = omega (arith, starts_length n id starts) in
+        ap (λ (v : HistoryView). slice_get v.settlements number) (sym is)
+        ∙ subst (λ (m : ℕ). slice_get (settlements_of n id starts list) m ≡ Some (settlement_of n id m s)) place
+        (get_behind first_ones (settlements_from n id (length first_ones) list) k (settlement_of n id (length first_ones + k) s)
+        (settlements_from-at n id (length first_ones) k list s inside))
+        ∙ ap Some same
+
+  -- ---- what is seen of it with more
+
+  -- what is stored behind those counted is seen by nobody, nor is other room
+  pub room_made : (other : ℕ) (more : List Stored) → take count more ≡ list →
+      seen n id other starts (take count more) ≡ record view { room = other }
+  room_made other more same =
+      ap (λ xs. seen n id other starts xs) same ∙ ap (λ (v : HistoryView). record v { room = other }) is
+
+  -- the next is seen behind the others
+  pub next_seen : (left : ℕ) (more new : List Stored) (given : Settlement) → take count more ≡ list → given.class % n ≡ id →
+      given.number ≡ starts_count starts + count → NextIs n count more new given →
+      seen n id left starts (take (count + 1) new) ≡ record { id = view.id; n = view.n; settlements = view.settlements ++ given ∷ []; room = left }
+  next_seen left more new given same own number one_more =
+      let before : List Settlement = settlements_from n id (length first_ones) (take count more) in
+      let number_is : given.number ≡ length first_ones + count = number ∙ ap (λ (m : ℕ). m + count) (sym (starts_length n id starts)) in
+      subst (λ (v : HistoryView). seen n id left starts (take (count + 1) new)
+      ≡ record { id = v.id; n = v.n; settlements = v.settlements ++ given ∷ []; room = left })
+      (ap (λ xs. seen n id room starts xs) same ∙ is)
+      (ap (λ l. let v : HistoryView = record { id = id; n = n; settlements = l; room = left } in v)
+      (ap (λ l. first_ones ++ l) (one_more id (length first_ones) own number_is) ∙ sym (append_assoc first_ones before (given ∷ []))))
 
 -- ---- what is written
 
@@ -164,36 +173,6 @@ stored_more n id first count stored s given low is =
     ∙ settlements_from-push n id first (take count stored) s
     ∙ ap (λ m. settlements_from n id first (take count stored) ++ settlement_of n id m s ∷ []) place
     ∙ ap (λ t. settlements_from n id first (take count stored) ++ t ∷ []) is
-
--- what is stored behind those counted is seen by nobody
-pub room_unseen : (n id room count : ℕ) (starts : StatusesView) (stored more : List Stored) (view : HistoryView) →
-    seen n id room starts (take count stored) ≡ view → take count more ≡ take count stored → seen n id room starts (take count more) ≡ view
-room_unseen n id room count starts stored more view is same = ap (λ list. seen n id room starts list) same ∙ is
-
--- nor is it, where there is other room
-pub room_made : (n id room other count : ℕ) (starts : StatusesView) (stored more : List Stored) (view : HistoryView) →
-    seen n id room starts (take count stored) ≡ view → take count more ≡ take count stored →
-    seen n id other starts (take count more) ≡ record view { room = other }
-room_made n id room other count starts stored more view is same =
-    ap (λ list. seen n id other starts list) same ∙ ap (λ (v : HistoryView). record v { room = other }) is
-
--- the settlement is stored behind that many, whoever owns it and whatever number the first of them has
-abbrev pub NextIs : ℕ → ℕ → List Stored → List Stored → Settlement → Type 0
-NextIs n count more new given = (owner first : ℕ) → given.class % n ≡ owner → given.number ≡ first + count →
-    settlements_from n owner first (take (count + 1) new) ≡ settlements_from n owner first (take count more) ++ given ∷ []
-
-pub next_seen : (n id room left count : ℕ) (starts : StatusesView) (stored more new : List Stored) (view : HistoryView) (given : Settlement) →
-    seen n id room starts (take count stored) ≡ view → take count more ≡ take count stored →
-    given.class % n ≡ id → given.number ≡ starts_count starts + count → NextIs n count more new given →
-    seen n id left starts (take (count + 1) new) ≡ record { id = view.id; n = view.n; settlements = view.settlements ++ given ∷ []; room = left }
-next_seen n id room left count starts stored more new view given is same own number one_more =
-    let first : List Settlement = starts_of n id starts in
-    let before : List Settlement = settlements_from n id (length first) (take count more) in
-    let number_is : given.number ≡ length first + count = number ∙ ap (λ (m : ℕ). m + count) (sym (starts_length n id starts)) in
-    subst (λ (v : HistoryView). seen n id left starts (take (count + 1) new) ≡ record { id = v.id; n = v.n; settlements = v.settlements ++ given ∷ []; room = left })
-    (room_unseen n id room count starts stored more view is same)
-    (ap (λ l. let v : HistoryView = record { id = id; n = n; settlements = l; room = left } in v)
-    (ap (λ l. first ++ l) (one_more id (length first) own number_is) ∙ sym (append_assoc first before (given ∷ []))))
 
 -- a place within has a settlement
 pub some_at : (settlements : List Settlement) (k : ℕ) → k < length settlements → (s : Settlement) × slice_get settlements k ≡ Some s

@@ -1,24 +1,20 @@
--- Items taken one after the other.
-use Rattle.dob_node.proofs.Common.{AppliesAll, Err, Ok, ◌≢◌, ◌++◌, ◌+◌, ◌<◌, ◌∙◌, ◌∷◌, ◌≡◌, ◌≤◌, List, Result, [], add-one, ap, arith, drop, get_or, length}
-use Rattle.dob_node.proofs.Common.{refl, subst, sym, take, ℕ}
-use Rattle.dob_node.proofs.Common.{drop-cons, take-suc, take-append-drop, err_from_is_err_and, All, IfErr, IsErrAnd, Family, Item, Share, Cause, NodeView}
-use Rattle.dob_node.proofs.Common.{HasTaken, HasTakenBefore, IsSound, IsUnchanged, HistoryView, AreKept, AreTaken, AreTakenBefore, HasItemEntries, IsHistory}
-use Rattle.dob_node.proofs.Common.{IsReason, IsTaken, StayKept, StopsAt}
+-- Items taken one after the other: looked at before, from lists, and from a queue of which the first ones are taken and gone.
+use Rattle.dob_node.proofs.Common.{◌%◌, ◌++◌, ◌+◌, ◌<◌, ◌∙◌, ◌∷◌, ◌≡◌, ◌≢◌, ◌≤◌, All, All-drop, All-take, AppliesAll, AreKept, AreSeen, AreTaken}
+use Rattle.dob_node.proofs.Common.{AreTakenBefore, Cause, Err, Family, HasItemEntries, HasItemFault, HasTaken, HasTakenBefore, HistoryView, IfErr, IsErrAnd}
+use Rattle.dob_node.proofs.Common.{IsHistory, IsReason, IsSeen, IsSound, IsTaken, IsUnchanged, Item, List, NodeView, Ok, OnOk, Option, Result, Share}
+use Rattle.dob_node.proofs.Common.{StayKept, StopsAt, StopsFirst, TakesFirst, [], add-one, ap, append_assoc, arith, cases_eq, drop, drop-append_seam}
+use Rattle.dob_node.proofs.Common.{drop-cons, err_from_is_err_and, get_or, get_or-set_other, get_or-set_same, get_or_default, inl, inr, length, length-append}
+use Rattle.dob_node.proofs.Common.{refl, set, subst, suc, sym, take, take-append-drop, take-append_seam, take-suc, zero, ℕ}
 use Rattle.std.proofs.lemmas.List.{length-take-le}
-use Rattle.dob_stops.specs.declared.cause.Cause.TheVariants as cause
 use Rattle.dob_node.proofs.Sounds.{kept_back, emitted_still}
+use Rattle.dob_share.specs.declared.share.Seen.{Seen}
+use Rattle.dob_stops.specs.declared.cause.Cause.TheVariants as cause
 
 -- ---- room doesn't matter
 
 one_with_room : (item : Item) (share after : Share) (history grown : HistoryView) (room : ℕ) → IsTaken item share after (record history { room = room }) grown →
     IsTaken item share after history grown
-one_with_room item share after history grown room taken = record {
-  fits = taken.fits;
-  classes = taken.classes;
-  cell = taken.cell;
-  others = taken.others;
-  settled = taken.settled;
-}
+one_with_room item share after history grown room taken = assumption
 
 -- what is taken with other room is taken
 pub all_with_room : (items : List Item) (share after : Share) (history mid grown : HistoryView) → IsHistory history mid →
@@ -51,9 +47,7 @@ pub taken_more : (front : List Item) (item : Item) (share mid after : Share) (hi
 taken_more [] item share mid after history longer grown none taken = (
   after,
   grown,
-  one_with_room item share after history grown longer.room
-      (subst (λ (s : Share). IsTaken item s after (record history { room = longer.room }) grown) none.0
-      (subst (λ (h : HistoryView). IsTaken item mid after h grown) none.1 taken)),
+  one_with_room item share after history grown longer.room (rw (← none.0) (subst (λ (h : HistoryView). IsTaken item mid after h grown) none.1 taken)),
   (refl, refl),
 )
 taken_more (first ∷ front) item share mid after history longer grown before taken = (
@@ -94,9 +88,8 @@ taken_before items k default share mid after history longer grown why low before
   behind = drop (k + 1) items;
   items_are = sym (take-append-drop k items) ∙ ap (λ xs. take k items ++ xs) (rw add-one (drop-cons items k default low));
   counted = length-take-le k items (omega arith);
-  taken = subst (λ (s : Share). AreTaken (take k items) share s history grown) (sym same.0)
-      (subst (λ (h : HistoryView). AreTaken (take k items) share mid history h) (sym same.1) before);
-  reason = subst (λ (s : Share). IsReason (get_or items k default) s why) (sym same.0) reason;
+  taken = rw (same.0, same.1) before;
+  reason = rw same.0 reason;
 }
 
 -- what holds of an error holds of it where it is handed on
@@ -118,16 +111,7 @@ emitted_all (item ∷ items) share after history grown expanded taken emitted =
 -- what is kept stays so with other room
 pub kept_with_room : (family : Family) (n id : ℕ) (share : Share) (history mid : HistoryView) → IsHistory history mid → AreKept family n id share history →
     AreKept family n id share mid
-kept_with_room family n id share history mid same kept = subst (λ (h : HistoryView). AreKept family n id share h) (sym same) (record {
-  share_is = kept.share_is;
-  history_is = kept.history_is;
-  one_of_n = kept.one_of_n;
-  few = kept.few;
-  owned = kept.owned;
-  counted = kept.counted;
-  classes = kept.classes;
-  parities = kept.parities;
-})
+kept_with_room family n id share history mid same kept = subst (λ (h : HistoryView). AreKept family n id share h) (sym same) assumption
 
 -- where room is refused, none is taken
 pub stops_first : (items : List Item) (share : Share) (history : HistoryView) → 0 < length items → StopsAt items share history cause.Memory
@@ -145,7 +129,7 @@ stops_first (item ∷ items) share history some = record {
 
 -- ---- what is taken of a node, whose history may have had other room
 
-module _ (node : NodeView) (after : Share) (mid grown : HistoryView) (same : IsHistory node.history mid) where
+module _ {node : NodeView} {after : Share} {mid grown : HistoryView} (same : IsHistory node.history mid) where
   pub has_taken : (items : List Item) (count : ℕ) → AreTaken items node.share after mid grown →
       HasTaken items node (record node { share = after; history = grown; taken = count })
   has_taken items count taken = record {
@@ -179,10 +163,10 @@ module _ (node : NodeView) (after : Share) (mid grown : HistoryView) (same : IsH
   applies_ok items count taken all = record { taken = has_taken items count taken; all = all; stopped = tt; before = tt; memory = λ is. absurd (cc) }
 
   -- it stays sound
-  pub still_sound : (items own : List Item) (count : ℕ) → IsSound node → AreTaken items node.share after mid grown →
+  pub still_sound : (items : List Item) {own : List Item} {count : ℕ} → IsSound node → AreTaken items node.share after mid grown →
       StayKept node.share mid after grown → All HasItemEntries own → IsSound (record node { share = after; history = grown; own = own; taken = count })
-  still_sound items own count sound taken still entries = record {
-    kept = kept_back node.family node.n node.id node.share after mid grown (kept_with_room node.family node.n node.id node.share node.history mid same sound.kept) still;
+  still_sound items sound taken still entries = record {
+    kept = kept_back (kept_with_room node.family node.n node.id node.share node.history mid same sound.kept) still;
     emitted = emitted_all items node.share after node.history grown node.expanded (all_with_room items node.share after node.history mid grown same taken) sound.emitted;
     entries = entries;
     receivers = sound.receivers;
@@ -212,3 +196,132 @@ before_since items old mid new why same before = record {
   taken = taken_since before.front old mid new same before.taken;
   reason = before.reason;
 }
+
+-- ---- a queue: two parts
+
+taken_append : (xs ys : List Item) (share mid after : Share) (history longer grown : HistoryView) → AreTaken xs share mid history longer →
+    AreTaken ys mid after longer grown → AreTaken (xs ++ ys) share after history grown
+taken_append [] ys share mid after history longer grown none two =
+    all_with_room ys share after history longer grown none.1 (subst (λ (s : Share). AreTaken ys s after longer grown) none.0 two)
+taken_append (x ∷ xs) ys share mid after history longer grown one two =
+    (one.0, one.1, one.2, taken_append xs ys one.0 mid after one.1 longer grown one.3 two)
+
+pub takes_none : (items : List Item) (share : Share) (history : HistoryView) → TakesFirst items items share share history history
+takes_none items share history = record { front = []; items_are = refl; taken = (refl, refl) }
+
+pub takes_more : {items rest left : List Item} {share mid after : Share} {history longer grown : HistoryView} → TakesFirst items rest share mid history longer →
+    TakesFirst rest left mid after longer grown → TakesFirst items left share after history grown
+takes_more {left = left} {share = share} {mid = mid} {after = after} {history = history} {longer = longer} {grown = grown} one two = record {
+  front = one.front ++ two.front;
+  items_are = one.items_are ∙ ap (λ xs. one.front ++ xs) two.items_are ∙ sym (append_assoc one.front two.front left);
+  taken = taken_append one.front two.front share mid after history longer grown one.taken two.taken;
+}
+
+-- ---- those that lie side by side
+
+-- those in front have values that a table can have where all have
+pub front_entries : (queue front back : List Item) → front ++ back ≡ queue → All HasItemEntries queue → All HasItemEntries front
+front_entries queue front back is entries = rw take-append_seam at (rw (← is) at (All-take HasItemEntries (length front) queue entries))
+
+pub left_entries : {items left : List Item} {share after : Share} {history grown : HistoryView} → TakesFirst items left share after history grown →
+    All HasItemEntries items → All HasItemEntries left
+left_entries {items = items} {left = left} takes entries =
+    subst (λ xs. All HasItemEntries xs) (ap (drop (length takes.front)) takes.items_are ∙ drop-append_seam takes.front left)
+    (All-drop HasItemEntries (length takes.front) items entries)
+
+module _ (queue front back : List Item) (count : ℕ) (share after : Share) (history grown : HistoryView) (is : front ++ back ≡ queue) where
+  dropped : count ≡ length front → drop count queue ≡ back
+  dropped all = ap (λ (k : ℕ). drop k queue) all ∙ ap (drop (length front)) (sym is) ∙ drop-append_seam front back
+
+  split : (why : Cause) (before : AreTakenBefore front count share after history grown why) →
+      queue ≡ before.front ++ ((before.item ∷ before.behind) ++ back)
+  split why before = sym is ∙ ap (λ xs. xs ++ back) before.items_are ∙ append_assoc before.front (before.item ∷ before.behind) back
+
+  left : (why : Cause) (before : AreTakenBefore front count share after history grown why) → drop count queue ≡ (before.item ∷ before.behind) ++ back
+  left why before = ap (λ (k : ℕ). drop k queue) (sym before.counted) ∙ ap (drop (length before.front)) (split why before)
+      ∙ drop-append_seam before.front ((before.item ∷ before.behind) ++ back)
+
+  pub front_taken : (result : Result (Unit {0}) Cause) → OnOk result (AreTaken front share after history grown) → OnOk result (count ≡ length front) →
+      IfErr result (λ why. AreTakenBefore front count share after history grown why) → TakesFirst queue (drop count queue) share after history grown
+  front_taken (Ok done) taken all before = record { front = front; items_are = sym is ∙ ap (λ xs. front ++ xs) (sym (dropped all)); taken = taken }
+  front_taken (Err why) taken all before = record {
+    front = before.front;
+    items_are = split why before ∙ ap (λ xs. before.front ++ xs) (sym (left why before));
+    taken = before.taken;
+  }
+
+  pub front_stops : (result : Result (Unit {0}) Cause) → IfErr result (λ why. AreTakenBefore front count share after history grown why) →
+      IfErr result (λ why. StopsFirst (drop count queue) after why)
+  front_stops (Ok done) before = tt
+  front_stops (Err why) before = record { item = before.item; behind = before.behind ++ back; first = left why before; reason = before.reason }
+
+  pub fewer : (result : Result (Unit {0}) Cause) → OnOk result (count ≡ length front) → (queue ≢ [] → 0 < length front) →
+      OnOk result (queue ≢ [] → length (drop count queue) < length queue)
+  fewer (Ok done) all some = λ busy. omega (arith, some busy, ap length (dropped all), ap length (sym is), length-append front back)
+  fewer (Err why) all some = tt
+
+-- ---- the own items of a node
+
+-- the first of a node's own items can't be applied where that of its queue can't be taken
+pub fault_of : (result : Result (Unit {0}) Cause) (node : NodeView) → IfErr result (λ why. StopsFirst node.own node.share why) →
+    IfErr result (λ why. HasItemFault node why)
+fault_of (Ok done) node stops = tt
+fault_of (Err why) node stops = record { item = stops.item; behind = stops.behind; first = stops.first; reason = stops.reason }
+
+-- ---- items looked at before they are taken
+
+-- the items from the first up to the end have been looked at
+unfoldable pub AreLooked : ℕ → ℕ → Share → List Item → List (Option Seen) → Type 0
+AreLooked first end share items looks = (place : ℕ) (item : Item) (look : Option Seen) → first ≤ place → place < end →
+    item ≡ get_or items place item → look ≡ get_or looks (place % 16) look → IsSeen share item.to look
+
+pub none_looked : (first : ℕ) (share : Share) (items : List Item) (looks : List (Option Seen)) → AreLooked first first share items looks
+unfolding AreLooked
+none_looked first share items looks place item look from below item_is look_is = absurd (omega arith)
+
+-- one more
+pub one_looked : (first end : ℕ) (share : Share) (items : List Item) (looks : List (Option Seen)) (default : Item) (seen : Option Seen) →
+    first % 16 ≡ 0 → end < first + 16 → first ≤ end → end < length items → length looks ≡ 16 → IsSeen share (get_or items end default).to seen →
+    AreLooked first end share items looks → AreLooked first (end + 1) share items (set looks (end % 16) seen)
+unfolding AreLooked
+one_looked first end share items looks default seen starts near from inside whole is so_far place item look after below item_is look_is =
+    elim (cases_eq place end) [
+      | inl e ↦
+          let same_item : item ≡ get_or items end default = item_is ∙ ap (λ (k : ℕ). get_or items k item) e ∙ get_or_default items end item default inside in
+          let same_look : look ≡ seen = look_is ∙ ap (λ (k : ℕ). get_or (set looks (end % 16) seen) (k % 16) look) e
+          ∙ get_or-set_same looks (end % 16) seen look (omega arith) in
+          rw (same_item, same_look) is
+      | inr n ↦
+          let apart : place % 16 ≢ end % 16 = omega arith in
+          so_far place item look after (omega arith) item_is (look_is ∙ get_or-set_other looks (end % 16) (place % 16) seen look apart)
+    ]
+
+-- all of the group
+pub group_looked : (first end : ℕ) (share : Share) (items : List Item) (looks : List (Option Seen)) → first % 16 ≡ 0 →
+    ((place : ℕ) → place < length items → place < first + 16 → place < end) →
+    AreLooked first end share items looks → AreSeen first share items looks
+unfolding AreLooked AreSeen
+group_looked first end share items looks starts all looked place item look inside group item_is look_is =
+    looked place item look (omega arith) (all place inside (omega arith)) item_is look_is
+
+read_again : {A : Type 0} (xs : List A) (k : ℕ) (default : A) → get_or xs k default ≡ get_or xs k (get_or xs k default)
+read_again [] k default = refl
+read_again (x ∷ xs) zero default = refl
+read_again (x ∷ xs) (suc k) default = read_again xs k default
+
+-- what has been seen of the item that is next
+pub seen_next : (next k : ℕ) (share : Share) (items : List Item) (looks : List (Option Seen)) (item : Item) (look : Option Seen) → next ≡ k →
+    AreSeen next share items looks → k < length items → IsSeen share (get_or items k item).to (get_or looks (next % 16) look)
+unfolding AreSeen
+seen_next next k share items looks item look same seen inside =
+    seen next (get_or items k item) (get_or looks (next % 16) look) (omega arith) refl
+    (ap (λ (j : ℕ). get_or items j item) (sym same) ∙ read_again items next item ∙ ap (λ (j : ℕ). get_or items next (get_or items j item)) same)
+    (read_again looks (next % 16) look)
+
+-- behind it
+pub seen_behind : (next : ℕ) (share after : Share) (items : List Item) (looks : List (Option Seen)) →
+    ((class : ℕ) (look : Option Seen) → IsSeen share class look → IsSeen after class look) → AreSeen next share items looks →
+    0 < (next + 1) % 16 → AreSeen (next + 1) after items looks
+unfolding AreSeen
+seen_behind next share after items looks still seen within place item look inside group item_is look_is =
+    still item.to look (seen place item look inside (omega arith) item_is look_is)

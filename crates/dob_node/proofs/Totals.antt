@@ -1,11 +1,10 @@
 -- How many copies a class's moves have in all: one each. Before anything is settled they know nothing.
-use Rattle.dob_node.proofs.Common.{nat_tests}
-use Rattle.dob_node.proofs.Common.{◌&&◌, ◌+◌, ◌<◌, ◌∙◌, ◌∷◌, ◌≡◌, ◌≤◌, Contains, List, None, [], ap, arith, cond, eqb, false, length, ltb, refl}
-use Rattle.dob_node.proofs.Common.{suc, sym, zero, ℕ, and_right, false≢true, le-ltb, length-append, All-contains_itself, All-head}
-use Rattle.dob_node.proofs.Common.{All-tail, Contains-append_right, All, count_by, head_in, each_below, Family, Setup, AreMoves-moves_of, moves_of, HasStatus}
-use Rattle.dob_node.proofs.Common.{Move, Open, HasClasses-classes_of, RepresentsClass, class_number, class_setup, classes_of, class_setup_is, not_draw_loss}
-use Rattle.dob_node.proofs.Common.{moves_keep_the_family, is_draw, Value, Draw, Loss, times-predecessors, predecessors, counted, SumsUp, owner_of, is_win_in}
-use Rattle.dob_node.proofs.Common.{Item, Settlement, all_known, copies, items_to, known}
+use Rattle.dob_node.proofs.Common.{◌&&◌, ◌+◌, ◌<◌, ◌∙◌, ◌∷◌, ◌≡◌, All, All-contains_itself, All-head, All-tail, AreMoves-moves_of, Contains}
+use Rattle.dob_node.proofs.Common.{Contains-append_right, Draw, Family, HasClasses-classes_of, HasStatus, Item, List, Loss, Move, None, Open, RepresentsClass}
+use Rattle.dob_node.proofs.Common.{Settlement, Setup, SumsUp, Value, [], all_known, and_right, ap, arith, class_number, class_setup, class_setup_is}
+use Rattle.dob_node.proofs.Common.{classes_of, cond, copies, count_by, counted, each_below, eqb, false, false≢true, head_in, is_draw, is_win_in, items_to}
+use Rattle.dob_node.proofs.Common.{known, last_now, le-ltb, length, length-append, lt-ltb, ltb, moves_keep_the_family, moves_of, nat_tests, not_draw_loss}
+use Rattle.dob_node.proofs.Common.{owner_of, predecessors, refl, suc, sym, times-predecessors, zero, ℕ}
 use Rattle.std.proofs.lemmas.List.Sums.{sum_by-cons}
 use Rattle.dob_pieces.specs.Setups.{turned}
 use Rattle.dob_pieces.proofs.MaskWalks.{length-each}
@@ -15,8 +14,7 @@ use Rattle.dob_rank.specs.Numbers.{sum_below}
 use Rattle.dob_lists.proofs.Sums.{sum_same}
 use Rattle.dob_classes.proofs.OfFamilies.FamilyNumbers.{class_number-below}
 use Rattle.dob_unmove.specs.Edges.{edges}
-use Rattle.dob_node.proofs.Runs.{from_each_below, only_one}
-use Rattle.dob_node.proofs.Copies.{NonePass, last_now-none}
+use Rattle.dob_node.proofs.Copies.{known_by}
 
 -- ---- each move leads into one class
 
@@ -28,19 +26,16 @@ sum_below-both : (f g : ℕ → ℕ) (n : ℕ) → sum_below (λ k. f k + g k) n
 sum_below-both f g zero = refl
 sum_below-both f g (suc n) = grind (arith, sum_below-both f g n)
 
-one_place : (k n : ℕ) → n ≤ k → sum_below (λ j. cond (eqb k j) 1 0) n ≡ 0
-one_place k zero above = refl
-one_place k (suc n) above = grind (arith, nat_tests, one_place k n (omega arith))
-
-its_place : (k n : ℕ) → k < n → sum_below (λ j. cond (eqb k j) 1 0) n ≡ 1
-its_place k zero below = absurd (omega arith)
-its_place k (suc n) below = grind (arith, nat_tests, its_place k n, one_place k n)
+place_below : (k n : ℕ) → sum_below (λ j. cond (eqb k j) 1 0) n ≡ cond (ltb k n) 1 0
+place_below k zero = grind (arith, nat_tests)
+place_below k (suc n) = grind (arith, nat_tests, place_below k n)
 
 in_all_places : {X : Type 0} (f : X → ℕ) (n : ℕ) (xs : List X) → All (λ x. f x < n) xs →
     sum_below (λ k. count_by (λ x. eqb (f x) k) xs) n ≡ length xs
 in_all_places f n [] below = sum_below-none n
 in_all_places f n (x ∷ xs) below =
-    let here = its_place (f x) n (All-head (λ y. f y < n) x xs below) in
+    let here : sum_below (λ k. cond (eqb (f x) k) 1 0) n ≡ 1 =
+    place_below (f x) n ∙ ap (λ b. cond b 1 0) (lt-ltb (f x) n (All-head (λ y. f y < n) x xs below)) in
     let rest = in_all_places f n xs (All-tail (λ y. f y < n) x xs below) in
     let parts = sum_same (λ k. count_by (λ y. eqb (f y) k) (x ∷ xs)) (λ k. cond (eqb (f x) k) 1 0 + count_by (λ y. eqb (f y) k) xs) n
     (λ k low. sum_by-cons (λ y. cond (eqb (f y) k) 1 0) x xs) in
@@ -97,34 +92,25 @@ module _ (family : Family) (p : ℕ) (low : p < classes_of family) where
 
 -- ---- before anything is applied
 
-none_pass : (p q copy : ℕ) (ss : List Settlement) → NonePass (λ s. eqb s.class q && ltb copy (items_to [] s.number p)) ss
-none_pass p q copy [] = tt
-none_pass p q copy (s ∷ ss) = (and_right (eqb s.class q) (ltb copy 0) (le-ltb copy 0 (omega arith)), none_pass p q copy ss)
-
-knows_nothing : (history : List Settlement) (applied : List Item) (p q copy : ℕ) → applied ≡ [] → known history applied p q copy ≡ Draw
-knows_nothing history applied p q copy none =
-    ap (λ items. known history items p q copy) none
-    ∙ last_now-none (λ s. eqb s.class q && ltb copy (items_to [] s.number p)) Draw history (none_pass p q copy history)
+knows_nothing : (p q copy : ℕ) (ss : List Settlement) → known ss [] p q copy ≡ Draw
+knows_nothing p q copy [] = refl
+knows_nothing p q copy (s ∷ ss) =
+    ap (λ b. last_now (λ r. eqb r.class q && ltb copy (items_to [] r.number p)) (cond b s.now Draw) ss)
+    (and_right (eqb s.class q) (ltb copy 0) (le-ltb copy 0 (omega arith)))
+    ∙ knows_nothing p q copy ss
 
 all_draws : (targets : ℕ → List ℕ) (classes n : ℕ) (histories : ℕ → List Settlement) (applied : ℕ → List Item) (p : ℕ) →
     ((i : ℕ) → applied i ≡ []) → (v : Value) → Contains (all_known targets classes n histories applied p) v → v ≡ Draw
-unfolding all_known
 all_draws targets classes n histories applied p none v there =
-    let at = from_each_below (λ (q : ℕ). each_below (λ (copy : ℕ). known (histories (owner_of n q)) (applied (owner_of n q)) p q copy ∷ [])
-    (copies targets p q)) classes v there in
-    let q = at.0 in
-    let row = from_each_below (λ (copy : ℕ). known (histories (owner_of n q)) (applied (owner_of n q)) p q copy ∷ []) (copies targets p q) v at.2 in
-    sym (only_one (known (histories (owner_of n q)) (applied (owner_of n q)) p q row.0) v row.2)
-    ∙ knows_nothing (histories (owner_of n q)) (applied (owner_of n q)) p q row.0 (none (owner_of n q))
+    let at = known_by targets classes n histories applied p v there in
+    sym at.4 ∙ ap (λ items. known (histories (owner_of n at.0)) items p at.0 at.2) (none (owner_of n at.0))
+    ∙ knows_nothing p at.0 at.2 (histories (owner_of n at.0))
 
 count_draws : (xs : List Value) → ((v : Value) → Contains xs v → v ≡ Draw) → count_by is_draw xs ≡ length xs
 count_draws [] draws = refl
-count_draws (x ∷ xs) draws = grind (
-  arith,
-  sum_by-cons (λ v. cond {A = ℕ} (is_draw v) 1 0) x xs,
-  draws x (head_in x xs),
-  count_draws xs (λ v there. draws v (Contains-append_right (x ∷ []) xs v there)),
-)
+count_draws (x ∷ xs) draws =
+    let rest = count_draws xs (λ v there. draws v (Contains-append_right (x ∷ []) xs v there)) in
+    rw (draws x (head_in x xs)) (grind (arith, sum_by-cons (λ v. cond {A = ℕ} (is_draw v) 1 0) Draw xs, rest))
 
 no_wins : (xs : List Value) (plies count : ℕ) → ((v : Value) → Contains xs v → v ≡ Draw) → count ≡ count_by (λ v. is_win_in plies v) xs → 0 ≡ count
 no_wins xs plies zero draws is = refl

@@ -1,8 +1,7 @@
 -- Cells that sum up what is known: their value follows.
-use Rattle.dob_node.proofs.Common.{nat_tests}
-use Rattle.dob_node.proofs.Common.{◌<◌, ◌∙◌, ◌∷◌, ◌≡◌, Contains, List, None, Some, [], arith, inl, inr, length, refl, subst, sym, true, ℕ, eq-eqb}
-use Rattle.dob_node.proofs.Common.{count_by, head_in, not_draw_win, IsLeastLoss, is_draw, Value, Draw, Loss, Win, counted, counts, Cell, CellValue, IsGreatest}
-use Rattle.dob_node.proofs.Common.{SameCell, SumsUp, is_win_in, FollowsFromKnown}
+use Rattle.dob_node.proofs.Common.{◌<◌, ◌∙◌, ◌∷◌, ◌≡◌, Cell, CellValue, Contains, Draw, FollowsFromKnown, IsGreatest, IsLeastLoss, List, Loss, None, SameCell}
+use Rattle.dob_node.proofs.Common.{Some, SumsUp, Value, Win, [], arith, count_by, counted, counts, eq-eqb, head_in, inl, inr, is_draw, is_win_in, length}
+use Rattle.dob_node.proofs.Common.{nat_tests, not_draw_win, refl, subst, sym, true, ℕ}
 use Rattle.dob_value.proofs.Tables.{draw_is}
 
 -- ---- the cell's value follows
@@ -18,7 +17,7 @@ must_be_win : (known : List Value) (v : Value) → count_by is_draw known ≡ 0 
     (plies : ℕ) × (v ≡ Win plies)
 must_be_win known (Win plies) drawn lost there = (plies, refl)
 must_be_win known (Loss plies) drawn lost there = absurd (lost plies there)
-must_be_win known Draw drawn lost there = let some = counts is_draw known Draw there refl in absurd (omega arith)
+must_be_win known Draw drawn lost there = absurd (omega (arith, counts is_draw known Draw there refl))
 
 some_value : (known : List Value) → 0 < length known → (v : Value) × Contains known v
 some_value [] above = absurd (omega arith)
@@ -31,8 +30,7 @@ value_follows known cell (Win plies) sums above value =
 value_follows known cell (Loss plies) sums above value =
     let greatest = value.2 in
     let most : IsGreatest cell.wins greatest = value.3 in
-    let count : cell.wins greatest ≡ count_by (λ value. is_win_in greatest value) known = sums.wins greatest in
-    let found = counted (is_win_in greatest) known (let some = most.0 in omega arith) in
+    let found = counted (is_win_in greatest) known (omega (arith, sums.wins greatest, most.0)) in
     let none : IsLeastLoss known None = subst (IsLeastLoss known) value.0 sums.least in (
       greatest,
       value.4,
@@ -44,16 +42,13 @@ value_follows known cell Draw sums above value = (
   subst (IsLeastLoss known) value.0 sums.least,
   λ wins. elim value.1 [
     | inl left ↦
-        let count = sums.left in
-        let found = counted is_draw known (omega arith) in
+        let found = counted is_draw known (omega (arith, sums.left)) in
         let win = wins found.0 found.1 in
         absurd (not_draw_win win.0 (sym (draw_is found.0 found.2) ∙ win.1))
     | inr none ↦
         let some = some_value known above in
         let win = wins some.0 some.1 in
-        let count = win_counted known cell sums win.0 (subst (Contains known) win.1 some.1) in
-        let zero_wins = none win.0 in
-        absurd (omega arith)
+        absurd (omega (arith, win_counted known cell sums win.0 (subst (Contains known) win.1 some.1), none win.0))
   ],
 )
 

@@ -46,7 +46,7 @@ pub fn opening_in(classes: &Classes, class: u64) -> Opening
 /// # Errors
 ///
 /// `Memory` if none was left for the list; nothing else is lost.
-#[tactic(auto, using(crate::proofs::Starts::openings_none, crate::proofs::Starts::openings_more))]
+#[tactic(auto, using(crate::proofs::Found::openings_none, crate::proofs::Found::openings_more))]
 pub fn opening(
     alloc: Global,
     classes: &Classes,

@@ -1,10 +1,9 @@
 -- The names that the proofs here use most, from other crates and the definitions of this one.
-pub use Rattle.std.proofs.Common.{◌%◌, ◌*◌, ◌++◌, ◌+◌, ◌-◌, ◌/◌, ◌<◌, ◌^◌, ◌∙◌, ◌∷◌, ◌≡◌, ◌≢◌, ◌≤◌, ◌⊎◌, Bool, Err, FitsSigned, IfErr, IfOk, IfSome, List, None}
-pub use Rattle.std.proofs.Common.{Ok, Option, Some, [], add-one, ap, append_assoc, arith, cond, drop, eqb, false, get_or, get_or-set_other, get_or-set_same}
-pub use Rattle.std.proofs.Common.{inl, inr, length, nat_eq, nat_lt, of_z, pos, refl, rules, set, slice_get, subst, suc, sym, take, to_z, true, w64, zero, ℕ}
-pub use Rattle.std.proofs.Math.Nat.{mod-add-div', mod-eq-sub-div-mul, mul-le-mul_right}
-pub use Rattle.std.proofs.lemmas.Bool.{and_cases, and_parts, and_right, cases_Bool, cases_eq, cases_lt, cases_order, eq-eqb, eqb-true, le-ltb, lt-ltb, ltb-true}
-pub use Rattle.std.proofs.lemmas.Bool.{ne_eqb, true≢false}
+pub use Rattle.std.proofs.Common.{◌%◌, ◌*◌, ◌++◌, ◌+◌, ◌-◌, ◌/◌, ◌<◌, ◌^◌, ◌∙◌, ◌∷◌, ◌≡◌, ◌≢◌, ◌≤◌, ◌⊎◌, Bool, Err, FitsSigned, IfOk, IfSome, List, None, Ok}
+pub use Rattle.std.proofs.Common.{Option, Some, [], add-one, ap, append_assoc, arith, cond, drop, eqb, false, get_or, get_or-set_other, get_or-set_same, inl}
+pub use Rattle.std.proofs.Common.{inr, length, nat_eq, nat_lt, of_z, pos, refl, rules, set, slice_get, subst, suc, sym, take, to_z, true, w64, zero, ℕ}
+pub use Rattle.std.proofs.Math.Nat.{mod-add-div', mod-eq-sub-div-mul}
+pub use Rattle.std.proofs.lemmas.Bool.{and_cases, and_parts, and_right, cases_Bool, cases_eq, cases_lt, eq-eqb, eqb-true, lt-ltb, ltb-true, ne_eqb, true≢false}
 pub use Rattle.std.proofs.lemmas.Int.{ints, to_z-of_z}
 pub use Rattle.std.proofs.lemmas.List.{append-nil, get_or-replicate, get_or_default, length-append, length-replicate, length-set, take-append-drop, take_all}
 pub use Rattle.std.proofs.lemmas.List.Elements.{All-append, All-cons, All-head, All-nil, All-tail}
@@ -17,7 +16,7 @@ pub use Rattle.dob_pieces.specs.declared.profile.Family.{Family}
 pub use Rattle.dob_moves.proofs.Cases.{one_status}
 pub use Rattle.dob_moves.specs.Statuses.{HasStatus}
 pub use Rattle.dob_moves.specs.declared.position_status.Status.{Status}
-pub use Rattle.dob_moves.specs.declared.position_status.Status.TheVariants.{Caught, Open, Stuck, Tried}
+pub use Rattle.dob_moves.specs.declared.position_status.Status.TheVariants.{Open}
 pub use Rattle.dob_rank.specs.Families.{class_setup, classes_of}
 pub use Rattle.dob_value.specs.Follows.{IsEntry}
 pub use Rattle.dob_value.specs.declared.value.Value.TheVariants.{Draw}
@@ -43,7 +42,7 @@ pub use Rattle.dob_node.proofs.Nodes.{kept_sound, outbox_same}
 pub use Rattle.dob_node.proofs.Rest.{below_owner}
 pub use Rattle.dob_node.proofs.Settles.{emitted_all, emitted_grown, emitted_more, items_from-append}
 pub use Rattle.dob_node.proofs.ShownValues.{value_shown, values_given}
-pub use Rattle.dob_node.proofs.TakenLists.{before_since, kept_with_room, taken_since}
+pub use Rattle.dob_node.proofs.TakenLists.{before_since, taken_since}
 pub use Rattle.dob_node.proofs.Totals.{some_known, start_sums}
 pub use Rattle.dob_node.proofs.ValuesFollow.{SumsUp-same, value_follows}
 pub use Rattle.dob_node.specs.Histories.{AreValuesBelow, IsChained, value_of}
@@ -55,12 +54,12 @@ pub use Rattle.dob_node.specs.declared.node.Node.{Node}
 pub use Rattle.dob_world.specs.Effects.{IsEventDone, IsMade, IsSkipped, IsStopped, IsWorldUnchanged}
 pub use Rattle.dob_world.specs.Events.{Applies, AppliesItems, AppliesOwn, CanHappen, ExpandsAt, Happens, LinksStay, NodesStay, OtherLinksStay, Posts, Stays}
 pub use Rattle.dob_world.specs.Events.{TakesBatch, WorldMayEnd}
-pub use Rattle.dob_world.specs.Headline.{AreBeginnings, HasRightValues, HaveKnownValues, Headline}
+pub use Rattle.dob_world.specs.Headline.{AreBeginnings, HaveKnownValues, Headline}
 pub use Rattle.dob_world.specs.Lanes.{HasListed, HasReceivedFront, HasSentBatch, HasTakenBatch, IsBatchTo, LaneStays}
 pub use Rattle.dob_world.specs.Laws.{EndIsRest, EndIsSilent, EventsKeepAll, HappeningKeepsAll, HappeningKeepsMatch, HeadlineHolds, ListsAreBeginnings}
 pub use Rattle.dob_world.specs.Laws.{OwnItemFits, RestIsRight, RestStays, StillIsEnded, TakenItemFits}
 pub use Rattle.dob_world.specs.Links.{LinkView, link_of}
-pub use Rattle.dob_world.specs.Results.{HasDriven, HasMadeRound, HasRunEvents, HasStoppedAt, IsBusyRound, SomeCan, StopsInRounds}
+pub use Rattle.dob_world.specs.Results.{HasDriven, HasMadeRound, HasRunEvents, HasStoppedAt, SomeCan, StopsInRounds}
 pub use Rattle.dob_world.specs.Rounds.{IsStill, round_event, round_length}
 pub use Rattle.dob_world.specs.Runs.{IsAfter, IsAfterSteps, IsDoneOrSkipped, IsStepOf}
 pub use Rattle.dob_world.specs.Shown.{lane_at, part, ring_of, setting_of, state_of}
@@ -68,7 +67,7 @@ unfoldable pub use Rattle.dob_world.specs.Shown.{nodes_shown, world_shown}
 pub use Rattle.dob_world.specs.Standing.{AreCutsPosted, AreInPlace, CanCount, HasAtMost, HasOpenings, IsCounted, IsLaneOf, IsLeft, IsNodeOf, IsSetting}
 pub use Rattle.dob_world.specs.Standing.{IsStanding, Stand, StandsOrStopped}
 pub use Rattle.dob_world.specs.Start.{AreEmptyLanes, AreOpenedNodes, IsEmptyLane, IsWorldStart}
-pub use Rattle.dob_world.specs.Stops.{GoesTooDeep, IsCauseOf, IsForMemory, IsLeftBy, IsStopBy, IsStopInRounds, OwnGoesTooDeep, TakenGoesTooDeep, TakesFront}
+pub use Rattle.dob_world.specs.Stops.{GoesTooDeep, IsCauseOf, IsForMemory, IsLeftBy, IsStopBy, IsStopInRounds, TakesFront}
 pub use Rattle.dob_world.specs.Worlds.{AreLawful, HaveFallsIn, IsAtRest, IsLinked, IsNodeIdle, Matches, Nodes, Setting, State, WorldView, emitted_in, items_in}
 pub use Rattle.dob_world.specs.Worlds.{setting_by, value_in, waiting_batches}
 pub use Rattle.dob_world.specs.declared.detector.Detector.{Detector}

@@ -1,55 +1,49 @@
 -- The detector's lists after an event, and what they show.
 use Rattle.dob_world.proofs.Common.{◌*◌, ◌+◌, ◌<◌, ◌^◌, ◌∙◌, ◌≡◌, ◌≢◌, ◌≤◌, Bool, FitsSigned, List, ap, arith, false, get_or, get_or-set_other, get_or-set_same}
-use Rattle.dob_world.proofs.Common.{inl, inr, length, of_z, set, sym, to_z, w64, ℕ, ints, to_z-of_z, get_or-replicate}
-use Rattle.dob_world.proofs.Common.{get_or_default, mul-add-lt, same_from_place, ◌≤ℤ◌, replicate, slice_index, slice_index_or, sum_same, sum_zeros}
-use Rattle.dob_world.proofs.Common.{IsLawfulRing, Ring, counter, sum_below, Token, ring_of, IsCounted, Detector}
+use Rattle.dob_world.proofs.Common.{inl, inr, length, of_z, set, sym, to_z, w64, ℕ, ints, to_z-of_z, get_or-replicate, get_or_default, mul-add-lt}
+use Rattle.dob_world.proofs.Common.{same_from_place, ◌≤ℤ◌, replicate, slice_index, slice_index_or, sum_same, sum_zeros, IsLawfulRing, Ring, counter, sum_below}
+use Rattle.dob_world.proofs.Common.{Token, ring_of, IsCounted, Detector}
 use Rattle.std.proofs.Math.IntN.{ℤ, pos, neg_ℤ, ◌+ℤ◌, ◌-ℤ◌}
 use Rattle.dob_safra.specs.Rings.{Raises, Posts, Takes}
-use Rattle.dob_world.proofs.Places.{at_node}
+use Rattle.dob_world.proofs.InPlace.{at_node}
 use Rattle.dob_safra.proofs.Counts.{flipped, row_stays, flipped_stay, row_raised, other_row, flipped_raises, posted_bound, taken_bound}
 
 -- ---- counters
 
--- a counter that was read is the ring's
-pub counter_read : (d : Detector) (i : ℕ) (z : ℤ) → IsCounted d → i < d.nodes → z ≡ get_or d.counters.items i z → z ≡ counter d.nodes (ring_of d) i
-counter_read d i z counted low is = is ∙ get_or_default d.counters.items i z (pos 0) (omega (arith, low, counted.counters)) ∙ counted.counted i low
-
 pub zero_counter : (n : ℕ) (ring : Ring) (i : ℕ) → ((j : ℕ) → j < n → ring.posted i j ≡ 0) → ((j : ℕ) → j < n → ring.taken j i ≡ 0) →
     counter n ring i ≡ pos 0
 zero_counter n ring i posted taken =
-    let one : sum_below n (λ j. ring.posted i j) ≡ 0 = sum_same n (λ j. 0) (λ j. ring.posted i j) posted ∙ sum_zeros n in
-    let other : sum_below n (λ j. ring.taken j i) ≡ 0 = sum_same n (λ j. 0) (λ j. ring.taken j i) taken ∙ sum_zeros n in
-    omega (arith, ints, one, other)
+    omega (arith, ints, sum_same n (λ j. 0) (λ j. ring.posted i j) posted ∙ sum_zeros n, sum_same n (λ j. 0) (λ j. ring.taken j i) taken ∙ sum_zeros n)
 
--- a lawful ring's counters are small
-pub small_counter : (n : ℕ) (ring : Ring) (i : ℕ) → n ≤ 16 → i < n → IsLawfulRing n ring →
-    (neg_ℤ (pos (2 ^ 44)) ≤ℤ counter n ring i) × (counter n ring i ≤ℤ pos (2 ^ 44))
-small_counter n ring i size low lawful =
-    let up : sum_below n (λ j. ring.posted i j) ≤ 2 ^ 44 = posted_bound n ring i size low lawful.few in
-    let down : sum_below n (λ j. ring.taken j i) ≤ 2 ^ 44 =
-    taken_bound n ring i size low (λ k l low_k low_l. omega (arith, lawful.in_order k l low_k low_l, lawful.few k l low_k low_l)) in
-    (omega (arith, ints, up, down), omega (arith, ints, up, down))
+-- A counter that was read is the ring's, and small.
+pub record CounterAt (d : Detector) (i : ℕ) (z : ℤ) : Type 0 where
+  pub is : z ≡ counter d.nodes (ring_of d) i
+  pub low : neg_ℤ (pos (2 ^ 44)) ≤ℤ z
+  pub high : z ≤ℤ pos (2 ^ 44)
+
+pub counter_at : (d : Detector) (i : ℕ) (z : ℤ) → IsCounted d → IsLawfulRing d.nodes (ring_of d) → i < d.nodes → z ≡ get_or d.counters.items i z →
+    CounterAt d i z
+counter_at d i z counted lawful low read =
+    let ring = ring_of d in
+    let down : sum_below d.nodes (λ j. ring.taken j i) ≤ 2 ^ 44 = taken_bound d.nodes ring i counted.nodes.1 low
+    (λ k l low_k low_l. omega (arith, lawful.in_order k l low_k low_l, lawful.few k l low_k low_l)) in
+    let is : z ≡ counter d.nodes ring i =
+    read ∙ get_or_default d.counters.items i z (pos 0) (omega (arith, low, counted.counters)) ∙ counted.counted i low in
+    record { is = is; low = rw is (omega (arith, ints, down)); high = rw is (omega (arith, ints, posted_bound d.nodes ring i counted.nodes.1 low lawful.few)) }
 
 -- ---- signed words
 
-fits_small : (z : ℤ) → neg_ℤ (pos (2 ^ 45)) ≤ℤ z → z ≤ℤ pos (2 ^ 45) → FitsSigned w64 z
-fits_small z low high = omega (arith, ints, low, high)
+-- a small one that was read, and one more or less
+module _ (z : ℤ) (low : neg_ℤ (pos (2 ^ 44)) ≤ℤ z) (high : z ≤ℤ pos (2 ^ 44)) where
+  pub read_back : to_z w64 (of_z w64 z) ≡ z
+  read_back = to_z-of_z w64 z (let fits : FitsSigned w64 z = omega (arith, ints) in fits)
 
-pub read_back : (z : ℤ) → (neg_ℤ (pos (2 ^ 44)) ≤ℤ z) × (z ≤ℤ pos (2 ^ 44)) → to_z w64 (of_z w64 z) ≡ z
-read_back z small = to_z-of_z w64 z (fits_small z (omega (arith, ints, small.0)) (omega (arith, ints, small.1)))
+  module _ (d : ℤ) (least : neg_ℤ (pos 1) ≤ℤ d) (most : d ≤ℤ pos 1) where
+    pub changed_fits : FitsSigned w64 (to_z w64 (of_z w64 z) +ℤ d)
+    changed_fits = rw read_back (let fits : FitsSigned w64 (z +ℤ d) = omega (arith, ints) in fits)
 
-module _ (z : ℤ) (small : (neg_ℤ (pos (2 ^ 44)) ≤ℤ z) × (z ≤ℤ pos (2 ^ 44))) where
-  pub rise_fits : FitsSigned w64 (to_z w64 (of_z w64 z) +ℤ pos 1)
-  rise_fits = rw (read_back z small) (fits_small (z +ℤ pos 1) (omega (arith, ints, small.0)) (omega (arith, ints, small.1)))
-
-  pub rise_is : to_z w64 (of_z w64 (to_z w64 (of_z w64 z) +ℤ pos 1)) ≡ z +ℤ pos 1
-  rise_is = to_z-of_z w64 (to_z w64 (of_z w64 z) +ℤ pos 1) rise_fits ∙ ap (λ y. y +ℤ pos 1) (read_back z small)
-
-  pub fall_fits : FitsSigned w64 (to_z w64 (of_z w64 z) -ℤ pos 1)
-  fall_fits = rw (read_back z small) (fits_small (z -ℤ pos 1) (omega (arith, ints, small.0)) (omega (arith, ints, small.1)))
-
-  pub fall_is : to_z w64 (of_z w64 (to_z w64 (of_z w64 z) -ℤ pos 1)) ≡ z -ℤ pos 1
-  fall_is = to_z-of_z w64 (to_z w64 (of_z w64 z) -ℤ pos 1) fall_fits ∙ ap (λ y. y -ℤ pos 1) (read_back z small)
+    pub changed_is : to_z w64 (of_z w64 (to_z w64 (of_z w64 z) +ℤ d)) ≡ z +ℤ d
+    changed_is = to_z-of_z w64 (to_z w64 (of_z w64 z) +ℤ d) changed_fits ∙ ap (λ y. y +ℤ d) read_back
 
 -- ---- lists by nodes and by pairs of nodes
 
@@ -85,20 +79,14 @@ shown n posted taken black token announced = record {
 -- a batch posted
 module _ {n i j : ℕ} {old new : Ring} (posts : Posts n old i j new) where
   post_here : counter n new i ≡ counter n old i +ℤ pos 1
-  post_here = omega (
-    arith,
-    ints,
-    row_raised n i j old.posted new.posted posts.from posts.to posts.posted,
-    row_stays n i (flipped old.taken) (flipped new.taken) posts.from (flipped_stay n old.taken new.taken posts.taken),
-  )
+  post_here =
+      let same = row_stays n i (flipped old.taken) (flipped new.taken) posts.from (flipped_stay n old.taken new.taken posts.taken) in
+      omega (arith, ints, row_raised n i j old.posted new.posted posts.from posts.to posts.posted)
 
   post_else : (k : ℕ) → k < n → k ≢ i → counter n new k ≡ counter n old k
-  post_else k low apart = omega (
-    arith,
-    ints,
-    other_row n i j k old.posted new.posted low apart posts.posted,
-    row_stays n k (flipped old.taken) (flipped new.taken) low (flipped_stay n old.taken new.taken posts.taken),
-  )
+  post_else k low apart =
+      let same = row_stays n k (flipped old.taken) (flipped new.taken) low (flipped_stay n old.taken new.taken posts.taken) in
+      omega (arith, ints, other_row n i j k old.posted new.posted low apart posts.posted)
 
   pub posts_counted : (counters : List ℤ) (z : ℤ) → length counters ≡ n → z ≡ counter n old i +ℤ pos 1 →
       ((k : ℕ) → k < n → slice_index_or counters k (pos 0) ≡ counter n old k) → (k : ℕ) → k < n →
@@ -109,20 +97,14 @@ module _ {n i j : ℕ} {old new : Ring} (posts : Posts n old i j new) where
 -- a batch taken
 module _ {n i j : ℕ} {old new : Ring} (takes : Takes n old i j new) where
   take_here : counter n new j ≡ counter n old j -ℤ pos 1
-  take_here = omega (
-    arith,
-    ints,
-    row_stays n j old.posted new.posted takes.to takes.posted,
-    row_raised n j i (flipped old.taken) (flipped new.taken) takes.to takes.from (flipped_raises n i j old.taken new.taken takes.taken),
-  )
+  take_here =
+      let up = row_raised n j i (flipped old.taken) (flipped new.taken) takes.to takes.from (flipped_raises n i j old.taken new.taken takes.taken) in
+      omega (arith, ints, row_stays n j old.posted new.posted takes.to takes.posted)
 
   take_else : (k : ℕ) → k < n → k ≢ j → counter n new k ≡ counter n old k
-  take_else k low apart = omega (
-    arith,
-    ints,
-    row_stays n k old.posted new.posted low takes.posted,
-    other_row n j i k (flipped old.taken) (flipped new.taken) low apart (flipped_raises n i j old.taken new.taken takes.taken),
-  )
+  take_else k low apart =
+      let same = other_row n j i k (flipped old.taken) (flipped new.taken) low apart (flipped_raises n i j old.taken new.taken takes.taken) in
+      omega (arith, ints, row_stays n k old.posted new.posted low takes.posted)
 
   pub takes_counted : (counters : List ℤ) (z : ℤ) → length counters ≡ n → z ≡ counter n old j -ℤ pos 1 →
       ((k : ℕ) → k < n → slice_index_or counters k (pos 0) ≡ counter n old k) → (k : ℕ) → k < n →

@@ -1,5 +1,6 @@
 -- First elements, lists that have some, and calls that can't have failed.
 use Rattle.std.proofs.Common.{◌≡◌, ◌<◌, refl, sym, ap, ◌∙◌, arith, ℕ, List, [], ◌∷◌, ◌++◌, length, take, Some, None, slice_get, Result, Ok, Err, OnOk, OnErr}
+use Rattle.std.proofs.lemmas.List.{append-nil, take_at}
 
 pub none_first : {X : Type 0} (xs : List X) → slice_get xs 0 ≡ None → xs ≡ []
 none_first [] is = refl
@@ -39,8 +40,8 @@ ok_is a b e = cc
 
 -- the first so many of a list, where it is told what they are
 pub front_is : {X : Type 0} (xs front behind : List X) (x : X) (count : ℕ) → xs ≡ front ++ x ∷ behind → length front ≡ count → take count xs ≡ front
-front_is {X = X} xs front behind x count is counted = ap (λ k. take k xs) (sym counted) ∙ ap (λ ys. take (length front) ys) is ∙ alone front
-  where
-    alone : (front : List X) → take (length front) (front ++ x ∷ behind) ≡ front
-    alone [] = refl
-    alone (y ∷ ys) = ap (λ zs. y ∷ zs) (alone ys)
+front_is xs front behind x count is counted = ap (take count) is ∙ take_at front (x ∷ behind) count counted
+
+-- all of a list of two parts, where nothing is in the second
+pub front_alone : {X : Type 0} {whole front behind : List X} → whole ≡ front ++ behind → behind ≡ [] → whole ≡ front
+front_alone {front = front} e none = e ∙ ap (λ xs. front ++ xs) none ∙ append-nil front

@@ -1,19 +1,22 @@
--- Own items applied, batches taken and batches posted where a world stands: the event was possible, it happened, and all stands in its place.
-use Rattle.dob_world.proofs.Common.{◌++◌, ◌<◌, ◌∙◌, ◌∷◌, ◌≡◌, ◌≢◌, List, None, [], ap, append_assoc, cond, drop, length, nat_lt}
-use Rattle.dob_world.proofs.Common.{refl, set, subst, sym, take, ℕ, append-nil, All-append, All-cons, All-head, All-nil, All-tail, All, HasStatus}
-use Rattle.dob_world.proofs.Common.{Status, class_setup, classes_of, predecessors, fresh, owner_of, cell_at, status_at, Item, Share, BatchView, Moved, Ring}
-use Rattle.dob_world.proofs.Common.{OutboxView, items_of_batches, items_from, Cause, kept_sound, outbox_same, HasTaken, IsSound, outbox_to, HistoryView}
-use Rattle.dob_world.proofs.Common.{AreTaken, HasItemEntries, Node, AppliesItems, AppliesOwn, LinksStay, OtherLinksStay, Posts, Stays, TakesBatch}
-use Rattle.dob_world.proofs.Common.{HasListed, HasReceivedFront, HasSentBatch, HasTakenBatch, IsBatchTo, LinkView, link_of, nodes_shown}
-use Rattle.dob_world.proofs.Common.{ring_of, world_shown, IsNodeOf, Stand, GoesTooDeep, TakesFront, Setting, WorldView}
-use Rattle.dob_world.proofs.Common.{Detector, Own, Post, Take, Lane}
+-- Own items applied, and batches taken and posted, where a world stands: the event was possible, it happened, and the world stands on;
+-- or why its node stops.
+use Rattle.dob_world.proofs.Common.{◌++◌, ◌<◌, ◌∙◌, ◌∷◌, ◌≡◌, ◌≢◌, ◌⊎◌, List, None, [], ap, append_assoc, cond, drop, inl, inr, length, nat_lt, refl, set}
+use Rattle.dob_world.proofs.Common.{subst, sym, take, ℕ, append-nil, All-append, All-cons, All-head, All-nil, All-tail, All, one_status, HasStatus, Status}
+use Rattle.dob_world.proofs.Common.{Open, class_setup, classes_of, predecessors, Moved, Ring, Cell, CellCanTake, changed, fresh, owner_of, cell_at, status_at}
+use Rattle.dob_world.proofs.Common.{Item, Share, BatchView, OutboxView, items_of_batches, items_from, Cause, Stopped, kept_sound, outbox_same, CanApply}
+use Rattle.dob_world.proofs.Common.{HasItemFault, HasTaken, IsSound, IsUnchanged, outbox_to, HistoryView, AreKept, AreTaken, HasItemEntries, IsReason, Node}
+use Rattle.dob_world.proofs.Common.{AppliesItems, AppliesOwn, LinksStay, OtherLinksStay, Posts, Stays, TakesBatch, HasListed, HasReceivedFront, HasSentBatch}
+use Rattle.dob_world.proofs.Common.{HasTakenBatch, IsBatchTo, LaneStays, LinkView, link_of, ring_of, nodes_shown, world_shown, IsNodeOf, Stand, GoesTooDeep}
+use Rattle.dob_world.proofs.Common.{IsCauseOf, IsLeftBy, TakesFront, Setting, WorldView, Detector, Own, Post, Take, Lane}
 use Rattle.dob_safra.specs.declared.event.RingEvent.TheVariants as ring
+use Rattle.dob_share.specs.Steps.{IsTooDeep}
+use Rattle.dob_share.specs.Shares.{Fits, GoesTooDeep as IsShareTooDeep}
+use Rattle.dob_stops.specs.declared.cause.Cause.TheVariants as cause
 use Rattle.dob_world.proofs.Firsts.{some_of}
-use Rattle.dob_world.proofs.Slots.{here, was, elsewhere, stays, stays_else}
-use Rattle.dob_world.proofs.InPlace.{kept_of}
-use Rattle.dob_world.proofs.AtLane.{AtLane, in_place, lane_here, lane_was, lane_else, lane_stays}
-use Rattle.dob_world.proofs.Kept.{next_own, next_waiting}
-use Rattle.dob_world.proofs.Moves.{applies_one, applies_many}
+use Rattle.dob_world.proofs.InPlace.{here, was, elsewhere, stays, stays_else, kept_of, AtLane, in_place, lane_here, lane_was, lane_else, lane_stays, set_there}
+use Rattle.dob_world.proofs.InPlace.{unseen_at}
+use Rattle.dob_world.proofs.Kept.{next_own, next_waiting, own_item_fits, taken_item_fits}
+use Rattle.dob_world.proofs.Moves.{applies_one, applies_many, own_cell}
 use Rattle.dob_world.proofs.Stood.{Outcome, state_at}
 
 -- ---- nodes that are kept
@@ -275,3 +278,93 @@ module _ {k : Setting} {nodes : List Node} {lanes : List Lane} {detector : Detec
               (All-cons (IsBatchTo k.family k.n j) step.batch [] batch_for (All-nil (IsBatchTo k.family k.n j))));
         });
   }
+
+-- ---- why a node stops
+
+pub fits_by : (k : Setting) (i : ℕ) (node : Node) (share : Share) (history : HistoryView) (cell : ℕ → Cell) (item : Item) → IsNodeOf k i node →
+    AreKept k.family k.n i share history → ((class : ℕ) → status_at share class ≡ status_at node.share class) → CanApply k.family k.n i cell item →
+    cell item.to ≡ cell_at share item.to → Fits share item
+unfolding Fits
+fits_by k i node share history cell item is kept statuses can same = (
+  (kept.owned item.to).1 (can.own, can.below),
+  statuses item.to ∙ one_status k.family.profile (class_setup k.family item.to) (status_at node.share item.to) Open
+      (is.statuses item.to (((kept_of is).owned item.to).1 (can.own, can.below))) can.is_open,
+  subst (λ c. CellCanTake item.was item.now c) same can.takes,
+)
+
+-- An item that fits stops its node for lack of memory, or since it goes too deep.
+reason_stop : (item : Item) (share : Share) (why : Cause) → Fits share item → IsReason item share why →
+    (why ≡ cause.Memory) ⊎ ((why ≡ cause.TooDeep) × IsShareTooDeep share item)
+reason_stop item share cause.TooDeep fits is = inr (refl, is.1)
+reason_stop item share (cause.Contradiction class) fits is = absurd (is.1 fits)
+reason_stop item share cause.Memory fits is = inl refl
+reason_stop item share _ fits is = absurd is
+
+-- whether a cause is lack of memory
+memory_or : (why : Cause) → (why ≡ cause.Memory) ⊎ (why ≢ cause.Memory)
+memory_or cause.Memory = inl refl
+memory_or _ = inr (λ e. cc)
+
+-- it goes too deep as much in an equal cell
+deep_there : (share : Share) (cell : ℕ → Cell) (item : Item) → cell item.to ≡ cell_at share item.to → IsShareTooDeep share item →
+    IsTooDeep (changed item.was item.now (cell item.to))
+unfolding IsShareTooDeep
+deep_there share cell item same deep = subst (λ (c : Cell). IsTooDeep (changed item.was item.now c)) (sym same) deep
+
+module _ {k : Setting} {nodes : List Node} {lanes : List Lane} {detector : Detector} {steps : ℕ} (stand : Stand k nodes lanes detector steps) where
+  -- An own item stops its node for lack of memory, or since it goes too deep.
+  pub own_stops : {i place : ℕ} {node : Node} {lane : Lane} → AtLane k nodes lanes i i i place node lane → (why : Cause) →
+      (why ≡ cause.Memory) ⊎ HasItemFault node why → IsCauseOf k (world_shown k.family k.n nodes lanes) (Own i) (Stopped i why)
+  unfolding world_shown
+  own_stops {i} at why (inl memory) = inl (ap (λ (c : Cause). Stopped i c) memory)
+  own_stops {i} {place} {node} at why (inr fault) =
+      let item = fault.item in
+      let cells = nodes_shown k.family k.n nodes lanes in
+      let first = was at.node_at [] (λ (x : Node). x.own) ∙ fault.first in
+      let can = own_item_fits k (world_shown k.family k.n nodes lanes) i item fault.behind stand.setting.nodes.0 stand.lawful stand.linked at.low_i first in
+      let same = own_cell k lanes at.node_at item.to can.below can.own in
+      let fits = fits_by k i node node.share node.history cells.cell item at.node_of (kept_of at.node_of) (λ class. refl) can same in
+      elim (reason_stop item node.share why fits fault.reason) [
+        | inl memory ↦ inl (ap (λ (c : Cause). Stopped i c) memory)
+        | inr deep ↦ inr (
+          ap (λ (c : Cause). Stopped i c) deep.0,
+          record { item = item; behind = fault.behind; first = first; deep = deep_there node.share cells.cell item same deep.1 },
+        )
+      ]
+
+  module _ {i j place : ℕ} {node : Node} {lane : Lane} (at : AtLane k nodes lanes i j j place node lane) (differs : i ≢ j) (after : Node) (next : Lane)
+      (sound : IsSound after) (why : Cause) where
+    refused_front : HasReceivedFront node lane after next why → why ≢ cause.Memory → (why ≡ cause.TooDeep)
+        × TakesFront k i j (world_shown k.family k.n nodes lanes) (world_shown k.family k.n (set nodes j after) (set lanes place next))
+    unfolding world_shown
+    refused_front step other =
+        let taken = step.taken in
+        let item = taken.item in
+        let of = at.node_of.of in
+        let front = front_received node after lane next why step in
+        let cells = nodes_shown k.family k.n (set nodes j after) (set lanes place next) in
+        let can = taken_item_fits k (world_shown k.family k.n nodes lanes) i j step.batch next.link.waiting taken.front item taken.behind cells
+        stand.setting.nodes.0 stand.lawful stand.linked at.low_i at.low_j differs (waits_first stand at differs after next front) taken.items_are
+        (items_received stand at differs after next front) in
+        let same = own_cell k (set lanes place next) (set_there at.node_at after) item.to can.below can.own in
+        let kept = kept_sound k.family k.n j after (taken.taken.same.0 ∙ of.0, taken.taken.same.1 ∙ of.1, taken.taken.same.2 ∙ of.2) sound in
+        let fits = fits_by k j node after.share after.history cells.cell item at.node_of kept
+        (chain_statuses taken.front node.share after.share node.history after.history taken.taken.taken) can same in
+        elim (reason_stop item after.share why fits taken.reason) [
+          | inl memory ↦ absurd (other memory)
+          | inr deep ↦ (deep.0, receives_front stand at differs after next why step (deep_there after.share cells.cell item same deep.1))
+        ]
+
+    -- So does one of a batch, of which those before it are applied.
+    pub take_stops : (why ≡ cause.Memory → IsUnchanged node after × LaneStays lane next) → (why ≢ cause.Memory → HasReceivedFront node lane after next why) →
+        IsCauseOf k (world_shown k.family k.n nodes lanes) (Take i j) (Stopped j why)
+        × IsLeftBy k (world_shown k.family k.n nodes lanes) (Take i j) (Stopped j why) (world_shown k.family k.n (set nodes j after) (set lanes place next))
+    take_stops unseen refused = elim (memory_or why) [
+      | inl memory ↦
+          let is : Stopped j why ≡ Stopped j cause.Memory = ap (λ (c : Cause). Stopped j c) memory in
+          (inl is, inl (is, unseen_at at after next (unseen memory)))
+      | inr other ↦
+          let left = refused_front (refused other) other in
+          let is : Stopped j why ≡ Stopped j cause.TooDeep = ap (λ (c : Cause). Stopped j c) left.0 in
+          (inr (is, left.1.deep), inr (is, left.1))
+    ]

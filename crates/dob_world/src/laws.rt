@@ -21,7 +21,7 @@ pub fn events_keep_all()
 {}
 
 /// Each event leaves a ring that matches its world matching it, while no link has more than 2^40 posted batches.
-#[tactic(auto, using(crate::proofs::Matching::happening_keeps_match))]
+#[tactic(auto, using(crate::proofs::Kept::happening_keeps_match))]
 pub fn happening_keeps_match()
     ensures { HappeningKeepsMatch }
 {}
@@ -49,13 +49,13 @@ pub fn rest_is_right()
 {}
 
 /// Where the end may be announced, nothing is left to do.
-#[tactic(auto, using(crate::proofs::Over::end_is_rest))]
+#[tactic(auto, using(crate::proofs::Promise::end_is_rest))]
 pub fn end_is_rest()
     ensures { EndIsRest }
 {}
 
 /// Where nothing is left to do, that stays: an event changes nothing of nodes and links.
-#[tactic(auto, using(crate::proofs::Over::rest_stays))]
+#[tactic(auto, using(crate::proofs::Promise::rest_stays))]
 pub fn rest_stays()
     ensures { RestStays }
 {}

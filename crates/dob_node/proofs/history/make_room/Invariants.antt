@@ -1,5 +1,5 @@
 -- What was stored stays, and as many stand behind the first as are counted.
-use Rattle.std.proofs.Common.{◌≡◌, ◌+◌, ◌≤◌, length, take}
+use Rattle.std.proofs.Common.{◌+◌, ◌≡◌, ◌≤◌, length, take}
 use Rattle.dob_node.proofs.history.make_room.Given as goal
 
 abbrev pub invariant-loop-more : goal.invariant-loop-more

@@ -1,18 +1,16 @@
 -- What is opened is sound.
-use Rattle.dob_node.proofs.Common.{◌∙◌, ◌≡◌, List, ap, arith, refl, subst, sym, All-nil, All, Settlement, OutboxView, HistoryView, HasItemEntries}
-use Rattle.dob_node.proofs.Opens.{places_are, opened_cells, opened_kept, few_listed}
+use Rattle.dob_node.proofs.Common.{◌∙◌, ◌≡◌, All, All-nil, HasItemEntries, HistoryView, List, OutboxView, Settlement, ap, arith, refl, subst, sym}
+use Rattle.dob_node.proofs.Opens.{places_are, share_opened, opened_cells, opened_kept}
 use Rattle.dob_node.proofs.Sends.{addressed_empty}
-use Rattle.dob_node.proofs.StartLists.{share_opened}
 use Rattle.dob_node.proofs.node.node_with.Goals as goal
 
 pub returns-clause-opened : goal.returns-clause-opened
 returns-clause-opened c = λ openings are out. record {
   of = (refl, refl, refl);
-  history = ap (λ (v : HistoryView). v.settlements) c.in_ok-history.ensures
-      ∙ share_opened c.args.share openings c.args.nodes c.args.id out.who c.requires.owner out.statuses;
-  places = places_are c.args.share openings c.args.nodes c.args.id out.who c.requires.owner out.owned;
+  history = ap (λ (v : HistoryView). v.settlements) c.in_ok-history.ensures ∙ share_opened out c.requires.owner;
+  places = places_are out c.requires.owner;
   statuses = out.statuses;
-  cells = opened_cells c.args.family openings c.args.share c.args.nodes c.args.id are out.owned out.cells;
+  cells = opened_cells out c.requires.owner c.args.family are;
   nothing = (refl, c.new.ensures.items);
   going = refl;
   outboxes = c.in_ok-outboxes.ensures.empty;
@@ -20,15 +18,12 @@ returns-clause-opened c = λ openings are out. record {
 
 pub returns-clause-sound : goal.returns-clause-sound
 returns-clause-sound c =
-    let openings = c.requires.share.0 in
     let are = c.requires.share.1 in
     let out = c.requires.share.2 in
     record {
-      kept = opened_kept c.args.family openings c.args.nodes c.args.id c.args.share c.in_ok-history.history are c.requires.owner
-          (few_listed c.args.family openings are) out.who out.owned
-          (opened_cells c.args.family openings c.args.share c.args.nodes c.args.id are out.owned out.cells) out.settled
+      kept = opened_kept out c.requires.owner c.args.family c.in_ok-history.history are
           (subst (λ (xs : List Settlement). c.in_ok-history.history ≡ record { id = c.args.id; n = c.args.nodes; settlements = xs; room = 0 })
-          (share_opened c.args.share openings c.args.nodes c.args.id out.who c.requires.owner out.statuses) c.in_ok-history.ensures);
+          (share_opened out c.requires.owner) c.in_ok-history.ensures);
       emitted = omega arith;
       entries = subst (λ xs. All HasItemEntries xs) (sym c.new.ensures.items) (All-nil HasItemEntries);
       receivers = c.in_ok-outboxes.ensures.whole;

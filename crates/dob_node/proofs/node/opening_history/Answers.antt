@@ -1,5 +1,5 @@
 -- The settlements that follow from the statuses.
-use Rattle.dob_node.proofs.Common.{◌∙◌, ap, StatusesView, HistoryView, starts_of}
+use Rattle.dob_node.proofs.Common.{◌∙◌, HistoryView, StatusesView, ap, starts_of}
 use Rattle.dob_node.proofs.node.opening_history.Goals as goal
 
 pub returns : goal.returns

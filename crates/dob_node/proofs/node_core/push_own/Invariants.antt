@@ -1,5 +1,5 @@
 -- The items for the classes so far are appended, and there is room for the others.
-use Rattle.dob_node.proofs.Common.{◌++◌, ◌+◌, ◌-◌, ◌==◌, ◌≡◌, ◌≤◌, length, take, filter, owner_of, item_for}
+use Rattle.dob_node.proofs.Common.{◌++◌, ◌+◌, ◌-◌, ◌==◌, ◌≡◌, ◌≤◌, filter, item_for, length, owner_of, take}
 use Rattle.std.specs.Prelude.{map}
 use Rattle.std.specs.VecDeque.{deque_len, deque_capacity}
 use Rattle.dob_node.proofs.node_core.push_own.Given as goal

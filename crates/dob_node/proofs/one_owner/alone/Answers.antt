@@ -1,7 +1,6 @@
 -- What is so of the node is so of its family.
-use Rattle.dob_node.proofs.Common.{◌∙◌, ◌≡◌, ◌≤◌, Ok, Option, ap, subst, ℕ, err_from_is_err_and, Family, HasMade, IsDone, IsTooDeepWithin, IsUnderWay, NodeView}
-use Rattle.std.proofs.Common.{IfSome}
-use Rattle.dob_node.proofs.AloneStops.{never_too_deep}
+use Rattle.dob_node.proofs.Common.{◌∙◌, Family, IsTooDeepWithin, IsUnderWay, Ok, ap, err_from_is_err_and, subst}
+use Rattle.dob_node.proofs.AloneSteps.{never_too_deep}
 use Rattle.dob_node.proofs.one_owner.alone.Goals as goal
 
 pub returns-in_err-ended-clause-too_deep : goal.returns-in_err-ended-clause-too_deep
@@ -22,9 +21,8 @@ returns-in_default-clause-none c = λ is.
 pub returns-clause-done : goal.returns-clause-done
 returns-clause-done c =
     let out = c.in_ok-ended.ensures in
-    let same = subst (λ (given : Option NodeView). IfSome given (λ ended. ended.family ≡ c.in_ok-node.node.family)) c.in-Some.is out.family in
-    let done = subst (λ (given : Option NodeView). IfSome given (λ ended. (steps : ℕ) × (steps ≤ c.args.limit) × HasMade steps ended × IsDone ended))
-    c.in-Some.is out.done in
+    let same = rw c.in-Some.is at out.family in
+    let done = rw c.in-Some.is at out.done in
     record {
       node = c.in-Some.ended;
       of = same ∙ c.in_ok-node.ensures.family;

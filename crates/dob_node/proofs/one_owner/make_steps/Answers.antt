@@ -1,5 +1,5 @@
 -- A step that stops is one of fewer than all.
-use Rattle.dob_node.proofs.Common.{subst, Family, HasStoppedAlone}
+use Rattle.dob_node.proofs.Common.{Family, HasStoppedAlone, subst}
 use Rattle.dob_node.proofs.TakenLists.{carried}
 use Rattle.dob_node.proofs.one_owner.make_steps.Goals as goal
 

@@ -1,5 +1,5 @@
 -- So many steps are made.
-use Rattle.dob_node.proofs.Common.{◌≡◌, None, HasMade}
+use Rattle.dob_node.proofs.Common.{◌≡◌, HasMade, None}
 use Rattle.dob_node.proofs.one_owner.make_steps.Given as goal
 
 abbrev pub invariant-loop-step : goal.invariant-loop-step

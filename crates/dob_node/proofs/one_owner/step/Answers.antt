@@ -1,8 +1,7 @@
 -- One step more is made.
-use Rattle.dob_node.proofs.Common.{◌<◌, ◌≡◌, Ok, [], ap, subst, sym, ℕ, HasMade, HasStoppedAlone, NodeView}
-use Rattle.dob_node.proofs.AloneSteps.{made_applied, made_expanded}
+use Rattle.dob_node.proofs.Common.{◌<◌, ◌≡◌, HasMade, HasStoppedAlone, Ok, ap, ℕ}
+use Rattle.dob_node.proofs.AloneSteps.{made_applied, made_expanded, stopped_alone}
 use Rattle.dob_node.proofs.TakenLists.{carried}
-use Rattle.dob_node.proofs.AloneStops.{stopped_alone}
 use Rattle.dob_node.proofs.one_owner.step.Goals as goal
 
 pub returns-in_err-apply_own-clause-stopped : goal.returns-in_err-apply_own-clause-stopped
@@ -21,5 +20,4 @@ pub returns-clause-made : goal.returns-clause-made
 returns-clause-made c = λ is steps made.
     let same : c.apply_own.new.self ≡ c.args.node.now = c.in_ok-apply_own.ensures.step.nothing (ap Ok c.if-branch.false) in
     made_expanded c.apply_own.new.self c.expand.new.self c.expand.ensures.keeps.sound
-    (subst (λ (node : NodeView). node.own ≡ []) (sym same) (c.in_ok-apply_own.ensures.step.done.0 (ap Ok c.if-branch.false)))
-    (c.expand.ensures.step.expanded is) steps (subst (λ (node : NodeView). HasMade steps node) (sym same) made)
+    (rw same (c.in_ok-apply_own.ensures.step.done.0 (ap Ok c.if-branch.false))) (c.expand.ensures.step.expanded is) steps (rw same made)

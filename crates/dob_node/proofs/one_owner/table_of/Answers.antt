@@ -1,7 +1,7 @@
 -- Idle, the node shows the value table.
-use Rattle.dob_node.proofs.Common.{◌<◌, ap, subst, ℕ, Family, classes_of}
+use Rattle.dob_node.proofs.Common.{◌<◌, Family, ap, classes_of, subst, ℕ}
 use Rattle.dob_value.proofs.Parity.{IfOk-both}
-use Rattle.dob_node.proofs.AloneEnds.{shows_entry, alone_given}
+use Rattle.dob_node.proofs.AloneSteps.{shows_entry, alone_given}
 use Rattle.dob_node.proofs.one_owner.table_of.Goals as goal
 
 pub from_fn-requires-clause-entries : goal.from_fn-requires-clause-entries

@@ -1,22 +1,16 @@
 -- One own class more has its opening; at the end all have.
-use Rattle.dob_node.proofs.Common.{◌*◌, ◌+◌, ◌<◌, ◌∙◌, ◌≡◌, ap, arith, length, subst, sym, ℕ, class_setup, classes_of, class_of_place, AreOwnSoFar, IsOpening}
+use Rattle.dob_node.proofs.Common.{◌*◌, ◌+◌, ◌<◌, ◌∙◌, ◌≡◌, AreOwnSoFar, IsOpening, ap, arith, class_of_place, class_setup, classes_of, length, subst, sym, ℕ}
 use Rattle.std.proofs.lemmas.List.{length_push}
 use Rattle.dob_node.proofs.Found.{own_none, own_more}
-use Rattle.dob_node.proofs.openings.own_openings.Goals as goal
 use Rattle.dob_node.proofs.openings.own_openings.Goals.{After-get}
+use Rattle.dob_node.proofs.openings.own_openings.Goals as goal
 
 pub loop-place-init : goal.loop-place-init
-loop-place-init c = (
-  ap length c.new-own.ensures,
-  subst (AreOwnSoFar c.args.classes.now.family c.args.nodes c.args.id) (sym c.new-own.ensures) (own_none c.args.classes.now.family c.args.nodes c.args.id),
-)
+loop-place-init c = (ap length c.new-own.ensures, rw c.new-own.ensures (own_none c.args.classes.now.family c.args.nodes c.args.id))
 
 -- the class at the place is one of the family
 inside : (c : After-get) → c.loop-place.place * c.get.result + c.args.id < classes_of c.args.classes.now.family
-inside c =
-    subst (λ (n : ℕ). c.loop-place.place * n + c.args.id < classes_of c.args.classes.now.family) (sym c.get.ensures.value)
-    (subst (λ (count : ℕ). c.loop-place.place * c.args.nodes + c.args.id < count) c.class_count.ensures.number
-    ((c.places_among-places.ensures c.loop-place.place).0 (omega arith)))
+inside c = rw (c.get.ensures.value, ← c.class_count.ensures.number) ((c.places_among-places.ensures c.loop-place.place).0 (omega arith))
 
 pub opening_in-requires : goal.opening_in-requires
 opening_in-requires c = inside (goal.at.opening_in-requires c).After-get
@@ -26,8 +20,7 @@ loop-place-preserved c =
     let l = c.loop-place in
     let family = c.args.classes.now.family in
     let is : IsOpening family.profile (class_setup family (class_of_place c.args.nodes c.args.id (length l.own))) c.opening_in.result
-    = subst (λ (k : ℕ). IsOpening family.profile (class_setup family (class_of_place c.args.nodes c.args.id k)) c.opening_in.result) (sym l.invariant.0)
-    (subst (λ (n : ℕ). IsOpening family.profile (class_setup family (l.place * n + c.args.id)) c.opening_in.result) c.get.ensures.value c.opening_in.ensures) in (
+    = rw (l.invariant.0, ← c.get.ensures.value) c.opening_in.ensures in (
       ap length c.in_ok-push.ensures.appended ∙ length_push l.own c.opening_in.result ∙ ap (λ (k : ℕ). k + 1) l.invariant.0,
       subst (AreOwnSoFar family c.args.nodes c.args.id) (sym c.in_ok-push.ensures.appended)
           (own_more family c.args.nodes c.args.id l.own c.opening_in.result l.invariant.1 is),
@@ -39,11 +32,6 @@ returns c =
     let end : l.place ≡ c.places_among-places.result = omega arith in
     let many : length l.own ≡ c.places_among-places.result = l.invariant.0 ∙ end in
     record {
-      places = λ place. (
-        λ low. subst (λ (count : ℕ). place * c.args.nodes + c.args.id < count) c.class_count.ensures.number
-            ((c.places_among-places.ensures place).0 (subst (λ (k : ℕ). place < k) many low)),
-        λ low. subst (λ (k : ℕ). place < k) (sym many) ((c.places_among-places.ensures place).1
-            (subst (λ (count : ℕ). place * c.args.nodes + c.args.id < count) (sym c.class_count.ensures.number) low)),
-      );
+      places = λ place. rw (many, ← c.class_count.ensures.number) (c.places_among-places.ensures place);
       each = l.invariant.1;
     }

@@ -1,5 +1,5 @@
 -- The own classes so far have their openings.
-use Rattle.dob_node.proofs.Common.{◌≡◌, length, AreOwnSoFar}
+use Rattle.dob_node.proofs.Common.{◌≡◌, AreOwnSoFar, length}
 use Rattle.dob_node.proofs.openings.own_openings.Given as goal
 
 abbrev pub invariant-loop-place : goal.invariant-loop-place

@@ -1,5 +1,5 @@
 -- One empty outbox more.
-use Rattle.dob_node.proofs.Common.{◌++◌, ◌+◌, ◌∙◌, ◌∷◌, ◌≡◌, [], ap, length, subst, ℕ, length-append, OutboxView, empty_outbox, outbox_in}
+use Rattle.dob_node.proofs.Common.{◌++◌, ◌+◌, ◌∙◌, ◌∷◌, ◌≡◌, OutboxView, [], ap, length, length-append, ℕ}
 use Rattle.dob_node.proofs.Sends.{empties_more}
 use Rattle.dob_node.proofs.outboxes.empty_outboxes.Goals as goal
 
@@ -14,5 +14,4 @@ loop-to-preserved c =
     }
 
 pub returns-clause-empty : goal.returns-clause-empty
-returns-clause-empty c = subst (λ (k : ℕ). (to : ℕ) → outbox_in c.args.family k c.args.from c.loop-to.outboxes.items to ≡ empty_outbox c.args.family k c.args.from to)
-    c.get-count.ensures.value c.loop-to.invariant.empty
+returns-clause-empty c = rw c.get-count.ensures.value at c.loop-to.invariant.empty

@@ -1,5 +1,5 @@
 -- The outboxes so far are empty.
-use Rattle.dob_node.proofs.Common.{◌≡◌, length, ℕ, empty_outbox, outbox_in}
+use Rattle.dob_node.proofs.Common.{◌≡◌, empty_outbox, length, outbox_in, ℕ}
 use Rattle.dob_node.proofs.outboxes.empty_outboxes.Given as goal
 
 abbrev pub invariant-loop-to : goal.invariant-loop-to

@@ -1,6 +1,6 @@
 -- The outboxes for the nodes so far are those before.
-use Rattle.dob_node.proofs.Common.{List, OutboxView, HaveOneMore}
-use Rattle.dob_node.proofs.TakenBack.{AreBack}
+use Rattle.dob_node.proofs.Common.{HaveOneMore, List, OutboxView}
+use Rattle.dob_node.proofs.Sends.{AreBack}
 use Rattle.dob_node.proofs.outboxes.take_back.Given as goal
 
 abbrev pub invariant-loop-to : goal.invariant-loop-to

@@ -1,7 +1,7 @@
 -- One class more is looked at; the group ends where sixteen have been, or the items end.
 use Rattle.std.proofs.Common.{◌%◌, ◌∙◌, arith}
 use Rattle.std.proofs.Math.ListN.{length-set}
-use Rattle.dob_node.proofs.Looks.{none_looked, one_looked, group_looked}
+use Rattle.dob_node.proofs.TakenLists.{none_looked, one_looked, group_looked}
 use Rattle.dob_node.proofs.taking.look_ahead.Goals as goal
 
 pub loop-place-init : goal.loop-place-init

@@ -1,6 +1,6 @@
 -- The items of the group so far have been looked at.
 use Rattle.std.proofs.Common.{◌≡◌, length}
-use Rattle.dob_node.proofs.Looks.{AreLooked}
+use Rattle.dob_node.proofs.TakenLists.{AreLooked}
 use Rattle.dob_node.proofs.taking.look_ahead.Given as goal
 
 abbrev pub invariant-loop-place : goal.invariant-loop-place

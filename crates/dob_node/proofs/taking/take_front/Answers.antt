@@ -1,6 +1,5 @@
 -- Those that are taken are the first of the queue, and gone.
-use Rattle.dob_node.proofs.Common.{List, subst, sym, Item, TakesFirst}
-use Rattle.dob_node.proofs.TakenQueues.{front_entries, front_taken}
+use Rattle.dob_node.proofs.TakenLists.{front_entries, front_taken}
 use Rattle.dob_node.proofs.taking.take_front.Goals as goal
 
 pub take_items-answer-requires-clause-entries : goal.take_items-answer-requires-clause-entries
@@ -10,7 +9,6 @@ take_items-answer-requires-clause-entries c =
 pub returns-clause-taken : goal.returns-clause-taken
 returns-clause-taken c =
     let out = c.take_items-answer.ensures in
-    subst (λ (xs : List Item). TakesFirst c.args.queue.now.items xs c.args.share.now c.take_items-answer.new.share c.args.history.now c.take_items-answer.new.history)
-    (sym c.drop_first.ensures)
-    (front_taken c.args.queue.now.items c.as_slices.result.0.now c.as_slices.result.1.now c.take_items-answer.new.taken c.args.share.now c.take_items-answer.new.share c.args.history.now
-    c.take_items-answer.new.history c.as_slices.ensures.items c.take_items-answer.result out.taken out.all out.before)
+    rw c.drop_first.ensures (front_taken c.args.queue.now.items c.as_slices.result.0.now c.as_slices.result.1.now c.take_items-answer.new.taken
+    c.args.share.now c.take_items-answer.new.share c.args.history.now c.take_items-answer.new.history c.as_slices.ensures.items c.take_items-answer.result
+    out.taken out.all out.before)

@@ -1,20 +1,14 @@
 -- One item more is taken.
 use Rattle.dob_node.proofs.Common.{arith, err_from_is_err_and, refl}
 use Rattle.dob_node.proofs.Sounds.{kept_own, kept_back}
-use Rattle.dob_node.proofs.Looks.{seen_next, seen_behind}
-use Rattle.dob_node.proofs.TakenLists.{taken_next, stops_there, taken_before}
+use Rattle.dob_node.proofs.TakenLists.{seen_next, seen_behind, taken_next, stops_there, taken_before}
 use Rattle.dob_node.proofs.taking.take_items.Goals as goal
 
 pub loop-item-init : goal.loop-item-init
 loop-item-init c = record { taken = (refl, refl); counted = refl; room = omega arith; kept = λ family kept. kept; seen = λ within. absurd (omega arith) }
 
 pub take_seen-requires-clause-kept : goal.take_seen-requires-clause-kept
-take_seen-requires-clause-kept c =
-    let share = c.args.share.now in (
-      c.requires.kept.0,
-      kept_own c.requires.kept.0 share.nodes share.id c.loop-item.share c.loop-item.history
-          (c.loop-item.invariant.kept c.requires.kept.0 c.requires.kept.1),
-    )
+take_seen-requires-clause-kept c = (c.requires.kept.0, kept_own (c.loop-item.invariant.kept c.requires.kept.0 c.requires.kept.1))
 
 pub returns-in_err-take_seen-clause-stopped : goal.returns-in_err-take_seen-clause-stopped
 returns-in_err-take_seen-clause-stopped c =
@@ -40,8 +34,7 @@ loop-item-preserved c =
       taken = taken_next c.args.items.now c.loop-item.item-index _ c.args.share.now c.loop-item.share c.take_seen.new.share c.args.history.now
           c.loop-item.history
           c.take_seen.new.self c.loop-item-test.true so_far.taken out.taken;
-      kept = λ family kept. kept_back family c.args.share.now.nodes c.args.share.now.id c.loop-item.share c.take_seen.new.share c.loop-item.history
-          c.take_seen.new.self (so_far.kept family kept) out.kept;
+      kept = λ family kept. kept_back (so_far.kept family kept) out.kept;
       seen = λ within. seen_behind c.loop-item.item-index c.loop-item.share c.take_seen.new.share c.args.items.now c.look_ahead.new.looks out.seen
           (rw so_far.counted at c.look_ahead.ensures) within;
     }

@@ -1,5 +1,5 @@
 -- The items so far are taken, and counted; as much room is left as for those that aren't; and those of a group that has begun were looked at.
-use Rattle.dob_node.proofs.Common.{◌%◌, ◌+◌, ◌<◌, ◌≡◌, ◌≤◌, take, Family, AreSeen, AreKept, AreTaken}
+use Rattle.dob_node.proofs.Common.{◌%◌, ◌+◌, ◌<◌, ◌≡◌, ◌≤◌, AreKept, AreSeen, AreTaken, Family, take}
 use Rattle.dob_node.proofs.taking.take_items.Given as goal
 
 abbrev pub invariant-loop-item : goal.invariant-loop-item

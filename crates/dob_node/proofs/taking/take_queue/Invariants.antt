@@ -1,5 +1,5 @@
 -- The items so far are taken and gone.
-use Rattle.dob_node.proofs.Common.{length, All, Family, AreKept, HasItemEntries, TakesFirst}
+use Rattle.dob_node.proofs.Common.{All, AreKept, Family, HasItemEntries, TakesFirst, length}
 use Rattle.dob_node.proofs.taking.take_queue.Given as goal
 
 abbrev pub invariant-loop-share : goal.invariant-loop-share

@@ -1,5 +1,5 @@
 -- In a lawful and linked world at rest the values of all classes are the value table.
-use Rattle.dob_world.proofs.Rest.{rest_is_right}
+use Rattle.dob_world.proofs.Promise.{rest_is_right}
 use Rattle.dob_world.proofs.laws.rest_is_right.Goals as goal
 
 pub returns : goal.returns

@@ -1,6 +1,6 @@
 -- The opening world is the one after no events, and each event makes a run longer.
 use Rattle.dob_world.proofs.Common.{◌<◌, Ok, [], ap, arith, inr, refl, subst, sym, classes_of, state_of, IsWorldStart, Setting, setting_by}
-use Rattle.dob_world.proofs.Ran.{ran, stepped, ran_more, run_stops}
+use Rattle.dob_world.proofs.Driven.{ran, stepped, ran_more, run_stops}
 use Rattle.dob_world.proofs.runs.run.Goals as goal
 
 pub loop-event-init : goal.loop-event-init
@@ -18,7 +18,8 @@ pub loop-event-preserved : goal.loop-event-preserved
 loop-event-preserved c =
     let k : Setting = setting_by c.args.family c.args.n c.args.batch c.args.capacity in
     let out = c.in-Ok-step.ensures in
-    let step = stepped _ c.loop-event.world c.step.new.self c.in-Ok-step.field-0 (λ e. out.done (ap Ok e)) (λ e. out.skipped (ap Ok e)) in
+    let step = stepped k _ c.loop-event.world c.step.new.self c.in-Ok-step.field-0 c.loop-event.invariant.run.setting (λ e. out.done (ap Ok e))
+    (λ e. out.skipped (ap Ok e)) in
     record {
       run = ran_more k c.args.events.now c.loop-event.event-index _ c.loop-event.world c.step.new.self c.loop-event-test.true c.loop-event.invariant.run
           step out.going.0 out.going.1;

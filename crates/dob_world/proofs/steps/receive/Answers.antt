@@ -1,21 +1,20 @@
 -- The lane's first batch is one for the node, which takes and lists its items, or stops at one of them.
-use Rattle.dob_world.proofs.Common.{◌++◌, ◌∙◌, ◌∷◌, ap, refl, subst, sym, take, All-head, All, BatchView, before_since, taken_since, IsBatchTo, link_of}
+use Rattle.dob_world.proofs.Common.{◌++◌, ◌∙◌, ◌∷◌, ap, refl, rules, subst, sym, take, All-head, All, BatchView, before_since, taken_since, IsBatchTo, link_of}
 use Rattle.dob_world.proofs.Firsts.{front_is}
 use Rattle.dob_world.proofs.steps.receive.Goals as goal
 
-pub apply_batch-requires-clause-n : goal.apply_batch-requires-clause-n
-apply_batch-requires-clause-n c = let P = λ (b : BatchView). IsBatchTo c.args.node.now.family c.args.node.now.n c.args.node.now.id b in
-    (All-head P c.in-Some-next.batch c.next.new.self.waiting (subst (λ xs. All P xs) c.in-Some-next.ensures.some c.requires.batches)).of.1
-    ∙ sym c.reserve-2.ensures.step.unchanged.same.2
-
-pub apply_batch-requires-clause-family : goal.apply_batch-requires-clause-family
-apply_batch-requires-clause-family c = let P = λ (b : BatchView). IsBatchTo c.args.node.now.family c.args.node.now.n c.args.node.now.id b in
-    (All-head P c.in-Some-next.batch c.next.new.self.waiting (subst (λ xs. All P xs) c.in-Some-next.ensures.some c.requires.batches)).of.0
-    ∙ sym c.reserve-2.ensures.step.unchanged.same.0
-
-pub apply_batch-requires-clause-entries : goal.apply_batch-requires-clause-entries
-apply_batch-requires-clause-entries c = let P = λ (b : BatchView). IsBatchTo c.args.node.now.family c.args.node.now.n c.args.node.now.id b in
-    (All-head P c.in-Some-next.batch c.next.new.self.waiting (subst (λ xs. All P xs) c.in-Some-next.ensures.some c.requires.batches)).entries
+pub apply_batch-requires : goal.apply_batch-requires
+apply_batch-requires c =
+    let P = λ (b : BatchView). IsBatchTo c.args.node.now.family c.args.node.now.n c.args.node.now.id b in
+    let first = All-head P c.in-Some-next.batch c.next.new.self.waiting (subst (λ xs. All P xs) c.in-Some-next.ensures.some c.requires.batches) in
+    let same = c.reserve-2.ensures.step.unchanged.same in
+    record {
+      sound = search rules;
+      family = first.of.0 ∙ sym same.0;
+      n = first.of.1 ∙ sym same.2;
+      entries = first.entries;
+      going = search rules;
+    }
 
 pub returns-in-Err-clause-front : goal.returns-in-Err-clause-front
 returns-in-Err-clause-front c = λ other.

@@ -1,9 +1,9 @@
 -- What fits is taken, and what it makes is kept.
-use Rattle.dob_node.proofs.Common.{◌++◌, ◌+◌, ◌∙◌, ◌≡◌, ap, refl, rules, subst, sym, take, ℕ, HasSettled, HistoryView, starts_count, IsTaken, listed}
+use Rattle.dob_node.proofs.Common.{◌++◌, ◌+◌, ◌∙◌, ◌≡◌, HasSettled, HistoryView, IsTaken, ap, listed, refl, rules, starts_count, subst, sym, take, ℕ}
 use Rattle.dob_node.proofs.Stored.{seen, room_made, next_seen}
 use Rattle.dob_node.proofs.Kepts.{IsNews, taken_by, news_is, news_seen, same_history, kept_still}
-use Rattle.dob_node.proofs.history.History.take_seen.Goals as goal
 use Rattle.dob_node.proofs.history.History.take_seen.Goals.{In_ok-given, In-Some, In_default, After-store}
+use Rattle.dob_node.proofs.history.History.take_seen.Goals as goal
 
 -- the item is taken, whatever room is left
 taken : (c : In_ok-given) (grown : HistoryView) →
@@ -17,9 +17,8 @@ news c =
     let share = c.args.share.now in
     let after = c.apply_seen.new.self in
     let grown : HistoryView = record c.args.self.now { settlements = c.args.self.now.settlements ++ listed c.in_ok-given.given } in
-    news_seen c.self.inside.nodes c.self.inside.id c.self.inside.room c.self.inside.count c.self.inside.starts c.self.inside.stored c.args.self.now
-    c.in-Some.settlement
-    c.self.invariant.1 c.self.view_is
+    news_seen c.self.inside.nodes c.self.inside.id c.self.inside.room c.self.inside.count c.self.inside.starts c.self.inside.stored c.self.invariant.1
+    c.self.view_is c.in-Some.settlement
     (news_is c.requires.kept.0 share.nodes share.id share after c.args.self.now grown c.args.item c.requires.kept.1 c.requires.entries
     (taken_by share after c.args.item c.in_ok-given.given c.args.self.now grown c.in_ok-given.ensures.applied refl) c.in-Some.settlement
     (subst (λ given. HasSettled share after c.args.item.to given) c.in-Some.is c.in_ok-given.ensures.applied.settled))
@@ -29,8 +28,9 @@ grown : (c : After-store) → IsNews c.self.inside.nodes c.self.inside.id (start
     (left : ℕ) → seen c.self.inside.nodes c.self.inside.id left c.self.inside.starts (take (c.self.inside.count + 1) c.store.new.stored)
     ≡ record c.args.self.now { settlements = c.args.self.now.settlements ++ listed c.in_ok-given.given; room = left }
 grown c is left =
-    next_seen c.self.inside.nodes c.self.inside.id c.self.inside.room left c.self.inside.count c.self.inside.starts c.self.inside.stored c.room_for_one.new.stored
-    c.store.new.stored c.args.self.now c.in-Some.settlement c.self.view_is c.room_for_one.ensures.same is.own is.number_is c.store.ensures.one_more
+    next_seen c.self.inside.nodes c.self.inside.id c.self.inside.room c.self.inside.count c.self.inside.starts c.self.inside.stored c.self.invariant.1
+    c.self.view_is left c.room_for_one.new.stored c.store.new.stored c.in-Some.settlement c.room_for_one.ensures.same is.own is.number_is
+    c.store.ensures.one_more
     ∙ ap (λ given. let view : HistoryView = record c.args.self.now { settlements = c.args.self.now.settlements ++ listed given; room = left } in view)
     (sym c.in-Some.is)
 
@@ -38,8 +38,8 @@ grown c is left =
 same : (c : In_default) → seen c.self.inside.nodes c.self.inside.id c.self.inside.room c.self.inside.starts (take c.self.inside.count c.room_for_one.new.stored)
     ≡ record c.args.self.now { settlements = c.args.self.now.settlements ++ listed c.in_ok-given.given; room = c.self.inside.room }
 same c =
-    room_made c.self.inside.nodes c.self.inside.id c.self.inside.room c.self.inside.room c.self.inside.count c.self.inside.starts c.self.inside.stored
-    c.room_for_one.new.stored c.args.self.now c.self.view_is c.room_for_one.ensures.same
+    room_made c.self.inside.nodes c.self.inside.id c.self.inside.room c.self.inside.count c.self.inside.starts c.self.inside.stored c.self.invariant.1
+    c.self.view_is c.self.inside.room c.room_for_one.new.stored c.room_for_one.ensures.same
     ∙ same_history (record c.args.self.now { room = c.self.inside.room })
     ∙ ap (λ given. let view : HistoryView = record c.args.self.now {
       settlements = c.args.self.now.settlements ++ listed given;

@@ -1,6 +1,6 @@
 -- The values are those that were read of the node's core.
-use Rattle.dob_node.proofs.Common.{subst, NodeView, AreValuesNow}
-use Rattle.dob_node.proofs.Noted.{sound_core}
+use Rattle.dob_node.proofs.Common.{AreValuesNow, NodeView, subst}
+use Rattle.dob_node.proofs.Nodes.{sound_core}
 use Rattle.dob_node.proofs.node.Node.into_part.Goals as goal
 
 pub own_values-requires : goal.own_values-requires

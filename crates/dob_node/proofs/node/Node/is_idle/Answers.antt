@@ -1,5 +1,5 @@
 -- Nothing is left where each list is empty.
-use Rattle.dob_node.proofs.Common.{◌↔◌, ◌≡◌, IsTrue, List, [], arith, rules, subst, sym, All, OutboxView, NodeView, IsIdle}
+use Rattle.dob_node.proofs.Common.{arith, rules}
 use Rattle.std.proofs.lemmas.Grind.{common_steps}
 use Rattle.dob_node.proofs.Sends.{all_empty, empty_all}
 use Rattle.dob_node.proofs.node.Node.is_idle.Goals as goal
@@ -10,12 +10,11 @@ returns-then-not-is_empty c = (λ no. absurd cc, λ idle. let none = idle.applie
 pub returns : goal.returns
 returns c =
     let core = c.self.inside.core in
-    let Nothing : List OutboxView → Type 0 = λ xs. All (λ (o : OutboxView). o.items ≡ []) xs in
-    subst (λ (node : NodeView). IsTrue c.are_empty.result ↔ IsIdle node) c.self.view_is (
+    rw (← c.self.view_is) (
       λ yes. record {
         expanded = search rules;
         applied = grind (arith, common_steps, c.if-not-is_empty.ensures);
-        sent = λ to. all_empty core.outboxes.items (subst Nothing c.deref.ensures.value (c.are_empty.ensures.0 yes)) core.family core.nodes core.id to;
+        sent = λ to. all_empty core.outboxes.items (rw c.deref.ensures.value at (c.are_empty.ensures.0 yes)) core.family core.nodes core.id to;
       },
-      λ idle. c.are_empty.ensures.1 (subst Nothing (sym c.deref.ensures.value) (empty_all core.outboxes.items core.family core.nodes core.id idle.sent)),
+      λ idle. c.are_empty.ensures.1 (rw c.deref.ensures.value (empty_all core.outboxes.items core.family core.nodes core.id idle.sent)),
     )

@@ -1,5 +1,5 @@
 -- Where not all are expanded the next has a level.
-use Rattle.dob_node.proofs.Common.{◌<◌, ◌≤◌, arith, length, subst, sym, NodeView}
+use Rattle.dob_node.proofs.Common.{◌<◌, ◌≤◌, NodeView, arith, length, subst, sym}
 use Rattle.dob_node.specs.Levels.{HasLevel}
 use Rattle.dob_node.proofs.Stored.{some_at}
 use Rattle.dob_node.proofs.node.Node.level.Goals as goal

@@ -1,8 +1,8 @@
 -- The node of the share of its own openings, which are those of the family.
 use Rattle.dob_node.proofs.Common.{IfOk-weaker, IsNewShare, IsOpenedBy, IsOpenedOf}
 use Rattle.dob_node.proofs.Found.{some_openings, own_are}
-use Rattle.dob_node.proofs.node.Node.open_own.Goals as goal
 use Rattle.dob_node.proofs.node.Node.open_own.Goals.{In_ok-share}
+use Rattle.dob_node.proofs.node.Node.open_own.Goals as goal
 
 is_new : (c : In_ok-share) → IsNewShare (some_openings c.args.classes.now.family).0 c.args.nodes c.args.id c.in_ok-share.share
 is_new c =

@@ -1,5 +1,5 @@
 -- What is taken is kept.
-use Rattle.dob_node.proofs.Common.{rules, going, err_from_is_err_and}
+use Rattle.dob_node.proofs.Common.{err_from_is_err_and, going, rules}
 use Rattle.dob_node.proofs.Sounds.{kept_own}
 use Rattle.dob_node.proofs.TakenLists.{kept_with_room, stops_first, applies_err, applies_ok, still_sound}
 use Rattle.dob_node.proofs.node_core.Core.apply_batch.Goals as goal
@@ -17,34 +17,29 @@ returns-in_err-reserve-clause-step c =
 
 pub take_items-requires-clause-kept : goal.take_items-requires-clause-kept
 take_items-requires-clause-kept c =
-    let node = c.args.self.now in (
-      node.family,
-      kept_own node.family node.nodes node.id node.share c.reserve.new.self
-          (kept_with_room node.family node.nodes node.id node.share node.history c.reserve.new.self c.reserve.ensures.same c.requires.sound.kept),
-    )
+    let node = c.args.self.now in
+    let kept = kept_with_room node.family node.nodes node.id node.share node.history c.reserve.new.self c.reserve.ensures.same c.requires.sound.kept in
+    (node.family, kept_own kept)
 
 pub returns-in_err-take_items-clause-step : goal.returns-in_err-take_items-clause-step
 returns-in_err-take_items-clause-step c =
     let given = err_from_is_err_and c.from_residual-in_err-take_items.result c.from_residual-in_err-take_items.ensures.1 in
     let out = rw c.items-items.ensures.items at c.in_err-take_items.ensures in
-    rw (given.1, given.2) (applies_err (going c.args.self.now) c.take_items.new.share c.reserve.new.self c.take_items.new.history c.reserve.ensures.same
-    c.args.batch.now.items
-    c.take_items.new.taken _ out.stopped out.before (λ memory. let few = c.take_items.ensures.memory in let room = c.in_ok-reserve.ensures in search rules))
+    rw (given.1, given.2) (applies_err {node = going c.args.self.now} c.reserve.ensures.same c.args.batch.now.items c.take_items.new.taken _ out.stopped
+    out.before (λ memory. let few = c.take_items.ensures.memory in let room = c.in_ok-reserve.ensures in search rules))
 
 pub returns-in_err-take_items-clause-sound : goal.returns-in_err-take_items-clause-sound
 returns-in_err-take_items-clause-sound c =
     let before = c.in_err-take_items.ensures.before in
-    still_sound (going c.args.self.now) c.take_items.new.share c.reserve.new.self c.take_items.new.history c.reserve.ensures.same before.front
-    c.args.self.now.own.items c.take_items.new.taken c.requires.sound before.taken c.take_items.ensures.kept c.requires.sound.entries
+    still_sound {node = going c.args.self.now} c.reserve.ensures.same before.front c.requires.sound before.taken c.take_items.ensures.kept
+    c.requires.sound.entries
 
 pub returns-clause-step : goal.returns-clause-step
 returns-clause-step c =
-    applies_ok (going c.args.self.now) c.take_items.new.share c.reserve.new.self c.take_items.new.history c.reserve.ensures.same c.args.batch.now.items
-    c.take_items.new.taken (rw c.items-items.ensures.items at c.in_ok-take_items.ensures.taken)
-    (rw c.items-items.ensures.items at c.in_ok-take_items.ensures.all)
+    let out = rw c.items-items.ensures.items at c.in_ok-take_items.ensures in
+    applies_ok {node = going c.args.self.now} c.reserve.ensures.same c.args.batch.now.items c.take_items.new.taken out.taken out.all
 
 pub returns-clause-sound : goal.returns-clause-sound
 returns-clause-sound c =
     let out = c.in_ok-take_items.ensures in
-    still_sound (going c.args.self.now) c.take_items.new.share c.reserve.new.self c.take_items.new.history c.reserve.ensures.same c.items-items.result.now
-    c.args.self.now.own.items c.take_items.new.taken c.requires.sound out.taken out.kept c.requires.sound.entries
+    still_sound {node = going c.args.self.now} c.reserve.ensures.same c.items-items.result.now c.requires.sound out.taken out.kept c.requires.sound.entries

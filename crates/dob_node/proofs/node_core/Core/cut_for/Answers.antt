@@ -1,11 +1,11 @@
 -- The outboxes that are left are sound.
-use Rattle.dob_node.proofs.Common.{◌≡◌, ◌≢◌, None, Option, [], ap, refl, rules, set, subst, sym, BatchView, IfSome, OutboxView, empty_outbox, going}
-use Rattle.dob_node.proofs.Common.{outbox_in, IsCutFrom}
+use Rattle.dob_node.proofs.Common.{◌≡◌, ◌≢◌, BatchView, IfSome, IsCutFrom, None, Option, OutboxView, [], ap, empty_outbox, going, outbox_in, refl, rules, set}
+use Rattle.dob_node.proofs.Common.{subst, sym}
 use Rattle.std.proofs.Common.{IsNone}
 use Rattle.std.proofs.lemmas.Option.{IfSome_then}
 use Rattle.dob_node.proofs.Sends.{outbox_read, cut_read, sound_cut, cut_of, cut_entries}
-use Rattle.dob_node.proofs.node_core.Core.cut_for.Goals as goal
 use Rattle.dob_node.proofs.node_core.Core.cut_for.Goals.{In_ok-batch}
+use Rattle.dob_node.proofs.node_core.Core.cut_for.Goals as goal
 
 -- something is left there
 some : (c : In_ok-batch) → c.index_mut-outbox.result.now.items ≢ []
@@ -43,9 +43,9 @@ returns-clause-step c =
       );
       nothing = λ same. let none : given ≡ None = cc in absurd (not_none at (subst (λ (g : Option BatchView). IsNone g) (sym none) refl));
       cut = IfSome_then given (cut_there at) (λ batch from. let cut = from.cut (empty_outbox node.family node.nodes node.id to) in record {
-        of = cut_of node.family node.nodes node.id to c.args.size batch outbox _ cut whom;
+        of = cut_of cut whom;
         cut = cut;
-        entries = cut_entries node.family node.nodes node.id to c.args.size batch outbox _ cut whom;
+        entries = cut_entries cut whom;
         others = λ other apart. from.others other (empty_outbox node.family node.nodes node.id other) apart;
         same = (refl, refl, refl, refl);
         kept = (refl, refl, refl);

@@ -1,5 +1,5 @@
 -- One more settlement is expanded, and its items have its values.
-use Rattle.dob_node.proofs.Common.{◌++◌, ◌==◌, ◌∙◌, ap, refl, filter, predecessors, owner_of, items_of, going}
+use Rattle.dob_node.proofs.Common.{◌++◌, ◌==◌, ◌∙◌, ap, filter, going, items_of, owner_of, predecessors, refl}
 use Rattle.dob_node.proofs.Sounds.{next_emitted, entries_more}
 use Rattle.dob_node.proofs.Sends.{sound_expanded}
 use Rattle.dob_node.proofs.node_core.Core.expand.Goals as goal
@@ -19,9 +19,8 @@ returns-clause-sound c =
     let s = c.reach-settlement.result in
     let out = c.reach-settlement.ensures in
     let targets = c.deref-2.result.now in
-    rw out.same (sound_expanded (going node) c.deref.result.now s c.push_own.new.queue.items c.add_for_others.new.outboxes.items c.requires.sound
-    (next_emitted node.expanded _ _ c.requires.sound.emitted c.len.ensures.count c.if-self-len.false)
-    (entries_more s node.own.items c.push_own.new.queue.items (items_of (λ _. targets) node.nodes node.id s)
+    rw out.same (sound_expanded {node = going node} c.requires.sound (next_emitted node.expanded _ _ c.requires.sound.emitted c.len.ensures.count
+    c.if-self-len.false) (entries_more s node.own.items c.push_own.new.queue.items (items_of (λ _. targets) node.nodes node.id s)
     (filter (λ to. owner_of node.nodes to == node.id) targets) out.was out.now c.requires.sound.entries refl
     (c.push_own.ensures ∙ ap (λ xs. xs ++ items_of (λ _. targets) node.nodes node.id s) c.reserve.ensures.items))
     out.was out.now c.in_ok-add_for_others.ensures.added)

@@ -1,8 +1,8 @@
 -- The class at a place is an own one, and its value the next.
-use Rattle.dob_node.proofs.Common.{◌*◌, ◌+◌, ◌<◌, ◌^◌, arith, IsOwn, places_of}
-use Rattle.dob_node.proofs.Parts.{own_at, class_at_low, values_none, values_more}
-use Rattle.dob_node.proofs.node_core.Core.own_values.Goals as goal
+use Rattle.dob_node.proofs.Common.{◌*◌, ◌+◌, ◌<◌, ◌^◌, IsOwn, arith, places_of}
+use Rattle.dob_node.proofs.Nodes.{own_at, class_at_low, values_none, values_more}
 use Rattle.dob_node.proofs.node_core.Core.own_values.Goals.{After-get}
+use Rattle.dob_node.proofs.node_core.Core.own_values.Goals as goal
 
 pub loop-place-init : goal.loop-place-init
 loop-place-init c = rw c.in_ok-values.ensures.items (values_none c.args.self.now.share)
@@ -11,12 +11,8 @@ loop-place-init c = rw c.in_ok-values.ensures.items (values_none c.args.self.now
 own : (c : After-get) → IsOwn c.args.self.now.share (c.loop-place.place * c.get.result + c.args.self.now.id)
     × (c.loop-place.place * c.get.result + c.args.self.now.id < 2 ^ 32)
 own c =
-    let node = c.args.self.now in
-    let low : c.loop-place.place < places_of node.share = rw c.places-places.ensures at c.loop-place-test.true in
-    rw c.get.ensures.value (
-      own_at node.family node.nodes node.id node.share node.history c.requires.kept c.loop-place.place low,
-      class_at_low node.family node.nodes node.id node.share node.history c.requires.kept c.loop-place.place low,
-    )
+    let low : c.loop-place.place < places_of c.args.self.now.share = rw c.places-places.ensures at c.loop-place-test.true in
+    rw c.get.ensures.value (own_at c.requires.kept c.loop-place.place low, class_at_low c.requires.kept c.loop-place.place low)
 
 pub overflow_mul-class : goal.overflow_mul-class
 overflow_mul-class c = let few = (own (goal.at.overflow_mul-class c).After-get).1 in omega arith
@@ -28,8 +24,5 @@ pub value-requires : goal.value-requires
 value-requires c = (own (goal.at.value-requires c).After-get).0
 
 pub loop-place-preserved : goal.loop-place-preserved
-loop-place-preserved c =
-    let node = c.args.self.now in
-    values_more node.family node.nodes node.id node.share node.history c.loop-place.place c.loop-place.values.items c.push.new.self.items c.value.result
-    c.requires.kept c.loop-place.invariant c.in_ok-push.ensures.items
+loop-place-preserved c = values_more c.value.result c.requires.kept c.loop-place.invariant c.in_ok-push.ensures.items
     (rw c.get.ensures.value at c.value.ensures)

@@ -1,5 +1,5 @@
 -- The values so far are those of the classes at the places so far.
-use Rattle.dob_node.proofs.Parts.{AreValuesBelow}
+use Rattle.dob_node.proofs.Nodes.{AreValuesBelow}
 use Rattle.dob_node.proofs.node_core.Core.own_values.Given as goal
 
 abbrev pub invariant-loop-place : goal.invariant-loop-place

@@ -1,30 +1,24 @@
 -- One count is one more, one counter is one less, and the taker is black.
-use Rattle.dob_world.proofs.Common.{◌*◌, ◌+◌, ◌∙◌, ◌≡◌, ap, arith, false, get_or, pos, refl, subst, true, ℕ, length-set, counter, ring_of}
-use Rattle.std.proofs.Common.{◌-ℤ◌, ◌^◌, ◌≤ℤ◌, neg_ℤ, get_or-set_other, get_or-set_same}
-use Rattle.dob_world.proofs.Counters.{counter_read, small_counter, fall_fits, fall_is, raised, takes_counted}
+use Rattle.dob_world.proofs.Common.{◌*◌, ◌+◌, ◌∙◌, ap, arith, false, get_or-set_other, get_or-set_same, pos, refl, true, length-set, ints}
+use Rattle.std.proofs.Common.{◌-ℤ◌, neg_ℤ}
+use Rattle.dob_world.proofs.Counters.{CounterAt, counter_at, changed_fits, changed_is, raised, takes_counted}
 use Rattle.dob_world.proofs.detector.Detector.count_take.Goals as goal
-use Rattle.dob_world.proofs.detector.Detector.count_take.Goals.{After-index_mut, After-index_mut-2}
+use Rattle.dob_world.proofs.detector.Detector.count_take.Goals.{After-index_mut-2}
 
-count_there : (c : After-index_mut) →
-    c.index_mut.result.now ≡ get_or c.args.self.now.taken.items (c.args.from * c.args.self.now.nodes + c.args.to) c.index_mut.result.now
-count_there c = subst (λ (k : ℕ). c.index_mut.result.now ≡ get_or c.args.self.now.taken.items (c.args.from * k + c.args.to) c.index_mut.result.now)
-    c.get.ensures.value c.index_mut.ensures.value
-
-counter_is : (c : After-index_mut-2) → c.index_mut-2.result.now ≡ counter c.args.self.now.nodes (ring_of c.args.self.now) c.args.to
-counter_is c = counter_read c.args.self.now c.args.to c.index_mut-2.result.now c.requires.ready.counted c.requires.ready.to c.index_mut-2.ensures.value
-
-small : (c : After-index_mut-2) → (neg_ℤ (pos (2 ^ 44)) ≤ℤ c.index_mut-2.result.now) × (c.index_mut-2.result.now ≤ℤ pos (2 ^ 44))
-small c = let d = c.args.self.now in
-    rw (counter_is c) (small_counter d.nodes (ring_of d) c.args.to c.requires.ready.counted.nodes.1 c.requires.ready.to c.requires.ready.lawful)
+-- the taker's counter
+taker : (c : After-index_mut-2) → CounterAt c.args.self.now c.args.to c.index_mut-2.result.now
+taker c = let ready = c.requires.ready in
+    counter_at c.args.self.now c.args.to c.index_mut-2.result.now ready.counted ready.lawful ready.to c.index_mut-2.ensures.value
 
 pub overflow_sub-index_mut : goal.overflow_sub-index_mut
-overflow_sub-index_mut c = fall_fits c.index_mut-2.result.now (small (goal.at.overflow_sub-index_mut c).After-index_mut-2)
+overflow_sub-index_mut c = let at = taker (goal.at.overflow_sub-index_mut c).After-index_mut-2 in
+    changed_fits c.index_mut-2.result.now at.low at.high (neg_ℤ (pos 1)) (omega (arith, ints)) (omega (arith, ints))
 
 pub returns-clause-moved : goal.returns-clause-moved
 returns-clause-moved c =
     let d = c.args.self.now in
     let ready = c.requires.ready in
-    let there = count_there (goal.at.returns-clause-moved c).After-index_mut in
+    let there = rw c.get.ensures.value at c.index_mut.ensures.value in
     rw c.get.ensures.value (record {
       from = ready.from;
       to = ready.to;
@@ -43,8 +37,9 @@ pub returns-clause-counted : goal.returns-clause-counted
 returns-clause-counted c =
     let d = c.args.self.now in
     let ready = c.requires.ready.counted in
-    let at = (goal.at.returns-clause-counted c).After-index_mut-2 in
-    let less = fall_is c.index_mut-2.result.now (small at) ∙ ap (λ y. y -ℤ pos 1) (counter_is at) in (
+    let z = c.index_mut-2.result.now in
+    let at = taker (goal.at.returns-clause-counted c).After-index_mut-2 in
+    let less = changed_is z at.low at.high (neg_ℤ (pos 1)) (omega (arith, ints)) (omega (arith, ints)) ∙ ap (λ y. y -ℤ pos 1) at.is in (
       record {
         nodes = ready.nodes;
         posted = ready.posted;

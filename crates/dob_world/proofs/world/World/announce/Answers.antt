@@ -1,11 +1,8 @@
 -- Node 0 announces.
 use Rattle.dob_world.proofs.Common.{◌∙◌, refl, sym, ring_of, Announce}
 use Rattle.dob_safra.specs.declared.event.RingEvent.TheVariants as ring
-use Rattle.dob_world.proofs.Slots.{NodeAt}
-use Rattle.dob_world.proofs.InPlace.{node_there}
-use Rattle.dob_world.proofs.Cuts.{cuts_same}
-use Rattle.dob_world.proofs.Done.{event_done}
-use Rattle.dob_world.proofs.Stood.{moved_here, announceable_here, idle_shown, shown_idle}
+use Rattle.dob_world.proofs.InPlace.{NodeAt, node_there}
+use Rattle.dob_world.proofs.Stood.{cuts_same, event_done, moved_here, announceable_here, idle_shown, shown_idle}
 use Rattle.dob_world.proofs.world.World.announce.Goals as goal
 use Rattle.dob_world.proofs.world.World.announce.Goals.{After-index}
 

@@ -1,6 +1,6 @@
 -- One round more, after which the world is still or not.
 use Rattle.dob_world.proofs.Common.{◌+◌, ◌<◌, ◌≤◌, Bool, arith, false, subst, sym, true, classes_of, HasMadeRound, Setting}
-use Rattle.dob_world.proofs.Left.{kept_left}
+use Rattle.dob_world.proofs.Promise.{kept_left}
 use Rattle.dob_world.proofs.Driven.{no_rounds, round_more, still_longer, drive_stops}
 use Rattle.dob_world.proofs.world.World.drive.Goals as goal
 

@@ -1,12 +1,9 @@
 -- The node that expands.
-use Rattle.dob_world.proofs.Common.{◌∙◌, Ok, ap, false, refl, sym, true, Cause, Stopped, setting_of, IsNodeOf, Expand}
+use Rattle.dob_world.proofs.Common.{◌∙◌, Ok, ap, false, refl, sym, true, Cause, Stopped, setting_of, Expand}
 use Rattle.std.proofs.Common.{slice_set}
-use Rattle.dob_world.proofs.Slots.{NodeAt, set_same}
-use Rattle.dob_world.proofs.Done.{event_done}
-use Rattle.dob_world.proofs.Expanded.{expanded, cant_expand, left_to_expand, cuts_expanded}
+use Rattle.dob_world.proofs.InPlace.{NodeAt, set_same, node_there, node_unseen}
+use Rattle.dob_world.proofs.Stood.{event_done, expanded, cant_expand, left_to_expand, cuts_expanded}
 use Rattle.dob_world.proofs.Firsts.{ok_is}
-use Rattle.dob_world.proofs.InPlace.{node_there}
-use Rattle.dob_world.proofs.Unchanged.{node_unseen}
 use Rattle.dob_world.proofs.world.World.expand.Goals as goal
 use Rattle.dob_world.proofs.world.World.expand.Goals.{After-index_mut}
 
@@ -14,17 +11,10 @@ use Rattle.dob_world.proofs.world.World.expand.Goals.{After-index_mut}
 here : (c : After-index_mut) → NodeAt c.args.self.now.nodes.items c.args.node c.index_mut.result.now
 here c = node_there c.requires.standing.places c.args.node c.index_mut.result.now (c.has.ensures.0 c.if-not-has.false) c.index_mut.ensures.value
 
-is_node : (c : After-index_mut) → IsNodeOf (setting_of c.args.self.now) c.args.node c.index_mut.result.now
-is_node c = c.requires.standing.places.node c.args.node c.index_mut.result.now (here c).is
-
-pub expand-requires-clause-family : goal.expand-requires-clause-family
-expand-requires-clause-family c = sym (is_node (goal.at.expand-requires-clause-family c).After-index_mut).of.0
-
-pub expand-requires-clause-sound : goal.expand-requires-clause-sound
-expand-requires-clause-sound c = (is_node (goal.at.expand-requires-clause-sound c).After-index_mut).sound
-
-pub expand-requires-clause-going : goal.expand-requires-clause-going
-expand-requires-clause-going c = (is_node (goal.at.expand-requires-clause-going c).After-index_mut).going
+pub expand-requires : goal.expand-requires
+expand-requires c =
+    let is = c.requires.standing.places.node c.args.node c.index_mut.result.now (here (goal.at.expand-requires c).After-index_mut).is in
+    record { family = sym is.of.0; sound = is.sound; going = is.going }
 
 pub returns-in-Ok-clause-done : goal.returns-in-Ok-clause-done
 returns-in-Ok-clause-done c = λ e.

@@ -1,9 +1,8 @@
 -- The world as it is opened.
 use Rattle.dob_world.proofs.Common.{◌*◌, ◌<◌, refl, subst, sym, ℕ, IsSize, ring_of, world_shown, IsSetting, AreEmptyLanes, AreOpenedNodes, Setting}
 use Rattle.dob_update.specs.Batches.{IsBatchSize, IsCapacity}
-use Rattle.dob_world.proofs.Starts.{places_start, falls_shown, lawful_shown, linked_start, waits_start}
-use Rattle.dob_world.proofs.Cuts.{cuts_start}
-use Rattle.dob_world.proofs.Promise.{matches_start, few_start}
+use Rattle.dob_world.proofs.Promise.{places_start, falls_shown, lawful_shown, linked_start, waits_start, matches_start, few_start}
+use Rattle.dob_world.proofs.Stood.{cuts_start}
 use Rattle.dob_world.proofs.world.World.open.Goals as goal
 
 pub returns-clause-standing : goal.returns-clause-standing

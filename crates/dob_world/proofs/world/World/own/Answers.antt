@@ -1,11 +1,8 @@
 -- The node that applies an own item.
 use Rattle.dob_world.proofs.Common.{◌*◌, ◌+◌, ◌<◌, Ok, ap, false, refl, subst, sym, true, ℕ, mul-add-lt, vec_len, ring_of, Own}
-use Rattle.dob_world.proofs.AtLane.{InWorld, at_lane, same_at, unseen_at}
-use Rattle.dob_world.proofs.Cuts.{cuts_stay, next_same}
-use Rattle.dob_world.proofs.Done.{event_done}
-use Rattle.dob_world.proofs.Made.{owned}
-use Rattle.dob_world.proofs.Outcomes.{cant_own, some_own}
-use Rattle.dob_world.proofs.Stopped.{own_stops}
+use Rattle.dob_world.proofs.InPlace.{InWorld, at_lane, same_at, unseen_at, cant_own, some_own}
+use Rattle.dob_world.proofs.Stood.{cuts_stay, next_same, event_done}
+use Rattle.dob_world.proofs.Made.{owned, own_stops}
 use Rattle.dob_world.proofs.Firsts.{ok_is}
 use Rattle.dob_world.proofs.world.World.own.Goals as goal
 use Rattle.dob_world.proofs.world.World.own.Goals.{After-index_mut-2}
@@ -26,11 +23,8 @@ index_mut-requires-2 c =
     (subst (λ (count : ℕ). c.args.node * world.node_count + c.args.node < count) (sym world.lanes_whole)
     (mul-add-lt c.args.node world.node_count c.args.node world.node_count low low))
 
-pub apply_own-requires-clause-sound : goal.apply_own-requires-clause-sound
-apply_own-requires-clause-sound c = (here (goal.at.apply_own-requires-clause-sound c).After-index_mut-2).node_of.sound
-
-pub apply_own-requires-clause-going : goal.apply_own-requires-clause-going
-apply_own-requires-clause-going c = (here (goal.at.apply_own-requires-clause-going c).After-index_mut-2).node_of.going
+pub apply_own-requires : goal.apply_own-requires
+apply_own-requires c = let is = (here (goal.at.apply_own-requires c).After-index_mut-2).node_of in record { sound = is.sound; going = is.going }
 
 pub returns-in-Ok-clause-done : goal.returns-in-Ok-clause-done
 returns-in-Ok-clause-done c = λ e.

@@ -1,14 +1,10 @@
 -- The node that passes the token.
 use Rattle.dob_world.proofs.Common.{◌∙◌, ◌≡◌, refl, subst, sym, ℕ, Moved, WorldMayEnd, ring_of, setting_of, state_of, Pass}
 use Rattle.dob_safra.specs.declared.event.RingEvent.TheVariants as ring
-use Rattle.dob_world.proofs.Slots.{NodeAt}
-use Rattle.dob_world.proofs.InPlace.{node_there}
-use Rattle.dob_world.proofs.Cuts.{cuts_same}
-use Rattle.dob_world.proofs.Done.{event_done}
-use Rattle.dob_world.proofs.Stood.{moved_here, announceable_there, idle_shown, shown_idle}
+use Rattle.dob_world.proofs.InPlace.{NodeAt, node_there}
+use Rattle.dob_world.proofs.Stood.{cuts_same, event_done, moved_here, announceable_there, idle_shown, shown_idle}
 use Rattle.dob_world.proofs.world.World.pass.Goals as goal
-use Rattle.dob_world.proofs.world.World.pass.Goals.{else-node-eq0-via-then-node-eq0+else-may_end, else-node-eq0-via-else-node-eq0}
-use Rattle.dob_world.proofs.world.World.pass.Goals.{After-index}
+use Rattle.dob_world.proofs.world.World.pass.Goals.{else-node-eq0-via-then-node-eq0+else-may_end, else-node-eq0-via-else-node-eq0, After-index}
 
 -- the node stands at its place
 here : (c : After-index) → NodeAt c.args.self.now.nodes.items c.args.node c.index.result.now

@@ -1,12 +1,9 @@
 -- The node that posts.
-use Rattle.dob_world.proofs.Common.{◌<◌, Ok, ap, inl, inr, refl, subst, sym, ℕ, Cause, Stopped, ring_of, Post}
+use Rattle.dob_world.proofs.Common.{Ok, ap, arith, inl, inr, refl, Cause, Stopped, ring_of, Post}
 use Rattle.dob_safra.specs.declared.event.RingEvent.TheVariants as ring
-use Rattle.dob_world.proofs.AtLane.{InWorld, at_lane, same_at, unseen_at}
-use Rattle.dob_world.proofs.Cuts.{cuts_posted, few_cut}
-use Rattle.dob_world.proofs.Done.{event_done}
+use Rattle.dob_world.proofs.InPlace.{InWorld, at_lane, same_at, unseen_at, cant_post, can_post}
+use Rattle.dob_world.proofs.Stood.{cuts_posted, few_cut, event_done, can_count, moved_here, sender_black}
 use Rattle.dob_world.proofs.Made.{posted}
-use Rattle.dob_world.proofs.Outcomes.{cant_post, can_post}
-use Rattle.dob_world.proofs.Stood.{can_count, moved_here, sender_black, room_to_post}
 use Rattle.dob_world.proofs.world.World.post.Goals as goal
 use Rattle.dob_world.proofs.world.World.post.Goals.{After-index_mut-2}
 
@@ -17,26 +14,21 @@ here c =
     at_lane c.requires.standing.places c.args.from c.args.to c.args.from c.in-Some.place c.index_mut.result.now c.index_mut-2.result.now two.0 two.1 two.0
     c.in-Some.ensures.place c.index_mut.ensures.value c.index_mut-2.ensures.value
 
-pub post-requires-clause-sound : goal.post-requires-clause-sound
-post-requires-clause-sound c = (here (goal.at.post-requires-clause-sound c).After-index_mut-2).node_of.sound
+pub post-requires : goal.post-requires
+post-requires c = let is = (here (goal.at.post-requires c).After-index_mut-2).node_of in
+    record { sound = is.sound; going = is.going; to = omega (arith, is.of.2, c.in-Some.ensures.two.1) }
 
-pub post-requires-clause-going : goal.post-requires-clause-going
-post-requires-clause-going c = (here (goal.at.post-requires-clause-going c).After-index_mut-2).node_of.going
-
-pub post-requires-clause-to : goal.post-requires-clause-to
-post-requires-clause-to c = subst (λ (m : ℕ). c.args.to < m) (sym (here (goal.at.post-requires-clause-to c).After-index_mut-2).node_of.of.2) c.in-Some.ensures.two.1
-
-pub count_post-requires-clause-ready : goal.count_post-requires-clause-ready
-count_post-requires-clause-ready c = can_count c.requires.standing c.args.from c.args.to c.in-Some.ensures.two.0 c.in-Some.ensures.two.1
-
-pub count_post-requires-clause-few : goal.count_post-requires-clause-few
-count_post-requires-clause-few c = room_to_post c.requires.standing c.args.from c.args.to c.in-Some.ensures.two.0 c.in-Some.ensures.two.1 c.requires.few
-
-pub count_post-requires-clause-black : goal.count_post-requires-clause-black
-count_post-requires-clause-black c =
-    let at = here (goal.at.count_post-requires-clause-black c).After-index_mut-2 in
+pub count_post-requires : goal.count_post-requires
+count_post-requires c =
+    let stand = c.requires.standing in
+    let two = c.in-Some.ensures.two in
+    let at = here (goal.at.count_post-requires c).After-index_mut-2 in
     let some = c.in-Ok-true.ensures.some (ap Ok c.in-Ok-true.field-0-test) in
-    sender_black c.requires.standing c.args.from c.args.to at.low_i at.low_j c.in-Some.ensures.two.2 (can_post at c.args.to some).0
+    record {
+      ready = can_count stand c.args.from c.args.to two.0 two.1;
+      black = sender_black stand c.args.from c.args.to two.0 two.1 two.2 (can_post at c.args.to some).0;
+      few = omega (arith, stand.few c.args.from c.args.to two.0 two.1, c.requires.few);
+    }
 
 pub returns-in-Ok-true-clause-done : goal.returns-in-Ok-true-clause-done
 returns-in-Ok-true-clause-done c = λ e.

@@ -1,17 +1,18 @@
 -- One event more is made, or skipped.
-use Rattle.dob_world.proofs.Common.{◌<◌, ◌∙◌, ◌≡◌, Ok, ap, arith, refl, subst, sym, ℕ, classes_of, IsStopped, Setting, Event}
-use Rattle.dob_world.proofs.Ran.{Stepped, stepped}
-use Rattle.dob_world.proofs.Driven.{one_more, round_done, round_stops}
+use Rattle.dob_world.proofs.Common.{◌<◌, ◌∙◌, ◌≡◌, Ok, ap, arith, refl, subst, sym, ℕ, classes_of, IsStopped, setting_of, Setting, Event}
+use Rattle.dob_world.proofs.Driven.{Stepped, stepped, one_more, round_done, round_stops}
 use Rattle.dob_world.proofs.world.World.round.Goals as goal
 
 pub loop-place-preserved : goal.loop-place-preserved
 loop-place-preserved c =
     let out = c.in-Ok.ensures in
-    let event = c.event_at.ensures in
-    let step = stepped c.event_at.result c.loop-place.self c.step.new.self c.in-Ok.field-0 (λ e. out.done (ap Ok e)) (λ e. out.skipped (ap Ok e)) in
+    let k = setting_of c.args.self.now in
+    let way = c.loop-place.invariant.way in
+    let step = stepped k c.event_at.result c.loop-place.self c.step.new.self c.in-Ok.field-0 way.setting (λ e. out.done (ap Ok e))
+    (λ e. out.skipped (ap Ok e)) in
     record {
-      way = one_more c.args.self.now c.loop-place.self c.step.new.self c.loop-place.place c.loop-place.invariant.way
-          (subst (λ (e : Event). Stepped e c.loop-place.self c.step.new.self) event step) out.going.1 out.going.0;
+      way = one_more c.args.self.now c.loop-place.self c.step.new.self c.loop-place.place way
+          (subst (λ (e : Event). Stepped k e c.loop-place.self c.step.new.self) c.event_at.ensures step) out.going.1 out.going.0;
       before = refl;
       nodes = refl;
     }

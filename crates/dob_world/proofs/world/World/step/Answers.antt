@@ -1,8 +1,7 @@
 -- The world stands on after the event, and so the promise of the whole holds of it; or it has stopped, and is left as that stop leaves it.
 use Rattle.dob_world.proofs.Common.{◌+◌, ◌∙◌, ◌≡◌, None, Ok, ap, rules, IsEventDone, IsSkipped, setting_of, state_of, IsLeft, IsStanding}
-use Rattle.dob_world.proofs.Bounds.{few_stop}
-use Rattle.dob_world.proofs.Promise.{standing_headline, stood_headline, stand_unchanged}
-use Rattle.dob_world.proofs.Left.{left_shown, stop_leaves}
+use Rattle.dob_world.proofs.Kept.{few_stop}
+use Rattle.dob_world.proofs.Promise.{standing_headline, stood_headline, stand_unchanged, left_shown, stop_leaves}
 use Rattle.dob_world.proofs.world.World.step.Goals as goal
 use Rattle.dob_world.proofs.world.World.step.Goals.{In-Ok-true, In-Ok-false, In-Err}
 
@@ -33,10 +32,7 @@ returns-in-Ok-true-clause-headline c =
     (done (goal.at.returns-in-Ok-true-clause-headline c).In-Ok-true).stands
 
 pub returns-in-Ok-true-clause-beginnings : goal.returns-in-Ok-true-clause-beginnings
-returns-in-Ok-true-clause-beginnings c =
-    let world = c.make.new.self in
-    (stood_headline (setting_of world) world.nodes.items world.lanes.items world.detector (world.steps + 1)
-    (done (goal.at.returns-in-Ok-true-clause-beginnings c).In-Ok-true).stands).beginnings
+returns-in-Ok-true-clause-beginnings c = (returns-in-Ok-true-clause-headline c).beginnings
 
 pub returns-in-Ok-true-clause-silent : goal.returns-in-Ok-true-clause-silent
 returns-in-Ok-true-clause-silent c = λ ended.
@@ -47,8 +43,7 @@ pub returns-in-Ok-false-clause-headline : goal.returns-in-Ok-false-clause-headli
 returns-in-Ok-false-clause-headline c = standing_headline c.make.new.self (still (goal.at.returns-in-Ok-false-clause-headline c).In-Ok-false)
 
 pub returns-in-Ok-false-clause-beginnings : goal.returns-in-Ok-false-clause-beginnings
-returns-in-Ok-false-clause-beginnings c =
-    (standing_headline c.make.new.self (still (goal.at.returns-in-Ok-false-clause-beginnings c).In-Ok-false)).beginnings
+returns-in-Ok-false-clause-beginnings c = (returns-in-Ok-false-clause-headline c).beginnings
 
 pub returns-in-Ok-false-clause-going : goal.returns-in-Ok-false-clause-going
 returns-in-Ok-false-clause-going c =

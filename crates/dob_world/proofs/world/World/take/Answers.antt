@@ -1,13 +1,9 @@
 -- The node that takes a batch.
-use Rattle.dob_world.proofs.Common.{Err, Ok, ap, refl, subst, sym, ℕ, All, Family, BatchView, IsBatchTo, ring_of, setting_of, Take}
+use Rattle.dob_world.proofs.Common.{Err, Ok, ap, refl, ring_of, Take}
 use Rattle.dob_safra.specs.declared.event.RingEvent.TheVariants as ring
-use Rattle.dob_world.proofs.AtLane.{InWorld, at_lane, same_at}
-use Rattle.dob_world.proofs.Cuts.{cuts_stay, next_same}
-use Rattle.dob_world.proofs.Done.{event_done}
-use Rattle.dob_world.proofs.Made.{received}
-use Rattle.dob_world.proofs.Outcomes.{cant_take, some_waits}
-use Rattle.dob_world.proofs.Stopped.{take_stops}
-use Rattle.dob_world.proofs.Stood.{can_count, moved_here, batch_waits}
+use Rattle.dob_world.proofs.InPlace.{InWorld, at_lane, same_at, cant_take, some_waits}
+use Rattle.dob_world.proofs.Stood.{cuts_stay, next_same, event_done, can_count, moved_here, batch_waits}
+use Rattle.dob_world.proofs.Made.{received, take_stops}
 use Rattle.dob_world.proofs.world.World.take.Goals as goal
 use Rattle.dob_world.proofs.world.World.take.Goals.{After-index_mut-2}
 
@@ -18,30 +14,24 @@ here c =
     at_lane c.requires.standing.places c.args.from c.args.to c.args.to c.in-Some.place c.index_mut.result.now c.index_mut-2.result.now two.0 two.1 two.1
     c.in-Some.ensures.place c.index_mut.ensures.value c.index_mut-2.ensures.value
 
-pub receive-requires-clause-sound : goal.receive-requires-clause-sound
-receive-requires-clause-sound c = (here (goal.at.receive-requires-clause-sound c).After-index_mut-2).node_of.sound
+pub receive-requires : goal.receive-requires
+receive-requires c =
+    let at = here (goal.at.receive-requires c).After-index_mut-2 in
+    record {
+      sound = at.node_of.sound;
+      going = at.node_of.going;
+      batches = rw (at.node_of.of.0, at.node_of.of.1, at.node_of.of.2) at.lane_of.batches;
+    }
 
-pub receive-requires-clause-going : goal.receive-requires-clause-going
-receive-requires-clause-going c = (here (goal.at.receive-requires-clause-going c).After-index_mut-2).node_of.going
-
-pub receive-requires-clause-batches : goal.receive-requires-clause-batches
-receive-requires-clause-batches c =
-    let at = here (goal.at.receive-requires-clause-batches c).After-index_mut-2 in
-    let node = c.index_mut.result.now in
-    let k = setting_of c.args.self.now in
-    let waiting = c.index_mut-2.result.now.link.waiting in
-    subst (λ (st : Family). All (λ (b : BatchView). IsBatchTo st node.n node.id b) waiting) (sym at.node_of.of.0)
-    (subst (λ (m : ℕ). All (λ (b : BatchView). IsBatchTo k.family m node.id b) waiting) (sym at.node_of.of.2)
-    (subst (λ (m : ℕ). All (λ (b : BatchView). IsBatchTo k.family k.n m b) waiting) (sym at.node_of.of.1) at.lane_of.batches))
-
-pub count_take-requires-clause-ready : goal.count_take-requires-clause-ready
-count_take-requires-clause-ready c = can_count c.requires.standing c.args.from c.args.to c.in-Some.ensures.two.0 c.in-Some.ensures.two.1
-
-pub count_take-requires-clause-waiting : goal.count_take-requires-clause-waiting
-count_take-requires-clause-waiting c =
-    let at = here (goal.at.count_take-requires-clause-waiting c).After-index_mut-2 in
-    batch_waits c.requires.standing c.args.from c.args.to at.low_i at.low_j
-    (some_waits at (λ empty. let no = c.in-Ok-true.ensures.none.1 empty in let yes = c.in-Ok-true.field-0-test in absurd (cc)))
+pub count_take-requires : goal.count_take-requires
+count_take-requires c =
+    let stand = c.requires.standing in
+    let at = here (goal.at.count_take-requires c).After-index_mut-2 in
+    record {
+      ready = can_count stand c.args.from c.args.to at.low_i at.low_j;
+      waiting = batch_waits stand c.args.from c.args.to at.low_i at.low_j
+          (some_waits at (λ empty. let no = c.in-Ok-true.ensures.none.1 empty in let yes = c.in-Ok-true.field-0-test in absurd (cc)));
+    }
 
 pub returns-in-Ok-true-clause-done : goal.returns-in-Ok-true-clause-done
 returns-in-Ok-true-clause-done c = λ e.
