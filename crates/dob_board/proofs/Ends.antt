@@ -3,19 +3,19 @@ use Rattle.std.proofs.Common.{◌≡◌, ◌≢◌, ℕ, zero, suc, ◌+◌, ◌
 use Rattle.std.proofs.Common.{ap, ◌∙◌, subst, ⊎_elim, inl, inr, arith, map, append-nil, append_assoc, length-append, get_or-set_same, get_or-set_other}
 use Rattle.dob_board.proofs.Names.{slice_get_within, some_at, slice_index, slice_set, slice_get, replicate, cases_eq, ints, same_Some, map-append, none, some}
 use Rattle.dob_board.proofs.Names.{some-ne-none, some-injective, get_elem?, State, step, keeps, Allows, Joins, at_set, set_else, BoardEvent, Token, IsPacked}
-use Rattle.dob_board.proofs.Names.{Ring, Stand, View, Ended, Failed, posted_word, taken_word, ring_of, one, IsStand, IsNode, IsView, IsHeld, TableId, NodeSeat}
+use Rattle.dob_board.proofs.Names.{Ring, Stand, View, Halt, Ended, Failed, halt_word, posted_word, taken_word, ring_of, one, IsStand, IsNode, IsView, IsHeld, TableId, NodeSeat}
 use Rattle.dob_board.proofs.Names.{Closed, IsLaterLog, fresh, stand_of, witnessed_by, log_of, IsSeatOf, AreSeats, AreWords, IsBoardHistory, joined, nobody}
 use Rattle.dob_board.proofs.Names.{behind, closed_view, LeadsTo, IsWord, AreRead, AreAsWitnessed, Read, get_front, middle}
 use Rattle.dob_board.proofs.Places.{with_at, with_here, with_else, posted_within, taken_within}
-use Rattle.dob_board.proofs.Kept.{own_node, with_views}
+use Rattle.dob_board.proofs.Kept.{HasSeat, own_node, with_views}
 use Rattle.dob_board.proofs.Allowed.{Seated, seated, Held, set_same}
-use Rattle.dob_board.proofs.Halting.{same_halt, runs_on}
+use Rattle.dob_board.proofs.Halting.{same_halt}
 use Rattle.dob_board.proofs.Once.{run_once}
 use Rattle.dob_board.proofs.Starts.{elsewhere}
 
 -- ---- join
 
-nobody_is_view : (n port halt : ℕ) (owner : ℕ → ℕ) (ring : Ring) (log : List BoardEvent) → IsView n owner ring halt log port nobody
+nobody_is_view : (n port : ℕ) (halt : Halt) (owner : ℕ → ℕ) (ring : Ring) (log : List BoardEvent) → IsView n owner ring halt log port nobody
 nobody_is_view n port halt owner ring log = record {
   was_witnessed = (log, sym (append-nil log));
   nodes = λ k stand e. absurd (some-ne-none stand (sym e));
@@ -34,10 +34,11 @@ joins : (n i id other size : ℕ) (words : List ℕ) (views : List View) (stand 
     IsHeld n words (slice_set (slice_set views id (rest_view n i (stand ∷ behind) observed false false)) other nobody)
 joins n i id other size words views stand behind witnessed observed own closed held at apart there =
     let ring : Ring = ring_of n words held.black held.token in
-    let halt : ℕ = slice_index words 2 in
+    let halt : Halt = held.halt in
     let both : View = rest_view n i (stand ∷ behind) observed false false in
     let at_other : get_elem? views other ≡ some (one n i stand observed) = sym (set_else views id other both apart) ∙ there in
-    let mine : IsNode n held.owner ring halt other n i stand = own_node n i other words views stand observed held at_other in
+    let seat : HasSeat n i other words views stand observed = record { held = held; at = at_other } in
+    let mine = own_node seat in
     let rest = held.views_are id (rest_view size (suc i) behind witnessed own closed) at in
     let owner : ℕ → ℕ = with_at i id held.owner in
     with_views n words views (slice_set (slice_set views id both) other nobody) owner held
@@ -60,7 +61,7 @@ joins n i id other size words views stand behind witnessed observed own closed h
     (at_set views id port both view x.1))
     (at_set (set views id both) other port nobody view e))
   where
-    both_nodes : (n i id halt size : ℕ) (owner : ℕ → ℕ) (ring : Ring) (stand : Stand) (behind : List Stand) → i < n → IsStand n ring halt i stand →
+    both_nodes : (n i id : ℕ) (halt : Halt) (size : ℕ) (owner : ℕ → ℕ) (ring : Ring) (stand : Stand) (behind : List Stand) → i < n → IsStand n ring halt i stand →
         ((k : ℕ) (at : Stand) → get_elem? behind k ≡ some at → IsNode n owner ring halt id size (suc i + k) at) →
         (k : ℕ) (at : Stand) → get_elem? (stand ∷ behind) k ≡ some at → IsNode n (with_at i id owner) ring halt id n (i + k) at
     both_nodes n i id halt size owner ring stand behind within is rest zero at e =
@@ -93,11 +94,12 @@ reads : (n w id : ℕ) (words : List ℕ) (views : List View) (view : View) (hel
     IsWord n view.stands held.log w (slice_index words w)
 reads n w id words views view held at from_is =
     let ring : Ring = ring_of n words held.black held.token in
-    let halt : ℕ = slice_index words 2 in
+    let halt : Halt = held.halt in
     let was = held.views_are id view at in
     let node : (k : ℕ) (stand : Stand) → get_elem? view.stands k ≡ some stand → IsNode n held.owner ring halt id view.size k stand =
     λ k stand e. let place : view.from + k ≡ k = omega (arith, from_is) in
     subst (λ (x : ℕ). IsNode n held.owner ring halt id view.size x stand) place (was.nodes k stand e) in
+    let here : w ≡ 2 → slice_index words w ≡ halt_word halt = λ w_is. ap (slice_index words) w_is ∙ held.halt_is in
     let announced : w ≡ 2 → slice_index words w ≡ 1 → ring.announced ≡ true =
     λ w_is found. eq-eqb (slice_index words 2) 1 (ap (slice_index words) (sym w_is) ∙ found) in
     record {
@@ -118,12 +120,12 @@ reads n w id words views view held at from_is =
               held.lawful.in_order i i at_i.within at_i.within,
             ),
           );
-      halt_within = λ w_is. omega (arith, ap (slice_index words) w_is, held.halt_within);
+      halt_within = λ w_is. omega (arith, here w_is, held.halt_within);
       halt_is = λ w_is. ap (λ (x : ℕ). eqb (slice_index words x) 1) (sym w_is);
-      halt_told_is = λ w_is. ap (slice_index words) w_is ∙ held.told;
-      announced = λ w_is found stand e. (node 0 stand e).is_stand.knows.announced refl (ap (slice_index words) (sym w_is) ∙ found);
-      halt_seen = λ w_is i stand e seen. ap (slice_index words) w_is ∙ (node i stand e).is_stand.knows.seen seen;
-      failed = λ w_is i stand e found. (node i stand e).is_stand.knows.failed (ap (slice_index words) (sym w_is) ∙ found);
+      halt_told_is = λ w_is. here w_is ∙ held.told;
+      announced = λ w_is found stand e. (node 0 stand e).is_stand.knows.announced refl (same_halt halt Ended (sym (here w_is) ∙ found));
+      halt_seen = λ w_is i stand e seen. here w_is ∙ ap halt_word ((node i stand e).is_stand.knows.seen seen);
+      failed = λ w_is i stand e found. (node i stand e).is_stand.knows.failed (same_halt halt (Failed i) (sym (here w_is) ∙ found));
       all_white = λ w_is found i stand e. let at_i = node i stand e in at_i.is_stand.shows.colour ∙ held.lawful.all_white (announced w_is found) i at_i.within;
       all_taken = λ w_is found i j first second e f.
           let at_i = node i first e in
@@ -137,7 +139,7 @@ closes : (n id : ℕ) (words : List ℕ) (views : List View) (view : View) (held
     length view.stands ≡ n → IsHeld n words (slice_set views id (closed_view view.size view.stands held.log))
 closes n id words views view held at from_is all_is =
     let ring : Ring = ring_of n words held.black held.token in
-    let halt : ℕ = slice_index words 2 in
+    let halt : Halt = held.halt in
     let was = held.views_are id view at in
     let after : View = closed_view view.size view.stands held.log in
     with_views n words views (slice_set views id after) held.owner held
@@ -195,8 +197,8 @@ pub one_less : (board : TableId) (n : ℕ) (all : List Stand) (seats fewer : Lis
     seats ≡ fewer ++ seat ∷ [] → after ≡ (joined me.0 seat.seat.me.0, []) → AreLeft board n all fewer after
 one_less board n all seats fewer seat me after left seats_is after_is =
     let is : IsSeatOf board n (length fewer) seat = (last_seat board n all seats fewer seat me left seats_is).0 in
-    let own : seat.seat.me.0 ≡ one seat.nodes seat.node (stand_of seat) seat.seat.me.0.witnessed = ap (λ (x : Seated). x.0) seat.view_is in
-    let after_view : after.0 ≡ joined me.0 (one seat.nodes seat.node (stand_of seat) seat.seat.me.0.witnessed) =
+    let own : seat.seat.me.0 ≡ one seat.nodes seat.node seat.stand seat.seat.me.0.witnessed = ap (λ (x : Seated). x.0) seat.view_is in
+    let after_view : after.0 ≡ joined me.0 (one seat.nodes seat.node seat.stand seat.seat.me.0.witnessed) =
     ap (λ (x : Seated). x.0) after_is ∙ ap (joined me.0) own in
     record {
       size_is = ap (λ (v : View). v.size) after_view ∙ is.nodes;
@@ -205,7 +207,7 @@ one_less board n all seats fewer seat me after left seats_is after_is =
       not_closed = ap (λ (v : View). v.closed) after_view;
       all_are = left.all_are ∙ ap (λ (xs : List NodeSeat). map stand_of xs ++ me.0.stands) seats_is
           ∙ ap (λ (ss : List Stand). ss ++ me.0.stands) (map-append stand_of fewer (seat ∷ []))
-          ∙ append_assoc (map stand_of fewer) (stand_of seat ∷ []) me.0.stands
+          ∙ append_assoc (map stand_of fewer) (seat.stand ∷ []) me.0.stands
           ∙ ap (λ (v : View). map stand_of fewer ++ v.stands) (sym after_view);
       seats_are = λ k other e. left.seats_are k other (ap (λ (xs : List NodeSeat). slice_get xs k) seats_is ∙ get_front fewer (seat ∷ []) other k e);
     }
@@ -276,7 +278,7 @@ are_as_witnessed n stands log words some_nodes all_nodes read =
       announced = λ ring runs. (run_once n log ring has.0 some_nodes runs has.1.runs).announced ∙ has.3;
       halt_is = halt.halt_told_is refl;
       halt_seen = halt.halt_seen refl;
-      failed = halt.failed refl;
+      failed = λ i stand e found. ap halt_word (halt.failed refl i stand e found);
       posted = λ i j stand e j_in. (read.words_are (posted_word n i j) (posted_within n i j (within i stand e) j_in)).posted i j stand e j_in refl;
       taken = λ i j stand e j_in. (read.words_are (taken_word n j i) (taken_within n j i j_in (within i stand e))).taken i j stand e j_in refl;
     }
@@ -304,7 +306,7 @@ first_less all seats fewer last me after first seats_is witnessed = (
 pub are_words : (board : TableId) (n : ℕ) (seats : List NodeSeat) (log : List BoardEvent) (words : List ℕ) → AreSeats board n seats →
     AreRead n (map stand_of seats) log words → AreWords n seats words
 are_words board n seats log words are read =
-    let there : (k : ℕ) (seat : NodeSeat) → slice_get seats k ≡ Some seat → get_elem? (map stand_of seats) k ≡ some (stand_of seat) = mapped_there stand_of seats in
+    let there : (k : ℕ) (seat : NodeSeat) → slice_get seats k ≡ Some seat → get_elem? (map stand_of seats) k ≡ some seat.stand = mapped_there stand_of seats in
     let within : (k : ℕ) (seat : NodeSeat) → slice_get seats k ≡ Some seat → k < n = λ k seat e. omega (arith, slice_get_within seats k seat e, are.count) in
     let halt = read.words_are 2 (omega arith) in
     record {
@@ -312,28 +314,28 @@ are_words board n seats log words are read =
       nodes = (read.words_are 0 (omega arith)).nodes refl;
       token = ((read.words_are 1 (omega arith)).ring.token, (read.words_are 1 (omega arith)).token refl);
       posted = λ i j seat e j_in.
-          (read.words_are (posted_word n i j) (posted_within n i j (within i seat e) j_in)).posted i j (stand_of seat) (there i seat e) j_in refl;
+          (read.words_are (posted_word n i j) (posted_within n i j (within i seat e) j_in)).posted i j seat.stand (there i seat e) j_in refl;
       taken = λ i j seat e j_in.
-          (read.words_are (taken_word n j i) (taken_within n j i j_in (within i seat e))).taken i j (stand_of seat) (there i seat e) j_in refl;
+          (read.words_are (taken_word n j i) (taken_within n j i j_in (within i seat e))).taken i j seat.stand (there i seat e) j_in refl;
       none_own = λ i i_in.
           let here = some_at seats i (omega (arith, are.count, i_in)) in
           let found = there i here.0 here.1 in
           let posted = read.words_are (posted_word n i i) (posted_within n i i i_in i_in) in
           let taken = read.words_are (taken_word n i i) (taken_within n i i i_in i_in) in (
-            posted.posted i i (stand_of here.0) found i_in refl ∙ (posted.none_own i (stand_of here.0) found).0,
-            taken.taken i i (stand_of here.0) found i_in refl ∙ (taken.none_own i (stand_of here.0) found).1,
+            posted.posted i i here.0.stand found i_in refl ∙ (posted.none_own i here.0.stand found).0,
+            taken.taken i i here.0.stand found i_in refl ∙ (taken.none_own i here.0.stand found).1,
           );
       halt_within = halt.halt_within refl;
-      announced = λ ended seat e. same_halt seat.halt Ended (halt.announced refl ended (stand_of seat) (there 0 seat e));
-      halt_seen = λ i seat e seen. halt.halt_seen refl i (stand_of seat) (there i seat e) (runs_on seat.halt seen);
-      failed = λ i seat e found. same_halt seat.halt (Failed i) (halt.failed refl i (stand_of seat) (there i seat e) found);
-      all_white = λ ended i seat e. halt.all_white refl ended i (stand_of seat) (there i seat e);
+      announced = λ ended seat e. halt.announced refl ended seat.stand (there 0 seat e);
+      halt_seen = λ i seat e. halt.halt_seen refl i seat.stand (there i seat e);
+      failed = λ i seat e. halt.failed refl i seat.stand (there i seat e);
+      all_white = λ ended i seat e. halt.all_white refl ended i seat.stand (there i seat e);
       all_taken = λ ended i j i_in j_in.
           let one' = some_at seats i (omega (arith, are.count)) in
           let other = some_at seats j (omega (arith, are.count)) in
-          (read.words_are (posted_word n i j) (posted_within n i j i_in j_in)).posted i j (stand_of one'.0) (there i one'.0 one'.1) j_in refl
-          ∙ halt.all_taken refl ended i j (stand_of one'.0) (stand_of other.0) (there i one'.0 one'.1) (there j other.0 other.1)
-          ∙ sym ((read.words_are (taken_word n i j) (taken_within n i j i_in j_in)).taken j i (stand_of other.0) (there j other.0 other.1) i_in refl);
+          (read.words_are (posted_word n i j) (posted_within n i j i_in j_in)).posted i j one'.0.stand (there i one'.0 one'.1) j_in refl
+          ∙ halt.all_taken refl ended i j one'.0.stand other.0.stand (there i one'.0 one'.1) (there j other.0 other.1)
+          ∙ sym ((read.words_are (taken_word n i j) (taken_within n i j i_in j_in)).taken j i other.0.stand (there j other.0 other.1) i_in refl);
     }
 
 -- what happened on a closed board
@@ -347,7 +349,7 @@ is_history n seats closed witnessed some_nodes first on read =
       ring = has.0;
       runs = has.1.runs;
       is_lawful = has.1.is_lawful;
-      shows = λ i seat e. has.1.shows i (stand_of seat) (mapped_there stand_of seats i seat e);
+      shows = λ i seat e. has.1.shows i seat.stand (mapped_there stand_of seats i seat e);
       token = has.2;
       announced = has.3;
       halt_is = (read.words_are 2 (omega arith)).halt_told_is refl;

@@ -4,12 +4,12 @@ pub use Rattle.atomic_table.specs.Seated.{TableId}
 pub use Rattle.atomic_table.specs.Table.{Allows, Joins, keeps, Me, Splits, State, step}
 pub use Rattle.dob_board.specs.Boards.{AreAsWitnessed, AreRead, behind, closed_view, first_words, IsWord, joined, LeadsTo, nobody, Read}
 pub use Rattle.dob_board.specs.Histories.{halt_told, HasHalt, HasPosted, HasToken, IsInTime, IsLaterLog, MakesEvent, Observes, Runs, token_moves_of}
-pub use Rattle.dob_board.specs.Plays.{Announced, Announcing, FailedRun, first_of, Halted, Halts, IsTold, Looked, LooksAt, Makes, Met, Notes, others_of, Passed}
-pub use Rattle.dob_board.specs.Plays.{Posted, Took}
+pub use Rattle.dob_board.specs.Plays.{Announced, Announcing, FailedRun, first_of, Halted, Looked, LooksAt, Met, others_of, own_stand, Passed}
+pub use Rattle.dob_board.specs.Plays.{Exchanged, Posted, Took}
 pub use Rattle.dob_board.specs.Rule.{fresh, IsHeld, IsNode, IsView, whole}
-pub use Rattle.dob_board.specs.Seats.{AreSeats, AreWords, failed_after, IsBoardHistory, IsSameSeat, IsSeatOf, KnewEnd, KnewOwnFailure, log_of, MayEnd, stand_of}
+pub use Rattle.dob_board.specs.Seats.{AreSeats, AreWords, IsBoardHistory, IsSameSeat, IsSeatOf, log_of, MayEnd, stand_of}
 pub use Rattle.dob_board.specs.Seats.{TakesOne, witnessed_by}
-pub use Rattle.dob_board.specs.Views.{counter_of, finds, IsInBounds, IsStand, KnowsHalt, meets, one, passed_by, passes, posts_more, sees, Shows, takes_more}
+pub use Rattle.dob_board.specs.Views.{counter_of, finds, IsInBounds, IsStand, IsTokenInBounds, KnowsHalt, meets, one, passed_by, passes, posts_more, sees, Shows, takes_more}
 pub use Rattle.dob_board.specs.Views.{token_at}
 pub use Rattle.dob_board.specs.Words.{halt_after, halt_word, posted_word, ring_of, taken_word, word_count}
 pub use Rattle.dob_board.specs.declared.board.Closed.{Closed}
@@ -32,7 +32,7 @@ pub use Rattle.dob_safra.specs.declared.event.RingEvent.TheVariants.{Announce, P
 pub use Rattle.dob_safra.specs.declared.token.Token.{Token}
 pub use Rattle.std.proofs.Math.IntN.{neg_ℤ, pos, ℤ, ◌-ℤ◌}
 pub use Rattle.std.proofs.lemmas.Bool.{cases_eq, false_from_ne_true}
-pub use Rattle.std.proofs.lemmas.Grind.{common_steps, get_or_default_zero, replicate_next}
+pub use Rattle.std.proofs.lemmas.Grind.{replicate_next}
 pub use Rattle.std.proofs.lemmas.Int.{ints, to_z-of_z, to_z_pos}
 pub use Rattle.std.proofs.lemmas.List.{length-map, length-replicate, map-append}
 pub use Rattle.std.proofs.lemmas.List.Sums.{sum_by-cons}

@@ -1,9 +1,9 @@
 -- The start of a board, and how the view of all nodes is split.
 use Rattle.std.proofs.Common.{◌≡◌, ◌≢◌, ℕ, zero, suc, ◌+◌, ◌-◌, ◌<◌, ◌⊎◌, List, [], ◌∷◌, ◌++◌, length, set, get_or, Some, true, false, eqb, refl, sym, ap, ◌∙◌}
 use Rattle.std.proofs.Common.{subst, ⊎_elim, inl, inr, arith, rules, map, length-set, length-append, get_or-set_same, get_or-set_other}
-use Rattle.dob_board.proofs.Names.{replicate_next, length-replicate, slice_index, slice_set, slice_get, replicate, map-append, some, some-ne-none}
+use Rattle.dob_board.proofs.Names.{replicate_next, length-replicate, slice_set, slice_get, replicate, map-append, some, some-ne-none}
 use Rattle.dob_board.proofs.Names.{some-injective, get_elem?, Splits, at_set, BoardEvent, IsPacked, first_token, Ring, IsLawfulRing, IsStart, black_token}
-use Rattle.dob_board.proofs.Names.{IsSize, Stand, View, posted_word, taken_word, word_count, ring_of, one, KnowsHalt, IsStand, token_moves_of, IsNode, IsView}
+use Rattle.dob_board.proofs.Names.{IsSize, Stand, View, posted_word, taken_word, word_count, ring_of, one, Halt, Running, IsStand, token_moves_of, IsNode, IsView}
 use Rattle.dob_board.proofs.Names.{IsHeld, fresh, whole, others_of, first_of, first_words, behind, TableId, NodeSeat, stand_of, IsSeatOf, at_end}
 use Rattle.dob_board.proofs.Places.{with_at, with_here, with_else}
 use Rattle.dob_board.proofs.Kept.{has_all, one_is_view, knows_now, with_views}
@@ -18,7 +18,7 @@ views_end (x ∷ xs) a b zero e = inl e
 views_end (x ∷ xs) a b (suc j) e = ⊎_elim (λ l. inl l) (λ r. inr (ap suc r.0, r.1)) (views_end xs a b j e)
 
 -- the views of other seats, where another seat has node i now
-pub elsewhere : (n i id fresh_port port halt : ℕ) (owner : ℕ → ℕ) (ring : Ring) (log : List BoardEvent) (view : View) → i < n → owner i ≡ id
+pub elsewhere : (n i id fresh_port port : ℕ) (halt : Halt) (owner : ℕ → ℕ) (ring : Ring) (log : List BoardEvent) (view : View) → i < n → owner i ≡ id
     → port ≢ id → IsView n owner ring halt log port view → IsView n (with_at i fresh_port owner) ring halt log port view
 elsewhere n i id fresh_port port halt owner ring log view within owned apart was = record {
   was_witnessed = was.was_witnessed;
@@ -43,7 +43,7 @@ splits : (n i id : ℕ) (words : List ℕ) (views : List View) (stand : Stand) (
     IsHeld n words (slice_set views id (view_from n (suc i) rest witnessed) ++ one n i stand witnessed ∷ [])
 splits n i id words views stand rest witnessed held at =
     let ring : Ring = ring_of n words held.black held.token in
-    let halt : ℕ = slice_index words 2 in
+    let halt : Halt = held.halt in
     let was = held.views_are id (view_from n i (stand ∷ rest) witnessed) at in
     let first : i + 0 ≡ i = omega arith in
     let own : IsNode n held.owner ring halt id n i stand = subst (λ (x : ℕ). IsNode n held.owner ring halt id n x stand) first (was.nodes 0 stand refl) in
@@ -145,7 +145,7 @@ first_lawful n word size =
       reason = black_token refl;
     }
 
-fresh_stand : (n word i : ℕ) → i < n → IsStand n (first_ring n word) (slice_index (first_words n word) 2) i (fresh n)
+fresh_stand : (n word i : ℕ) → i < n → IsStand n (first_ring n word) Running i (fresh n)
 fresh_stand n word i within =
     let start = first_start n word in
     record {
@@ -155,11 +155,11 @@ fresh_stand n word i within =
         taken = λ j j_in. zeros n j ∙ sym (start.taken j i j_in within);
         colour = refl;
         token = λ token e. absurd (cc);
-        ended = λ e. absurd (omega (arith, e));
+        ended = λ e. absurd (cc);
       };
       none_own = zeros n i;
       seen = λ j j_in. omega (arith, zeros n j);
-      knows = subst (λ (h : ℕ). KnowsHalt i h 0) (sym (first_zero n word 2 (omega arith))) (knows_now i 0);
+      knows = knows_now i Running;
     }
 
 at_fresh : (m k : ℕ) (x stand : Stand) → get_elem? (replicate m x) k ≡ some stand → (k < m) × (x ≡ stand)
@@ -179,22 +179,24 @@ begins n word size packed = record {
       (sym (get_or-set_same (set (zeros_of (word_count n)) 0 n) 1 word 0 (omega (arith, length-set (zeros_of (word_count n)) 0 n, length-replicate {A = ℕ} (word_count n) 0))))
       packed;
   lawful = first_lawful n word size;
-  halt_within = omega (arith, first_zero n word 2 (omega arith));
+  halt = Running;
+  halt_is = first_zero n word 2 (omega arith);
+  halt_within = omega arith;
   log = [];
   runs = first_start n word;
-  told = first_zero n word 2 (omega arith);
+  told = refl;
   owner = λ k. 0;
   views_are = view;
 }
   where
-    view : (port : ℕ) (v : View) → get_elem? (whole n ∷ []) port ≡ some v → IsView n (λ k. 0) (first_ring n word) (slice_index (first_words n word) 2) [] port v
-    view zero v e = subst (λ (x : View). IsView n (λ k. 0) (first_ring n word) (slice_index (first_words n word) 2) [] 0 x) (some-injective (whole n) v e)
+    view : (port : ℕ) (v : View) → get_elem? (whole n ∷ []) port ≡ some v → IsView n (λ k. 0) (first_ring n word) Running [] port v
+    view zero v e = subst (λ (x : View). IsView n (λ k. 0) (first_ring n word) Running [] 0 x) (some-injective (whole n) v e)
         (record {
           was_witnessed = ([], refl);
           nodes = λ k stand there.
               let found = at_fresh n k (fresh n) stand there in
               let place : k ≡ 0 + k = omega arith in
-              subst (λ (p : ℕ × Stand). IsNode n (λ m. 0) (first_ring n word) (slice_index (first_words n word) 2) 0 n p.0 p.1) (λ q. (place q, found.1 q))
+              subst (λ (p : ℕ × Stand). IsNode n (λ m. 0) (first_ring n word) Running 0 n p.0 p.1) (λ q. (place q, found.1 q))
               (record { size_is = refl; within = found.0; owned = refl; is_stand = fresh_stand n word k found.0 });
           alone = λ own k stand there. refl;
           is_closed = λ e'. absurd (cc);
@@ -210,7 +212,7 @@ pub record AreFirst (board : TableId) (n k : ℕ) (seats : List NodeSeat) : Type
   pub are_fresh : map stand_of seats ≡ replicate k (fresh n)
 
 pub push_first : (board : TableId) (n k : ℕ) (seats pushed : List NodeSeat) (seat : NodeSeat) → AreFirst board n k seats → IsSeatOf board n k seat
-    → stand_of seat ≡ fresh n →
+    → seat.stand ≡ fresh n →
     pushed ≡ seats ++ seat ∷ [] → AreFirst board n (suc k) pushed
 push_first board n k seats pushed seat first is is_fresh pushed_is =
     let next : k + 1 ≡ suc k = omega arith in

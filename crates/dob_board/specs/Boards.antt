@@ -8,7 +8,8 @@ use Rattle.dob_safra.specs.Tokens.{IsPacked}
 use Rattle.dob_safra.specs.Rings.{Ring, IsLawfulRing}
 use Rattle.dob_board.specs.declared.view.Stand.{Stand}
 use Rattle.dob_board.specs.declared.view.View.{View}
-use Rattle.dob_board.specs.Words.{posted_word, taken_word, word_count}
+use Rattle.dob_board.specs.declared.halt.Halt.TheVariants.{Running, Ended, Failed}
+use Rattle.dob_board.specs.Words.{posted_word, taken_word, word_count, halt_word}
 use Rattle.dob_board.specs.Views.{Shows}
 use Rattle.dob_board.specs.Histories.{Runs, IsLaterLog, halt_told}
 use Rattle.dob_board.specs.Rule.{fresh}
@@ -54,9 +55,9 @@ pub record IsWord (n : ℕ) (stands : List Stand) (log : List BoardEvent) (word 
   pub halt_within : word ≡ 2 → found < 2 + n
   pub halt_is : word ≡ 2 → ring.announced ≡ (found == 1)
   pub halt_told_is : word ≡ 2 → found ≡ halt_told log
-  pub announced : word ≡ 2 → found ≡ 1 → (stand : Stand) → get_elem? stands 0 ≡ some stand → stand.halt ≡ 1
-  pub halt_seen : word ≡ 2 → (i : ℕ) (stand : Stand) → get_elem? stands i ≡ some stand → stand.halt ≢ 0 → found ≡ stand.halt
-  pub failed : word ≡ 2 → (i : ℕ) (stand : Stand) → get_elem? stands i ≡ some stand → found ≡ 2 + i → stand.halt ≡ 2 + i
+  pub announced : word ≡ 2 → found ≡ 1 → (stand : Stand) → get_elem? stands 0 ≡ some stand → stand.halt ≡ Ended
+  pub halt_seen : word ≡ 2 → (i : ℕ) (stand : Stand) → get_elem? stands i ≡ some stand → stand.halt ≢ Running → found ≡ halt_word stand.halt
+  pub failed : word ≡ 2 → (i : ℕ) (stand : Stand) → get_elem? stands i ≡ some stand → found ≡ 2 + i → stand.halt ≡ Failed i
   pub all_white : word ≡ 2 → found ≡ 1 → (i : ℕ) (stand : Stand) → get_elem? stands i ≡ some stand → stand.black ≡ false
   pub all_taken : word ≡ 2 → found ≡ 1 → (i j : ℕ) (one other : Stand) → get_elem? stands i ≡ some one → get_elem? stands j ≡ some other →
       slice_index one.posted j ≡ slice_index other.taken i
@@ -81,8 +82,8 @@ pub record AreAsWitnessed (view : View) (words : List ℕ) : Type 0 where
   pub token : (ring : Ring) (word : ℕ) → Runs view.size view.witnessed ring → IsPacked ring.token word → slice_index words 1 ≡ word
   pub announced : (ring : Ring) → Runs view.size view.witnessed ring → ring.announced ≡ (slice_index words 2 == 1)
   pub halt_is : slice_index words 2 ≡ halt_told view.witnessed
-  pub halt_seen : (i : ℕ) (stand : Stand) → get_elem? view.stands i ≡ some stand → stand.halt ≢ 0 → slice_index words 2 ≡ stand.halt
-  pub failed : (i : ℕ) (stand : Stand) → get_elem? view.stands i ≡ some stand → slice_index words 2 ≡ 2 + i → stand.halt ≡ 2 + i
+  pub halt_seen : (i : ℕ) (stand : Stand) → get_elem? view.stands i ≡ some stand → stand.halt ≢ Running → slice_index words 2 ≡ halt_word stand.halt
+  pub failed : (i : ℕ) (stand : Stand) → get_elem? view.stands i ≡ some stand → slice_index words 2 ≡ 2 + i → halt_word stand.halt ≡ 2 + i
   pub posted : (i j : ℕ) (stand : Stand) → get_elem? view.stands i ≡ some stand → j < view.size →
       slice_index words (posted_word view.size i j) ≡ slice_index stand.posted j
   pub taken : (i j : ℕ) (stand : Stand) → get_elem? view.stands i ≡ some stand → j < view.size →

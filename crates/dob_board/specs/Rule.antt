@@ -9,12 +9,14 @@ use Rattle.dob_safra.specs.Rings.{Ring, IsLawfulRing}
 use Rattle.dob_safra.specs.Laws.{IsSize}
 use Rattle.dob_board.specs.declared.view.Stand.{Stand}
 use Rattle.dob_board.specs.declared.view.View.{View}
-use Rattle.dob_board.specs.Words.{word_count, ring_of}
+use Rattle.dob_board.specs.declared.halt.Halt.{Halt}
+use Rattle.dob_board.specs.declared.halt.Halt.TheVariants.{Running}
+use Rattle.dob_board.specs.Words.{word_count, halt_word, ring_of}
 use Rattle.dob_board.specs.Views.{IsStand}
 use Rattle.dob_board.specs.Histories.{Runs, IsLaterLog, halt_told, token_moves_of}
 
 -- What a seat's view says of a node is right: the view is of n nodes, the node is this seat's, and what it knows is right.
-pub record IsNode (n : ℕ) (owner : ℕ → ℕ) (ring : Ring) (halt port size node : ℕ) (stand : Stand) : Type 0 where
+pub record IsNode (n : ℕ) (owner : ℕ → ℕ) (ring : Ring) (halt : Halt) (port size node : ℕ) (stand : Stand) : Type 0 where
   pub size_is : size ≡ n
   pub within : node < n
   pub owned : owner node ≡ port
@@ -29,7 +31,7 @@ pub record IsClosed (n : ℕ) (log : List BoardEvent) (view : View) : Type 0 whe
 -- The view of a seat is right: the log went on from what it has witnessed; what it says of each of its nodes, from the first one
 -- on, is right; if it has all that they did, none of them moved the token or announced the end since; and if it is closed it is
 -- that of all nodes.
-pub record IsView (n : ℕ) (owner : ℕ → ℕ) (ring : Ring) (halt : ℕ) (log : List BoardEvent) (port : ℕ) (view : View) : Type 0 where
+pub record IsView (n : ℕ) (owner : ℕ → ℕ) (ring : Ring) (halt : Halt) (log : List BoardEvent) (port : ℕ) (view : View) : Type 0 where
   pub was_witnessed : IsLaterLog view.witnessed log
   pub nodes : (k : ℕ) (stand : Stand) → get_elem? view.stands k ≡ some stand → IsNode n owner ring halt port view.size (view.from + k) stand
   pub alone : view.own ≡ true → (k : ℕ) (stand : Stand) → get_elem? view.stands k ≡ some stand →
@@ -37,8 +39,8 @@ pub record IsView (n : ℕ) (owner : ℕ → ℕ) (ring : Ring) (halt : ℕ) (lo
   pub is_closed : view.closed ≡ true → IsClosed n log view
 
 -- The words and the views of a board of n nodes are right: word 0 is n; word 1 is the token's; the ring that the words
--- show, with some colours, is lawful, and the events of some log led to it; word 2 is the halt that they give; and each view is
--- right.
+-- show, with some colours, is lawful, and the events of some log led to it; word 2 is that of a halt, which these events give; and
+-- each view is right.
 pub record IsHeld (n : ℕ) (words : List ℕ) (views : List View) : Type 0 where
   pub size : IsSize n
   pub wide : length words ≡ word_count n
@@ -47,17 +49,19 @@ pub record IsHeld (n : ℕ) (words : List ℕ) (views : List View) : Type 0 wher
   pub token : Token
   pub packed : IsPacked token (slice_index words 1)
   pub lawful : IsLawfulRing n (ring_of n words black token)
-  pub halt_within : slice_index words 2 < 2 + n
+  pub halt : Halt
+  pub halt_is : slice_index words 2 ≡ halt_word halt
+  pub halt_within : halt_word halt < 2 + n
   pub log : List BoardEvent
   pub runs : Runs n log (ring_of n words black token)
-  pub told : slice_index words 2 ≡ halt_told log
+  pub told : halt_word halt ≡ halt_told log
   pub owner : ℕ → ℕ
   pub views_are : (port : ℕ) (view : View) → get_elem? views port ≡ some view →
-      IsView n owner (ring_of n words black token) (slice_index words 2) log port view
+      IsView n owner (ring_of n words black token) halt log port view
 
 -- a node at the start
 abbrev pub fresh : ℕ → Stand
-fresh n = record { posted = replicate n 0; taken = replicate n 0; seen = replicate n 0; black = true; token = None; halt = 0 }
+fresh n = record { posted = replicate n 0; taken = replicate n 0; seen = replicate n 0; black = true; token = None; halt = Running }
 
 -- all nodes at the start, in one view
 abbrev pub whole : ℕ → View

@@ -1,14 +1,14 @@
 -- What a seat knows of its node, and when it is right.
-use Rattle.std.specs.Prelude.{◌≡◌, ◌≢◌, ℕ, suc, ◌+◌, ◌-◌, ◌*◌, ◌^◌, ◌<◌, ◌≤◌, Bool, true, false, cond, ◌==◌, List, [], ◌∷◌, Option, Some, None, slice_index}
+use Rattle.std.specs.Prelude.{◌≡◌, ◌≢◌, ℕ, suc, ◌-◌, ◌*◌, ◌^◌, ◌<◌, ◌≤◌, true, false, cond, ◌==◌, List, [], ◌∷◌, Option, Some, None, slice_index}
 use Rattle.std.specs.Prelude.{slice_set, length, sum, ℤ, pos, neg_ℤ, ◌-ℤ◌, ◌≤ℤ◌}
 use Rattle.dob_safra.specs.declared.token.Token.{Token}
 use Rattle.dob_board.specs.declared.view.BoardEvent.{BoardEvent}
 use Rattle.dob_safra.specs.Tokens.{passed_on}
 use Rattle.dob_safra.specs.Rings.{Ring}
 use Rattle.dob_board.specs.declared.halt.Halt.{Halt}
+use Rattle.dob_board.specs.declared.halt.Halt.TheVariants.{Running, Ended, Failed}
 use Rattle.dob_board.specs.declared.view.Stand.{Stand}
 use Rattle.dob_board.specs.declared.view.View.{View}
-use Rattle.dob_board.specs.Words.{halt_word}
 
 -- the view of the seat of node i alone
 abbrev pub one : ℕ → ℕ → Stand → List BoardEvent → View
@@ -30,6 +30,10 @@ sees stand j number = record stand { seen = slice_set stand.seen j number }
 abbrev pub IsInBounds : ℕ → ℕ → Token → Type 0
 IsInBounds n i token = (token.at ≡ i) × (neg_ℤ (pos ((n - 1 - i) * 2 ^ 44)) ≤ℤ token.sum) × (token.sum ≤ℤ pos ((n - 1 - i) * 2 ^ 44))
 
+-- so has the one that a node knows
+abbrev pub IsTokenInBounds : ℕ → ℕ → Stand → Type 0
+IsTokenInBounds n i stand = (token : Token) → stand.token ≡ Some token → IsInBounds n i token
+
 -- the token, if it is at node i
 abbrev pub token_at : ℕ → Token → Option Token
 token_at i token = cond (token.at == i) (Some token) None
@@ -50,9 +54,9 @@ passed_by n stand token = passed_on n token (counter_of stand) stand.black
 abbrev pub passes : ℕ → ℕ → Stand → Token → Stand
 passes n i stand token = record stand { black = false; token = token_at i (passed_by n stand token) }
 
--- that halt word was found
-abbrev pub finds : Stand → ℕ → Stand
-finds stand word = record stand { halt = word }
+-- that halt was found
+abbrev pub finds : Stand → Halt → Stand
+finds stand halt = record stand { halt = halt }
 
 -- The counts and the colour of node i are those of the ring; a token that it knows is the ring's, at i; and an end that it
 -- knows is announced.
@@ -61,7 +65,7 @@ pub record Shows (n : ℕ) (ring : Ring) (i : ℕ) (stand : Stand) : Type 0 wher
   pub taken : (j : ℕ) → j < n → slice_index stand.taken j ≡ ring.taken j i
   pub colour : stand.black ≡ ring.black i
   pub token : (token : Token) → stand.token ≡ Some token → (token ≡ ring.token) × (token.at ≡ i)
-  pub ended : stand.halt ≡ 1 → ring.announced ≡ true
+  pub ended : stand.halt ≡ Ended → ring.announced ≡ true
 
 -- the lists of a node have a number for each of n nodes
 pub record AreLong (n : ℕ) (posts takes looks : List ℕ) : Type 0 where
@@ -71,21 +75,17 @@ pub record AreLong (n : ℕ) (posts takes looks : List ℕ) : Type 0 where
 
 -- What node i knows of the halt is right: a halt seen is the halt; the halt names i only where i knows that it failed the run;
 -- and it is the end only where node 0 knows that it announced it.
-pub record KnowsHalt (i halt known : ℕ) : Type 0 where
-  pub seen : known ≢ 0 → halt ≡ known
-  pub failed : halt ≡ 2 + i → known ≡ 2 + i
-  pub announced : i ≡ 0 → halt ≡ 1 → known ≡ 1
+pub record KnowsHalt (i : ℕ) (halt known : Halt) : Type 0 where
+  pub seen : known ≢ Running → halt ≡ known
+  pub failed : halt ≡ Failed i → known ≡ Failed i
+  pub announced : i ≡ 0 → halt ≡ Ended → known ≡ Ended
 
--- What node i knows is right where the ring and the halt word are these: its lists have a number for each node; its
+-- What node i knows is right where the ring and the halt are these: its lists have a number for each node; its
 -- counts, its colour and a token that it knows are those of the ring; it posted nothing to itself; numbers seen are at most
 -- what was posted; and what it knows of the halt is right.
-pub record IsStand (n : ℕ) (ring : Ring) (halt i : ℕ) (stand : Stand) : Type 0 where
+pub record IsStand (n : ℕ) (ring : Ring) (halt : Halt) (i : ℕ) (stand : Stand) : Type 0 where
   pub long : AreLong n stand.posted stand.taken stand.seen
   pub shows : Shows n ring i stand
   pub none_own : slice_index stand.posted i ≡ 0
   pub seen : (j : ℕ) → j < n → slice_index stand.seen j ≤ ring.posted j i
   pub knows : KnowsHalt i halt stand.halt
-
--- what a seat knows of its node, by its fields
-abbrev pub stand_from : List ℕ → List ℕ → List ℕ → Bool → Option Token → Halt → Stand
-stand_from posted taken seen black token halt = record { posted = posted; taken = taken; seen = seen; black = black; token = token; halt = halt_word halt }

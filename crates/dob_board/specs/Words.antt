@@ -1,5 +1,5 @@
 -- The words of a board of n nodes, and the state of the ring that they show.
-use Rattle.std.specs.Prelude.{ℕ, ◌+◌, ◌*◌, List, Bool, cond, slice_index, ◌==◌}
+use Rattle.std.specs.Prelude.{ℕ, ◌+◌, ◌*◌, List, Bool, slice_index, ◌==◌}
 use Rattle.dob_safra.specs.declared.token.Token.{Token}
 use Rattle.dob_safra.specs.Rings.{Ring}
 use Rattle.dob_board.specs.declared.halt.Halt.{Halt}
@@ -23,9 +23,11 @@ halt_word Running = 0
 halt_word Ended = 1
 halt_word (Failed node) = 2 + node
 
--- the halt word after it was found as it was and, if it was 0, exchanged for the mark
-abbrev pub halt_after : ℕ → ℕ → ℕ
-halt_after found mark = cond (found == 0) mark found
+-- the halt after it was found as it was and, if the run went on, exchanged for another
+abbrev pub halt_after : Halt → Halt → Halt
+halt_after Running mark = mark
+halt_after Ended mark = Ended
+halt_after (Failed node) mark = Failed node
 
 -- the ring that the words show, with these colours and that token
 abbrev pub ring_of : ℕ → List ℕ → (ℕ → Bool) → Token → Ring

@@ -14,6 +14,7 @@
 mod board;
 mod calls;
 mod closing;
+mod counts;
 mod fault;
 mod halt;
 mod opening;
@@ -25,6 +26,8 @@ mod view;
 mod words;
 
 pub use board::{Board, Closed};
+pub use counts::Counts;
 pub use fault::{Fault, NotPosted};
 pub use halt::Halt;
 pub use seat::NodeSeat;
+pub use view::Stand;

@@ -9,9 +9,10 @@ ghost use Rattle.dob_board.specs.Rule.{fresh};
 ghost use Rattle.dob_board.specs.Boards.{first_words, behind};
 ghost use Rattle.dob_board.specs.Seats.{stand_of, IsSeatOf, AreSeats};
 
+use crate::counts::Counts;
 use crate::rule::FirstNode;
 use crate::seat::Words;
-use crate::view::View;
+use crate::view::{Stand, View};
 use crate::words::{NODES, TOKEN, word_count};
 use crate::{Board, Fault, Halt, NodeSeat};
 use atomic_table::{Seat, Table};
@@ -100,24 +101,27 @@ fn next_seat(
     ensures of_board { IfOk result (λ seat. rest.new.table_id ≡ rest.old.table_id) }
     ensures rest { IfOk result (λ seat. rest.new.me ≡ (behind nodes (suc node), [])) }
     ensures seat { IfOk result (IsSeatOf rest.old.table_id nodes node) }
-    ensures fresh { IfOk result (λ seat. stand_of seat ≡ fresh nodes) }
+    ensures fresh { IfOk result (λ seat. seat.stand ≡ fresh nodes) }
 {
     let board = Arc::try_clone(shared)?;
     let nodes = nodes.get();
-    let posted = vec![in alloc; 0; nodes]?;
-    let taken = vec![in alloc; 0; nodes]?;
-    let seen = vec![in alloc; 0; nodes]?;
-    let seat = shared.shared.split_seat::<FirstNode>(rest);
-    Ok(NodeSeat {
-        board,
-        seat,
-        node,
-        nodes,
+    let posted = Counts::zeros(alloc, nodes)?;
+    let taken = Counts::zeros(alloc, nodes)?;
+    let seen = Counts::zeros(alloc, nodes)?;
+    let stand = Stand {
         posted,
         taken,
         seen,
         black: true,
         token: None,
         halt: Halt::Running,
+    };
+    let seat = shared.shared.split_seat::<FirstNode>(rest);
+    Ok(NodeSeat {
+        board,
+        seat,
+        node,
+        nodes,
+        stand,
     })
 }

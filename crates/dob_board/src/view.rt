@@ -1,4 +1,6 @@
-// What a seat knows, and what happens on a board. No value of these is made: they exist in the proofs alone.
+// What a seat knows, and what happens on a board. No `BoardEvent` or `View` is made: they exist in the proofs alone.
+use crate::Halt;
+use crate::counts::Counts;
 use dob_safra::{RingEvent, Token};
 use std::collections::LinkedList;
 
@@ -8,16 +10,21 @@ pub enum BoardEvent {
     Failure(usize),
 }
 
-// What a seat knows of one node: how many batches it posted to each node, how many it took of each, the greatest number
-// that it saw each post to it, its colour, the token if it saw it at itself, and the halt word that it
-// saw.
+/// What a seat knows of its node. A node whose seat saw that the end was announced is white.
+#[derive(Drop)]
 pub struct Stand {
-    pub posted: LinkedList<u64>,
-    pub taken: LinkedList<u64>,
-    pub seen: LinkedList<u64>,
+    /// How many batches the node posted to each node.
+    pub posted: Counts,
+    /// How many batches the node took of each node.
+    pub taken: Counts,
+    /// The greatest number of batches that it saw each node post to it.
+    pub seen: Counts,
+    /// The node's colour.
     pub black: bool,
+    /// The token, if the node saw it at itself and didn't pass it.
     pub token: Option<Token>,
-    pub halt: u64,
+    /// The halt that it saw.
+    pub halt: Halt,
 }
 
 // What a seat knows: the number of all nodes, its first node, what it knows of its nodes from that one on (of one alone,

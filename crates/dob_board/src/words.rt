@@ -1,5 +1,6 @@
 // Which word of a board is which, and what the halt's says.
-ghost use Rattle.std.specs.Prelude.{◌≡◌, ◌<◌};
+ghost use Rattle.std.specs.Prelude.{◌≡◌, ◌≢◌, ◌<◌};
+ghost use Rattle.dob_board.specs.declared.halt.Halt.TheVariants.{Running};
 ghost use Rattle.dob_board.specs.Words.{posted_word, taken_word, word_count, halt_word, halt_after};
 
 use crate::{Halt, NodeSeat};
@@ -65,9 +66,14 @@ pub(crate) fn halt_of(word: u64) -> Halt
     }
 }
 
-// The halt word after it was found as it was and, if the run went on, exchanged for the mark.
-pub(crate) fn halt_after(found: u64, mark: u64) -> u64
-    ensures { result ≡ halt_after found mark }
+// The halt after it was found as it was and, if the run went on, exchanged for another.
+pub(crate) fn halt_after(found: Halt, mark: Halt) -> Halt
+    ensures halt { result ≡ halt_after found mark }
+    ensures stopped { mark ≢ Running → result ≢ Running }
 {
-    if found == RUNNING { mark } else { found }
+    match found {
+        Halt::Running => mark,
+        Halt::Ended => Halt::Ended,
+        Halt::Failed(node) => Halt::Failed(node),
+    }
 }

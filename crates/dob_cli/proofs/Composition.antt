@@ -1,13 +1,8 @@
 -- What the words ask for is done, and what a build leaves, `probe` finds: the value by definition.
-use Rattle.dob_cli.proofs.Common.{◌∙◌, ◌≡◌, List, Option, arith, inl, inr, option_map, refl, subst, sym, ℕ, IsTrue, Profile, bytes_of, Change, Text, IsOrder}
+use Rattle.dob_cli.proofs.Common.{◌≡◌, List, Option, arith, inl, inr, option_map, refl, subst, ℕ, IsTrue, Profile, bytes_of, Change, Text, IsOrder}
 use Rattle.dob_cli.proofs.Common.{IsReadingOf, asks, meaning_of, number_in, profile_named, Reading, Order, ShelfChange, ShelfState, shelf_change, AnswersOver}
 use Rattle.dob_cli.proofs.Common.{Ending, TellsOneFault, AnswersValue, AnswersProbe, AnswersProbeRight, HasValueFile, Fault, AnswersBuild}
-use Rattle.dob_stops.specs.declared.fault.Fault.TheVariants as run_fault
-use Rattle.dob_dbfile.specs.declared.fault.Fault.TheVariants as file_fault
-use Rattle.dob_probe.specs.declared.fault.Fault.TheVariants as table_fault
-use Rattle.dob_certificate.specs.declared.refusal.Refusal.TheVariants as refusal
-use Rattle.dob_query.specs.declared.certificate_fault.CertificateFault.TheVariants as certificate_fault
-use Rattle.dob_query.specs.declared.fault.Fault.TheVariants.{Run, File, Table, Certificate, Memory, Io}
+use Rattle.dob_query.specs.declared.fault.Fault.TheVariants.{Memory, Io}
 use Rattle.dob_query.specs.Faults.{status_of}
 use Rattle.dob_words.specs.declared.command.Reading.TheVariants as reading
 use Rattle.dob_cli.specs.Laws.{BuildThenProbe, WordsAreAnswered}
@@ -17,15 +12,10 @@ use Rattle.dob_cli.proofs.Orders.{done_build, done_probe, done_value, probe_told
 
 -- no fault has the status of what is done
 not_done : (fault : Fault) → status_of fault ≡ 0 → ⊥
-not_done (Run run_fault.Nodes) e = omega (arith, e)
-not_done (File file_fault.Truncated) e = omega (arith, e)
-not_done (Table table_fault.FarChick) e = omega (arith, e)
-not_done (Certificate (certificate_fault.Unproved refusal.Memory)) e = omega (arith, e)
-not_done fault e = omega (arith, e)
+not_done fault e = grind arith
 
 no_fault_told : (fault : Fault) (status : ℕ) (err : Change) → TellsOneFault fault status err → status ≡ 0 → ⊥
-no_fault_told fault status err (inl told) done = not_done fault (sym told.0 ∙ done)
-no_fault_told fault status err (inr told) done = not_done Memory (sym told.0 ∙ done)
+no_fault_told fault status err told done = grind (arith, not_done)
 
 -- the file of a build that was done is that of a value table
 file_kept : (c : ShelfChange) (profile : Profile) (set : List ℕ) (nodes : Option ℕ) (file : List ℕ) (e : Ending) → IsTrue c.before.tells

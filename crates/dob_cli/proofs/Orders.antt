@@ -1,7 +1,7 @@
 -- What is owed for an order is right by a value table's file, and is owed for the words that ask for it.
-use Rattle.dob_cli.proofs.Common.{◌∙◌, ◌∷◌, ◌≡◌, List, None, Option, Some, [], ap, codes, false, option_map, refl, subst, sym, true≢false}
-use Rattle.dob_cli.proofs.Common.{ℕ, Profile, Text, IsOrder, number_in, profile_named, Order, EachLine, Lines, ShelfChange, AnswersOver, Ending, AnswersValue}
-use Rattle.dob_cli.proofs.Common.{AnswersProbe, AnswersLines, AnswersBuild}
+use Rattle.dob_cli.proofs.Common.{◌∙◌, ◌∷◌, ◌≡◌, List, None, Option, Some, [], ap, codes, false, option_map, refl, sym, true≢false, ℕ, Text, IsOrder}
+use Rattle.dob_cli.proofs.Common.{number_in, profile_named, Order, EachLine, Lines, ShelfChange, AnswersOver, Ending, AnswersValue, AnswersProbe}
+use Rattle.dob_cli.proofs.Common.{AnswersLines, AnswersBuild}
 use Rattle.std.specs.Borrow.{Bor}
 use Rattle.std.specs.Str.{bytes_eq}
 use Rattle.std.proofs.lemmas.Slice.Eq.{bytes_eq-Decides}
@@ -11,11 +11,9 @@ use Rattle.dob_words.specs.declared.command.orders.LinesOrder.{LinesOrder}
 use Rattle.dob_words.specs.declared.command.orders.LinesOrder.TheVariants.{Ask, Build, Puzzles, Reach, Show, Stats, Value, Zugzwangs}
 use Rattle.dob_query.proofs.EachLine.{each_right}
 use Rattle.dob_query.proofs.Placed.{question_each_right}
-use Rattle.dob_query.proofs.Paired.{zugzwangs_right}
-use Rattle.dob_query.proofs.Reaching.{reach_right}
 use Rattle.dob_query.specs.declared.questions.Question.{Question}
 use Rattle.dob_query.proofs.Asking.{question_right}
-use Rattle.dob_query.proofs.Rightly.{puzzles_right, show_right, stats_right}
+use Rattle.dob_query.proofs.Rightly.{puzzles_right, reach_right, show_right, stats_right, zugzwangs_right}
 use Rattle.dob_query.proofs.TableFaults.{probe_right}
 use Rattle.dob_cli.specs.Orders.{AnswersAskedRight, AnswersByLines, AnswersEachAskedRight, AnswersLinesRight, AnswersOrder, AnswersRight, AreAskedLines}
 use Rattle.dob_cli.specs.Orders.{AreEachAsked, ByValueFile, IsAskedFault, IsEachAskedFault, form_of, question_of, reach_of, search_of}
@@ -71,9 +69,7 @@ module _ (c : ShelfChange) (e : Ending) where
   pub done_value : (rules : Option Text) (text : Text) (o : Order) → IsOrder (codes "value") (rules ∷ Some text ∷ []) o → AnswersOrder c o e
       → AnswersValue c (profile_named rules) text e
   done_value rules text (Lines (Value p t)) is answers =
-      let same = value_texts is.1.0 rules t.now text is.1.1 in
-      subst (λ (x : Profile). AnswersValue c x text e) (is.1.2 ∙ ap profile_named same.0)
-      (subst (λ (x : Text). AnswersValue c p x e) same.1 answers)
+      let same = value_texts is.1.0 rules t.now text is.1.1 in rw (is.1.2 ∙ ap profile_named same.0, same.1) at answers
   done_value rules text (Lines (Ask f ask.Probe t)) is answers = absurd (differs (codes "probe") (codes "value") refl is.0)
   done_value rules text (EachLine f ask.Probe) is answers = absurd (differs (codes "probe") (codes "value") refl is.0)
   done_value rules text o is answers = absurd (differs (name_of_order o) (codes "value") refl is.0)
@@ -83,10 +79,7 @@ module _ (c : ShelfChange) (e : Ending) where
       → AnswersBuild c (profile_named rules) set (option_map number_in nodes) file e
   done_build rules set nodes file progress (Lines (Build b)) is answers =
       let same = build_texts b.set.now b.file.now set file is.1.0 is.1.1 is.1.2 nodes rules progress is.1.3 in
-      subst (λ (x : Profile). AnswersBuild c x set (option_map number_in nodes) file e) (is.1.6 ∙ ap profile_named same.3)
-      (subst (λ (x : Text). AnswersBuild c b.profile x (option_map number_in nodes) file e) same.0
-      (subst (λ (x : Text). AnswersBuild c b.profile b.set.now (option_map number_in nodes) x e) same.2
-      (subst (λ (x : Option ℕ). AnswersBuild c b.profile b.set.now x b.file.now e) (is.1.5 ∙ ap (option_map number_in) same.1) answers)))
+      rw (is.1.6 ∙ ap profile_named same.3, same.0, same.2, is.1.5 ∙ ap (option_map number_in) same.1) at answers
   done_build rules set nodes file progress (Lines (Ask f ask.Probe t)) is answers = absurd (differs (codes "probe") (codes "build") refl is.0)
   done_build rules set nodes file progress (EachLine f ask.Probe) is answers = absurd (differs (codes "probe") (codes "build") refl is.0)
   done_build rules set nodes file progress o is answers = absurd (differs (name_of_order o) (codes "build") refl is.0)
@@ -99,8 +92,7 @@ module _ (c : ShelfChange) (e : Ending) where
   pub done_probe : (P : Text → Text → Type 0) (file text : Text) → ((f t : Bor Text) → AnswersByLines c (probing f t) e → AnswersLinesRight c (probing f t) e → P f.now t.now)
       → (o : Order) → IsOrder (codes "probe") (Some file ∷ None ∷ Some text ∷ []) o → AnswersOrder c o e → AnswersRight c o e → P file text
   done_probe P file text of (Lines (Ask f ask.Probe t)) is answers right =
-      let same = probe_texts f.now t.now file text is.1.2 in
-      subst (λ (x : Text). P x text) same.0 (subst (λ (x : Text). P f.now x) same.1 (of f t answers right))
+      let same = probe_texts f.now t.now file text is.1.2 in rw (same.0, same.1) at (of f t answers right)
   done_probe P file text of (EachLine f ask.Probe) is answers right = absurd (unlike_texts f.now is.1.2 file text is.1.3)
   done_probe P file text of o is answers right = absurd (differs (name_of_order o) (codes "probe") refl is.0)
 

@@ -1,7 +1,7 @@
 -- From what the program does with what it read to what it owes for the words.
-use Rattle.dob_cli.proofs.Common.{◌∙◌, ◌∷◌, ◌≡◌, Bool, List, [], ap, inl, inr, refl, subst, sym, ℕ, Err, Change, IsSame, IsUntouched, Says}
-use Rattle.dob_cli.proofs.Common.{SinkState, change, Text, IsReadingOf, meaning_of, Reading, Order, EachLine, Lines, unchanged, ShelfChange, ShelfState}
-use Rattle.dob_cli.proofs.Common.{shelf_change, AnswersOver, Ending, TellsOneFault, AnswersLines, PutsAll, PutsText, StopsText, TellsOver, Fault}
+use Rattle.dob_cli.proofs.Common.{◌∙◌, ◌∷◌, ◌≡◌, Bool, List, [], ap, inl, inr, refl, subst, sym, ℕ, Err, Change, IsSame, IsUntouched, Says, SinkState, change}
+use Rattle.dob_cli.proofs.Common.{Text, IsReadingOf, meaning_of, Reading, Order, EachLine, Lines, unchanged, ShelfChange, ShelfState, shelf_change}
+use Rattle.dob_cli.proofs.Common.{AnswersOver, Ending, TellsOneFault, AnswersLines, PutsAll, PutsText, StopsText, TellsOver, Fault}
 use Rattle.dob_query.specs.declared.fault.Fault.TheVariants.{Io}
 use Rattle.dob_words.specs.declared.command.Reading.TheVariants as reading
 use Rattle.dob_query.specs.Endings.{AnswersHelp, AnswersUsage, AnswersVersion, Tells, TellsMemory, version_line}
@@ -9,6 +9,7 @@ use Rattle.dob_cli.specs.Orders.{AnswersOrder, AreEachAsked, AreLinesFor, IsEach
 use Rattle.dob_cli.specs.Runs.{Does, LeavesShelf, Ran}
 use Rattle.std.proofs.Math.Bool.{or-false}
 use Rattle.dob_cli.proofs.Orders.{order_right}
+use Rattle.std.proofs.Common.{arith}
 
 -- ---- the streams are those that they were
 
@@ -16,16 +17,13 @@ untouched_same : (c : Change) → IsUntouched c → IsSame c
 untouched_same c same = rw same refl
 
 said_same : (c : Change) (bytes : List ℕ) → Says c bytes → IsSame c
-said_same c bytes (inl wrote) = wrote.same
-said_same c bytes (inr stopped) = stopped.1.same
+said_same c bytes says = grind arith
 
 fault_same : (fault : Fault) (status : ℕ) (c : Change) → TellsOneFault fault status c → IsSame c
-fault_same fault status c (inl told) = said_same c told.1 told.3
-fault_same fault status c (inr told) = said_same c _ told.1
+fault_same fault status c told = grind (arith, said_same c)
 
 told_same : (text : List ℕ) (e : Ending) → Tells text e → IsSame e.out × IsSame e.err
-told_same text e (inl told) = (told.1.same, untouched_same e.err told.2)
-told_same text e (inr failed) = (failed.0.1.same, fault_same Io e.status e.err failed.1)
+told_same text e told = grind (arith, fault_same Io e.status e.err, untouched_same e.err)
 
 memory_same : (e : Ending) → TellsMemory e → IsSame e.out × IsSame e.err
 memory_same e told = (untouched_same e.out told.1, said_same e.err _ told.0.1)
@@ -55,18 +53,14 @@ lines_same c AreLines Holds e (inr (f, told, line)) = (out_same told, fault_same
     out_same (inr (io, (r, some), works)) = stopped_same e.out some.text some.told
 
 over_same : (c : ShelfChange) (AreLines : List ℕ → Type 0) (Holds : Fault → Type 0) (e : Ending) → AnswersOver c AreLines Holds e → IsSame e.out × IsSame e.err
-over_same c AreLines Holds e (inl lines) = (lines.told.same, untouched_same e.err lines.silent)
-over_same c AreLines Holds e (inr (inl is)) = (untouched_same e.out is.silent, fault_same is.fault e.status e.err is.told)
-over_same c AreLines Holds e (inr (inr failed)) = (failed.part.1.same, fault_same Io e.status e.err failed.told)
+over_same c AreLines Holds e answers = grind (arith, untouched_same, fault_same)
 
 -- texts that are told, or that no memory was left for them
 help_same : (e : Ending) → AnswersHelp e → IsSame e.out × IsSame e.err
-help_same e (inl told) = told_same told.0 e told.1
-help_same e (inr told) = memory_same e told
+help_same e told = grind (arith, told_same, memory_same e)
 
 version_same : (e : Ending) → AnswersVersion e → IsSame e.out × IsSame e.err
-version_same e (inl told) = told_same version_line e told
-version_same e (inr told) = memory_same e told
+version_same e told = grind (arith, told_same version_line e, memory_same e)
 
 usage_same : (e : Ending) → AnswersUsage e → IsSame e.out × IsSame e.err
 usage_same e (inl told) = (untouched_same e.out told.3, said_same e.err told.0 told.2)
@@ -91,8 +85,7 @@ module _ (c : ShelfChange) (words : List Text) (e : Ending) where
   ran_order o read answers keeps = ran (reading.Order o) read (record { answers = answers; right = order_right c e o answers; files = keeps })
 
   pub ran_memory : TellsMemory e → LeavesShelf c → Ran c words e
-  ran_memory told leaves =
-      record { done = inr (told, leaves); same_out = (memory_same e told).0; same_err = (memory_same e told).1 }
+  ran_memory told leaves = let same = memory_same e told in record { done = inr (told, leaves); same_out = same.0; same_err = same.1 }
 
 -- these are the words
 pub ran_on : (c : ShelfChange) (given words : List Text) (e : Ending) → given ≡ words → Ran c given e → Ran c words e

@@ -1,12 +1,12 @@
 -- The names that the proofs here use most, from other crates and the definitions of this one.
 pub use Rattle.std.proofs.Common.{◌*◌, ◌++◌, ◌+◌, ◌-◌, ◌<◌, ◌∙◌, ◌∷◌, ◌≡◌, ◌≢◌, ◌≤◌, ◌⊎◌, Bool, Global, List, None, Option, Result, Some, [], ap, append_assoc}
-pub use Rattle.std.proofs.Common.{arith, cond, drop, eqb, false, get_or, inl, inr, length, length-append, length-set, map, refl, rules, set, subst, suc, sym}
-pub use Rattle.std.proofs.Common.{take, true, vec_len, zero, ℕ, ⊎_elim}
+pub use Rattle.std.proofs.Common.{arith, cond, eqb, false, get_or, inl, inr, length, length-append, length-set, map, refl, rules, set, subst, suc, sym, take}
+pub use Rattle.std.proofs.Common.{true, vec_len, zero, ℕ, ⊎_elim}
 pub use Rattle.std.proofs.lemmas.Bool.{cases_Bool, cases_eq, cases_lt, eq-eqb, eqb-true, ne_eqb}
-pub use Rattle.std.proofs.lemmas.List.{append-nil, length-map, take-append-drop, take_all}
+pub use Rattle.std.proofs.lemmas.List.{append-nil, get_or_past, length-map, take-append-drop, take_all}
 pub use Rattle.std.proofs.lemmas.Option.{same_Some, slice_get-get_or, slice_get_within}
 pub use Rattle.std.specs.List.{All, AllZip, count_by, filter, range_with_len, sum_by}
-pub use Rattle.std.specs.Prelude.{IfOk, MatchOption, replicate, slice_get, slice_index, slice_index_or}
+pub use Rattle.std.specs.Prelude.{Err, IfOk, MatchOption, Ok, OnOk, replicate, slice_get, slice_index, slice_index_or}
 pub use Rattle.std.specs.Vec.Iter.{into_iter_items}
 pub use Rattle.std.specs.declared.vec.Vec.{Vec}
 pub use Rattle.rtrb.specs.Ring.{ConsumerLooked, IsPair, ProducerLooked, SameConsumer, SameProducer, known_items, received, sent}
@@ -41,13 +41,13 @@ pub use Rattle.dob_board.specs.declared.board.Closed.{Closed}
 pub use Rattle.dob_board.specs.declared.halt.Halt.{Halt}
 pub use Rattle.dob_board.specs.declared.halt.Halt.TheVariants.{Ended, Failed, Running}
 pub use Rattle.dob_board.specs.declared.seat.NodeSeat.{NodeSeat}
-pub use Rattle.dob_chan.specs.Ends.{AreEndsOf, AreRejoined, IsRejoined, place_of, sent_by, taken_by, taken_of}
+pub use Rattle.dob_chan.specs.Ends.{AreEndsOf, AreOpened, AreRejoined, IsRejoined, place_of, senders_of, sent_by, taken_by, taken_of}
 pub use Rattle.dob_chan.specs.Inboxes.{IsLawfulInbox, batches_of}
 pub use Rattle.dob_chan.specs.declared.ends.Rejoined.{Rejoined}
 pub use Rattle.dob_chan.specs.declared.ends.SendEnd.{SendEnd}
 pub use Rattle.dob_chan.specs.declared.ends.TakeEnd.{TakeEnd}
-pub use Rattle.dob_runner.proofs.Applied.{applied_else, applied_here}
-pub use Rattle.dob_runner.proofs.Senders.{few_of, front, parts}
+pub use Rattle.dob_runner.proofs.Knowing.{applied_else, applied_here, sums_by}
+pub use Rattle.dob_runner.proofs.Links.{each_after, few_of, front, parts}
 pub use Rattle.dob_runner.specs.Endpoints.{AreOut}
 pub use Rattle.dob_runner.specs.Knows.{CanHaveMade, KnowsRight}
 pub use Rattle.dob_runner.specs.LawfulRunners.{AreLast, IsLawfulRunner, SendsRight, applied_from, items_worked, own_applied, planned}
@@ -62,9 +62,10 @@ pub use Rattle.dob_runner.specs.declared.slots.Outlet.{Outlet}
 pub use Rattle.dob_runner.specs.declared.turn_loop.Until.{Until}
 pub use Rattle.dob_runner.specs.declared.turn_loop.Until.TheVariants.{Halted, Turns}
 pub use Rattle.dob_run.specs.BoundedRun.{AreUnfailed, AreWorkers, CarriesFew, HasLeft, IsFirstFailed, IsLink, IsTurned, IsUnheld, IsWorker, StopsSo}
-pub use Rattle.dob_run.specs.BuildEnd.{AllKnow, AreShownBelow, HaveStopped, IsCodeShown, IsFailureOf, IsShownByOwner, share_in}
+pub use Rattle.dob_run.specs.BuildEnd.{AllKnow, AreFailureless, AreOwners, AreShownBelow, HaveStopped, IsCodeShown, IsFailure, IsFailureOf, IsOwner}
+pub use Rattle.dob_run.specs.BuildEnd.{IsShownByOwner, share_in}
 pub use Rattle.dob_run.specs.Built.{IsBuilt, IsLinkDone, edges_to, needed}
-pub use Rattle.dob_run.specs.CrewClose.{AreClosed, AreLinked, ArePartsOf, IsCrew, row_of, seat_in, slots_in, slots_out}
+pub use Rattle.dob_run.specs.CrewClose.{AreClosed, AreLinked, ArePartsOf, HasAdded, HasRowMore, IsCrew, end_in, ends_out, row_of, seat_in, slots_in, slots_out}
 pub use Rattle.dob_run.specs.CrewOpen.{AreNewEndpoints, IsNewEndpoint}
 pub use Rattle.dob_run.specs.CrewRunners.{AreRunnersFor, IsNewCrew, IsRunnerOf, endpoint_of, node_of}
 pub use Rattle.dob_run.specs.CrewTurns.{AllSuit, AreLetOn, HasRun}
@@ -74,10 +75,16 @@ pub use Rattle.dob_run.specs.Gathering.{IsTaken}
 pub use Rattle.dob_run.specs.InboxClose.{AreEnds, AreJoined, outlet_end, outlet_slot}
 pub use Rattle.dob_run.specs.Rows.{AreDealt, AreInOrder, AreRows, StandsAt}
 pub use Rattle.dob_run.specs.Scans.{AreFrom}
-pub use Rattle.dob_run.specs.Seating.{AreSeated, CanSeat, CanSeatAll, IsSeated}
-pub use Rattle.dob_run.specs.Started.{IsEndOf, IsStartOf}
+pub use Rattle.dob_run.specs.Seating.{AreSeated, CanSeatAll}
+pub use Rattle.dob_run.specs.Started.{AreJoinable, IsEndOf, IsHandedOn, IsJoinable, IsStartOf}
 pub use Rattle.dob_run.specs.declared.bounded_run.Turned.{Turned}
 pub use Rattle.dob_run.specs.declared.built_table.Built.{Built}
 pub use Rattle.dob_run.specs.declared.handed.Handed.{Handed}
 pub use Rattle.dob_run.specs.declared.threads.Kept.{Kept}
 pub use Rattle.dob_dbfile.specs.Digests.{HasTaken}
+pub use Rattle.dob_value.specs.Codes.{value_of_code, values_of_codes}
+pub use Rattle.dob_unmove.specs.Edges.{predecessors}
+pub use Rattle.dob_run.specs.declared.crew_close.ClosedCrew.{ClosedCrew}
+pub use Rattle.rayon.proofs.ListFacts.{AllZip-weaken}
+pub use Rattle.dob_run.specs.InboxOpen.{AreLaid, AreLaidUpto, AreOutlets, IsLaid, IsOneLaid, IsUntaken}
+pub use Rattle.std.proofs.lemmas.Result.{IfErr-weaker, IfOk-weaker}

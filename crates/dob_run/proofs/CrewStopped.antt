@@ -1,20 +1,278 @@
--- A crew that has stopped: what its board's words say of its runners, and that its end leaves what it should.
-use Rattle.dob_run.proofs.Common.{◌*◌, ◌++◌, ◌+◌, ◌-◌, ◌<◌, ◌∙◌, ◌≡◌, ◌≢◌, ◌≤◌, Global, List, None, Option, Some, ap, arith, false, inl, inr, length}
-use Rattle.dob_run.proofs.Common.{length-append, map, refl, subst, sym, ℕ, cases_lt, append-nil, length-map, slice_get, slice_index, Vec, some_at, Family}
-use Rattle.dob_run.proofs.Common.{classes_of, Value, owner_of, Share, BatchView, Cause, IsIdle, same_halt, AreWords, halt_word, posted_word, Board, Closed}
-use Rattle.dob_run.proofs.Common.{Ended, Failed, Running, IsRejoined, sent_by, taken_by, taken_of, IsLawfulInbox, Rejoined, parts, AreOut, IsLawfulRunner}
-use Rattle.dob_run.proofs.Common.{offered, worked_from, held_from, in_slot, Endpoint, Runner, Inlet, Outlet, AllKnow, AreShownBelow, HaveStopped, share_in}
-use Rattle.dob_run.proofs.Common.{IsBuilt, IsLinkDone, needed, AreClosed, IsCrew, seat_in, endpoint_of, node_of, AreFinished, AreShown, Built}
+-- A crew that has stopped: what its words say of its runners, what they know and show, and that one at its end holds the value table.
+use Rattle.dob_run.proofs.Common.{◌*◌, ◌++◌, ◌+◌, ◌-◌, ◌<◌, ◌∙◌, ◌∷◌, ◌≡◌, ◌≢◌, ◌≤◌, Global, List, None, Option, Some, [], ap, arith, false, get_or, inl, inr}
+use Rattle.dob_run.proofs.Common.{length, length-append, map, refl, subst, sym, take, ℕ, cases_eq, cases_lt, append-nil, length-map, take_all}
+use Rattle.dob_run.proofs.Common.{slice_get-get_or, All, MatchOption, slice_get, slice_index, slice_index_or, Vec, some_at, Family, classes_of, IsEntry}
+use Rattle.dob_run.proofs.Common.{IsValueTable, Value, owner_of, HasValueNow, IsValue, cell_at, Item, Settlement, Share, BatchView, items_of_batches}
+use Rattle.dob_run.proofs.Common.{items_from, Cause, Fault, Stopped, below_owner, value_of, IsIdle, Node, same_halt, AreWords, halt_word, posted_word, Board}
+use Rattle.dob_run.proofs.Common.{Closed, Halt, Ended, Failed, Running, IsRejoined, sent_by, taken_by, taken_of, IsLawfulInbox, Rejoined, applied_else}
+use Rattle.dob_run.proofs.Common.{applied_here, sums_by, parts, AreOut, CanHaveMade, KnowsRight, IsLawfulRunner, SendsRight, applied_from, items_worked}
+use Rattle.dob_run.proofs.Common.{own_applied, planned, offered, worked_from, held_from, in_slot, Endpoint, Runner, Inlet, Outlet, AreUnfailed, IsFirstFailed}
+use Rattle.dob_run.proofs.Common.{AllKnow, AreFailureless, AreOwners, AreShownBelow, HaveStopped, IsCodeShown, IsFailure, IsFailureOf, IsOwner, IsShownByOwner}
+use Rattle.dob_run.proofs.Common.{share_in, IsBuilt, IsLinkDone, needed, AreClosed, IsCrew, seat_in, endpoint_of, node_of, AreFinished, AreShown, IsLawfulAt}
+use Rattle.dob_run.proofs.Common.{AreFrom, Built, value_of_code, values_of_codes, predecessors}
+use Rattle.dob_node.proofs.Kept.{last_now-entry}
+use Rattle.dob_run.proofs.Places.{map_got, get_map}
+use Rattle.dob_moves.specs.declared.position_status.Status.{Status}
+use Rattle.dob_moves.specs.declared.position_status.Status.TheVariants.{Open}
+use Rattle.dob_share.specs.declared.opening.Opening.{Opening}
+use Rattle.dob_share.specs.Cells.{Cell}
+use Rattle.dob_node.specs.Quiet.{FollowsAtStatus}
+use Rattle.dob_node.specs.Lawful.{known_of, AreLawfulNodes as AreLawful}
+use Rattle.dob_node.specs.Openings.{AreOpenings}
+use Rattle.dob_node.proofs.Ends.{lawful_is_right}
+use Rattle.dob_run.proofs.CrewRunners.{are_linked, seat_there, rejoined_at, seat_at, crew_many, crew_low, outlet_at}
 use Rattle.dob_run.specs.declared.crew_close.ClosedCrew.{ClosedCrew as Left}
-use Rattle.dob_run.specs.BuildEnd.{IsFailure, AreFailureless, IsOwner, AreOwners}
-use Rattle.dob_run.proofs.CrewFinished.{nothing_of, finished_right}
-use Rattle.dob_run.proofs.CrewRunners.{seat_there, are_linked, rejoined_at, seat_at, crew_many, crew_low, outlet_at}
 use Rattle.dob_run.proofs.Needed.{needed_fits}
 use Rattle.dob_node.proofs.Found.{some_openings}
-use Rattle.dob_run.proofs.Places.{get_map, map_got}
-use Rattle.dob_run.proofs.Shown.{owner_is}
 
--- ---- the words
+-- what is answered where none is known
+abbrev pub IsNone : List Runner → Type 0
+IsNone runners = AreFailureless runners × (AllKnow Ended runners → AreUnfailed runners)
+
+module _ (runners : List Runner) (halt : Halt) (first : Runner) (at : slice_get runners 0 ≡ Some first) (halt_is : first.endpoint.seat.stand.halt ≡ halt) where
+  -- where one is, each knows what the first does
+  known : (node : ℕ) (why : Cause) → IsFailure runners node why → AllKnow halt runners
+  known node why failure = elim failure.known [
+    | inl know ↦ subst (λ (h : Halt). AllKnow h runners) (sym (know 0 first at) ∙ halt_is) know
+    | inr late ↦ subst (λ (h : Halt). AllKnow h runners) (sym (late.0 0 first at) ∙ halt_is) late.0
+  ]
+
+  pub none_apart : (AllKnow halt runners → ⊥) → IsNone runners
+  none_apart apart = (
+    λ node why failure. apart (known node why failure),
+    λ know. absurd (apart (subst (λ (h : Halt). AllKnow h runners) (sym (know 0 first at) ∙ halt_is) know)),
+  )
+
+  pub none_failed : (node : ℕ) → halt ≡ Failed node → ((why : Cause) → IsFailure runners node why → ⊥) → IsNone runners
+  none_failed node fails none = (
+    λ other why failure. elim failure.known [
+      | inl know ↦
+          let word = ap halt_word (sym (know 0 first at) ∙ halt_is ∙ fails) in
+          let same : other ≡ node = omega (arith, word) in
+          none why (subst (λ (k : ℕ). IsFailure runners k why) same failure)
+      | inr late ↦ (let word = ap halt_word (sym (late.0 0 first at) ∙ halt_is ∙ fails) in omega (arith, word))
+    ],
+    λ know. absurd (let word = ap halt_word (sym (know 0 first at) ∙ halt_is ∙ fails) in omega (arith, word)),
+  )
+
+-- so it is where no failure of the node that failed the run is found
+pub or_failed : (runners : List Runner) (halt : Halt) (first : Runner) → slice_get runners 0 ≡ Some first → first.endpoint.seat.stand.halt ≡ halt → (node : ℕ) →
+    halt ≡ Failed node → (result : Option Fault) → MatchOption result ((why : Cause) → IsFailure runners node why → ⊥) (IsFailureOf runners) →
+    MatchOption result (IsNone runners) (IsFailureOf runners)
+or_failed runners halt first at halt_is node fails None none = none_failed runners halt first at halt_is node fails none
+or_failed runners halt first at halt_is node fails (Some fault) failure = failure
+
+-- a runner that failed although the end was announced
+pub late_failure : (runners : List Runner) (fault : Fault) → AllKnow Ended runners → IsFirstFailed runners fault → IsFailureOf runners fault
+late_failure runners (Stopped node why) know first = record {
+  runner = first.0;
+  at = first.1;
+  cause = first.2;
+  known = inr (know, λ k runner low_k at. first.3 k runner low_k at);
+}
+late_failure runners _ know first = absurd first
+
+-- ---- the values that the nodes of a crew show
+
+-- a lawful runner's node owns its classes
+pub owner_is : (family : Family) (size n k : ℕ) (node : Node) (endpoint : Endpoint) → IsLawfulRunner family size node endpoint → node.id ≡ k → node.n ≡ n → IsOwner family n k node.share
+owner_is family size n k node endpoint law id_is n_is = grind (arith, last_now-entry)
+
+-- what a class's owner shows is such a value as a table can have
+pub shown_entry : (family : Family) (shares : List Share) (class : ℕ) (value : Value) → 0 < length shares → AreOwners family (length shares) shares →
+    class < classes_of family → IsShownByOwner (length shares) shares class value → IsEntry value
+shown_entry family shares class value some owners low shown =
+    let owner = some_at shares (owner_of (length shares) class) (below_owner (length shares) class some) in
+    (owners (owner_of (length shares) class) owner.0 owner.1).entries class value low refl (shown owner.0 owner.1)
+
+-- codes of what the nodes show are those of a table, and their values what the nodes show
+module _ (n count : ℕ) (shares : List Share) (codes : List ℕ) (are : AreFrom (IsCodeShown n shares) 0 count codes) where
+  pub codes_fit : All (λ (code : ℕ). code < 65536) codes
+  codes_fit = λ k d low. (are.each k (slice_index_or codes k d) (slice_get-get_or codes k d low)).0
+
+  pub values_shown : AreShownBelow n count shares (values_of_codes codes)
+  values_shown = record {
+    whole = omega (arith, length-map codes value_of_code, are.whole);
+    each = λ class value at.
+        let got = map_got value_of_code codes class value at in
+        let here : 0 + class ≡ class = omega arith in
+        subst (λ (p : ℕ × Value). IsShownByOwner n shares p.0 p.1) (λ i. (here i, got.2 i)) (are.each class got.0 got.1).1;
+  }
+
+-- ---- a crew that has come to its end holds the value table
+
+closed_follows : (status : Status) (cell : Cell) (v : Value) → status ≢ Open → IsValue status cell v → FollowsAtStatus status [] v
+closed_follows Open cell v closed is = absurd (closed refl)
+closed_follows _ cell v closed is = is
+
+-- ---- nodes as functions of their numbers
+
+module _ (family : Family) (n : ℕ) (some : 0 < n) (histories : ℕ → List Settlement) (applied : ℕ → ℕ → List Item) (share : ℕ → Share)
+    (knows : (i : ℕ) → i < n → KnowsRight family n i (share i) (histories i) (λ k. applied k i))
+    (all : (i j : ℕ) → i < n → j < n → applied i j ≡ items_from (predecessors family) n j (histories i))
+    (shown : (class : ℕ) → class < classes_of family → (v : Value) × HasValueNow (share (owner_of n class)) class v) where
+  abbrev value : ℕ → Value
+  value class = value_of (histories (owner_of n class)) class
+
+  abbrev cell : ℕ → Cell
+  cell class = cell_at (share (owner_of n class)) class
+
+  low_owner : (class : ℕ) → owner_of n class < n
+  low_owner class = below_owner n class some
+
+  -- the value shown
+  pub shows : (class : ℕ) → class < classes_of family → (v : Value) → HasValueNow (share (owner_of n class)) class v → v ≡ value class
+  shows class low v is = (knows (owner_of n class) (low_owner class)).values class v low refl is
+
+  has_value : (class : ℕ) → class < classes_of family → HasValueNow (share (owner_of n class)) class (value class)
+  has_value class low = let given = shown class low in subst (λ v. HasValueNow (share (owner_of n class)) class v) (shows class low given.0 given.1) given.1
+
+  could : (j : ℕ) → j < n → CanHaveMade family n j histories (λ k. applied k j)
+  could j low = record {
+    chained = λ i low_i. (knows i low_i).chained;
+    begun = λ i low_i. ([], sym (all i j low_i low) ∙ sym (append-nil (applied i j)));
+  }
+
+  pub are_lawful : AreLawful family n histories applied cell value
+  are_lawful = record {
+    chained = λ i low. (knows i low).chained;
+    entries = λ i low. (knows i low).entries;
+    begun = λ i j low_i low_j. ([], sym (all i j low_i low_j) ∙ sym (append-nil (applied i j)));
+    sums = λ class low is. (let owner = knows (owner_of n class) (low_owner class) in
+        sums_by (known_of family n histories applied class) (cell class)
+        (owner.sums histories (could (owner_of n class) (low_owner class)) class low refl (owner.statuses class Open low refl is)));
+    cell_values = λ class low is. subst (λ s. IsValue s (cell class) (value class))
+        ((knows (owner_of n class) (low_owner class)).statuses class Open low refl is) (has_value class low);
+    over = λ class status low is closed. closed_follows status (cell class) (value class) closed
+        (subst (λ s. IsValue s (cell class) (value class)) ((knows (owner_of n class) (low_owner class)).statuses class status low refl is) (has_value class low));
+    values = λ class low. refl;
+  }
+
+  pub known_is_right : (openings : List Opening) (values : List Value) → AreOpenings family openings → length values ≡ classes_of family →
+      ((class : ℕ) → class < classes_of family → slice_get values class ≡ Some (value class)) → IsValueTable family values
+  known_is_right openings values are whole each = lawful_is_right family n histories applied cell value openings values some are are_lawful all whole each
+
+-- ---- links
+
+pub nothing_of : (xs : List BatchView) → length xs ≡ 0 → xs ≡ []
+nothing_of [] none = refl
+nothing_of (x ∷ xs) none = absurd (omega (arith, none))
+
+-- as much of it was worked in as was offered, so that it is the same
+pub link_done : (outlet : Outlet) (inlet : Inlet) (i : ℕ) (waiting : List BatchView) → outlet.slot ≡ None →
+    sent_by outlet.end ≡ taken_of inlet.end i ++ waiting → length (worked_from inlet i) ≡ length (offered outlet) → worked_from inlet i ≡ offered outlet
+link_done outlet inlet i waiting empty sent long =
+    let done : List BatchView = worked_from inlet i in
+    let held : List BatchView = in_slot (held_from inlet.slot i) in
+    let is : offered outlet ≡ (done ++ held) ++ waiting =
+    ap (λ (slot : Option BatchView). sent_by outlet.end ++ in_slot slot) empty ∙ append-nil (sent_by outlet.end) ∙ sent ∙ ap (λ xs. xs ++ waiting) (parts inlet i) in
+    let count : length (offered outlet) ≡ length done + length held + length waiting =
+    omega (arith, ap length is, length-append (done ++ held) waiting, length-append done held) in
+    let none : waiting ≡ [] = nothing_of waiting (omega (arith, count, long)) in
+    let unheld : held ≡ [] = nothing_of held (omega (arith, count, long)) in
+    sym (is ∙ ap (λ xs. (done ++ held) ++ xs) none ∙ append-nil (done ++ held) ∙ ap (λ xs. done ++ xs) unheld ∙ append-nil done)
+
+outlets_long : (endpoint : Endpoint) → length endpoint.outlets.items ≡ endpoint.seat.nodes
+outlets_long endpoint = omega (arith, endpoint.outlets_len)
+
+-- ---- runners
+
+module _ (family : Family) (n : ℕ) (some : 0 < n) (runners : List Runner) (are : AreFinished family n runners) where
+  first : (r : Runner) × (slice_get runners 0 ≡ Some r)
+  first = some_at runners 0 (subst (λ m. 0 < m) (sym are.count) some)
+
+  abbrev at : ℕ → Runner
+  at i = get_or runners i first.0
+
+  stands : (i : ℕ) → i < n → slice_get runners i ≡ Some (at i)
+  stands i low = slice_get-get_or runners i first.0 (subst (λ m. i < m) (sym are.count) low)
+
+  place : (i : ℕ) → i < n → IsLawfulAt family n i (at i)
+  place i low = are.each i (at i) (stands i low)
+
+  lawful_of : (i : ℕ) → i < n → IsLawfulRunner (at i).family (at i).batch_size (at i).node (at i).endpoint
+  lawful_of i low = (place i low).lawful
+
+  idle_of : (i : ℕ) → i < n → IsIdle (at i).node × AreOut (at i).endpoint.outlets.items
+  idle_of i low = (lawful_of i low).white (are.white i (at i) (stands i low))
+
+  family_is : (i : ℕ) → i < n → (at i).node.family ≡ family
+  family_is i low = (lawful_of i low).of.0 ∙ (place i low).family_is
+
+  id_of : (i : ℕ) → i < n → (at i).node.id ≡ i
+  id_of i low = (lawful_of i low).of.1 ∙ (place i low).seat.0
+
+  n_of : (i : ℕ) → i < n → (at i).node.n ≡ n
+  n_of i low = (lawful_of i low).of.2 ∙ (place i low).seat.1
+
+  abbrev history : ℕ → List Settlement
+  history i = (at i).node.history.settlements
+
+  abbrev applied : ℕ → ℕ → List Item
+  applied i j = applied_from (at j).node (at j).endpoint.inlet i
+
+  abbrev share : ℕ → Share
+  share i = (at i).node.share
+
+  knows : (i : ℕ) → i < n → KnowsRight family n i (share i) (history i) (λ k. applied k i)
+  knows i low =
+      subst (λ (p : Family × ℕ × ℕ). KnowsRight p.0 p.1 p.2 (share i) (history i) (λ k. applied k i)) (λ q. (family_is i low q, n_of i low q, id_of i low q))
+      (lawful_of i low).knows
+
+  planned_all : (i j : ℕ) → i < n → planned (at i).node j ≡ items_from (predecessors family) n j (history i)
+  planned_all i j low =
+      (λ q. items_from (predecessors (family_is i low q)) (n_of i low q) j (take (at i).node.expanded (history i)))
+      ∙ ap (λ (xs : List Settlement). items_from (predecessors family) n j xs)
+      (take_all (at i).node.expanded (history i) (let emitted = (idle_of i low).0.expanded in omega (arith, emitted)))
+
+  own_all : (j : ℕ) → j < n → own_applied (at j).node ≡ items_from (predecessors family) n j (history j)
+  own_all j low =
+      let node : Node = (at j).node in
+      ap (λ (xs : List Item). take (length (planned node node.id) - length xs) (planned node node.id)) (idle_of j low).0.applied
+      ∙ take_all (length (planned node node.id) - 0) (planned node node.id) (omega arith)
+      ∙ ap (λ (m : ℕ). planned node m) (id_of j low)
+      ∙ planned_all j j low
+
+  other_all : (i j : ℕ) → i < n → j < n → i ≢ j → items_worked (at j).endpoint.inlet i ≡ items_from (predecessors family) n j (history i)
+  other_all i j low_i low_j apart =
+      ap (λ (bs : List BatchView). items_of_batches bs) (link_done outlet.0 (at j).endpoint.inlet i inbox.0 ((idle_of i low_i).1 j outlet.0 outlet.1) inbox.1 long)
+      ∙ sym (sends.items ∙ ap (λ (xs : List Item). items_of_batches (offered outlet.0) ++ xs) ((idle_of i low_i).0.sent j) ∙ append-nil (items_of_batches (offered outlet.0)))
+      ∙ planned_all i j low_i
+    where
+      outlet : (x : Outlet) × (slice_get (at i).endpoint.outlets.items j ≡ Some x)
+      outlet = some_at (at i).endpoint.outlets.items j (let nodes = (place i low_i).seat.1 in omega (arith, outlets_long (at i).endpoint, nodes, low_j))
+
+      inbox : (waiting : List BatchView) × (sent_by outlet.0.end ≡ taken_of (at j).endpoint.inlet.end i ++ waiting)
+      inbox = are.inboxes i j outlet.0 (at j).endpoint.inlet
+          (are_linked runners i j (at i) (at j) outlet.0 (at j).endpoint.inlet (stands i low_i) (stands j low_j) outlet.1 refl)
+
+      long : length (worked_from (at j).endpoint.inlet i) ≡ length (offered outlet.0)
+      long = sym ((at j).endpoint.taken i (subst (λ m. i < m) (sym (place j low_j).seat.1) low_i))
+          ∙ sym (are.counts i j outlet.0 (at j).endpoint.inlet (are_linked runners i j (at i) (at j) outlet.0 (at j).endpoint.inlet (stands i low_i) (stands j low_j) outlet.1 refl)) ∙ (at i).endpoint.posted j outlet.0 outlet.1
+
+      sends : SendsRight (at i).node (at i).batch_size j (offered outlet.0)
+      sends = (lawful_of i low_i).sends j outlet.0 (λ e. apart (sym (e ∙ (place i low_i).seat.0))) outlet.1
+
+  all_applied : (i j : ℕ) → i < n → j < n → applied i j ≡ items_from (predecessors family) n j (history i)
+  all_applied i j low_i low_j = elim (cases_eq i j) [
+    | inl same ↦ applied_here (at j).node (at j).endpoint.inlet i (same ∙ sym (id_of j low_j)) ∙ own_all j low_j
+        ∙ ap (λ (m : ℕ). items_from (predecessors family) n j (history m)) (sym same)
+    | inr apart ↦ applied_else (at j).node (at j).endpoint.inlet i (λ e. apart (e ∙ id_of j low_j)) ∙ other_all i j low_i low_j apart
+  ]
+
+  -- so the values that it shows are the value table
+  pub finished_right : (openings : List Opening) (values : List Value) → AreOpenings family openings → AreShown family n runners values → IsValueTable family values
+  finished_right openings values openings_are shown =
+      known_is_right family n some history applied share knows all_applied given openings values openings_are shown.whole
+      (λ class low. (spot class low).1 ∙ ap Some (shows family n some history applied share knows all_applied given class low (spot class low).0 (given class low).1))
+    where
+      spot : (class : ℕ) → class < classes_of family → (v : Value) × (slice_get values class ≡ Some v)
+      spot class low = some_at values class (subst (λ m. class < m) (sym shown.whole) low)
+
+      given : (class : ℕ) → class < classes_of family → (v : Value) × HasValueNow (share (owner_of n class)) class v
+      given class low = ((spot class low).0, shown.each class (spot class low).0 (at (owner_of n class)) (spot class low).1 (stands (owner_of n class) (below_owner n class some)))
+
+-- ---- a crew that has stopped: what its board's words say of its runners, and that its end leaves what it should
 
 module _ {board : Board} {family : Family} {size : ℕ} (runners : List Runner) {words : List ℕ} (crew : IsCrew board (map endpoint_of runners))
     (stopped : HaveStopped family size runners) (are : AreWords board.nodes (map seat_in (map endpoint_of runners)) words) where
@@ -22,14 +280,14 @@ module _ {board : Board} {family : Family} {size : ℕ} (runners : List Runner) 
   there k within = some_at runners k (omega (arith, within, crew_many board runners crew))
 
   -- each seat knows the halt that the words say
-  halt_is : (k : ℕ) (runner : Runner) → slice_get runners k ≡ Some runner → halt_word runner.endpoint.seat.halt ≡ slice_index words 2
+  halt_is : (k : ℕ) (runner : Runner) → slice_get runners k ≡ Some runner → halt_word runner.endpoint.seat.stand.halt ≡ slice_index words 2
   halt_is k runner at = sym (are.halt_seen k runner.endpoint.seat (seat_there runners k runner at) (stopped k runner at).halted)
 
   -- which isn't that the run goes on
   not_running : slice_index words 2 ≢ 0
   not_running none =
       let runner = there 0 board.some in
-      (stopped 0 runner.0 runner.1).halted (same_halt runner.0.endpoint.seat.halt Running (halt_is 0 runner.0 runner.1 ∙ none))
+      (stopped 0 runner.0 runner.1).halted (same_halt runner.0.endpoint.seat.stand.halt Running (halt_is 0 runner.0 runner.1 ∙ none))
 
   -- ---- a run that failed
 
@@ -45,14 +303,14 @@ module _ {board : Board} {family : Family} {size : ℕ} (runners : List Runner) 
     some_failure : (why : Cause) × IsFailure runners node why
     some_failure =
         let runner : Runner = culprit.0 in
-        let halt : runner.endpoint.seat.halt ≡ Failed node = are.failed node runner.endpoint.seat (seat_there runners node runner culprit.1) failed in
+        let halt : runner.endpoint.seat.stand.halt ≡ Failed node = are.failed node runner.endpoint.seat (seat_there runners node runner culprit.1) failed in
         let why = some_of runner.failed (runner.own (halt ∙ ap Failed (sym (seat_at board runners crew node runner culprit.1).node))) in (
           why.0,
           record {
             runner = runner;
             at = culprit.1;
             cause = why.1;
-            known = inl (λ k other stands. same_halt other.endpoint.seat.halt (Failed node) (halt_is k other stands ∙ failed));
+            known = inl (λ k other stands. same_halt other.endpoint.seat.stand.halt (Failed node) (halt_is k other stands ∙ failed));
           },
         )
 
@@ -73,18 +331,18 @@ module _ {board : Board} {family : Family} {size : ℕ} (runners : List Runner) 
 
   module _ (ended : slice_index words 2 ≡ 1) where
     pub all_know : AllKnow Ended runners
-    all_know = λ k runner at. same_halt runner.endpoint.seat.halt Ended (halt_is k runner at ∙ ended)
+    all_know = λ k runner at. same_halt runner.endpoint.seat.stand.halt Ended (halt_is k runner at ∙ ended)
 
     -- where each runner is lawful, whether it gave up afterwards or not
     law_own : (k : ℕ) (runner : Runner) → slice_get runners k ≡ Some runner → IsLawfulRunner runner.family runner.batch_size runner.node runner.endpoint
-    law_own k runner at = runner.lawful (inr (inl (same_halt runner.endpoint.seat.halt Ended (halt_is k runner at ∙ ended))))
+    law_own k runner at = runner.lawful (inr (inl (same_halt runner.endpoint.seat.stand.halt Ended (halt_is k runner at ∙ ended))))
 
     law : (k : ℕ) (runner : Runner) → slice_get runners k ≡ Some runner → IsLawfulRunner family size runner.node runner.endpoint
     law k runner at =
         let is = stopped k runner at in
         subst (λ (p : Family × ℕ). IsLawfulRunner p.0 p.1 runner.node runner.endpoint) (λ q. (is.family_is q, is.size_is q)) (law_own k runner at)
 
-    white : (k : ℕ) (runner : Runner) → slice_get runners k ≡ Some runner → runner.endpoint.seat.black ≡ false
+    white : (k : ℕ) (runner : Runner) → slice_get runners k ≡ Some runner → runner.endpoint.seat.stand.black ≡ false
     white k runner at = are.all_white ended k runner.endpoint.seat (seat_there runners k runner at)
 
     rest : (k : ℕ) (runner : Runner) → slice_get runners k ≡ Some runner → IsIdle runner.node × AreOut runner.endpoint.outlets.items
@@ -124,7 +382,7 @@ module _ {board : Board} {family : Family} {size : ℕ} (runners : List Runner) 
 
     -- as many batches were posted as were taken
     counts : (i j : ℕ) (sender taker : Runner) → slice_get runners i ≡ Some sender → slice_get runners j ≡ Some taker →
-        slice_index sender.endpoint.seat.posted.items j ≡ slice_index taker.endpoint.seat.taken.items i
+        slice_index sender.endpoint.seat.stand.posted j ≡ slice_index taker.endpoint.seat.stand.taken i
     counts i j sender taker at_i at_j =
         sym (are.posted i j sender.endpoint.seat (seat_there runners i sender at_i) (crew_low board runners crew j taker at_j))
         ∙ are.all_taken ended i j (crew_low board runners crew i sender at_i) (crew_low board runners crew j taker at_j)
@@ -143,8 +401,8 @@ module _ {board : Board} {family : Family} {size : ℕ} (runners : List Runner) 
         counts = λ i j outlet inlet linked.
             let from = map_got endpoint_of runners i linked.sender linked.sends in
             let to = map_got endpoint_of runners j linked.taker linked.takes in
-            ap (λ (e : Endpoint). slice_index e.seat.posted.items j) (sym from.2) ∙ counts i j from.0 to.0 from.1 to.1
-            ∙ ap (λ (e : Endpoint). slice_index e.seat.taken.items i) to.2;
+            ap (λ (e : Endpoint). slice_index e.seat.stand.posted j) (sym from.2) ∙ counts i j from.0 to.0 from.1 to.1
+            ∙ ap (λ (e : Endpoint). slice_index e.seat.stand.taken i) to.2;
         inboxes = λ i j outlet inlet linked.
             let link = has.links i j outlet inlet linked in
             (link.0.waiting.items, (rejoined_at i outlet.end (taken_by inlet.end) link.0 (crew.paired i j outlet inlet linked).1 link.2).2);
@@ -188,7 +446,7 @@ module _ {board : Board} {family : Family} {size : ℕ} (runners : List Runner) 
           posted : slice_index words (posted_word board.nodes i j) ≡ link.sent
           posted = are.posted i j sender.endpoint.seat (seat_there runners i sender sends) low_j ∙ sender.endpoint.posted j outlet out ∙ sym is_sent
 
-          taken_is : slice_index taker.endpoint.seat.taken.items i ≡ length (worked_from inlet i)
+          taken_is : slice_index taker.endpoint.seat.stand.taken i ≡ length (worked_from inlet i)
           taken_is = taker.endpoint.taken i (subst (λ (m : ℕ). i < m) (sym (seat_at board runners crew j taker takes).nodes) low_i)
               ∙ ap (λ (l : Inlet). length (worked_from l i)) into
 

@@ -1,27 +1,20 @@
 -- A runner that has nothing left to do cut enough batches for what its classes have to tell another node.
 use Rattle.dob_run.proofs.Common.{◌*◌, ◌++◌, ◌+◌, ◌<◌, ◌∙◌, ◌∷◌, ◌≡◌, ◌≢◌, ◌≤◌, Bool, List, Some, [], ap, arith, cond, eqb, false, get_or, inl, inr, length}
-use Rattle.dob_run.proofs.Common.{length-append, refl, subst, suc, sym, true, zero, ℕ, cases_Bool, cases_eq, cases_lt, eq-eqb, eqb-true, ne_eqb, append-nil}
-use Rattle.dob_run.proofs.Common.{length-map}
-use Rattle.dob_run.proofs.Common.{take_all, slice_get-get_or, All, count_by, filter, range_with_len, sum_by, slice_get, Family, classes_of, Value, Draw}
-use Rattle.dob_run.proofs.Common.{owner_of, HasValueNow, Item, Settlement, BatchView, items_of_batches, item_for, items_from, items_of, last_now, value_of}
-use Rattle.dob_run.proofs.Common.{IsIdle, Node, IsLawfulRunner, SendsRight, offered, Endpoint, Outlet, edges_to, needed}
+use Rattle.dob_run.proofs.Common.{length-append, refl, rules, subst, suc, sym, true, zero, ℕ, cases_Bool, cases_eq, cases_lt, eq-eqb, eqb-true, ne_eqb}
+use Rattle.dob_run.proofs.Common.{append-nil, get_or_past, length-map, take_all, slice_get-get_or, All, count_by, filter, range_with_len, sum_by, slice_get}
+use Rattle.dob_run.proofs.Common.{Family, classes_of, Value, Draw, owner_of, HasValueNow, Item, Settlement, BatchView, items_of_batches, item_for, items_from}
+use Rattle.dob_run.proofs.Common.{items_of, last_now, value_of, IsIdle, Node, IsLawfulRunner, SendsRight, offered, Endpoint, Outlet, edges_to, needed}
+use Rattle.dob_run.proofs.Common.{predecessors}
 use Rattle.std.proofs.lemmas.List.Concat.{length-flat_map}
-use Rattle.std.proofs.lemmas.List.{get_or_past}
 use Rattle.std.proofs.lemmas.List.Sums.{sum_by-cons, sum_by-le, sum_by-le-sum_by, length-filter}
 use Rattle.dob_value.specs.Entries.{is_draw}
-use Rattle.dob_unmove.specs.Edges.{predecessors}
 
 -- ---- sums over numbers that follow one another
 
 sum_both : (f g : ℕ → ℕ) (a n : ℕ) →
     sum_by (λ k. f k + g k) (range_with_len a n) ≡ sum_by f (range_with_len a n) + sum_by g (range_with_len a n)
 sum_both f g a zero = refl
-sum_both f g a (suc n) =
-    let rest = sum_both f g (a + 1) n in
-    let both = sum_by-cons (λ k. f k + g k) a (range_with_len (a + 1) n) in
-    let one = sum_by-cons f a (range_with_len (a + 1) n) in
-    let other = sum_by-cons g a (range_with_len (a + 1) n) in
-    omega (arith, rest, both, one, other)
+sum_both f g a (suc n) = search (rules, sum_by-cons, (sum_both f g (a + 1) n))
 
 -- what is counted of one number alone
 abbrev only : (ℕ → ℕ) → ℕ → ℕ → ℕ
@@ -29,11 +22,7 @@ only f c k = cond {A = ℕ} (eqb c k) (f k) 0
 
 none_before : (f : ℕ → ℕ) (c a n : ℕ) → c < a → sum_by (only f c) (range_with_len a n) ≡ 0
 none_before f c a zero low = refl
-none_before f c a (suc n) low =
-    let here : only f c a ≡ 0 = ap (λ b. cond {A = ℕ} b (f a) 0) (ne_eqb c a (λ e. absurd (omega (arith, e)))) in
-    let rest = none_before f c (a + 1) n (omega arith) in
-    let one = sum_by-cons (only f c) a (range_with_len (a + 1) n) in
-    omega (arith, here, rest, one)
+none_before f c a (suc n) low = grind (arith, sum_by-cons, (none_before f c (a + 1) n (omega arith)))
 
 -- is no more than what it has
 only_once : (f : ℕ → ℕ) (c a n : ℕ) → sum_by (only f c) (range_with_len a n) ≤ f c
@@ -64,16 +53,7 @@ of_told f history class = cond {A = ℕ} (tells history class) (f class) 0
 
 of_first : (f : ℕ → ℕ) (s : Settlement) (history : List Settlement) (class : ℕ) →
     of_told f (s ∷ history) class ≤ only f s.class class + of_told f history class
-of_first f s history class = elim (cases_Bool (eqb s.class class)) [
-  | inl is ↦
-      let whole : of_told f (s ∷ history) class ≡ f class = ap (λ b. cond {A = ℕ} (cond b true (tells history class)) (f class) 0) is in
-      let here : only f s.class class ≡ f class = ap (λ b. cond {A = ℕ} b (f class) 0) is in
-      omega (arith, whole, here)
-  | inr isnt ↦
-      let whole : of_told f (s ∷ history) class ≡ of_told f history class =
-      ap (λ b. cond {A = ℕ} (cond b true (tells history class)) (f class) 0) isnt in
-      omega (arith, whole)
-]
+of_first f s history class = grind arith
 
 -- A sum over the classes of which a history tells is no more than that over its settlements.
 listed_once : (f : ℕ → ℕ) (history : List Settlement) (a n : ℕ) →
@@ -92,14 +72,7 @@ listed_once f (s ∷ history) a n =
 unlisted_still : (history : List Settlement) (class : ℕ) (before : Value) → tells history class ≡ false →
     last_now (λ s. eqb s.class class) before history ≡ before
 unlisted_still [] class before none = refl
-unlisted_still (s ∷ history) class before none = elim (cases_Bool (eqb s.class class)) [
-  | inl is ↦ absurd (true_not_false (sym (ap (λ b. cond b true (tells history class)) is) ∙ none))
-  | inr isnt ↦ ap (λ b. last_now (λ r. eqb r.class class) (cond b s.now before) history) isnt
-      ∙ unlisted_still history class before (sym (ap (λ b. cond b true (tells history class)) isnt) ∙ none)
-]
-  where
-    true_not_false : true ≡ false → ⊥
-    true_not_false e = cc
+unlisted_still (s ∷ history) class before none = grind (arith, (unlisted_still history class before))
 
 -- ---- the items that a history makes
 

@@ -1,7 +1,7 @@
 -- What stands where in a list, also after one thing more, after one was exchanged, and in a function of all its things.
-use Rattle.dob_run.proofs.Common.{◌++◌, ◌+◌, ◌<◌, ◌∙◌, ◌∷◌, ◌≡◌, ◌≢◌, List, Option, Some, [], ap, append_assoc, arith, inl, inr, length}
-use Rattle.dob_run.proofs.Common.{length-append, map, refl, subst, suc, sym, take, zero, ℕ, append-nil, same_Some, slice_get_within, range_with_len, slice_get}
-use Rattle.dob_run.proofs.Common.{Vec, at_end, middle, BatchView, held_from, slot_row, AreRows, StandsAt}
+use Rattle.dob_run.proofs.Common.{◌++◌, ◌+◌, ◌-◌, ◌<◌, ◌∙◌, ◌∷◌, ◌≡◌, ◌≢◌, ◌≤◌, ◌⊎◌, List, Option, Some, [], ap, append_assoc, arith, inl, inr, length}
+use Rattle.dob_run.proofs.Common.{length-append, map, refl, subst, suc, sym, zero, ℕ, ⊎_elim, append-nil, same_Some, slice_get_within, AllZip, range_with_len}
+use Rattle.dob_run.proofs.Common.{slice_get, Vec, at_end, middle, as_many, each_is, BatchView, held_from, slot_row, AreRows, StandsAt, AreFrom}
 use Rattle.std.proofs.lemmas.List.FromFn.{map-range_with_len_more}
 
 pub none_at : {A L : Type 0} → (l : List A) (k : ℕ) (a : A) → l ≡ [] → slice_get l k ≡ Some a → L
@@ -82,19 +82,18 @@ module _ {A : Type 0} {all left : List A} {done : ℕ} (on : HaveGone all left d
   -- while a thing is left here, one is left in another list that is as long
   pub thing_left : {B : Type 0} {others others_left : List B} {after : List A} {x : A} → HaveGone others others_left done → left ≡ x ∷ after →
       length others ≡ length all → length others_left ≢ 0
-  thing_left {B} {others} {others_left} {after} {x} other is long none =
-      omega (
-        arith,
-        ap length on.split,
-        length-append on.gone left,
-        on.many,
-        ap length is,
-        ap length other.split,
-        length-append other.gone others_left,
-        other.many,
-        none,
-        long,
-      )
+  thing_left {B} {others} {others_left} {after} {x} other is long none = omega (
+    arith,
+    ap length on.split,
+    length-append on.gone left,
+    on.many,
+    ap length is,
+    ap length other.split,
+    length-append other.gone others_left,
+    other.many,
+    none,
+    long,
+  )
 
 -- a function of all things is that of those that went, and then that of those that are left
 module _ {A B : Type 0} (f : A → B) where
@@ -108,25 +107,12 @@ module _ {A B : Type 0} (f : A → B) where
   ends_up all done [] so_far none = sym (so_far ∙ append-nil done)
   ends_up all done (x ∷ xs) so_far none = absurd (omega (arith, none))
 
-  take_next : (xs : List A) (k : ℕ) (x : A) → slice_get xs k ≡ Some x → map f (take (suc k) xs) ≡ map f (take k xs) ++ f x ∷ []
-  take_next [] k x e = absurd (cc)
-  take_next (y ∷ xs) zero x e = ap (λ (z : A). f z ∷ []) (same_Some y x e)
-  take_next (y ∷ xs) (suc k) x e = ap (λ (l : List B). f y ∷ l) (take_next xs k x e)
-
-  -- a function of the first things, and of one more
-  pub takes_next : (xs : List A) (k : ℕ) (x : A) (done grown : List B) → slice_get xs k ≡ Some x → done ≡ map f (take k xs) →
-      grown ≡ done ++ f x ∷ [] → grown ≡ map f (take (k + 1) xs)
-  takes_next xs k x done grown at so_far is =
-      let one_more : suc k ≡ k + 1 = omega arith in
-      is ∙ ap (λ (l : List B). l ++ f x ∷ []) so_far ∙ sym (take_next xs k x at) ∙ ap (λ (m : ℕ). map f (take m xs)) one_more
-
 -- ---- a function of the first numbers
 
 at_spread : {B : Type 0} (f : ℕ → B) (a n k : ℕ) → k < n → slice_get (map f (range_with_len a n)) k ≡ Some (f (a + k))
 at_spread f a zero k low = absurd (omega (arith, low))
 at_spread f a (suc n) zero low = let same : a ≡ a + 0 = omega arith in ap (λ (k : ℕ). Some (f k)) same
-at_spread f a (suc n) (suc k) low =
-    let same : (a + 1) + k ≡ a + suc k = omega arith in at_spread f (a + 1) n k (omega (arith, low)) ∙ ap (λ (j : ℕ). Some (f j)) same
+at_spread f a (suc n) (suc k) low = grind (arith, (at_spread f (a + 1) n k (omega (arith, low))))
 
 -- what stands at a sender's place in the row of a slot
 pub at_row : (n k : ℕ) (slot : Option BatchView) → k < n → slice_get (slot_row n slot) k ≡ Some (held_from slot k)
@@ -142,3 +128,30 @@ row_grows n slot slots next so_far is =
 pub behind : {A : Type 0} (xs ys : List A) (k : ℕ) → slice_get (xs ++ ys) (length xs + k) ≡ slice_get ys k
 behind [] ys k = let same : 0 + k ≡ k = omega arith in ap (slice_get ys) same
 behind (x ∷ xs) ys k = let same : length (x ∷ xs) + k ≡ suc (length xs + k) = omega arith in ap (slice_get (x ∷ (xs ++ ys))) same ∙ behind xs ys k
+
+-- ---- what was found of each class, in the order of the classes
+
+-- what stands in two lists joined stands in one of them
+at_either : {A : Type 0} → (xs ys : List A) (k : ℕ) (x : A) → slice_get (xs ++ ys) k ≡ Some x →
+    (slice_get xs k ≡ Some x) ⊎ ((j : ℕ) × (k ≡ length xs + j) × (slice_get ys j ≡ Some x))
+at_either [] ys k x e = inr (k, omega arith, e)
+at_either (y ∷ xs) ys zero x e = inl e
+at_either (y ∷ xs) ys (suc k) x e = ⊎_elim (λ l. inl l) (λ r. let place = r.1 in inr (r.0, omega arith, r.2)) (at_either xs ys k x e)
+
+-- what the threads found of each class stands in the classes' order
+pub found_are : {X : Type 0} → (IsFound : ℕ → X → Type 0) (first upto : ℕ) (items : List X) → first ≤ upto →
+    AllZip IsFound (range_with_len first (upto - first)) items → AreFrom IsFound first upto items
+found_are IsFound first upto items order are = grind (arith, as_many, each_is)
+
+-- what was found below a number, and from there on
+pub found_joined : {X : Type 0} → (IsFound : ℕ → X → Type 0) (begin first upto : ℕ) (before more : List X) → AreFrom IsFound begin first before →
+    AreFrom IsFound first upto more → AreFrom IsFound begin upto (before ++ more)
+found_joined IsFound begin first upto before more are next = record {
+  whole = omega (arith, length-append before more, are.whole, next.whole);
+  each = λ place item there. elim (at_either before more place item there) [
+    | inl earlier ↦ are.each place item earlier
+    | inr later ↦ (
+        let here : first + later.0 ≡ begin + place = omega (arith, are.whole, later.1) in
+        subst (λ (class : ℕ). IsFound class item) here (next.each later.0 item later.2))
+  ];
+}

@@ -1,17 +1,15 @@
 -- Things that go one by one, each with its answer, and runners whose threads are started and ended so.
-use Rattle.dob_run.proofs.Common.{◌++◌, ◌∙◌, ◌∷◌, ◌≡◌, Bool, List, [], ap, subst, sym, ℕ, same_Some, AllZip}
-use Rattle.dob_run.proofs.Common.{IfOk, slice_get, Vec, ConsumerLooked, IsPair, ProducerLooked, SameProducer, known_items, received, sent}
-use Rattle.dob_run.proofs.Common.{zip_at, HasFailed, EndsBy, Runner, Until, IsEndOf, IsStartOf, Handed, Kept}
-use Rattle.std.specs.Prelude.{Result, Ok, Err}
+use Rattle.dob_run.proofs.Common.{◌++◌, ◌∙◌, ◌∷◌, ◌≡◌, Bool, List, [], ap, rules, subst, sym, ℕ, AllZip, ConsumerLooked, IsPair, ProducerLooked, SameProducer}
+use Rattle.dob_run.proofs.Common.{known_items, received, sent, zip_at, HasFailed, EndsBy, Runner, Until, AreJoinable, IsEndOf, IsHandedOn, IsJoinable}
+use Rattle.dob_run.proofs.Common.{IsStartOf, Handed, Kept}
 use Rattle.dob_run.specs.declared.threads.Started.{Started}
 use Rattle.dob_run.specs.declared.threads.Started.TheVariants.{Runs, GaveUp}
 use Rattle.dob_stops.specs.declared.cause.Cause.TheVariants.{Memory}
-use Rattle.dob_runner.proofs.Ending.{ended_without_memory}
+use Rattle.dob_runner.proofs.TurnParts.{ended_without_memory}
 use Rattle.std.specs.Global.{Global}
 use Rattle.rtrb.specs.declared.AnyItems.{AnyItems}
 use Rattle.rtrb.specs.declared.producer.Producer.{Producer}
 use Rattle.rtrb.specs.declared.consumer.Consumer.{Consumer}
-use Rattle.dob_run.specs.Started.{IsHandedOn, IsJoinable, AreJoinable}
 
 -- ---- what goes over a ring for one
 
@@ -24,8 +22,7 @@ still_given giving after taking pair same = (pair.0 ∙ sym same.0.0, pair.1 ∙
 pub went_first : (giving after : Producer Handed Global AnyItems) (taking looked : Consumer Handed Global AnyItems) (handed : Handed) →
     received taking ≡ handed ∷ [] → ConsumerLooked taking looked → ProducerLooked giving after →
     received looked ++ known_items looked ≡ sent after → sent giving ≡ handed ∷ known_items looked
-went_first giving after taking looked handed came seen told fifo =
-    sym told.1 ∙ sym fifo ∙ ap (λ (l : List Handed). l ++ known_items looked) (seen.1 ∙ came)
+went_first giving after taking looked handed came seen told fifo = search rules
 
 -- ---- runners whose threads were started
 
@@ -45,7 +42,7 @@ handed_on Says gate until runner giving after taking promise handed none given r
 
 -- the first of two lists that are one
 same_first : {X : Type 0} (x y : X) (xs ys : List X) → x ∷ xs ≡ y ∷ ys → x ≡ y
-same_first {X} x y xs ys same = same_Some x y (ap (λ (l : List X). slice_get l 0) same)
+same_first x y xs ys same = cc
 
 module _ {G : Type 0} (Says : G → ℕ → Bool → Type 0) (gate : G) (until : Until) where
   ended : (runner now : Runner) (started : Started G) → IsStartOf Says gate until runner started → IsEndOf Says started now →
@@ -76,9 +73,3 @@ module _ {G : Type 0} (Says : G → ℕ → Bool → Type 0) (gate : G) (until :
   all_ended (r ∷ runners) [] after starts ends = absurd starts
   all_ended (r ∷ runners) (s ∷ started) [] starts ends = absurd ends
   all_ended (r ∷ runners) (s ∷ started) (e ∷ after) starts ends = (ended r e s starts.0 ends.0, all_ended runners started after starts.1 ends.1)
-
-  pub if_all_ended : {E Z : Type 0} (runners : List Runner) (started : List (Started G)) (result : Result (Vec Runner Z) E) →
-      AllZip (IsStartOf Says gate until) runners started → IfOk result (λ after. AllZip (IsEndOf Says) started after.items) →
-      IfOk result (λ after. AllZip (EndsBy (Says gate) until) runners after.items)
-  if_all_ended runners started (Ok after) starts ends = all_ended runners started after.items starts ends
-  if_all_ended runners started (Err why) starts ends = tt

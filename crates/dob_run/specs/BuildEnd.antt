@@ -20,7 +20,7 @@ use Rattle.dob_runner.specs.declared.runner.Runner.{Runner}
 pub record IsStoppedRunner (family : Family) (size : ℕ) (runner : Runner) : Type 0 where
   pub family_is : runner.family ≡ family
   pub size_is : runner.batch_size ≡ size
-  pub halted : runner.endpoint.seat.halt ≢ Running
+  pub halted : runner.endpoint.seat.stand.halt ≢ Running
 
 -- so has each of them
 abbrev pub HaveStopped : Family → ℕ → List Runner → Type 0
@@ -32,7 +32,7 @@ share_in node = node.share
 
 -- each seat knows of that halt
 abbrev pub AllKnow : Halt → List Runner → Type 0
-AllKnow halt runners = (k : ℕ) (runner : Runner) → slice_get runners k ≡ Some runner → runner.endpoint.seat.halt ≡ halt
+AllKnow halt runners = (k : ℕ) (runner : Runner) → slice_get runners k ≡ Some runner → runner.endpoint.seat.stand.halt ≡ halt
 
 -- no runner before that one has failed
 abbrev pub IsLeastFailed : List Runner → ℕ → Type 0

@@ -8,8 +8,8 @@ use Rattle.dob_runner.specs.Links.{offered, worked}
 
 -- Nothing has gone over the links of the endpoint, which sends to inboxes of that capacity; its seat is black and knows of no halt.
 pub record IsNewEndpoint (capacity : ℕ) (endpoint : Endpoint) : Type 0 where
-  pub black : endpoint.seat.black ≡ true
-  pub running : endpoint.seat.halt ≡ Running
+  pub black : endpoint.seat.stand.black ≡ true
+  pub running : endpoint.seat.stand.halt ≡ Running
   pub unsent : (to : ℕ) (outlet : Outlet) → slice_get endpoint.outlets.items to ≡ Some outlet → (offered outlet ≡ []) × (outlet.slot ≡ None) × (capacity_of outlet.end ≡ capacity)
   pub untaken : (worked endpoint.inlet ≡ []) × (endpoint.inlet.slot ≡ None)
 

@@ -28,9 +28,9 @@ pub record IsLawfulAt (family : Family) (n place : ℕ) (runner : Runner) : Type
 pub record AreFinished (family : Family) (n : ℕ) (runners : List Runner) : Type 0 where
   pub count : length runners ≡ n
   pub each : (i : ℕ) (runner : Runner) → slice_get runners i ≡ Some runner → IsLawfulAt family n i runner
-  pub white : (i : ℕ) (runner : Runner) → slice_get runners i ≡ Some runner → runner.endpoint.seat.black ≡ false
+  pub white : (i : ℕ) (runner : Runner) → slice_get runners i ≡ Some runner → runner.endpoint.seat.stand.black ≡ false
   pub counts : (i j : ℕ) (outlet : Outlet) (inlet : Inlet) (linked : AreLinked (map endpoint_of runners) i j outlet inlet) →
-      slice_index linked.sender.seat.posted.items j ≡ slice_index linked.taker.seat.taken.items i
+      slice_index linked.sender.seat.stand.posted j ≡ slice_index linked.taker.seat.stand.taken i
   pub inboxes : (i j : ℕ) (outlet : Outlet) (inlet : Inlet) → AreLinked (map endpoint_of runners) i j outlet inlet →
       (waiting : List BatchView) × (sent_by outlet.end ≡ taken_of inlet.end i ++ waiting)
 

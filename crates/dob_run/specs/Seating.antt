@@ -14,8 +14,8 @@ pub record CanSeat (seat : NodeSeat) (outlets : List Outlet) (inlet : Inlet) : T
   pub row : length outlets ≡ seat.nodes
   pub senders : senders_of inlet.end ≡ seat.nodes
   pub own : AreOwn seat.node outlets
-  pub posted : AreCounts offered seat.posted.items outlets
-  pub taken : AreBatchesTaken seat.nodes seat.taken.items inlet
+  pub posted : AreCounts offered seat.stand.posted outlets
+  pub taken : AreBatchesTaken seat.nodes seat.stand.taken inlet
 
 -- each seat has a row and an inlet
 pub record CanSeatAll {Z : Type 0} (seats : List NodeSeat) (rows : List (Vec Outlet Z)) (inlets : List Inlet) : Type 0 where

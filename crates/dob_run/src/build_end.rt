@@ -69,7 +69,7 @@ fn failure_known(runners: &[Runner]) -> Option<Fault>
     let Some(first) = runners.first() else {
         return None;
     };
-    let halt = first.endpoint.seat.halt;
+    let halt = first.endpoint.seat.stand.halt;
     if !all_know(runners, halt) {
         return None;
     }
@@ -88,7 +88,7 @@ fn all_know(runners: &[Runner], halt: Halt) -> bool
     ensures { IsTrue result ↔ AllKnow halt runners.now }
 {
     for runner in runners {
-        if runner.endpoint.seat.halt != halt {
+        if runner.endpoint.seat.stand.halt != halt {
             return false;
         }
     }

@@ -1,5 +1,5 @@
 // How a crew begins: with a board, and for each of its nodes a seat, its ends of the inboxes, and a runner.
-ghost use Rattle.std.specs.Prelude.{◌≡◌, ℕ, IfOk, IfErr, OnOk, vec_len, map, replicate, length};
+ghost use Rattle.std.specs.Prelude.{◌≡◌, ℕ, IfOk, IfErr, OnOk, Some, vec_len, map, replicate, length, slice_get};
 ghost use Rattle.std.specs.List.{AllZip};
 ghost use Rattle.dob_board.specs.Rule.{fresh};
 ghost use Rattle.dob_board.specs.Seats.{AreSeats, stand_of};
@@ -63,19 +63,21 @@ pub(crate) fn crew_of(
     ensures { IfOk result (λ opened. IsNewCrew classes.now.family sizes.now.nodes sizes.now.batch_size sizes.now.capacity opened.0 opened.1.items) }
 {
     let (board, endpoints) = open_endpoints(alloc, sizes.nodes, sizes.capacity)?;
-    let runners = runners_of(rt, alloc, classes, endpoints, sizes.batch_size)?;
+    let runners = runners_of(rt, alloc, classes, endpoints, sizes.nodes, sizes.batch_size)?;
     Ok((board, runners))
 }
 
-// The runner of each endpoint. As many nodes are opened side by side as there are processors, and each finds what is known of its own classes.
+// The runner of each endpoint of `nodes`. As many nodes are opened side by side as there are processors, and each finds what is known of its own classes.
 fn runners_of(
     rt: &(impl Threads + Sync),
     alloc: Global,
     classes: &Classes,
     endpoints: Vec<Endpoint>,
+    nodes: NodeCount,
     batch_size: BatchSize,
 ) -> Result<Vec<Runner>, Memory>
-    requires { (capacity : ℕ) × AreNewEndpoints capacity endpoints.items }
+    requires new { (capacity : ℕ) × AreNewEndpoints capacity endpoints.items }
+    requires nodes { (k : ℕ) (endpoint : _) → slice_get endpoints.items k ≡ Some endpoint → endpoint.seat.nodes ≡ nodes }
     ensures { IfOk result (λ runners. AllZip (IsRunnerOf classes.now.family batch_size) endpoints.items runners.items) }
 {
     let pace = Pace::open(alloc, endpoints.len())?;
@@ -85,27 +87,26 @@ fn runners_of(
         .with_min_len(1)
         .map(
             |endpoint: Endpoint| -> Result<Runner, Memory>
-                requires { (capacity : ℕ) × IsNewEndpoint capacity endpoint }
+                requires { ((capacity : ℕ) × IsNewEndpoint capacity endpoint) × (endpoint.seat.nodes ≡ nodes) }
                 ensures { IfOk result (IsRunnerOf classes.entry.now.family batch_size endpoint) }
-            { open_runner(alloc, classes, endpoint, batch_size, pace) },
+            { open_runner(alloc, classes, endpoint, nodes, batch_size, pace) },
         )
         .collect::<Result<Vec<Runner>, Memory>>(rt, alloc)?
 }
 
-// The runner of an endpoint, with a node that is opened for its seat, which keeps the pace of its crew.
+// The runner of an endpoint of `nodes`, with a node that is opened for its seat, which keeps the pace of its crew.
 fn open_runner(
     alloc: Global,
     classes: &Classes,
     endpoint: Endpoint,
+    nodes: NodeCount,
     batch_size: BatchSize,
     pace: &Pace,
 ) -> Result<Runner, Memory>
-    requires { (capacity : ℕ) × IsNewEndpoint capacity endpoint }
+    requires new { (capacity : ℕ) × IsNewEndpoint capacity endpoint }
+    requires nodes { endpoint.seat.nodes ≡ nodes }
     ensures { IfOk result (IsRunnerOf classes.now.family batch_size endpoint) }
 {
-    let Some(nodes) = NodeCount::new(endpoint.seat.nodes) else {
-        unreachable!()
-    };
     let pace = pace.of(endpoint.seat.node)?;
     let node = Node::open_own(alloc, classes, endpoint.seat.node, nodes)?;
     let mut runner = Runner::new(node, endpoint, classes.family, batch_size);

@@ -1,17 +1,17 @@
 -- The names that the proofs here use most, from other crates and the definitions of this one.
-pub use Rattle.std.proofs.Common.{◌%◌, ◌*◌, ◌++◌, ◌+◌, ◌-◌, ◌/◌, ◌<◌, ◌^◌, ◌||◌, ◌↔◌, ◌∙◌, ◌∷◌, ◌≡◌, ◌≢◌, ◌≤◌, ◌⊎◌, Bool, Err, List, None, Ok, Option, Result}
-pub use Rattle.std.proofs.Common.{Some, [], ap, append_assoc, arith, cond, drop, eqb, false, get_or, get_or-set_other, get_or-set_same, inl, inr, length}
-pub use Rattle.std.proofs.Common.{length-append, length-drop, ltb, nat_eq, not, refl, rules, set, subst, suc, sym, take, true, zero, ℕ}
-pub use Rattle.std.proofs.lemmas.Bool.{both_ways, cases_Bool, cases_eq, cases_lt, eq-eqb, le-leb, leb-true, ltb-false, ne_eqb, true≢false}
+pub use Rattle.std.proofs.Common.{◌*◌, ◌++◌, ◌+◌, ◌-◌, ◌<◌, ◌^◌, ◌||◌, ◌↔◌, ◌∙◌, ◌∷◌, ◌≡◌, ◌≢◌, ◌≤◌, ◌⊎◌, Bool, Contains, Err, IsTrue, List, MatchOption, None}
+pub use Rattle.std.proofs.Common.{Ok, Option, Result, Some, [], ap, append_assoc, arith, cond, drop, eqb, false, get_or, get_or-set_other, get_or-set_same}
+pub use Rattle.std.proofs.Common.{inl, inr, length, length-append, ltb, min, nat_eq, not, refl, rules, set, subst, suc, sym, take, true, zero, ℕ}
+pub use Rattle.std.proofs.lemmas.Bool.{both_ways, cases_Bool, cases_eq, cases_lt, eq-eqb, le-leb, leb-true, lt-ltb, ltb-false, ltb-true, ne_eqb, true≢false}
 pub use Rattle.std.proofs.lemmas.List.{append-nil, append_cancel_right, drop-append-le, length-take, take-append-drop, take-append-le, take_all}
 pub use Rattle.std.proofs.lemmas.List.Elements.{All-append, All-cons, All-drop, All-head, All-nil, All-tail, Contains-append_right, filter-append}
 pub use Rattle.std.proofs.lemmas.Option.{same_Some, slice_get_within}
 pub use Rattle.std.specs.List.{All}
-pub use Rattle.std.specs.Prelude.{IfSome, MatchResult, slice_get, slice_index, slice_set}
-pub use Rattle.dob_pieces.proofs.Elements.{get_set_other, get_set_same, read_there, some_at}
+pub use Rattle.std.specs.Prelude.{IfErr, IfSome, MatchResult, slice_get, slice_index, slice_set, vec_len}
+pub use Rattle.dob_pieces.proofs.Elements.{at_end, get_set_other, get_set_same, read_there, some_at}
 pub use Rattle.dob_pieces.specs.declared.profile.Family.{Family}
 pub use Rattle.dob_moves.specs.declared.position_status.Status.{Status}
-pub use Rattle.dob_moves.specs.declared.position_status.Status.TheVariants.{Caught, Open, Stuck, Tried}
+pub use Rattle.dob_moves.specs.declared.position_status.Status.TheVariants.{Open}
 pub use Rattle.dob_rank.specs.Families.{class_setup, classes_of}
 pub use Rattle.dob_value.specs.Follows.{IsEntry}
 pub use Rattle.dob_value.specs.declared.value.Value.{Value}
@@ -27,18 +27,19 @@ pub use Rattle.dob_update.proofs.BatchItems.{items_in_more}
 pub use Rattle.dob_update.specs.Batches.{BatchView, OutboxView, empty_outbox, items_of_batches}
 pub use Rattle.dob_update.specs.Items.{items_from, items_of}
 pub use Rattle.dob_stops.specs.declared.cause.Cause.{Cause}
-pub use Rattle.dob_stops.specs.declared.cause.Cause.TheVariants.{Contradiction, Counts, Held, Memory, TooDeep}
+pub use Rattle.dob_stops.specs.declared.cause.Cause.TheVariants.{Counts, Held, Memory}
 pub use Rattle.dob_node.proofs.Nodes.{kept_sound, outbox_same}
 pub use Rattle.dob_node.proofs.Settles.{chained_more, emitted_grown, emitted_more, value_of-more}
 pub use Rattle.dob_node.proofs.ValuesFollow.{SumsUp-same}
 pub use Rattle.dob_node.specs.Histories.{IsChained, IsNext, all_known, value_of}
 pub use Rattle.dob_node.specs.NodeViews.{NodeView}
-pub use Rattle.dob_node.specs.Nodes.{HasApplied, HasAppliedItems, HasCut, HasItemFault, HasTaken, IsExpanded, IsIdle, IsOpened, IsSound, IsUnchanged, outbox_to}
+pub use Rattle.dob_node.specs.Nodes.{HasApplied, HasAppliedItems, HasCut, HasItemFault, HasTaken, IsExpanded, IsIdle, IsOpened, IsSound, IsUnchanged}
+pub use Rattle.dob_node.specs.Nodes.{outbox_to}
 pub use Rattle.dob_node.specs.Stores.{HistoryView}
 pub use Rattle.dob_node.specs.TakenItems.{AreKept, AreTaken, HasItemEntries, IsReason, IsTaken, listed}
 pub use Rattle.dob_node.specs.declared.node.Node.{Node}
 pub use Rattle.dob_board.specs.Histories.{token_moves_of}
-pub use Rattle.dob_board.specs.Seats.{FailsAfter, HasAnnounced, IsSameSeat, KnewOwnFailure, MovesNothing, TakesOne, stand_of, witnessed_by}
+pub use Rattle.dob_board.specs.Seats.{FailsAfter, HasAnnounced, IsSameSeat, KnewOwnFailure, MovesNothing, TakesOne, witnessed_by}
 pub use Rattle.dob_board.specs.declared.halt.Halt.{Halt}
 pub use Rattle.dob_board.specs.declared.halt.Halt.TheVariants.{Ended, Failed, Running}
 pub use Rattle.dob_board.specs.declared.seat.NodeSeat.{NodeSeat}
@@ -64,3 +65,5 @@ pub use Rattle.dob_runner.specs.declared.endpoint.Endpoint.{Endpoint}
 pub use Rattle.dob_runner.specs.declared.runner.Runner.{Runner}
 pub use Rattle.dob_runner.specs.declared.slots.Inlet.{Inlet}
 pub use Rattle.dob_runner.specs.declared.slots.Outlet.{Outlet}
+pub use Rattle.dob_chan.proofs.Deliveries.{others_more}
+pub use Rattle.dob_node.proofs.Kepts.{fits_own, kept_still, news_is}

@@ -1,20 +1,18 @@
 -- What links, endpoints and runners keep, through one step and the next.
-use Rattle.dob_runner.proofs.Common.{◌++◌, ◌∙◌, ◌≡◌, ◌≢◌, ◌⊎◌, List, None, Option, Some, [], ap, append_assoc, arith, inl, inr, length, refl, set, subst}
-use Rattle.dob_runner.proofs.Common.{sym, ℕ, cases_eq, append-nil, same_Some, slice_get_within, some_at, MatchResult, slice_get, get_set_other, Item, Share}
-use Rattle.dob_runner.proofs.Common.{BatchView, Cause}
-use Rattle.dob_runner.proofs.Common.{Contradiction, Counts, Held, Memory, TooDeep, HasItemFault, IsUnchanged, outbox_to, IsReason, Node, token_moves_of}
-use Rattle.dob_runner.proofs.Common.{IsSameSeat, KnewOwnFailure, MovesNothing, stand_of, witnessed_by, Halt, Ended, Failed, NodeSeat, Stand, SendsToSame}
-use Rattle.dob_runner.proofs.Common.{TakesFromSame, sent_by, taken_by, SendEnd, TakeEnd, KeepsEach, FailsFor, HasSameLinks, KeepsEndpoint, IsSpared, KeepsInlet}
-use Rattle.dob_runner.proofs.Common.{KeepsOutlet, GoesOn, HasBroken, HasCutAll, HasFailed, HasRefused, IsReasonFor, IsReasoned, KeepsRunner, StepsBy, no_gate}
-use Rattle.dob_runner.proofs.Common.{HasSameWork, HasTurned, Endpoint, Runner, Inlet, Outlet}
-use Rattle.std.specs.Prelude.{Result, Ok, Err, IfErr}
+use Rattle.dob_runner.proofs.Common.{◌++◌, ◌∙◌, ◌≡◌, ◌≢◌, ◌⊎◌, Err, List, None, Ok, Option, Result, Some, [], ap, append_assoc, arith, inl, inr, length, refl}
+use Rattle.dob_runner.proofs.Common.{set, subst, sym, ℕ, append-nil, same_Some, slice_get_within, IfErr, MatchResult, slice_get, some_at, Item, Share}
+use Rattle.dob_runner.proofs.Common.{BatchView, Cause, Counts, Held, Memory, HasItemFault, IsUnchanged, outbox_to, IsReason, Node, token_moves_of, IsSameSeat}
+use Rattle.dob_runner.proofs.Common.{KnewOwnFailure, MovesNothing, witnessed_by, Halt, Ended, Failed, NodeSeat, Stand, SendsToSame, TakesFromSame}
+use Rattle.dob_runner.proofs.Common.{sent_by, taken_by, SendEnd, TakeEnd, KeepsEach, FailsFor, HasSameLinks, KeepsEndpoint, IsSpared, KeepsInlet, KeepsOutlet}
+use Rattle.dob_runner.proofs.Common.{GoesOn, HasBroken, HasCutAll, HasFailed, HasRefused, IsReasonFor, IsReasoned, KeepsRunner, StepsBy, no_gate, HasSameWork}
+use Rattle.dob_runner.proofs.Common.{HasTurned, Endpoint, Runner, Inlet, Outlet}
 use Rattle.std.specs.Result.{IsErrAnd}
 use Rattle.std.proofs.lemmas.Result.{err_from_is_err_and}
 use Rattle.dob_pieces.specs.Lists.{IsBeginning}
 use Rattle.dob_safra.specs.declared.token.Token.{Token}
 use Rattle.dob_board.specs.Views.{passes}
 use Rattle.dob_node.specs.Outboxes.{outbox_in}
-use Rattle.dob_runner.proofs.Counted.{there_set}
+use Rattle.dob_runner.proofs.Links.{each_after}
 
 -- ---- lists of batches
 
@@ -48,16 +46,6 @@ inlet_trans x y z one two = ((two.0.0 ∙ one.0.0, two.0.1 ∙ one.0.1), goes_on
 
 -- ---- lists of links
 
--- what stood elsewhere and what stands at the place
-pub each_after : {L : Type 0} (Q : ℕ → L → Type 0) (xs : List L) (k : ℕ) (y : L) → ((j : ℕ) (l : L) → j ≢ k → slice_get xs j ≡ Some l → Q j l) → Q k y →
-    (j : ℕ) (l : L) → slice_get (set xs k y) j ≡ Some l → Q j l
-each_after Q xs k y others here j l at = elim (cases_eq j k) [
-  | inl same ↦
-      let is : y ≡ l = there_set xs k y l (ap (slice_get (set xs k y)) (sym same) ∙ at) in
-      subst (λ m. Q m l) (sym same) (subst (λ m. Q k m) is here)
-  | inr apart ↦ others j l apart (sym (get_set_other xs k j y apart) ∙ at)
-]
-
 pub one_kept : {L : Type 0} (Keeps : L → L → Type 0) → ((x : L) → Keeps x x) → (xs : List L) (k : ℕ) (x y : L) → slice_get xs k ≡ Some x → Keeps x y →
     KeepsEach Keeps xs (set xs k y)
 one_kept Keeps self xs k x y at keeps j before after old new =
@@ -90,19 +78,15 @@ still_same a b same = ap (λ (s : NodeSeat). token_moves_of a.node (witnessed_by
 pub still_trans : (a b c : NodeSeat) → b.node ≡ a.node → MovesNothing a b → MovesNothing b c → MovesNothing a c
 still_trans a b c node one two = subst (λ (k : ℕ). token_moves_of k (witnessed_by c) ≡ token_moves_of k (witnessed_by b)) node two ∙ one
 
-pub endpoint_same : (endpoint : Endpoint) → KeepsEndpoint endpoint endpoint
-endpoint_same endpoint = record {
-  seat = seat_same endpoint.seat;
-  outlets = each_same KeepsOutlet outlet_same endpoint.outlets.items endpoint.outlets.items refl;
-  inlet = inlet_same endpoint.inlet;
-}
-
 pub links_kept : (old new : Endpoint) → HasSameLinks old new → KeepsEndpoint old new
 links_kept old new same = record {
   seat = same.seat;
   outlets = each_same KeepsOutlet outlet_same old.outlets.items new.outlets.items (ap (λ v. v.items) same.outlets);
   inlet = inlet_kept old.inlet new.inlet (ap (λ (i : Inlet). i.end) same.inlet);
 }
+
+pub endpoint_same : (endpoint : Endpoint) → KeepsEndpoint endpoint endpoint
+endpoint_same endpoint = links_kept endpoint endpoint (record { seat = seat_same endpoint.seat; outlets = refl; inlet = refl })
 
 pub endpoint_trans : (a b c : Endpoint) → KeepsEndpoint a b → KeepsEndpoint b c → KeepsEndpoint a c
 endpoint_trans a b c one two = record {
@@ -115,21 +99,21 @@ endpoint_trans a b c one two = record {
 -- ---- halts
 
 -- a seat that finds its own failure knew it
-pub own_before : (old new : NodeSeat) → KnewOwnFailure old new.halt → new.node ≡ old.node → new.halt ≡ Failed new.node → old.halt ≡ Failed old.node
-own_before old new knew node own = (let found : new.halt ≡ Failed old.node = own ∙ ap Failed node in knew found ∙ found)
+pub own_before : (old new : NodeSeat) → KnewOwnFailure old new.stand.halt → new.node ≡ old.node → new.stand.halt ≡ Failed new.node → old.stand.halt ≡ Failed old.node
+own_before old new knew node own = (let found : new.stand.halt ≡ Failed old.node = own ∙ ap Failed node in knew found ∙ found)
 
 -- nor where it looked for the token before
-pub own_looked : (old found : NodeSeat) (halt : Halt) → found.halt ≡ old.halt → found.node ≡ old.node → KnewOwnFailure found halt → KnewOwnFailure old halt
+pub own_looked : (old found : NodeSeat) (halt : Halt) → found.stand.halt ≡ old.stand.halt → found.node ≡ old.node → KnewOwnFailure found halt → KnewOwnFailure old halt
 own_looked old found halt same node knew own = sym same ∙ knew (own ∙ ap Failed (sym node))
 
 -- and it knows it still
-pub own_still : (old new : NodeSeat) → new.halt ≡ old.halt → new.node ≡ old.node → new.halt ≡ Failed new.node → old.halt ≡ Failed old.node
+pub own_still : (old new : NodeSeat) → new.stand.halt ≡ old.stand.halt → new.node ≡ old.node → new.stand.halt ≡ Failed new.node → old.stand.halt ≡ Failed old.node
 own_still old new halt node own = sym halt ∙ own ∙ ap Failed node
 
 -- and a seat that passed the token that it knew has the same counts
-pub passed_counts : (old new : NodeSeat) (known : Option Token) → old.token ≡ known → old.token ≢ None →
-    ((token : Token) → old.token ≡ Some token → stand_of new ≡ passes old.nodes old.node (stand_of old) token) →
-    (new.posted.items ≡ old.posted.items) × (new.taken.items ≡ old.taken.items)
+pub passed_counts : (old new : NodeSeat) (known : Option Token) → old.stand.token ≡ known → old.stand.token ≢ None →
+    ((token : Token) → old.stand.token ≡ Some token → new.stand ≡ passes old.nodes old.node old.stand token) →
+    (new.stand.posted ≡ old.stand.posted) × (new.stand.taken ≡ old.stand.taken)
 passed_counts old new None is some passed = absurd (some is)
 passed_counts old new (Some token) is some passed = (let stand = passed token is in (ap (λ (s : Stand). s.posted) stand, ap (λ (s : Stand). s.taken) stand))
 
@@ -140,19 +124,14 @@ some_cause failed why is none = absurd (let both = sym is ∙ none in cc)
 -- and where its seat didn't find the end, and it failed by an item, nothing is asked of it
 pub failed_first : {L : Type 0} (failed : Option Cause) (why : Cause) (halt : Halt) → failed ≡ Some why → halt ≢ Ended → (IsSpared (Some why) → ⊥) →
     (failed ≡ None) ⊎ (halt ≡ Ended) ⊎ IsSpared failed → L
-failed_first failed why halt is unended unspared still = elim still [
-  | inl none ↦ absurd (some_cause failed why is none)
-  | inr (inl ended) ↦ absurd (unended ended)
-  | inr (inr spared) ↦ absurd (unspared (subst (λ (f : Option Cause). IsSpared f) is spared))
-]
+failed_first failed why halt is unended unspared still = grind (arith, some_cause)
 
 -- no item makes a runner fail for another cause, but for lack of memory
 pub unspared_reason : (item : Item) (share : Share) (why : Cause) → IsReason item share why → (why ≡ Memory → ⊥) → IsSpared (Some why) → ⊥
-unspared_reason item share TooDeep reason other spared = spared
-unspared_reason item share (Contradiction class) reason other spared = spared
 unspared_reason item share Memory reason other spared = other refl
 unspared_reason item share Held reason other spared = reason
 unspared_reason item share Counts reason other spared = reason
+unspared_reason item share _ reason other spared = spared
 
 -- ---- the causes of a node and of its runner
 
@@ -161,43 +140,42 @@ pub node_goes : (of_node failed : Option Cause) → ((why : Cause) → of_node �
 node_goes None failed agrees none = refl
 node_goes (Some why) failed agrees none = absurd (let both = sym none ∙ agrees why refl in cc)
 
--- a node that hasn't failed agrees with any, and one that failed with its own cause
+-- a node that hasn't failed agrees with any
 pub agrees_going : (of_node failed : Option Cause) → of_node ≡ None → (why : Cause) → of_node ≡ Some why → failed ≡ Some why
 agrees_going of_node failed going why is = absurd (let both = sym going ∙ is in cc)
 
-pub agrees_failed : (of_node failed : Option Cause) (cause : Cause) → of_node ≡ Some cause → failed ≡ Some cause → (why : Cause) → of_node ≡ Some why → failed ≡ Some why
-agrees_failed of_node failed cause node_is failed_is why is = failed_is ∙ sym node_is ∙ is
-
--- a runner whose node has failed, which its seat has said
-pub broken_for : (old new : Runner) (why : Cause) → FailsFor old.endpoint new.endpoint new.failed why → new.family ≡ old.family → new.batch_size ≡ old.batch_size →
-    IsReasonFor no_gate new why → HasBroken old new why
-broken_for old new why fails family size reason = record {
+-- a runner whose node has failed, which its seat has said, after a step of its endpoint
+pub broken_by : (old new : Runner) (mid : Endpoint) (why : Cause) → KeepsEndpoint old.endpoint mid → MovesNothing old.endpoint.seat mid.seat →
+    FailsFor mid new.endpoint new.failed why → new.family ≡ old.family → new.batch_size ≡ old.batch_size → IsReasonFor no_gate new why → HasBroken old new why
+broken_by old new mid why kept still fails family size reason = record {
   failed = record {
-    keeps = record { endpoint = links_kept old.endpoint new.endpoint fails.keeps.links; family = family; batch_size = size };
+    keeps = record { endpoint = endpoint_trans old.endpoint mid new.endpoint kept (links_kept mid new.endpoint fails.keeps.links); family = family; batch_size = size };
     cause = fails.cause;
     stopped = fails.stopped;
   };
-  still = fails.still;
+  still = still_trans old.endpoint.seat mid.seat new.endpoint.seat kept.seat.node still fails.still;
   reason = reason;
 }
+
+pub broken_for : (old new : Runner) (why : Cause) → FailsFor old.endpoint new.endpoint new.failed why → new.family ≡ old.family → new.batch_size ≡ old.batch_size →
+    IsReasonFor no_gate new why → HasBroken old new why
+broken_for old new why = broken_by old new old.endpoint why (endpoint_same old.endpoint) refl
 
 -- ---- reasons
 
 -- an item of the runner's own that can't be applied
 pub own_reason : (runner : Runner) (why : Cause) → HasItemFault runner.node why → IsReasonFor no_gate runner why
-own_reason runner TooDeep has = inl has
-own_reason runner (Contradiction class) has = inl has
 own_reason runner Memory has = tt
 own_reason runner Held has = absurd has.reason
 own_reason runner Counts has = absurd has.reason
+own_reason runner _ has = inl has
 
 -- one of another node's
 pub refused_reason : (runner : Runner) (why : Cause) → HasRefused runner why → IsReasonFor no_gate runner why
-refused_reason runner TooDeep has = inr has
-refused_reason runner (Contradiction class) has = inr has
 refused_reason runner Memory has = tt
 refused_reason runner Held has = absurd has.before.reason
 refused_reason runner Counts has = absurd has.before.reason
+refused_reason runner _ has = inr has
 
 -- a batch that can't be cut
 pub cut_reason : (runner : Runner) (why : Cause) → (why ≡ Counts → HasCutAll runner) → (why ≡ Counts) ⊎ (why ≡ Memory) → IsReasonFor no_gate runner why
@@ -209,11 +187,8 @@ memory_reason No runner why memory = subst (IsReasonFor No runner) (sym memory) 
 
 -- where no gate says no, any gate may be there
 pub reason_with : (No : ℕ → Type 0) (runner : Runner) (why : Cause) → IsReasonFor no_gate runner why → IsReasonFor No runner why
-reason_with No runner TooDeep reason = reason
-reason_with No runner (Contradiction class) reason = reason
-reason_with No runner Memory reason = reason
 reason_with No runner Held reason = absurd reason
-reason_with No runner Counts reason = reason
+reason_with No runner _ reason = reason
 
 -- and the runner isn't held back
 pub reason_unheld : (runner : Runner) (why : Cause) → IsReasonFor no_gate runner why → why ≢ Held
@@ -239,9 +214,8 @@ pub runner_trans : (a b c : Runner) → KeepsRunner a b → KeepsRunner b c → 
 runner_trans a b c one two = record { endpoint = endpoint_trans a.endpoint b.endpoint c.endpoint one.endpoint two.endpoint; family = two.family ∙ one.family; batch_size = two.batch_size ∙ one.batch_size }
 
 pub goes_by : {a b : Runner} → KeepsEndpoint a.endpoint b.endpoint → b.family ≡ a.family → b.batch_size ≡ a.batch_size → b.failed ≡ None →
-    b.endpoint.seat.halt ≡ a.endpoint.seat.halt → MovesNothing a.endpoint.seat b.endpoint.seat → GoesOn a b
-goes_by endpoint family size unfailed halt still =
-    record { keeps = record { endpoint = endpoint; family = family; batch_size = size }; unfailed = unfailed; halt = halt; still = still }
+    b.endpoint.seat.stand.halt ≡ a.endpoint.seat.stand.halt → MovesNothing a.endpoint.seat b.endpoint.seat → GoesOn a b
+goes_by endpoint family size unfailed halt still = grind arith
 
 -- one of which nothing has changed goes on
 pub goes_same : (r : Runner) → r.failed ≡ None → GoesOn r r
@@ -265,29 +239,25 @@ work_same r = record { node = refl; links = record { seat = seat_same r.endpoint
 pub failed_after : (a b c : Runner) (why : Cause) → KeepsRunner a b → HasFailed b c why → HasFailed a c why
 failed_after a b c why kept failed = record { keeps = runner_trans a b c kept failed.keeps; cause = failed.cause; stopped = failed.stopped }
 
--- a failure that is handed on
+-- what is so of the cause of a failure is so of that failure handed on
+on_err : {A : Type 0} (P : Result A Cause → Type 0) (r : Result A Cause) (why : Cause) → IsErrAnd r (λ given. given ≡ why) → P (Err why) → P r
+on_err P r why is so = let given = err_from_is_err_and r is in subst P (sym given.1) (subst (λ (w : Cause). P (Err w)) (sym given.2) so)
+
 pub broken_on : {A : Type 0} (Did : Runner → Runner → A → Type 0) (a b c : Runner) (r : Result A Cause) (why : Cause) → IsErrAnd r (λ given. given ≡ why) →
     KeepsRunner a b → MovesNothing a.endpoint.seat b.endpoint.seat → HasBroken b c why → StepsBy Did a c r
-broken_on {A} Did a b c r why is kept still broken =
-    let given = err_from_is_err_and r is in
-    let now : HasBroken a c why = record {
-      failed = failed_after a b c why kept broken.failed;
-      still = still_trans a.endpoint.seat b.endpoint.seat c.endpoint.seat kept.endpoint.seat.node still broken.still;
-      reason = broken.reason;
-    } in
-    subst (λ (s : Result A Cause). StepsBy Did a c s) (sym given.1) (subst (HasBroken a c) (sym given.2) now)
+broken_on Did a b c r why is kept still broken = on_err (λ s. StepsBy Did a c s) r why is (record {
+  failed = failed_after a b c why kept broken.failed;
+  still = still_trans a.endpoint.seat b.endpoint.seat c.endpoint.seat kept.endpoint.seat.node still broken.still;
+  reason = broken.reason;
+})
 
 -- and it isn't that a gate held the runner back
 pub unheld_on : {A L : Type 0} (r : Result A Cause) (why : Cause) → IsErrAnd r (λ given. given ≡ why) → why ≢ Held → r ≡ Err Held → L
-unheld_on r why is unheld held =
-    let given = err_from_is_err_and r is in
-    let same : given.0 ≡ Held = (let both = sym given.1 ∙ held in cc) in absurd (unheld (sym given.2 ∙ same))
+unheld_on {A} {L} r why is unheld = on_err (λ s. s ≡ Err Held → L) r why is (λ held. absurd (unheld (cc)))
 
 pub turn_failed : (a b c : Runner) (r : Result Halt Cause) (why : Cause) → IsErrAnd r (λ given. given ≡ why) → KeepsRunner a b → HasFailed b c why →
     MatchResult r (HasTurned a c) (HasFailed a c)
-turn_failed a b c r why is kept failed =
-    let given = err_from_is_err_and r is in
-    subst (λ s. MatchResult s (HasTurned a c) (HasFailed a c)) (sym given.1) (subst (HasFailed a c) (sym given.2) (failed_after a b c why kept failed))
+turn_failed a b c r why is kept failed = on_err (λ s. MatchResult s (HasTurned a c) (HasFailed a c)) r why is (failed_after a b c why kept failed)
 
 -- and no token was moved before it
 pub failed_still : {A : Type 0} (a b c : Runner) (r : Result A Cause) → KeepsRunner a b → MovesNothing a.endpoint.seat b.endpoint.seat →
@@ -303,9 +273,7 @@ turn_keeps a b (Err why) failed = failed.keeps
 -- a failure that is handed on with its reason
 pub reason_on : {A : Type 0} (No : ℕ → Type 0) (c : Runner) (r : Result A Cause) (why : Cause) → IsErrAnd r (λ given. given ≡ why) → IsReasonFor no_gate c why →
     IfErr r (IsReasonFor No c)
-reason_on {A} No c r why is reason =
-    let given = err_from_is_err_and r is in
-    subst (λ (s : Result A Cause). IfErr s (IsReasonFor No c)) (sym given.1) (subst (IsReasonFor No c) (sym given.2) (reason_with No c why reason))
+reason_on No c r why is reason = on_err (λ s. IfErr s (IsReasonFor No c)) r why is (reason_with No c why reason)
 
 -- a runner that has made a turn, or failed in one, has a reason where it failed
 pub turn_reasoned : (No : ℕ → Type 0) (a b : Runner) (r : Result Halt Cause) → MatchResult r (HasTurned a b) (HasFailed a b) →

@@ -1,19 +1,185 @@
--- What a node knows stays right, whatever it takes.
-use Rattle.dob_runner.proofs.Common.{◌++◌, ◌<◌, ◌∙◌, ◌∷◌, ◌≡◌, ◌≢◌, List, None, Option, Some, [], ap, append_assoc, cond, eqb, inl, inr, refl, subst, sym, ℕ}
-use Rattle.dob_runner.proofs.Common.{cases_eq, eq-eqb, ne_eqb, append-nil, All-append, All-cons, All-head, All-nil, All-tail, All, Family, Status, Caught, Open}
-use Rattle.dob_runner.proofs.Common.{Stuck, Tried, classes_of, IsEntry, Value, predecessors, CellValue-same, Cell, Changes, SameCell, changed, owner_of, Item}
-use Rattle.dob_runner.proofs.Common.{Settlement, Share, items_from, chained_more, value_of-more, SumsUp-same, IsChained, IsNext, all_known, value_of}
-use Rattle.dob_runner.proofs.Common.{HistoryView, AreKept, AreTaken, HasItemEntries, IsTaken, listed, AreCellsSummed, CanHaveMade, KnowsRight, sum_of}
+-- What a node has applied and what it knows: when it is opened, and after each step of its runner.
+use Rattle.dob_runner.proofs.Common.{◌*◌, ◌++◌, ◌+◌, ◌-◌, ◌<◌, ◌∙◌, ◌∷◌, ◌≡◌, ◌≢◌, ◌≤◌, Contains, List, None, Option, Some, [], ap, append_assoc, arith, cond}
+use Rattle.dob_runner.proofs.Common.{drop, eqb, inl, inr, length, length-append, min, refl, rules, subst, suc, sym, take, zero, ℕ, cases_eq, cases_lt, eq-eqb}
+use Rattle.dob_runner.proofs.Common.{ne_eqb, append-nil, drop-append-le, take-append-le, All-append, All-cons, All-head, All-nil, All-tail}
+use Rattle.dob_runner.proofs.Common.{Contains-append_right, All, slice_get, at_end, Family, Status, Open, class_setup, classes_of, IsEntry, Value, Draw, Loss}
+use Rattle.dob_runner.proofs.Common.{Win, predecessors, CellValue-same, Cell, Changes, SameCell, SumsUp, changed, fresh, owner_of, Item, Settlement, Share}
+use Rattle.dob_runner.proofs.Common.{items_in_more, BatchView, items_of_batches, items_from, kept_sound, chained_more, value_of-more, SumsUp-same, IsChained}
+use Rattle.dob_runner.proofs.Common.{IsNext, all_known, value_of, IsOpened, IsSound, HistoryView, AreKept, AreTaken, HasItemEntries, IsTaken, listed, Node}
+use Rattle.dob_runner.proofs.Common.{batches_of, AreCellsSummed, CanHaveMade, KnowsRight, least_loss, sum_of, AreLast, applied_from, items_worked, own_applied}
+use Rattle.dob_runner.proofs.Common.{planned, worked, Inlet, others_more, fits_own, kept_still, news_is}
+use Rattle.dob_chan.proofs.Deliveries.{own_more as batch_more}
+use Rattle.dob_pieces.proofs.Lists.{none_in_empty, head_in, cons_cases}
+use Rattle.dob_value.specs.Distances.{IsLeastLoss, lesser_of}
+use Rattle.dob_value.proofs.Distances.{same_loss}
 use Rattle.dob_share.specs.Values.{Better}
-use Rattle.dob_share.specs.Shares.{status_at, cell_at, IsValue, HasValueNow, HasSettled}
+use Rattle.dob_share.specs.Shares.{status_at, cell_at, IsValue, HasValueNow, HasSettled, IsOwn, places_of}
 use Rattle.dob_share.proofs.Sums.{sums_up_after}
 use Rattle.dob_node.proofs.Splits.{IsMade, IsFrom, split, made_from}
 use Rattle.dob_node.proofs.Learns.{learnt, nothing_learnt}
 use Rattle.dob_node.proofs.Kept.{all_known-same}
-use Rattle.dob_node.proofs.Kepts.{fits_own, news_is, kept_still}
 use Rattle.dob_node.proofs.ItemChanges.{one_value, fits_open, value_elsewhere}
 use Rattle.dob_node.proofs.Rises.{same_back}
-use Rattle.dob_runner.proofs.Summing.{sums_by, is_sum}
+use Rattle.dob_moves.specs.MoveLists.{moves_of}
+use Rattle.dob_moves.proofs.Cases.{one_status}
+use Rattle.dob_share.specs.declared.opening.Opening.{Opening}
+use Rattle.dob_node.specs.Openings.{AreOpenings}
+use Rattle.dob_node.specs.OpeningLists.{opening_value, opening_status}
+use Rattle.dob_node.proofs.Totals.{start_sums}
+use Rattle.dob_node.proofs.AloneOpens.{listed_opening}
+use Rattle.dob_node.proofs.Beginnings.{or_else, opened_value, opened_chained, opened_entries}
+
+-- items that are taken make a history that goes on
+pub history_grown : (items : List Item) (share after : Share) (history grown : HistoryView) → AreTaken items share after history grown →
+    (more : List Settlement) × (grown.settlements ≡ history.settlements ++ more)
+history_grown [] share after history grown none = ([], ap (λ (h : HistoryView). h.settlements) none.1 ∙ sym (append-nil history.settlements))
+history_grown (item ∷ items) share after history grown taken =
+    let first = taken.2.settled in
+    let rest = history_grown items taken.0 after taken.1 grown taken.3 in (
+      listed first.0 ++ rest.0,
+      rest.1 ∙ ap (λ (h : HistoryView). h.settlements ++ rest.0) first.2 ∙ append_assoc history.settlements (listed first.0) rest.0,
+    )
+
+-- ---- the last of a list
+
+pub last_more : (whole last more : List Item) → AreLast whole last → AreLast (whole ++ more) (last ++ more)
+last_more whole last more are =
+    let same : length (whole ++ more) - length (last ++ more) ≡ length whole - length last =
+    omega (arith, length-append whole more, length-append last more) in
+    ap (λ k. drop k (whole ++ more)) same
+    ∙ drop-append-le (length whole - length last) whole more (omega arith)
+    ∙ ap (λ xs. xs ++ more) are
+
+drop_next : (k : ℕ) (xs : List Item) (x : Item) (rest : List Item) → drop k xs ≡ x ∷ rest → drop (suc k) xs ≡ rest
+drop_next zero [] x rest e = absurd (cc)
+drop_next (suc k) [] x rest e = absurd (cc)
+drop_next zero (y ∷ xs) x rest e = cc
+drop_next (suc k) (y ∷ xs) x rest e = drop_next k xs x rest e
+
+pub last_less : (whole : List Item) (item : Item) (last : List Item) → AreLast whole (item ∷ last) → AreLast whole last
+last_less whole item last are = grind (arith, drop_next)
+
+-- ---- batches
+
+-- what was said of each batch, and of one more
+pub each_more : (P : BatchView → Type 0) (batches : List BatchView) (batch : BatchView) →
+    ((k : ℕ) (b : BatchView) → slice_get batches k ≡ Some b → P b) → P batch →
+    (k : ℕ) (b : BatchView) → slice_get (batches ++ batch ∷ []) k ≡ Some b → P b
+each_more P batches batch each last k b at = elim (at_end batches batch b k at) [ inl before ↦ each k b before | inr here ↦ subst P here.1 last ]
+
+-- ---- what a node has applied from each node, after each step of its runner
+
+take_next : (k : ℕ) (xs : List Item) (x : Item) (rest : List Item) → drop k xs ≡ x ∷ rest → take (suc k) xs ≡ take k xs ++ x ∷ []
+take_next zero [] x rest e = absurd (cc)
+take_next zero (y ∷ xs) x rest e = let same : y ≡ x = cc in ap (λ z. z ∷ []) same
+take_next (suc k) [] x rest e = absurd (cc)
+take_next (suc k) (y ∷ xs) x rest e = ap (λ zs. y ∷ zs) (take_next k xs x rest e)
+
+-- one gone more
+pub own_less : (whole own : List Item) (item : Item) (rest : List Item) → AreLast whole own → own ≡ item ∷ rest →
+    take (length whole - length rest) whole ≡ take (length whole - length own) whole ++ item ∷ []
+own_less whole own item rest are is = grind (arith, take_next)
+
+-- more planned, and as many left
+pub own_more : (whole own more : List Item) → take (length (whole ++ more) - length (own ++ more)) (whole ++ more) ≡ take (length whole - length own) whole
+own_more whole own more =
+    let same : length (whole ++ more) - length (own ++ more) ≡ length whole - length own =
+    omega (arith, length-append whole more, length-append own more) in
+    ap (λ k. take k (whole ++ more)) same ∙ take-append-le (length whole - length own) whole more (omega arith)
+
+pub own_still : (old new : Node) → planned new new.id ≡ planned old old.id → new.own ≡ old.own → own_applied new ≡ own_applied old
+own_still old new plan own = λ q. take (length (plan q) - length (own q)) (plan q)
+
+-- ---- each node's
+
+pub applied_here : (node : Node) (inlet : Inlet) (k : ℕ) → k ≡ node.id → applied_from node inlet k ≡ own_applied node
+applied_here node inlet k is = ap (λ b. cond b (own_applied node) (items_worked inlet k)) (eq-eqb k node.id is)
+
+pub applied_else : (node : Node) (inlet : Inlet) (k : ℕ) → k ≢ node.id → applied_from node inlet k ≡ items_worked inlet k
+applied_else node inlet k other = ap (λ b. cond b (own_applied node) (items_worked inlet k)) (ne_eqb k node.id other)
+
+pub applied_still : (old new : Node) (before after : Inlet) → new.id ≡ old.id → own_applied new ≡ own_applied old →
+    ((k : ℕ) → items_worked after k ≡ items_worked before k) → (k : ℕ) → applied_from new after k ≡ applied_from old before k
+applied_still old new before after id own same k = λ q. cond (eqb k (id q)) (own q) (same k q)
+
+-- ---- what was worked in
+
+pub worked_again : (before after : Inlet) → worked after ≡ worked before → (k : ℕ) → items_worked after k ≡ items_worked before k
+worked_again before after same k = ap (λ (bs : List BatchView). items_of_batches (batches_of k bs)) same
+
+-- one batch more is one of its sender's more
+pub worked_more : (before after : Inlet) (batch : BatchView) → worked after ≡ worked before ++ batch ∷ [] →
+    items_worked after batch.from ≡ items_worked before batch.from ++ batch.items
+worked_more before after batch more = grind (arith, batch_more, items_in_more)
+
+pub worked_else : (before after : Inlet) (batch : BatchView) → worked after ≡ worked before ++ batch ∷ [] → (k : ℕ) → k ≢ batch.from →
+    items_worked after k ≡ items_worked before k
+worked_else before after batch more k other = grind (arith, others_more)
+
+-- ---- what is known, told of the node after a step
+
+pub knows_after : (old new : Node) (applied : ℕ → List Item) → new.family ≡ old.family → new.id ≡ old.id → new.n ≡ old.n →
+    KnowsRight old.family old.n old.id new.share new.history.settlements applied → KnowsRight new.family new.n new.id new.share new.history.settlements applied
+knows_after old new applied family_is id_is n_is knows = grind arith
+
+-- ---- cells that are the sum of what is known, as an equation and as a relation
+
+behind : (known : List Value) (v w : Value) → Contains known w → Contains (v ∷ known) w
+behind known v w there = Contains-append_right (v ∷ []) known w there
+
+-- ---- the least loss
+
+-- what is so of each loss that is known is so with one value more
+each_loss : (P : ℕ → Type 0) (known : List Value) (v : Value) → ((plies : ℕ) → v ≡ Loss plies → P plies) →
+    ((plies : ℕ) → Contains known (Loss plies) → P plies) → (plies : ℕ) → Contains (v ∷ known) (Loss plies) → P plies
+each_loss P known v here later plies there = elim (cons_cases v known (Loss plies) there) [ inl is ↦ here plies is | inr is ↦ later plies is ]
+
+-- a value that is no loss
+least_same : (known : List Value) (v : Value) (least : Option ℕ) → ((plies : ℕ) → v ≡ Loss plies → ⊥) → IsLeastLoss known least → IsLeastLoss (v ∷ known) least
+least_same known v None no_loss is = each_loss (λ plies. ⊥) known v no_loss is
+least_same known v (Some least) no_loss is =
+    (behind known v (Loss least) is.0, each_loss (λ plies. least ≤ plies) known v (λ plies e. absurd (no_loss plies e)) is.1)
+
+-- a loss
+least_more : (known : List Value) (loss : ℕ) (least : Option ℕ) → IsLeastLoss known least → IsLeastLoss (Loss loss ∷ known) (Some (lesser_of least loss))
+least_more known loss None is = (
+  head_in (Loss loss) known,
+  each_loss (λ plies. loss ≤ plies) known (Loss loss) (λ plies e. (let same : loss ≡ plies = same_loss loss plies e in omega arith))
+      (λ plies there. absurd (is plies there)),
+)
+least_more known loss (Some least) is = (
+  elim (cases_lt loss least) [
+    | inl more ↦ subst (λ k. Contains (Loss loss ∷ known) (Loss k)) (let e : loss ≡ min least loss = omega arith in e) (head_in (Loss loss) known)
+    | inr less ↦ behind known (Loss loss) (Loss (min least loss)) (subst (λ k. Contains known (Loss k)) (let e : least ≡ min least loss = omega arith in e) is.0)
+  ],
+  each_loss (λ plies. min least loss ≤ plies) known (Loss loss) (λ plies e. (let same : loss ≡ plies = same_loss loss plies e in omega arith))
+      (λ plies there. (let within : least ≤ plies = is.1 plies there in omega arith)),
+)
+
+least_is : (known : List Value) → IsLeastLoss known (least_loss known)
+least_is [] = λ plies there. none_in_empty (Loss plies) there
+least_is (Loss plies ∷ known) = least_more known plies (least_loss known) (least_is known)
+least_is (Win plies ∷ known) = least_same known (Win plies) (least_loss known) (λ k e. cc) (least_is known)
+least_is (Draw ∷ known) = least_same known Draw (least_loss known) (λ k e. cc) (least_is known)
+
+one_least : (known : List Value) (a b : Option ℕ) → IsLeastLoss known a → IsLeastLoss known b → a ≡ b
+one_least known None None one other = refl
+one_least known None (Some b) one other = absurd (one b other.0)
+one_least known (Some a) None one other = absurd (other a one.0)
+one_least known (Some a) (Some b) one other =
+    let less : a ≤ b = one.1 b other.0 in
+    let more : b ≤ a = other.1 a one.0 in
+    ap Some (let e : a ≡ b = omega arith in e)
+
+-- ---- the cell
+
+pub sums_by : (known : List Value) (cell : Cell) → SameCell cell (sum_of known) → SumsUp known cell
+sums_by known cell same = grind (arith, least_is)
+
+pub is_sum : (known : List Value) (cell : Cell) → SumsUp known cell → SameCell cell (sum_of known)
+is_sum known cell sums = grind (arith, one_least, least_is)
+
+-- ---- what a node knows stays right, whatever it takes
 
 abbrev pub known_by : Family → ℕ → (ℕ → List Settlement) → (ℕ → List Item) → ℕ → List Value
 known_by family n histories applied class = all_known (predecessors family) (classes_of family) n histories applied class
@@ -21,22 +187,15 @@ known_by family n histories applied class = all_known (predecessors family) (cla
 -- ---- cells that say the same
 
 pub same_cells : (a b c : Cell) → SameCell a b → SameCell b c → SameCell a c
-same_cells a b c one other = record {
-  left = one.left ∙ other.left;
-  wins = λ plies. one.wins plies ∙ other.wins plies;
-  least = one.least ∙ other.least;
-}
+same_cells a b c one other = search rules
 
 value_same : (status : Status) (a b : Cell) (v : Value) → SameCell a b → IsValue status a v → IsValue status b v
-value_same Caught a b v same is = is
-value_same Tried a b v same is = is
-value_same Stuck a b v same is = is
 value_same Open a b v same is = CellValue-same b a v (same_back a b same) is
+value_same _ a b v same is = is
 
 value_back : (share after : Share) (class : ℕ) (v : Value) → status_at after class ≡ status_at share class → SameCell (cell_at after class) (cell_at share class) →
     HasValueNow after class v → HasValueNow share class v
-value_back share after class v status same is =
-    value_same (status_at share class) (cell_at after class) (cell_at share class) v same (subst (λ s. IsValue s (cell_at after class) v) status is)
+value_back share after class v status same is = search (rules, value_same)
 
 one_open_value : (status : Status) (cell : Cell) (v w : Value) → status ≡ Open → IsValue status cell v → IsValue status cell w → v ≡ w
 one_open_value status cell v w is =
@@ -220,3 +379,50 @@ taken_all family n id i low (item ∷ items) share after history grown applied l
 
     kept_between : AreKept family n id taken.0 taken.1
     kept_between = kept_still family n id share taken.0 history taken.1 item kept (All-head HasItemEntries item items entries) taken.2
+
+-- ---- what a node knows when it is opened
+
+-- a class of which nothing is known has the value of its status
+opened_is : (status : Status) (cell : Cell) (moves : ℕ) (v : Value) → SameCell cell (fresh moves) → IsValue status cell v → v ≡ or_else (opening_value status) Draw
+opened_is Open cell moves v same is = one_value cell v Draw is (CellValue-same cell (fresh moves) Draw same (refl, inr (λ plies. refl)))
+opened_is _ cell moves v same is = is
+
+module _ (family : Family) (n id : ℕ) (openings : List Opening) (node : Node) (are : AreOpenings family openings) (opened : IsOpened openings family id n node)
+    (sound : IsSound node) where
+  kept : AreKept family n id node.share node.history
+  kept = kept_sound family n id node opened.of sound
+
+  abbrev at_start : List Settlement
+  at_start = node.history.settlements
+
+  is_own : (class : ℕ) → class < classes_of family → owner_of n class ≡ id → IsOwn node.share class
+  is_own class low own = (kept.owned class).1 (own, low)
+
+  cell_is : (class : ℕ) → class < classes_of family → owner_of n class ≡ id → SameCell (cell_at node.share class) (fresh (length (moves_of family.profile (class_setup family class))))
+  cell_is class low own = subst (λ (m : ℕ). SameCell (cell_at node.share class) (fresh m)) (listed_opening family openings class are low).moves
+      (opened.cells class (is_own class low own))
+
+  value_is : (class : ℕ) → class < classes_of family → owner_of n class ≡ id → value_of at_start class ≡ or_else (opening_value (opening_status openings class)) Draw
+  value_is class low own = grind (arith, opened_value)
+
+  module _ (applied : ℕ → List Item) (none : (k : ℕ) → applied k ≡ []) where
+    summed : AreCellsSummed family n id node.share applied
+    summed histories could class low own at_open =
+        is_sum (known_by family n histories applied class) (cell_at node.share class)
+        (SumsUp-same (known_by family n histories applied class) (cell_at node.share class) (fresh (length (moves_of family.profile (class_setup family class))))
+        (cell_is class low own) (start_sums family class low n histories applied none))
+
+    pub knows_opened : KnowsRight family n id node.share at_start applied
+    knows_opened = record {
+      chained = subst (λ xs. IsChained (classes_of family) n id xs) (sym opened.history)
+          (opened_chained n id kept.one_of_n (opening_status openings) (classes_of family) (places_of node.share)
+          (λ q less. subst (λ (m : ℕ). q * n + id < m) are.whole ((opened.places q).0 less)));
+      entries = subst (λ xs. All (λ (s : Settlement). IsEntry s.now) xs) (sym opened.history)
+          (opened_entries n id kept.one_of_n (opening_status openings) (places_of node.share));
+      statuses = λ class status low own has. opened.statuses class (is_own class low own)
+          ∙ one_status family.profile (class_setup family class) (opening_status openings class) status (listed_opening family openings class are low).status has;
+      values = λ class v low own has. opened_is (opening_status openings class) (cell_at node.share class) (length (moves_of family.profile (class_setup family class))) v (cell_is class low own)
+          (subst (λ s. IsValue s (cell_at node.share class) v) (opened.statuses class (is_own class low own)) has)
+          ∙ sym (value_is class low own);
+      sums = summed;
+    }

@@ -1,45 +1,58 @@
 -- Each step of a runner leaves it lawful.
-use Rattle.dob_runner.proofs.Common.{◌++◌, ◌-◌, ◌<◌, ◌^◌, ◌∙◌, ◌∷◌, ◌≡◌, ◌≢◌, ◌≤◌, List, None, Some, [], ap, append_assoc, arith, cond, drop, eqb, false, inl}
-use Rattle.dob_runner.proofs.Common.{inr, length, length-append, refl, subst, sym, take, true, ℕ, cases_Bool, cases_eq, cases_lt, true≢false, append-nil}
-use Rattle.dob_runner.proofs.Common.{length-take, take-append-drop, All-drop, All-head, slice_get_within, All, slice_get, slice_set, Family, predecessors, Item}
-use Rattle.dob_runner.proofs.Common.{Settlement, Share, items_in_more, BatchView, OutboxView, empty_outbox, items_of_batches, items_from, items_of, outbox_same}
+use Rattle.dob_runner.proofs.Common.{◌++◌, ◌-◌, ◌<◌, ◌∙◌, ◌∷◌, ◌≡◌, ◌≢◌, ◌≤◌, List, None, Some, [], ap, append_assoc, arith, cond, drop, eqb, false, inl, inr}
+use Rattle.dob_runner.proofs.Common.{length, length-append, refl, rules, subst, sym, take, true, ℕ, cases_Bool, cases_eq, true≢false, append-nil, length-take}
+use Rattle.dob_runner.proofs.Common.{take-append-drop, All-drop, All-head, slice_get_within, All, slice_get, slice_set, Family, predecessors, Item, Settlement}
+use Rattle.dob_runner.proofs.Common.{Share, items_in_more, BatchView, OutboxView, empty_outbox, items_of_batches, items_from, items_of, outbox_same}
 use Rattle.dob_runner.proofs.Common.{emitted_grown, emitted_more, NodeView, HasApplied, HasAppliedItems, HasCut, HasTaken, IsExpanded, IsIdle, IsSound}
 use Rattle.dob_runner.proofs.Common.{IsUnchanged, outbox_to, HistoryView, HasItemEntries, IsTaken, listed, Node, batches_of, AreOut, HasChangedOne}
 use Rattle.dob_runner.proofs.Common.{HasSameLinksAndColour, KnowsRight, AreLast, IsLawfulRunner, SendsRight, applied_from, items_worked, own_applied, planned}
-use Rattle.dob_runner.proofs.Common.{IsOffered, offered, IsNew, Endpoint, Inlet, Outlet}
-use Rattle.dob_node.proofs.Kepts.{kept_still}
+use Rattle.dob_runner.proofs.Common.{IsOffered, offered, IsNew, Endpoint, Inlet, Outlet, kept_still}
 use Rattle.dob_node.proofs.Sounds.{emitted_still}
-use Rattle.dob_runner.proofs.Applied.{own_less, own_more, own_still, applied_here, applied_else, applied_still, knows_after}
-use Rattle.dob_runner.proofs.Knowing.{taken_one, knows_same, taken_all}
-use Rattle.dob_runner.proofs.FirstKnown.{knows_opened}
-use Rattle.dob_runner.proofs.Keeping.{each_after, outbox_still}
-use Rattle.dob_runner.proofs.Planned.{history_grown, last_more, last_less, each_more}
+use Rattle.dob_runner.proofs.Knowing.{own_less, own_more, own_still, applied_here, applied_else, applied_still, knows_after, taken_one, knows_same, taken_all}
+use Rattle.dob_runner.proofs.Knowing.{knows_opened, history_grown, last_more, last_less, each_more}
+use Rattle.dob_runner.proofs.Links.{each_after}
+use Rattle.dob_runner.proofs.Keeping.{outbox_still}
 
 -- ---- the endpoint alone changed
 
 worked_still : (node : Node) (old new : Endpoint) → ((k : ℕ) → items_worked new.inlet k ≡ items_worked old.inlet k) →
     KnowsRight node.family node.n node.id node.share node.history.settlements (applied_from node old.inlet) →
     KnowsRight node.family node.n node.id node.share node.history.settlements (applied_from node new.inlet)
-worked_still node old new same = knows_same node.family node.n node.id node.share node.history.settlements (applied_from node old.inlet)
-    (applied_from node new.inlet) (applied_still node node old.inlet new.inlet refl refl same)
+worked_still node old new same = search (rules, knows_same, applied_still)
 
 pub same_inlet : (old new : Endpoint) → new.inlet ≡ old.inlet → (k : ℕ) → items_worked new.inlet k ≡ items_worked old.inlet k
 same_inlet old new same k = ap (λ (i : Inlet). items_worked i k) same
 
--- the same links, and another colour or the same
+-- an outlet that stood there offered the same
+abbrev WasOffered : ℕ → List Outlet → Outlet → Type 0
+WasOffered to outlets outlet = (before : Outlet) × (slice_get outlets to ≡ Some before) × (offered outlet ≡ offered before)
+
+-- links that offer what they offered, and another colour or the same
+relinked : (family : Family) (size : ℕ) (node : Node) (old new : Endpoint) → IsLawfulRunner family size node old → new.seat.node ≡ old.seat.node →
+    new.seat.nodes ≡ old.seat.nodes →
+    ((to : ℕ) (outlet : Outlet) → slice_get new.outlets.items to ≡ Some outlet → WasOffered to old.outlets.items outlet) →
+    ((k : ℕ) → items_worked new.inlet k ≡ items_worked old.inlet k) → (new.seat.stand.black ≡ false → IsIdle node × AreOut new.outlets.items) →
+    IsLawfulRunner family size node new
+relinked family size node old new law same_node same_nodes same_outlets same_worked white = record {
+  of = (law.of.0, law.of.1 ∙ sym same_node, law.of.2 ∙ sym same_nodes);
+  sound = law.sound;
+  sends = λ to outlet apart at. (let was = same_outlets to outlet at in
+      subst (SendsRight node size to) (sym was.2) (law.sends to was.0 (λ e. apart (e ∙ sym same_node)) was.1));
+  unused = λ outlet at. (let was = same_outlets new.seat.node outlet at in
+      was.2 ∙ law.unused was.0 (ap (λ i. slice_get old.outlets.items i) (sym same_node) ∙ was.1));
+  own = law.own;
+  knows = worked_still node old new same_worked law.knows;
+  white = white;
+}
+
+-- where the links are the same
 pub recoloured : (family : Family) (size : ℕ) (node : Node) (old new : Endpoint) → IsLawfulRunner family size node old → new.seat.node ≡ old.seat.node →
     new.seat.nodes ≡ old.seat.nodes → new.outlets.items ≡ old.outlets.items →
     ((k : ℕ) → items_worked new.inlet k ≡ items_worked old.inlet k) →
-    (new.seat.black ≡ false → IsIdle node × AreOut old.outlets.items) → IsLawfulRunner family size node new
-recoloured family size node old new law same_node same_nodes same_outlets same_worked white = record {
-  of = (law.of.0, law.of.1 ∙ sym same_node, law.of.2 ∙ sym same_nodes);
-  sound = law.sound;
-  sends = λ to outlet apart at. law.sends to outlet (λ e. apart (e ∙ sym same_node)) (ap (λ os. slice_get os to) (sym same_outlets) ∙ at);
-  unused = λ outlet at. law.unused outlet (ap (λ i. slice_get old.outlets.items i) (sym same_node) ∙ ap (λ os. slice_get os new.seat.node) (sym same_outlets) ∙ at);
-  own = law.own;
-  knows = worked_still node old new same_worked law.knows;
-  white = λ is. (let rest = white is in (rest.0, subst AreOut (sym same_outlets) rest.1));
-}
+    (new.seat.stand.black ≡ false → IsIdle node × AreOut old.outlets.items) → IsLawfulRunner family size node new
+recoloured family size node old new law same_node same_nodes same_outlets same_worked white = relinked family size node old new law same_node same_nodes
+    (λ to outlet at. (outlet, ap (λ os. slice_get os to) (sym same_outlets) ∙ at, refl)) same_worked
+    (λ is. (let rest = white is in (rest.0, subst AreOut (sym same_outlets) rest.1)))
 
 -- the same links and colour
 pub still_coloured : (family : Family) (size : ℕ) (node : Node) (old new : Endpoint) → IsLawfulRunner family size node old → HasSameLinksAndColour old new →
@@ -49,8 +62,13 @@ still_coloured family size node old new law kept =
     (λ is. law.white (sym kept.colour ∙ is))
 
 -- a runner that has something to do is black
-pub busy_black : (family : Family) (size : ℕ) (node : Node) (endpoint : Endpoint) → IsLawfulRunner family size node endpoint → (IsIdle node → ⊥) → endpoint.seat.black ≡ true
-busy_black family size node endpoint law busy = elim (cases_Bool endpoint.seat.black) [ inl black ↦ black | inr white ↦ absurd (busy (law.white white).0) ]
+pub busy_black : (family : Family) (size : ℕ) (node : Node) (endpoint : Endpoint) → IsLawfulRunner family size node endpoint → (IsIdle node → ⊥) → endpoint.seat.stand.black ≡ true
+busy_black family size node endpoint law busy = elim (cases_Bool endpoint.seat.stand.black) [ inl black ↦ black | inr white ↦ absurd (busy (law.white white).0) ]
+
+-- the node alone changed, and what it planned and has in its outbox is the same
+sends_still : (old new : Node) (size to : ℕ) (batches : List BatchView) → planned new to ≡ planned old to → outbox_to new to ≡ outbox_to old to →
+    SendsRight old size to batches → SendsRight new size to batches
+sends_still old new size to batches plan outbox sends = grind arith
 
 -- the node is as it was, but for the room of its history
 pub unchanged_node : (family : Family) (size : ℕ) (old new : Node) (endpoint : Endpoint) → IsLawfulRunner family size old endpoint → IsUnchanged old new → IsSound new →
@@ -63,11 +81,7 @@ unchanged_node family size old new endpoint law same sound =
     record {
       of = (same.same.0 ∙ law.of.0, same.same.1 ∙ law.of.1, same.same.2 ∙ law.of.2);
       sound = sound;
-      sends = λ to outlet apart at. (let right = law.sends to outlet apart at in record {
-        items = plan to ∙ right.items ∙ ap (λ (o : OutboxView). items_of_batches (offered outlet) ++ o.items) (sym (outbox to));
-        cut = ap (λ (o : OutboxView). o.next) (outbox to) ∙ right.cut;
-        small = right.small;
-      });
+      sends = λ to outlet apart at. sends_still old new size to (offered outlet) (plan to) (outbox to) (law.sends to outlet apart at);
       unused = law.unused;
       own = subst (λ (p : List Item × List Item). AreLast p.0 p.1) (λ q. ((sym own) q, (sym same.kept.2) q)) law.own;
       knows = knows_after old new (applied_from new endpoint.inlet) same.same.0 same.same.1 same.same.2
@@ -88,35 +102,21 @@ unchanged_node family size old new endpoint law same sound =
 -- and so it is where its runner says that it failed
 pub unchanged_failed : (family : Family) (size : ℕ) (old new : Node) (endpoint now : Endpoint) → IsLawfulRunner family size old endpoint → IsUnchanged old new → IsSound new →
     HasSameLinksAndColour endpoint now → IsLawfulRunner family size new now
-unchanged_failed family size old new endpoint now law same sound kept =
-    still_coloured family size new endpoint now (unchanged_node family size old new endpoint law same sound) kept
+unchanged_failed family size old new endpoint now law same sound kept = search (rules, still_coloured, unchanged_node)
 
 -- one outlet was offered what it was before
 pub offered_again : (family : Family) (size to : ℕ) (node : Node) (old new : Endpoint) → IsLawfulRunner family size node old → new.seat ≡ old.seat →
     HasChangedOne IsOffered to old.outlets.items new.outlets.items → new.inlet ≡ old.inlet → IsLawfulRunner family size node new
-offered_again family size to node old new law seat one inlet = record {
-  of = (law.of.0, law.of.1 ∙ sym (ap (λ s. s.node) seat), law.of.2 ∙ sym (ap (λ s. s.nodes) seat));
-  sound = law.sound;
-  sends = λ j outlet apart at. there j outlet (subst (λ os. slice_get os j ≡ Some outlet) one.4 at) (λ e. apart (e ∙ sym (ap (λ s. s.node) seat)));
-  unused = λ outlet at. nothing old.seat.node outlet (subst (λ os. slice_get os old.seat.node ≡ Some outlet) one.4
-      (ap (λ s. slice_get new.outlets.items s.node) (sym seat) ∙ at)) refl;
-  own = law.own;
-  knows = worked_still node old new (same_inlet old new inlet) law.knows;
-  white = λ is. (let rest = law.white (sym (ap (λ s. s.black) seat) ∙ is) in (
-    rest.0,
-    λ j outlet at. out rest.1 j outlet (subst (λ os. slice_get os j ≡ Some outlet) one.4 at),
-  ));
-}
+offered_again family size to node old new law seat one inlet = relinked family size node old new law (ap (λ s. s.node) seat) (ap (λ s. s.nodes) seat)
+    (λ j outlet at. there j outlet (set_at j outlet at)) (same_inlet old new inlet)
+    (λ is. (let rest = law.white (sym (ap (λ s. s.stand.black) seat) ∙ is) in (rest.0, λ j outlet at. out rest.1 j outlet (set_at j outlet at))))
   where
-    there : (j : ℕ) (outlet : Outlet) → slice_get (slice_set old.outlets.items to one.1) j ≡ Some outlet → j ≢ old.seat.node → SendsRight node size j (offered outlet)
-    there = each_after (λ j outlet. j ≢ old.seat.node → SendsRight node size j (offered outlet)) old.outlets.items to one.1
-        (λ j outlet other at apart. law.sends j outlet apart at)
-        (λ apart. subst (λ bs. SendsRight node size to bs) (sym one.3.same) (law.sends to one.0 apart one.2))
+    set_at : (j : ℕ) (outlet : Outlet) → slice_get new.outlets.items j ≡ Some outlet → slice_get (slice_set old.outlets.items to one.1) j ≡ Some outlet
+    set_at j outlet at = subst (λ os. slice_get os j ≡ Some outlet) one.4 at
 
-    nothing : (j : ℕ) (outlet : Outlet) → slice_get (slice_set old.outlets.items to one.1) j ≡ Some outlet → j ≡ old.seat.node → offered outlet ≡ []
-    nothing = each_after (λ j outlet. j ≡ old.seat.node → offered outlet ≡ []) old.outlets.items to one.1
-        (λ j outlet other at own. law.unused outlet (ap (λ i. slice_get old.outlets.items i) (sym own) ∙ at))
-        (λ own. one.3.same ∙ law.unused one.0 (ap (λ i. slice_get old.outlets.items i) (sym own) ∙ one.2))
+    there : (j : ℕ) (outlet : Outlet) → slice_get (slice_set old.outlets.items to one.1) j ≡ Some outlet → WasOffered j old.outlets.items outlet
+    there = each_after (λ j outlet. WasOffered j old.outlets.items outlet) old.outlets.items to one.1 (λ j outlet other at. (outlet, at, refl))
+        (one.0, one.2, one.3.same)
 
     out : AreOut old.outlets.items → (j : ℕ) (outlet : Outlet) → slice_get (slice_set old.outlets.items to one.1) j ≡ Some outlet → outlet.slot ≡ None
     out empty = each_after (λ j outlet. outlet.slot ≡ None) old.outlets.items to one.1 (λ j outlet other at. empty j outlet at)
@@ -127,17 +127,7 @@ offered_again family size to node old new law seat one inlet = record {
 planned_same : (old new : Node) (to : ℕ) → new.family ≡ old.family → new.n ≡ old.n → new.expanded ≡ old.expanded →
     (more : List Settlement) → new.history.settlements ≡ old.history.settlements ++ more → old.expanded ≤ length old.history.settlements →
     planned new to ≡ planned old to
-planned_same old new to family n expanded more grown within =
-    (λ q. items_from (predecessors (family q)) (n q) to (take (expanded q) new.history.settlements))
-    ∙ emitted_grown (predecessors old.family) old.n to old.history.settlements more new.history.settlements old.expanded within grown
-
-sends_still : (old new : Node) (size to : ℕ) (batches : List BatchView) → planned new to ≡ planned old to → outbox_to new to ≡ outbox_to old to →
-    SendsRight old size to batches → SendsRight new size to batches
-sends_still old new size to batches plan outbox sends = record {
-  items = plan ∙ sends.items ∙ ap (λ (o : OutboxView). items_of_batches batches ++ o.items) (sym outbox);
-  cut = ap (λ (o : OutboxView). o.next) outbox ∙ sends.cut;
-  small = sends.small;
-}
+planned_same old new to family n expanded more grown within = grind (arith, emitted_grown)
 
 -- the own list lost its first item
 pub applied_own : (family : Family) (size : ℕ) (old new : Node) (endpoint : Endpoint) → IsLawfulRunner family size old endpoint → HasApplied old new → IsSound new →
@@ -159,7 +149,7 @@ applied_own family size old new endpoint law step sound =
           old.id law.sound.kept.one_of_n step.item
           (one_more (ap (λ i. planned new i) step.same.1 ∙ plan old.id)) (λ k other. elsewhere k other) law.sound.kept
           (All-head HasItemEntries step.item new.own (subst (λ xs. All HasItemEntries xs) step.first law.sound.entries)) step.taken law.knows);
-      white = λ is. absurd (nothing_first old.own step.item new.own ((law.white is).0.applied) step.first);
+      white = λ is. absurd (let none = (law.white is).0.applied in let some = step.first in cc);
     }
   where
     one_more : planned new new.id ≡ planned old old.id → applied_from new endpoint.inlet old.id ≡ applied_from old endpoint.inlet old.id ++ step.item ∷ []
@@ -171,9 +161,6 @@ applied_own family size old new endpoint law step sound =
 
     elsewhere : (k : ℕ) → k ≢ old.id → applied_from new endpoint.inlet k ≡ applied_from old endpoint.inlet k
     elsewhere k other = applied_else new endpoint.inlet k (λ e. other (e ∙ step.same.1)) ∙ sym (applied_else old endpoint.inlet k other)
-
-    nothing_first : (own : List Item) (item : Item) (rest : List Item) → own ≡ [] → own ≡ item ∷ rest → ⊥
-    nothing_first own item rest none some = absurd (cc)
 
 -- a node stays sound where it takes the first of its own items
 sound_next : (old : NodeView) (item : Item) (rest : List Item) (between : Share) (longer : HistoryView) → IsSound old → old.own ≡ item ∷ rest →
@@ -206,7 +193,7 @@ applied_items family size (item ∷ items) old new endpoint law step sound =
 -- a batch of another node was counted as worked in, which blackens the seat, and applied
 pub applied_batch : (family : Family) (size from : ℕ) (batch : BatchView) (node after : Node) (old new : Endpoint) → IsLawfulRunner family size node old →
     from < old.seat.nodes → from ≢ old.seat.node → All HasItemEntries batch.items → HasTaken batch.items node after → IsSound after →
-    new.seat.node ≡ old.seat.node → new.seat.nodes ≡ old.seat.nodes → new.seat.black ≡ true → new.outlets.items ≡ old.outlets.items →
+    new.seat.node ≡ old.seat.node → new.seat.nodes ≡ old.seat.nodes → new.seat.stand.black ≡ true → new.outlets.items ≡ old.outlets.items →
     ((k : ℕ) → k ≢ from → items_worked new.inlet k ≡ items_worked old.inlet k) →
     items_worked new.inlet from ≡ items_worked old.inlet from ++ batch.items → IsLawfulRunner family size after new
 applied_batch family size from batch node after old new law low apart entries step sound same_node same_nodes black same_outlets same_worked more_worked = record {
@@ -290,7 +277,7 @@ expanded_one family size old new endpoint law step sound = record {
 -- ---- a batch was cut and put into the slot of an outlet
 
 pub cut_one : (family : Family) (size to : ℕ) (batch : BatchView) (node after : Node) (old new : Endpoint) → IsLawfulRunner family size node old →
-    to ≢ old.seat.node → HasCut to size batch node after → IsSound after → new.seat.node ≡ old.seat.node → new.seat.nodes ≡ old.seat.nodes → new.seat.black ≡ true →
+    to ≢ old.seat.node → HasCut to size batch node after → IsSound after → new.seat.node ≡ old.seat.node → new.seat.nodes ≡ old.seat.nodes → new.seat.stand.black ≡ true →
     HasChangedOne (λ (x y : Outlet). (y.end ≡ x.end) × (offered y ≡ offered x ++ batch ∷ [])) to old.outlets.items new.outlets.items →
     new.inlet ≡ old.inlet → IsLawfulRunner family size after new
 cut_one family size to batch node after old new law not_own step sound same_node same_nodes black one inlet = record {
@@ -348,7 +335,7 @@ begun family size node endpoint is = record {
       let outbox : outbox_to node to ≡ empty_outbox family endpoint.seat.nodes endpoint.seat.node to = is.opened.outboxes to in record {
         items = planned_none to ∙ ap (λ (o : OutboxView). o.items) (sym outbox) ∙ ap (λ bs. items_of_batches bs ++ (outbox_to node to).items) (sym nothing);
         cut = ap (λ (o : OutboxView). o.next) outbox ∙ ap length (sym nothing);
-        small = λ k batch there. absurd (none_there (offered outlet) nothing k batch there);
+        small = λ k batch there. absurd (let none : slice_get [] k ≡ Some batch = ap (λ (bs : List BatchView). slice_get bs k) (sym nothing) ∙ there in cc);
       });
   unused = λ outlet at. is.unsent endpoint.seat.node outlet at;
   own = subst (λ own. AreLast (planned node node.id) own) (sym is.opened.nothing.1) (subst (λ w. AreLast w []) (sym (planned_none node.id)) refl);
@@ -372,12 +359,3 @@ begun family size node endpoint is = record {
         subst (λ (p : Family × ℕ × ℕ). KnowsRight p.0 p.1 p.2 node.share node.history.settlements applied)
         (λ q. (sym is.opened.of.0 q, sym is.opened.of.2 q, sym is.opened.of.1 q))
         (knows_opened family endpoint.seat.nodes endpoint.seat.node is.openings node is.are_openings is.opened is.sound applied none)
-
-    none_there : (batches : List BatchView) → batches ≡ [] → (k : ℕ) (b : BatchView) → slice_get batches k ≡ Some b → ⊥
-    none_there [] none k b there = absurd (cc)
-    none_there (x ∷ xs) none k b there = absurd (cc)
-
--- ---- counts
-
-pub few_cut : (count : ℕ) → (2 ^ 40 ≤ count → ⊥) → count < 2 ^ 40
-few_cut count isnt = elim (cases_lt count (2 ^ 40)) [ inl few ↦ few | inr many ↦ absurd (isnt many) ]

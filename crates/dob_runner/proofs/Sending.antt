@@ -1,29 +1,22 @@
 -- What sending to one node after another does.
-use Rattle.dob_runner.proofs.Common.{◌++◌, ◌+◌, ◌<◌, ◌||◌, ◌∙◌, ◌∷◌, ◌≡◌, ◌≢◌, ◌≤◌, ◌⊎◌, Bool, Err, List, None, Ok, Option, Result, Some, [], ap, arith, false}
+use Rattle.dob_runner.proofs.Common.{◌++◌, ◌+◌, ◌<◌, ◌^◌, ◌||◌, ◌∙◌, ◌∷◌, ◌≡◌, ◌≢◌, ◌≤◌, Bool, Err, List, None, Ok, Option, Result, Some, [], ap, arith, false}
 use Rattle.dob_runner.proofs.Common.{get_or, inl, inr, length, length-append, not, refl, subst, sym, true, ℕ, both_ways, cases_Bool, cases_eq, append-nil}
-use Rattle.dob_runner.proofs.Common.{append_cancel_right, same_Some, slice_get, read_there, BatchView, OutboxView, Cause, HasCut, outbox_to, sent_by, SendEnd}
-use Rattle.dob_runner.proofs.Common.{HasChangedOne, KeepsEndpoint, IsOffered, offered, GoesOn, KeepsRunner, StepsBy, in_slot, CutsFor, CutsLeft, FillsFor}
-use Rattle.dob_runner.proofs.Common.{HasSentOne, HasToSend, IsMoreOut, IsSent, IsToFill, SendsBelow, SendsTo, Endpoint, Runner, Outlet}
-use Rattle.std.specs.Prelude.{vec_len, ◌^◌}
+use Rattle.dob_runner.proofs.Common.{append_cancel_right, same_Some, slice_get_within, slice_get, vec_len, read_there, some_at, BatchView, Cause, HasCut}
+use Rattle.dob_runner.proofs.Common.{outbox_to, sent_by, SendEnd, HasChangedOne, KeepsEndpoint, IsOffered, offered, GoesOn, KeepsRunner, StepsBy, in_slot}
+use Rattle.dob_runner.proofs.Common.{CutsFor, CutsLeft, FillsFor, HasSentOne, HasToSend, IsMoreOut, IsSent, IsToFill, SendsBelow, SendsTo, Endpoint, Runner}
+use Rattle.dob_runner.proofs.Common.{Outlet}
 use Rattle.dob_runner.proofs.Keeping.{endpoint_same, goes_by, goes_same, goes_trans, still_same}
-use Rattle.dob_runner.proofs.Taking.{changed_there, changed_at, changed_else}
+use Rattle.dob_runner.proofs.Links.{changed_there, changed_at, changed_else}
 
 -- ---- to all nodes
 
 -- what is to send, where the outbox and the size are the same
 to_send_still : (small : Bool) (to : ℕ) (b c : Runner) → outbox_to c.node to ≡ outbox_to b.node to → c.batch_size ≡ b.batch_size → HasToSend c to small → HasToSend b to small
-to_send_still small to b c outbox size has =
-    subst (λ (p : OutboxView × ℕ). (p.0.items ≢ []) × ((p.1 ≤ length p.0.items) ⊎ (small ≡ true))) (λ q. (outbox q, size q)) has
+to_send_still small to b c outbox size has = grind arith
 
 sent_still : (small : Bool) (to : ℕ) (b c : Runner) (one : Bool) (before after : Outlet) → outbox_to c.node to ≡ outbox_to b.node to → c.batch_size ≡ b.batch_size →
     IsSent small to b one before after → IsSent small to c one before after
-sent_still small to b c one before after outbox size sent = record {
-  few = sent.few;
-  one = sent.one;
-  none = sent.none;
-  spent = λ unsent out has. sent.spent unsent out (to_send_still small to b c outbox size has);
-  full = sent.full;
-}
+sent_still small to b c one before after outbox size sent = grind (arith, to_send_still)
 
 -- none yet
 pub none_sent : (small : Bool) (r : Runner) → r.failed ≡ None → SendsBelow 0 small r r false
@@ -100,38 +93,22 @@ module _ (endpoint : Endpoint) (to : ℕ) (x : Outlet) (low : to < endpoint.seat
   pub few_there : length (offered x) ≤ 2 ^ 40
   few_there = omega (arith, endpoint.posted to x outlet_at, endpoint.seat.few_posted to low)
 
-  pub slot_full : x.slot ≢ None → (outlet : Outlet) → slice_get endpoint.outlets.items to ≡ Some outlet → outlet.slot ≢ None
-  slot_full some outlet at = subst (λ (o : Outlet). o.slot ≢ None) (same_Some x outlet (sym outlet_at ∙ at)) some
-
-  pub slot_empty : x.slot ≡ None → (outlet : Outlet) → slice_get endpoint.outlets.items to ≡ Some outlet → outlet.slot ≡ None
-  slot_empty none outlet at = subst (λ (o : Outlet). o.slot ≡ None) (same_Some x outlet (sym outlet_at ∙ at)) none
+  -- and what is so of its slot is so of what is found there
+  pub slot_there : (P : Option BatchView → Type 0) → P x.slot → (outlet : Outlet) → slice_get endpoint.outlets.items to ≡ Some outlet → P outlet.slot
+  slot_there P so outlet at = subst (λ (o : Outlet). P o.slot) (same_Some x outlet (sym outlet_at ∙ at)) so
 
 -- nothing is cut
-pub uncut : (to : ℕ) (r : Runner) → r.failed ≡ None → CutsFor to r r false
-uncut to r unfailed = record {
-  goes = goes_same r unfailed;
+pub uncut : (to : ℕ) (old new : Runner) → new.failed ≡ None → new.node ≡ old.node → new.endpoint ≡ old.endpoint → new.family ≡ old.family →
+    new.batch_size ≡ old.batch_size → CutsFor to old new false
+uncut to old new unfailed node endpoint family size = record {
+  goes = goes_by (subst (KeepsEndpoint old.endpoint) (sym endpoint) (endpoint_same old.endpoint)) family size unfailed
+      (ap (λ (m : Endpoint). m.seat.stand.halt) endpoint) (still_same old.endpoint.seat new.endpoint.seat (ap (λ (m : Endpoint). m.seat) endpoint));
   one = λ never. absurd (cc);
-  nothing = λ is. (refl, refl);
-  own = refl;
-  others = λ j other. refl;
-  inlet = refl;
+  nothing = λ is. (node, endpoint);
+  own = ap (λ n. n.own) node;
+  others = λ j other. ap (λ n. outbox_to n j) node;
+  inlet = ap (λ (m : Endpoint). m.inlet) endpoint;
 }
-
--- nor where nothing was left to send
-pub cut_nothing : (to : ℕ) (old new : Runner) → old.failed ≡ None → new.failed ≡ None → new.node ≡ old.node → new.endpoint ≡ old.endpoint → new.family ≡ old.family → new.batch_size ≡ old.batch_size →
-    (outbox_to old.node to).items ≡ [] → CutsLeft to old new false
-cut_nothing to old new going unfailed node endpoint family size empty = (
-  record {
-    goes = goes_by (subst (KeepsEndpoint old.endpoint) (sym endpoint) (endpoint_same old.endpoint)) family size unfailed
-        (ap (λ (m : Endpoint). m.seat.halt) endpoint) (still_same old.endpoint.seat new.endpoint.seat (ap (λ (m : Endpoint). m.seat) endpoint));
-    one = λ never. absurd (cc);
-    nothing = λ is. (node, endpoint);
-    own = ap (λ n. n.own) node;
-    others = λ j other. ap (λ n. outbox_to n j) node;
-    inlet = ap (λ (m : Endpoint). m.inlet) endpoint;
-  },
-  (λ is. empty, λ is. refl),
-)
 
 -- and one is cut
 pub cut_more : (to size : ℕ) (batch : BatchView) (old new : Runner) → GoesOn old new → HasCut to size batch old.node new.node →
@@ -152,16 +129,7 @@ cut_more to size batch old new goes cut offer inlet some = (
 -- what is cut fills the slot that was to be filled
 pub fills_of : (to : ℕ) (small : Bool) (old new : Runner) (r : Result Bool Cause) → IsToFill old to small → StepsBy (CutsLeft to) old new r →
     StepsBy (FillsFor to small) old new r
-fills_of to small old new (Ok did) fill cuts = (
-  cuts.0,
-  (
-    λ is. fill,
-    λ again. elim (cases_Bool did) [
-      | inl is ↦ is
-      | inr none ↦ absurd (fill.0.0 (cuts.1.0 none))
-    ],
-  ),
-)
+fills_of to small old new (Ok did) fill cuts = grind arith
 fills_of to small old new (Err why) fill broken = broken
 
 -- ---- and its way
@@ -291,10 +259,9 @@ module _ (to : ℕ) (small : Bool) (old mid : Runner) (any : Bool) (apart : to �
     ]
 
     was_there : (before : Outlet) × (slice_get old.endpoint.outlets.items to ≡ Some before)
-    was_there = elim (cases_Bool any) [
-      | inl did ↦ ((fills.0.one did).1.0, (fills.0.one did).1.2)
-      | inr none ↦ (offer.0, ap (λ (m : Endpoint). slice_get m.outlets.items to) (sym (fills.0.nothing none).1) ∙ offer.2)
-    ]
+    was_there =
+        let low = slice_get_within mid.endpoint.outlets.items to offer.0 offer.2 in
+        some_at old.endpoint.outlets.items to (omega (arith, low, mid.endpoint.outlets_len, old.endpoint.outlets_len, fills.0.goes.keeps.endpoint.seat.nodes))
 
     one_more : (after : Outlet) → slice_get new.endpoint.outlets.items to ≡ Some after → after.slot ≡ None → HasSentOne to old.endpoint.outlets.items new.endpoint.outlets.items
     one_more after is out =

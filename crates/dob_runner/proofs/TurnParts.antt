@@ -1,12 +1,16 @@
--- What the parts of a turn do, by what their steps do.
-use Rattle.dob_runner.proofs.Common.{◌-◌, ◌<◌, ◌↔◌, ◌∙◌, ◌≡◌, ◌≢◌, ◌≤◌, ◌⊎◌, Bool, None, Ok, Option, Result, Some, ap, arith, false, inl, inr, length, not}
-use Rattle.dob_runner.proofs.Common.{refl, subst, sym, true, ℕ, both_ways, cases_Bool, cases_eq, cases_lt, same_Some, slice_get_within, Cause}
-use Rattle.dob_runner.proofs.Common.{NodeView, IsExpanded, HistoryView, Node, NodeSeat, GoesOn, ExpandsOne, ExpandsSome, IsAbove, IsHeldUp, IsLevel, IsWithin}
-use Rattle.dob_runner.proofs.Common.{SendsSmall, EndsTurn, GateIsTold, HasSameWork, SeeksToken, Runner}
-use Rattle.std.proofs.Common.{IsTrue, MatchOption, slice_get}
+-- What the parts of a turn do, by what their steps do, how many batches go over each link, and turns one after another.
+use Rattle.dob_runner.proofs.Common.{◌+◌, ◌-◌, ◌<◌, ◌↔◌, ◌∙◌, ◌≡◌, ◌≢◌, ◌≤◌, ◌⊎◌, Bool, Err, IsTrue, List, MatchOption, None, Ok, Option, Result, Some, ap}
+use Rattle.dob_runner.proofs.Common.{arith, false, inl, inr, length, not, refl, subst, sym, true, ℕ, both_ways, cases_Bool, cases_eq, cases_lt, same_Some}
+use Rattle.dob_runner.proofs.Common.{slice_get_within, IfErr, MatchResult, slice_get, some_at, Cause, Memory, NodeView, IsExpanded, HistoryView, Halt}
+use Rattle.dob_runner.proofs.Common.{NodeSeat, taken_by, KeepsEndpoint, offered, GateIsAsked, GoesOn, HasFailed, IsReasonFor, IsReasoned, KeepsRunner, StepsBy}
+use Rattle.dob_runner.proofs.Common.{says_no, AddsFew, ExpandsOne, ExpandsSome, IsAbove, IsHeldUp, IsLevel, IsWithin, RunnerTakesBatch, SendsAll, SendsSmall}
+use Rattle.dob_runner.proofs.Common.{Works, EndsTurn, GateIsTold, HasSameWork, HasTurned, SeeksToken, Endpoint, Runner, Inlet, Outlet}
 use Rattle.dob_node.specs.Levels.{level_of, HasLevel}
 use Rattle.dob_runner.specs.TurnToken.{HasLooked, HandsOn, MovesToken}
-use Rattle.dob_runner.proofs.Keeping.{goes_trans}
+use Rattle.dob_runner.proofs.Keeping.{goes_trans, reasoned_failed, reasoned_unfailed}
+use Rattle.dob_runner.specs.declared.turn_loop.Until.{Until}
+use Rattle.dob_runner.specs.declared.turn_loop.Until.TheVariants.{Turns, Halted}
+use Rattle.dob_runner.specs.TurnLoop.{IsThrough, EndsBy, IsLetOn}
 
 -- ---- answers
 
@@ -15,46 +19,29 @@ same_answer did other is = cc
 
 -- ---- the token
 
--- it was looked for and isn't there
-pub token_away : (old found : NodeSeat) (did : Bool) → did ≡ false → HasLooked old found → (IsTrue did ↔ (found.token ≢ None)) → MovesToken old found false
-token_away old found did is looked known = record {
+-- it was looked for, and moved just where it is there
+pub token_by : (old found new : NodeSeat) (did is_there : Bool) → did ≡ is_there → HasLooked old found → (IsTrue did ↔ (found.stand.token ≢ None)) →
+    (is_there ≡ true → HandsOn found new) → (is_there ≡ false → new ≡ found) → MovesToken old new is_there
+token_by old found new did is_there is looked known moved stayed = record {
   found = found;
   looked = looked;
-  known = subst (λ (b : Bool). IsTrue b ↔ (found.token ≢ None)) is known;
-  moved = λ yes. absurd (cc);
-  stayed = λ none. refl;
-}
-
--- or it is, and was moved
-pub token_moved : (old found new : NodeSeat) (did : Bool) → did ≡ true → HasLooked old found → (IsTrue did ↔ (found.token ≢ None)) → HandsOn found new →
-    MovesToken old new true
-token_moved old found new did is looked known on = record {
-  found = found;
-  looked = looked;
-  known = subst (λ (b : Bool). IsTrue b ↔ (found.token ≢ None)) is known;
-  moved = λ yes. on;
-  stayed = λ none. absurd (cc);
+  known = subst (λ (b : Bool). IsTrue b ↔ (found.stand.token ≢ None)) is known;
+  moved = moved;
+  stayed = stayed;
 }
 
 -- a turn that did nothing ends with the look for it
 pub ends_idle : (did : Bool) (old new : Runner) (found : Bool) → did ≡ false → SeeksToken old new found → EndsTurn did old new
-ends_idle did old new found idle seeks = record {
-  same = seeks.same;
-  busy = λ busy. absurd (both_ways did idle busy);
-  idle = λ _. (found, seeks);
-}
+ends_idle did old new found idle seeks = grind arith
 
 -- ---- settlements
 
 -- no fewer are expanded than before
 more_expanded : (old new : Runner) (did : Bool) (first : ℕ) → ExpandsOne old new did → first < old.node.expanded → first < new.node.expanded
-more_expanded old new did first one low = elim (cases_Bool did) [
-  | inl is ↦ (let more = one.expanded is in omega (arith, more.expanded, low))
-  | inr none ↦ (let same = ap (λ (n : Node). n.expanded) (one.nothing none) in omega (arith, same, low))
-]
+more_expanded old new did first one low = grind arith
 
 -- none is above the level where none is expanded
-within_none : (limit : ℕ) (node : NodeView) → IsWithin limit node node
+pub within_none : (limit : ℕ) (node : NodeView) → IsWithin limit node node
 within_none limit node = λ number s from below there. absurd (omega (arith, from, below))
 
 -- nor where the next isn't
@@ -69,28 +56,17 @@ within_more limit old mid new so_far low step = λ number s from below there.
       | inr other ↦ so_far number s from (omega (arith, below, step.expanded, other)) here
     ]
 
-within_one : (limit : ℕ) (old : NodeView) (mid new : Runner) (did above : Bool) → IsWithin limit old mid.node → above ≡ false →
+pub within_one : (limit : ℕ) (old : NodeView) (mid new : Runner) (did above : Bool) → IsWithin limit old mid.node → above ≡ false →
     (IsAbove limit mid.node → above ≡ true) → ExpandsOne mid new did → IsWithin limit old new.node
 within_one limit old mid new did above so_far low is_above one = elim (cases_Bool did) [
   | inl is ↦ within_more limit old mid.node new.node so_far (λ it. both_ways above low (is_above it)) (one.expanded is)
   | inr none ↦ subst (λ (n : NodeView). IsWithin limit old n) (sym (one.nothing none)) so_far
 ]
 
-pub within_first : (limit : ℕ) (old new : Runner) (did above : Bool) → above ≡ false → (IsAbove limit old.node → above ≡ true) → ExpandsOne old new did →
-    IsWithin limit old.node new.node
-within_first limit old new did above low is_above one = within_one limit old.node old new did above (within_none limit old.node) low is_above one
-
 -- none is expanded, for some reason
 pub none_expanded : (limit : ℕ) (old new : Runner) → GoesOn old new → new.endpoint ≡ old.endpoint → new.node ≡ old.node →
     IsHeldUp old ⊎ IsAbove limit old.node ⊎ (old.node.expanded ≡ length old.node.history.settlements) → ExpandsSome limit old new false
-none_expanded limit old new goes endpoint same why = record {
-  goes = goes;
-  endpoint = endpoint;
-  done = (λ _. why, λ _. refl);
-  expanded = λ never. absurd (cc);
-  within = subst (λ (n : NodeView). IsWithin limit old.node n) (sym same) (within_none limit old.node);
-  nothing = λ _. same;
-}
+none_expanded limit old new goes endpoint same why = grind (arith, within_none)
 
 -- some are, where nothing held the runner up, the next wasn't above the level and there was one
 pub some_expanded : (limit : ℕ) (old new : Runner) (held above any : Bool) → GoesOn old new → new.endpoint ≡ old.endpoint → old.node.expanded < new.node.expanded →
@@ -195,5 +171,90 @@ small_later took small limit level (Some was) before node here low then is = (
 -- what was told of the work is told of the turn, since its look and its rest expand nothing
 pub told_of : (Told : ℕ → ℕ → Type 0) (old seen worked new : Runner) → HasSameWork old seen →
     Told seen.endpoint.seat.node (worked.node.expanded - seen.node.expanded) → new.node ≡ worked.node → GateIsTold Told old new
-told_of Told old seen worked new same told node = inr (subst (λ (p : ℕ × ℕ × ℕ). Told p.0 (p.1 - p.2))
-    (λ q. (same.links.seat.node q, sym (ap (λ (n : Node). n.expanded) node) q, ap (λ (n : Node). n.expanded) same.node q)) told)
+told_of Told old seen worked new same told node = grind arith
+
+-- ---- how many batches go over each link in so many turns
+
+-- and one more in one turn more
+pub adds_more : (count : ℕ) (a b c : Endpoint) → KeepsEndpoint a b → AddsFew count a b → AddsFew 1 b c → AddsFew (count + 1) a c
+adds_more count a b c kept few one = record {
+  out = λ j before after was is.
+      let there = some_at b.outlets.items j (omega (arith, slice_get_within a.outlets.items j before was, a.outlets_len, b.outlets_len, kept.seat.nodes)) in
+      omega (arith, few.out j before there.0 was there.1, one.out j there.0 after there.1 is);
+  into = omega (arith, few.into, one.into);
+}
+
+-- one where batches were taken, and then others were sent
+pub adds_one : (a b d e : Runner) (small took sent : Bool) → RunnerTakesBatch a b took → d.endpoint ≡ b.endpoint → SendsAll small d e sent → AddsFew 1 a.endpoint e.endpoint
+adds_one a b d e small took sent takes same sends = record {
+  out = λ j before after was is.
+      let there : slice_get d.endpoint.outlets.items j ≡ Some before =
+      ap (λ (m : Endpoint). slice_get m.outlets.items j) same ∙ ap (λ (l : List Outlet). slice_get l j) takes.outlets ∙ was in
+      let low : j < d.endpoint.seat.nodes = omega (arith, slice_get_within d.endpoint.outlets.items j before there, d.endpoint.outlets_len) in
+      elim (cases_eq j d.endpoint.seat.node) [
+        | inl itself ↦
+            let still : slice_get e.endpoint.outlets.items j ≡ slice_get d.endpoint.outlets.items j =
+            subst (λ (k : ℕ). slice_get e.endpoint.outlets.items k ≡ slice_get d.endpoint.outlets.items k) (sym itself) sends.itself in
+            let alike : before ≡ after = same_Some before after (sym there ∙ sym still ∙ is) in
+            omega (arith, ap (λ (o : Outlet). length (offered o)) alike)
+        | inr other ↦ (sends.sent j low other before after there is).1.few
+      ];
+  into = omega (
+    arith,
+    takes.taken.few,
+    ap (λ (m : Endpoint). length (taken_by m.inlet.end)) same,
+    ap (λ (i : Inlet). length (taken_by i.end)) sends.inlet,
+  );
+}
+
+-- a turn's work is a step of the runner
+pub works_go : (a b : Runner) (r : Result Bool Cause) → StepsBy Works a b r → MatchResult r (λ _. GoesOn a b) (HasFailed a b)
+works_go a b (Ok did) works = works.goes
+works_go a b (Err why) broken = broken.failed
+
+-- and so is a turn that may be held back
+pub turn_goes : (a b : Runner) (r : Result Bool Cause) → MatchResult r (Works a b) (HasFailed a b) → MatchResult r (λ _. GoesOn a b) (HasFailed a b)
+turn_goes a b (Ok did) works = works.goes
+turn_goes a b (Err why) failed = failed
+
+-- where no turn failed
+pub unfailed_few : (count : ℕ) (a b : Runner) (why : Cause) → b.failed ≡ Some why → b.failed ≡ None → AddsFew count a.endpoint b.endpoint
+unfailed_few count a b why failed unfailed = absurd (let both = sym failed ∙ unfailed in cc)
+
+-- ---- turns one after another: what each keeps, and what a runner is when it has ended
+
+-- a runner that has failed is through with its turns, whatever they were
+pub through : (until : Until) (old new : Runner) (why : Cause) → HasFailed old new why → IsThrough until old new
+through (Turns count) old new why failed = λ unfailed. unfailed_few count old new why failed.cause unfailed
+through Halted old new why failed = failed.stopped
+
+-- and need not have been let on
+let_failed : (Says : ℕ → Bool → Type 0) (until : Until) (old new : Runner) (why : Cause) → HasFailed old new why → IsLetOn Says until old new
+let_failed Says (Turns count) old new why failed = tt
+let_failed Says Halted old new why failed = λ going unfailed. absurd (let both = sym failed.cause ∙ unfailed in cc)
+
+-- where it makes a turn and doesn't fail the gate lets it on
+pub let_by_turn : (Says : ℕ → Bool → Type 0) (a b : Runner) (r : Result Halt Cause) → MatchResult r (HasTurned a b) (HasFailed a b) →
+    GateIsAsked Says a.endpoint.seat.node r → b.failed ≡ None → Says b.endpoint.seat.node true
+let_by_turn Says a b (Ok halt) turned asked unfailed = elim (cases_Bool asked.0) [
+  | inl said ↦ subst (λ (p : ℕ × Bool). Says p.0 p.1) (λ i. (sym turned.keeps.endpoint.seat.node i, said i)) asked.1
+  | inr none ↦ absurd (let held = asked.2.0 none in cc)
+]
+let_by_turn Says a b (Err why) failed asked unfailed = absurd (let both = sym failed.cause ∙ unfailed in cc)
+
+-- one that failed for lack of memory has ended
+pub ended_without_memory : (Says : ℕ → Bool → Type 0) (until : Until) (old new : Runner) → HasFailed old new Memory → EndsBy Says until old new
+ended_without_memory Says until old new failed = (
+  (failed.keeps, through until old new Memory failed, reasoned_failed (says_no Says) new Memory failed.cause tt),
+  let_failed Says until old new Memory failed,
+)
+
+-- a step of a runner, whether it fails or not, keeps the runner where it was
+pub steps_keep : {A : Type 0} (a b : Runner) (r : Result A Cause) → MatchResult r (λ _. GoesOn a b) (HasFailed a b) → KeepsRunner a b
+steps_keep a b (Ok x) goes = goes.keeps
+steps_keep a b (Err why) failed = failed.keeps
+
+pub steps_reasoned : {A : Type 0} (No : ℕ → Type 0) (a b : Runner) (r : Result A Cause) → MatchResult r (λ _. GoesOn a b) (HasFailed a b) →
+    IfErr r (IsReasonFor No b) → IsReasoned No b
+steps_reasoned No a b (Ok x) goes reason = reasoned_unfailed No b goes.unfailed
+steps_reasoned No a b (Err why) failed reason = reasoned_failed No b why failed.cause reason

@@ -22,7 +22,7 @@ pub record HasSameLinks (old new : Endpoint) : Type 0 where
 -- and its node is of the same colour
 pub record HasSameLinksAndColour (old new : Endpoint) : Type 0 where
   pub links : HasSameLinks old new
-  pub colour : new.seat.black ≡ old.seat.black
+  pub colour : new.seat.stand.black ≡ old.seat.stand.black
 
 -- It is noted why its node failed, and its seat has said so: the seat moved no token, and found that the run goes on no more, or, if
 -- the node was white, maybe its end.
@@ -30,5 +30,5 @@ pub record FailsFor (old new : Endpoint) (failed : Option Cause) (why : Cause) :
   pub cause : failed ≡ Some why
   pub still : MovesNothing old.seat new.seat
   pub keeps : HasSameLinksAndColour old new
-  pub stopped : new.seat.halt ≢ Running
-  pub black : old.seat.black ≡ true → new.seat.halt ≢ Ended
+  pub stopped : new.seat.stand.halt ≢ Running
+  pub black : old.seat.stand.black ≡ true → new.seat.stand.halt ≢ Ended

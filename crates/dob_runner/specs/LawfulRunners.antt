@@ -63,4 +63,4 @@ pub record IsLawfulRunner (family : Family) (size : ℕ) (node : Node) (endpoint
   pub unused : (outlet : Outlet) → slice_get endpoint.outlets.items endpoint.seat.node ≡ Some outlet → offered outlet ≡ []
   pub own : AreLast (planned node node.id) node.own
   pub knows : KnowsRight node.family node.n node.id node.share node.history.settlements (applied_from node endpoint.inlet)
-  pub white : endpoint.seat.black ≡ false → IsIdle node × AreOut endpoint.outlets.items
+  pub white : endpoint.seat.stand.black ≡ false → IsIdle node × AreOut endpoint.outlets.items

@@ -29,7 +29,7 @@ pub record KeepsRunner (old new : Runner) : Type 0 where
 pub record GoesOn (old new : Runner) : Type 0 where
   pub keeps : KeepsRunner old new
   pub unfailed : new.failed ≡ None
-  pub halt : new.endpoint.seat.halt ≡ old.endpoint.seat.halt
+  pub halt : new.endpoint.seat.stand.halt ≡ old.endpoint.seat.stand.halt
   pub still : MovesNothing old.endpoint.seat new.endpoint.seat
 
 -- it goes on, or its seat has found that the run doesn't
@@ -41,7 +41,7 @@ pub record GoesRound (old new : Runner) : Type 0 where
 pub record HasFailed (old new : Runner) (why : Cause) : Type 0 where
   pub keeps : KeepsRunner old new
   pub cause : new.failed ≡ Some why
-  pub stopped : new.endpoint.seat.halt ≢ Running
+  pub stopped : new.endpoint.seat.stand.halt ≢ Running
 
 -- An item of the last batch that came from another node can't be applied, for that cause; just those before it were.
 pub record HasRefused (runner : Runner) (why : Cause) : Type 0 where
@@ -120,7 +120,7 @@ pub record IsNew (family : Family) (node : Node) (endpoint : Endpoint) : Type 0 
   pub are_openings : AreOpenings family openings
   pub opened : IsOpened openings family endpoint.seat.node endpoint.seat.nodes node
   pub sound : IsSound node
-  pub black : endpoint.seat.black ≡ true
-  pub running : endpoint.seat.halt ≡ Running
+  pub black : endpoint.seat.stand.black ≡ true
+  pub running : endpoint.seat.stand.halt ≡ Running
   pub unsent : (to : ℕ) (outlet : Outlet) → slice_get endpoint.outlets.items to ≡ Some outlet → offered outlet ≡ []
   pub untaken : worked endpoint.inlet ≡ []

@@ -24,7 +24,7 @@ until_turns count = Turns count
 -- the runner was to make turns for so long, and has: with so many turns over each link went at most so many batches, if none failed
 abbrev pub IsThrough : Until → Runner → Runner → Type 0
 IsThrough (Turns count) old new = new.failed ≡ None → AddsFew count old.endpoint new.endpoint
-IsThrough Halted old new = new.endpoint.seat.halt ≢ Running
+IsThrough Halted old new = new.endpoint.seat.stand.halt ≢ Running
 
 -- it keeps its place in its crew, and has; where it failed it has a reason, with a gate that may say no to some nodes
 abbrev pub Ends : (ℕ → Type 0) → Until → Runner → Runner → Type 0
@@ -33,7 +33,7 @@ Ends No until old new = KeepsRunner old new × IsThrough until old new × IsReas
 -- a gate that may answer so let its node go on, where its run went on and it hasn't failed
 abbrev pub IsLetOn : (ℕ → Bool → Type 0) → Until → Runner → Runner → Type 0
 IsLetOn Says (Turns count) old new = ⊤
-IsLetOn Says Halted old new = old.endpoint.seat.halt ≡ Running → new.failed ≡ None → Says new.endpoint.seat.node true
+IsLetOn Says Halted old new = old.endpoint.seat.stand.halt ≡ Running → new.failed ≡ None → Says new.endpoint.seat.node true
 
 -- it has made its turns by such a gate
 abbrev pub EndsBy : (ℕ → Bool → Type 0) → Until → Runner → Runner → Type 0

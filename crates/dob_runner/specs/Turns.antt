@@ -41,8 +41,8 @@ pub record HasWorked (old new : Runner) : Type 0 where
 -- It has looked at the halt, and done nothing else.
 pub record HasSeen (old new : Runner) : Type 0 where
   pub same : HasSameWork old new
-  pub observed : ObservesHalt old.endpoint.seat new.endpoint.seat new.endpoint.seat.halt
-  pub told : TellsHalt new.endpoint.seat new.endpoint.seat.halt
+  pub observed : ObservesHalt old.endpoint.seat new.endpoint.seat new.endpoint.seat.stand.halt
+  pub told : TellsHalt new.endpoint.seat new.endpoint.seat.stand.halt
   pub still : MovesNothing old.endpoint.seat new.endpoint.seat
 
 -- It has made a turn, and the halt is the one that its seat knows: first it looked at the halt word; where it found that the run
@@ -50,16 +50,16 @@ pub record HasSeen (old new : Runner) : Type 0 where
 pub record HasTurned (old new : Runner) (halt : Halt) : Type 0 where
   pub keeps : KeepsRunner old new
   pub unfailed : new.failed ≡ None
-  pub halt_is : halt ≡ new.endpoint.seat.halt
+  pub halt_is : halt ≡ new.endpoint.seat.stand.halt
   pub looked : NodeSeat
   pub same : IsSameSeat old.endpoint.seat looked
-  pub observed : ObservesHalt old.endpoint.seat looked looked.halt
-  pub first : looked.halt ≢ Running → halt ≡ looked.halt
+  pub observed : ObservesHalt old.endpoint.seat looked looked.stand.halt
+  pub first : looked.stand.halt ≢ Running → halt ≡ looked.stand.halt
   pub before : Runner
   pub before_is : before.endpoint.seat ≡ looked
   pub seen : HasSeen old before
-  pub stopped : looked.halt ≢ Running → new ≡ before
-  pub went : looked.halt ≡ Running → HasWorked before new
+  pub stopped : looked.stand.halt ≢ Running → new ≡ before
+  pub went : looked.stand.halt ≡ Running → HasWorked before new
 
 -- what the node has expanded, if anything, a gate was told that may be told so
 abbrev pub GateIsTold : (ℕ → ℕ → Type 0) → Runner → Runner → Type 0

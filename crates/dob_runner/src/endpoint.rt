@@ -4,7 +4,7 @@ ghost use Rattle.std.specs.Prelude.{slice_index, vec_len, IfSome, IfNone};
 ghost use Rattle.dob_safra.specs.declared.event.RingEvent.TheVariants.{Post};
 ghost use Rattle.dob_board.specs.Views.{posts_more};
 ghost use Rattle.dob_board.specs.Histories.{MakesEvent};
-ghost use Rattle.dob_board.specs.Seats.{TakesOne, TakesNone, MovesNothing, stand_of, witnessed_by};
+ghost use Rattle.dob_board.specs.Seats.{TakesOne, TakesNone, MovesNothing, witnessed_by};
 ghost use Rattle.dob_chan.specs.Ends.{senders_of};
 ghost use Rattle.dob_update.specs.Batches.{BatchView};
 ghost use Rattle.dob_runner.specs.Links.{offered, worked};
@@ -24,8 +24,8 @@ pub struct Endpoint {
     pub ghost outlets_len: { vec_len outlets ≡ seat.nodes },
     pub ghost senders: { senders_of inlet.end ≡ seat.nodes },
     pub ghost own: { AreOwn seat.node outlets.items },
-    pub ghost posted: { AreCounts offered seat.posted.items outlets.items },
-    pub ghost taken: { AreBatchesTaken seat.nodes seat.taken.items inlet },
+    pub ghost posted: { AreCounts offered seat.stand.posted outlets.items },
+    pub ghost taken: { AreBatchesTaken seat.nodes seat.stand.taken inlet },
 }
 
 impl Endpoint {
@@ -37,8 +37,8 @@ impl Endpoint {
         requires outlets { vec_len outlets ≡ seat.nodes }
         requires senders { senders_of inlet.end ≡ seat.nodes }
         requires own { AreOwn seat.node outlets.items }
-        requires posted { AreCounts offered seat.posted.items outlets.items }
-        requires taken { AreBatchesTaken seat.nodes seat.taken.items inlet }
+        requires posted { AreCounts offered seat.stand.posted outlets.items }
+        requires taken { AreBatchesTaken seat.nodes seat.stand.taken inlet }
         ensures seat { result.seat ≡ seat }
         ensures outlets { result.outlets ≡ outlets }
         ensures inlet { result.inlet ≡ inlet }
@@ -55,13 +55,13 @@ impl Endpoint {
     pub(crate) fn post(&mut self, to: usize, batch: Batch)
         requires node { to < self.old.seat.nodes }
         requires other { to ≢ self.old.seat.node }
-        requires black { self.old.seat.black ≡ true }
-        requires few { slice_index self.old.seat.posted.items to < 2 ^ 40 }
+        requires black { self.old.seat.stand.black ≡ true }
+        requires few { slice_index self.old.seat.stand.posted to < 2 ^ 40 }
         requires own { batch.from ≡ self.old.seat.node }
         requires empty { (outlet : Outlet) → slice_get self.old.outlets.items to ≡ Some outlet → outlet.slot ≡ None }
-        ensures counted { stand_of self.new.seat ≡ posts_more (stand_of self.old.seat) to }
+        ensures counted { self.new.seat.stand ≡ posts_more self.old.seat.stand to }
         ensures event { MakesEvent self.old.seat.nodes self.old.seat.node (Post self.old.seat.node to)
-            (stand_of self.old.seat) (stand_of self.new.seat) (witnessed_by self.old.seat) (witnessed_by self.new.seat) }
+            self.old.seat.stand self.new.seat.stand (witnessed_by self.old.seat) (witnessed_by self.new.seat) }
         ensures offered { HasChangedOne (λ old new. (new.end ≡ old.end) × (offered new ≡ offered old ++ batch ∷ [])) to self.old.outlets.items self.new.outlets.items }
         ensures inlet { self.new.inlet ≡ self.old.inlet }
         ensures keeps { KeepsEndpoint self.old self.new }
@@ -83,8 +83,8 @@ impl Endpoint {
         ensures worked { IfSome result (λ batch. (self.new.inlet.end ≡ self.old.inlet.end) × (worked self.new.inlet ≡ worked self.old.inlet ++ batch ∷ [])) }
         ensures kept { IfNone result (self.new.inlet ≡ self.old.inlet) }
         ensures refused { IfNone result ((seen : ℕ) × TakesNone self.old.seat self.new.seat from seen) }
-        ensures uncounted { IfNone result ((self.new.seat.taken.items ≡ self.old.seat.taken.items) × (self.new.seat.black ≡ self.old.seat.black)) }
-        ensures halt { self.new.seat.halt ≡ self.old.seat.halt }
+        ensures uncounted { IfNone result ((self.new.seat.stand.taken ≡ self.old.seat.stand.taken) × (self.new.seat.stand.black ≡ self.old.seat.stand.black)) }
+        ensures halt { self.new.seat.stand.halt ≡ self.old.seat.stand.halt }
         ensures still { MovesNothing self.old.seat self.new.seat }
         ensures keeps { KeepsEndpoint self.old self.new }
     {

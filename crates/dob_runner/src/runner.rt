@@ -26,8 +26,8 @@ pub struct Runner {
     pub failed: Option<Cause>,
     pub(crate) pace: Option<Pace>,
     pub(crate) pause: Pause,
-    pub ghost going: { endpoint.seat.halt ≡ Running → failed ≡ None },
-    pub ghost own: { endpoint.seat.halt ≡ Failed endpoint.seat.node → failed ≢ None },
+    pub ghost going: { endpoint.seat.stand.halt ≡ Running → failed ≡ None },
+    pub ghost own: { endpoint.seat.stand.halt ≡ Failed endpoint.seat.node → failed ≢ None },
     pub ghost agrees: { (why : Cause) → node.failed ≡ Some why → failed ≡ Some why },
-    pub ghost lawful: { (failed ≡ None) ⊎ (endpoint.seat.halt ≡ Ended) ⊎ IsSpared failed → IsLawfulRunner family batch_size node endpoint } by { Π_prop (λ _. IsLawfulRunner-prop family batch_size node endpoint) },
+    pub ghost lawful: { (failed ≡ None) ⊎ (endpoint.seat.stand.halt ≡ Ended) ⊎ IsSpared failed → IsLawfulRunner family batch_size node endpoint } by { Π_prop (λ _. IsLawfulRunner-prop family batch_size node endpoint) },
 }

@@ -56,9 +56,9 @@ impl Runner {
 
     /// Whether the runner's seat has seen that the run ended or failed.
     pub fn stopped(&self) -> bool
-        ensures { IsTrue result ↔ (self.now.endpoint.seat.halt ≢ Running) }
+        ensures { IsTrue result ↔ (self.now.endpoint.seat.stand.halt ≢ Running) }
     {
-        self.endpoint.seat.halt != Halt::Running
+        self.endpoint.seat.stand.halt != Halt::Running
     }
 
     /// Why the runner has failed, if it has.
@@ -93,7 +93,7 @@ impl Runner {
         classes: &Classes,
         gate: &G,
     ) -> Result<Halt, Cause>
-        requires running { self.old.endpoint.seat.halt ≡ Running }
+        requires running { self.old.endpoint.seat.stand.halt ≡ Running }
         requires family { classes.now.family ≡ self.old.family }
         ensures turned { MatchResult result (HasTurned self.old self.new) (HasFailed self.old self.new) }
         ensures asked { GateIsAsked (G.says gate.now) self.old.endpoint.seat.node result }
@@ -111,7 +111,7 @@ impl Runner {
         };
         let did = self.work_and_tell(rt, classes, gate)?;
         self.ends_turn(rt, did);
-        Ok(self.endpoint.seat.halt)
+        Ok(self.endpoint.seat.stand.halt)
     }
 
     // Asks the gate whether the runner may go on. One that may not gives up, and has done nothing else.
@@ -133,7 +133,7 @@ impl Runner {
         requires { self.old.failed ≡ None }
         ensures goes { GoesRound self.old self.new }
         ensures seen { HasSeen self.old self.new }
-        ensures halt { result ≡ self.new.endpoint.seat.halt }
+        ensures halt { result ≡ self.new.endpoint.seat.stand.halt }
     {
         self.endpoint.halted()
     }

@@ -41,8 +41,8 @@ impl Runner {
         requires unfailed { self.old.failed ≡ None }
         requires family { classes.now.family ≡ self.old.family }
         ensures keeps { KeepsRunner self.old self.new }
-        ensures stopped { self.new.endpoint.seat.halt ≢ Running }
-        ensures let_on { self.old.endpoint.seat.halt ≡ Running → self.new.failed ≡ None → G.says gate.now self.new.endpoint.seat.node true }
+        ensures stopped { self.new.endpoint.seat.stand.halt ≢ Running }
+        ensures let_on { self.old.endpoint.seat.stand.halt ≡ Running → self.new.failed ≡ None → G.says gate.now self.new.endpoint.seat.node true }
         ensures reasoned { IsReasoned (says_no (G.says gate.now)) self.new }
     {
         for _ in rt.forever() {

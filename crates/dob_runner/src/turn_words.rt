@@ -13,10 +13,10 @@ use dob_board::Halt;
 impl Endpoint {
     // Whether the board's token is at the node, which knows it from then on until it passes it.
     fn finds_token(&mut self) -> bool
-        ensures found { IsTrue result ↔ (self.new.seat.token ≢ None) }
+        ensures found { IsTrue result ↔ (self.new.seat.stand.token ≢ None) }
         ensures looked { HasLooked self.old.seat self.new.seat }
         ensures keeps { HasSameLinksAndColour self.old self.new }
-        ensures halt { self.new.seat.halt ≡ self.old.seat.halt }
+        ensures halt { self.new.seat.stand.halt ≡ self.old.seat.stand.halt }
     {
         let token = self.seat.token();
         token.at == self.seat.node
@@ -27,7 +27,7 @@ impl Endpoint {
     pub(crate) fn move_token(&mut self) -> bool
         ensures moves { MovesToken self.old.seat self.new.seat result }
         ensures links { HasSameLinks self.old self.new }
-        ensures own { KnewOwnFailure self.old.seat self.new.seat.halt }
+        ensures own { KnewOwnFailure self.old.seat self.new.seat.stand.halt }
     {
         if !self.finds_token() {
             return false;
@@ -45,9 +45,9 @@ impl Endpoint {
     pub(crate) fn fail(&mut self)
         ensures still { MovesNothing self.old.seat self.new.seat }
         ensures keeps { HasSameLinksAndColour self.old self.new }
-        ensures stopped { self.new.seat.halt ≢ Running }
-        ensures stays { self.old.seat.halt ≢ Running → self.new.seat.halt ≡ self.old.seat.halt }
-        ensures black { self.old.seat.black ≡ true → self.new.seat.halt ≢ Ended }
+        ensures stopped { self.new.seat.stand.halt ≢ Running }
+        ensures stays { self.old.seat.stand.halt ≢ Running → self.new.seat.stand.halt ≡ self.old.seat.stand.halt }
+        ensures black { self.old.seat.stand.black ≡ true → self.new.seat.stand.halt ≢ Ended }
     {
         let _ = self.seat.fail();
     }
@@ -55,12 +55,12 @@ impl Endpoint {
     // Whether the run goes on, as the board says now: exactly if no node has failed and no end was announced so far. It says that
     // the node itself failed only if the seat knew that.
     pub(crate) fn halted(&mut self) -> Halt
-        ensures halt { result ≡ self.new.seat.halt }
+        ensures halt { result ≡ self.new.seat.stand.halt }
         ensures keeps { HasSameLinksAndColour self.old self.new }
-        ensures stays { self.old.seat.halt ≢ Running → self.new.seat.halt ≡ self.old.seat.halt }
-        ensures own { KnewOwnFailure self.old.seat self.new.seat.halt }
-        ensures observed { ObservesHalt self.old.seat self.new.seat self.new.seat.halt }
-        ensures told { TellsHalt self.new.seat self.new.seat.halt }
+        ensures stays { self.old.seat.stand.halt ≢ Running → self.new.seat.stand.halt ≡ self.old.seat.stand.halt }
+        ensures own { KnewOwnFailure self.old.seat self.new.seat.stand.halt }
+        ensures observed { ObservesHalt self.old.seat self.new.seat self.new.seat.stand.halt }
+        ensures told { TellsHalt self.new.seat self.new.seat.stand.halt }
     {
         self.seat.halted()
     }

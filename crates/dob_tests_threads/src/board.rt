@@ -14,7 +14,11 @@ const ROUNDS: u32 = 100_000;
 fn post_if_it_may(seat: &mut NodeSeat, to: usize)
     ensures { IsSameSeat seat.old seat.new }
 {
-    if to < seat.nodes && to != seat.node && seat.black && seat.posted[to] < 1 << 40 {
+    if to < seat.nodes
+        && to != seat.node
+        && seat.stand.black
+        && seat.stand.posted.get(to) < 1 << 40
+    {
         seat.post(to);
     }
 }
@@ -90,7 +94,8 @@ fn sees_a_post(rt: &impl Abort, first: &mut NodeSeat, second: &mut NodeSeat)
     ensures second { IsSameSeat second.old second.new }
 {
     post_if_it_may(first, 1);
-    assert!(rt; first.posted.get(1) == Some(&1));
+    assert!(rt; first.nodes == 2);
+    assert!(rt; first.stand.posted.get(1) == 1);
     assert!(rt; look_if_it_may(second, 0) == 1);
     assert!(rt; take_if_it_may(second, 0).is_ok());
     assert!(rt; take_if_it_may(second, 0) == Err(NotPosted { seen: 1 }));
@@ -143,8 +148,8 @@ fn two_threads_post_and_take(rt: HostRuntime) -> Result<(), Fault> {
             ensures { IsSameSeat second result }
         { work(second, 0) },
     );
-    let posted = [first.posted[1], second.posted[0]];
-    let taken = [second.taken[0], first.taken[1]];
+    let posted = [first.stand.posted.get(1), second.stand.posted.get(0)];
+    let taken = [second.stand.taken.get(0), first.stand.taken.get(1)];
     assert!(rt; posted == [u64::from(ROUNDS); 2]);
     let words = close_two(rt.alloc(), board, first, second)?.words;
     assert!(rt; words[4..6] == posted[..]);
@@ -156,7 +161,7 @@ fn two_threads_post_and_take(rt: HostRuntime) -> Result<(), Fault> {
 fn pass_if_it_may(seat: &mut NodeSeat)
     ensures { IsSameSeat seat.old seat.new }
 {
-    if seat.token.is_some() {
+    if seat.stand.token.is_some() {
         seat.pass();
     }
 }
@@ -278,7 +283,7 @@ fn ends_alone(rt: &impl Abort, seat: &mut NodeSeat) {
     assert!(rt; seat.token() == token(0, BLACK, 0));
     assert!(rt; announce_if_it_may(seat) == Halt::Running);
     pass_if_it_may(seat);
-    assert!(rt; seat.token == Some(token(0, WHITE, 0)));
+    assert!(rt; seat.stand.token == Some(token(0, WHITE, 0)));
     assert!(rt; seat.token() == token(0, WHITE, 0));
     assert!(rt; announce_if_it_may(seat) == Halt::Ended);
     assert!(rt; seat.fail() == Halt::Ended);

@@ -1,6 +1,6 @@
 -- The endpoints are a crew's, each node has its rows of slots, and the closed parts are what the runners leave.
 use Rattle.dob_run.proofs.Common.{List, refl, subst, sym, Endpoint, IsCrew, slots_in, slots_out}
-use Rattle.dob_run.proofs.CrewLeaves.{left_by, rows_long}
+use Rattle.dob_run.proofs.CrewRunners.{left_by, rows_long}
 use Rattle.dob_run.proofs.bounded_run.close_crew.Goals as goal
 
 pub close_endpoints-requires : goal.close_endpoints-requires

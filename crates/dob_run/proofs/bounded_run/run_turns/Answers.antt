@@ -1,7 +1,6 @@
 -- A crew that isn't opened or has a failed runner is refused with that cause; else its runners are closed as a crew.
 use Rattle.dob_run.proofs.Common.{List, rules, subst, carried, says_no, Runner, Turns, AreUnfailed, IsFirstFailed, StopsSo, HasBuildFault}
-use Rattle.dob_run.proofs.ByThreads.{still_crew, first_fault, first_stops, has_turned, carries_few}
-use Rattle.dob_run.proofs.RunFaults.{outside_none, unbegun_fault, unbegun_stops}
+use Rattle.dob_run.proofs.CrewRunners.{still_crew, first_fault, first_stops, has_turned, carries_few, outside_none, unbegun_fault, unbegun_stops}
 use Rattle.dob_run.proofs.bounded_run.run_turns.Goals as goal
 
 pub returns-in_err-sizes : goal.returns-in_err-sizes

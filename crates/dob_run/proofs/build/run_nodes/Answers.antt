@@ -1,9 +1,8 @@
 -- The crew that was run has stopped: it leaves a table within the limits, or the fault says why it leaves nothing.
 use Rattle.dob_run.proofs.Common.{rules, subst, sym, ℕ, IfOk, Family, carried, says_no, Halted, IsUnheld, StopsSo, HaveStopped, IsFailureOf, IsBuilt}
-use Rattle.dob_run.proofs.Common.{HasBuildFault}
-use Rattle.dob_run.proofs.ByThreads.{still_crew, have_stopped, is_built, is_within, fault_for, all_let_on, unheld}
-use Rattle.dob_run.proofs.RunFaults.{outside_none, stops_so, unbegun_fault, unbegun_stops, unbegun_unheld}
-use Rattle.std.proofs.lemmas.Result.{IfErr-weaker, IfOk-weaker}
+use Rattle.dob_run.proofs.Common.{HasBuildFault, IfErr-weaker, IfOk-weaker}
+use Rattle.dob_run.proofs.CrewRunners.{still_crew, have_stopped, is_built, is_within, fault_for, all_let_on, unheld, outside_none, stops_so, unbegun_fault}
+use Rattle.dob_run.proofs.CrewRunners.{unbegun_stops, unbegun_unheld}
 use Rattle.dob_run.proofs.build.run_nodes.Goals as goal
 
 pub returns-in_err-sizes : goal.returns-in_err-sizes

@@ -1,7 +1,6 @@
 -- What each runner knows decides between a failure and the table.
 use Rattle.dob_run.proofs.Common.{◌∙◌, ◌≡◌, List, refl, subst, slice_index, Memory, carried, Runner, IsFailureOf}
-use Rattle.dob_run.proofs.CrewStopped.{all_know, built_is, ended_by, owners_are}
-use Rattle.dob_run.proofs.KnownFailures.{IsNone}
+use Rattle.dob_run.proofs.CrewStopped.{all_know, built_is, ended_by, owners_are, IsNone}
 use Rattle.dob_run.proofs.build_end.finish.Goals as goal
 use Rattle.dob_run.proofs.build_end.finish.Goals.{In_default, In_ok-shares}
 

@@ -1,6 +1,6 @@
 -- A crew's endpoints are closed: the words are what the seats counted, and each link stands in its sender's row.
 use Rattle.dob_run.proofs.Common.{◌≡◌, List, arith, subst, sym, vec_len, ℕ, AreSeats, AreWords, NodeSeat, ArePartsOf, AreEnds, AreJoined}
-use Rattle.dob_run.proofs.EndpointParts.{count_is, nodes_are, ends_are, links_are}
+use Rattle.dob_run.proofs.Inboxes.{count_is, nodes_are, ends_are, links_are}
 use Rattle.dob_run.proofs.crew_close.close_endpoints.Goals as goal
 use Rattle.dob_run.proofs.crew_close.close_endpoints.Goals.{In_ok-seats}
 

@@ -1,6 +1,5 @@
 -- The parts of no endpoints: no seats, no taking ends, no slots, and a row without sending ends for each node.
-use Rattle.dob_run.proofs.Common.{Global, List, Option, ap, map, BatchView, row_of}
-use Rattle.std.proofs.Common.{Vec}
+use Rattle.dob_run.proofs.Common.{Global, List, Option, ap, map, Vec, BatchView, row_of}
 use Rattle.dob_run.proofs.Places.{none_stands}
 use Rattle.dob_run.proofs.crew_close.no_parts.Goals as goal
 

@@ -1,7 +1,7 @@
 -- Each endpoint goes behind the parts of those before it, and when none is left they are the parts of all the endpoints.
 use Rattle.dob_run.proofs.Common.{◌+◌, ◌≡◌, [], arith, length, refl, rules, subst, vec_len, ℕ, ArePartsOf}
 use Rattle.dob_run.proofs.Places.{gone_are, next_at, none_gone, one_gone}
-use Rattle.dob_run.proofs.EndpointParts.{parts_more}
+use Rattle.dob_run.proofs.Inboxes.{parts_more}
 use Rattle.dob_run.proofs.crew_close.part_endpoints.Goals as goal
 
 pub loop-endpoint-init : goal.loop-endpoint-init

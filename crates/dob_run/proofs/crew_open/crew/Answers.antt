@@ -1,7 +1,6 @@
 -- Sizes outside their limits are why no crew is opened, or the crew is opened for those sizes.
-use Rattle.dob_run.proofs.Common.{carried, HasCrewFault}
-use Rattle.dob_run.proofs.CrewRunners.{crew_sized}
-use Rattle.dob_run.proofs.RunFaults.{outside_none}
+use Rattle.dob_run.proofs.Common.{carried, IsNewCrew, HasCrewFault}
+use Rattle.dob_run.proofs.CrewRunners.{sized, outside_none}
 use Rattle.dob_run.proofs.crew_open.crew.Goals as goal
 
 pub returns-in_err-sizes-clause-fault : goal.returns-in_err-sizes-clause-fault
@@ -12,5 +11,5 @@ returns-in_err-sizes-clause-fault g c =
 
 pub returns-clause-opened : goal.returns-clause-opened
 returns-clause-opened g c =
-    crew_sized c.args.classes.now.family c.args.nodes c.args.batch_size c.args.capacity c.in_ok-sizes.sizes c.in_ok-opened.opened.0 c.in_ok-opened.opened.1.items
-    c.in_ok-sizes.ensures.sizes c.in_ok-opened.ensures
+    sized (λ n size capacity. IsNewCrew c.args.classes.now.family n size capacity c.in_ok-opened.opened.0 c.in_ok-opened.opened.1.items)
+    c.args.nodes c.args.batch_size c.args.capacity c.in_ok-sizes.sizes c.in_ok-sizes.ensures.sizes c.in_ok-opened.ensures

@@ -1,12 +1,12 @@
 -- The crew's endpoints are its runners' own, and each runner is for the family and the size, unfailed and before any step.
-use Rattle.dob_run.proofs.Common.{List, rules, subst, sym, ℕ, Endpoint, IsCrew, AreNewEndpoints}
+use Rattle.dob_run.proofs.Common.{◌∙◌, List, rules, subst, sym, Endpoint, IsCrew}
 use Rattle.dob_run.proofs.CrewRunners.{endpoints_are, runners_are, runners_new}
+use Rattle.dob_run.proofs.Inboxes.{nodes_are}
 use Rattle.dob_run.proofs.crew_open.crew_of.Goals as goal
 
 pub runners_of-requires : goal.runners_of-requires
-runners_of-requires g c =
-    let new : (capacity : ℕ) × AreNewEndpoints capacity c.in_ok-board.endpoints.items = (c.args.sizes.now.capacity, c.in_ok-board.ensures.new) in
-    search rules
+runners_of-requires g c = (search rules, ((c.args.sizes.now.capacity, c.in_ok-board.ensures.new), λ k endpoint at.
+    nodes_are c.in_ok-board.board c.in_ok-board.endpoints.items c.in_ok-board.ensures.crew k endpoint at ∙ c.in_ok-board.ensures.nodes))
 
 pub returns : goal.returns
 returns g c =

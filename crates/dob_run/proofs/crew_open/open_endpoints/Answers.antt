@@ -1,6 +1,6 @@
 -- The seats and the inboxes that were laid make a crew of n new endpoints, whose outlets send to the inlets.
-use Rattle.dob_run.proofs.Common.{◌∙◌, ◌≡◌, arith, map, subst, sym, vec_len, ℕ, replicate, fresh, AreSeats, stand_of, seat_in, AreSeated}
-use Rattle.dob_run.proofs.Seated.{can_seat, new_endpoints, new_paired, new_seats}
+use Rattle.dob_run.proofs.Common.{◌∙◌, ◌≡◌, arith, map, subst, vec_len, ℕ, replicate, fresh, AreSeats, stand_of, AreSeated}
+use Rattle.dob_run.proofs.Inboxes.{can_seat, new_crew, new_endpoints}
 use Rattle.dob_run.proofs.crew_open.open_endpoints.Goals as goal
 use Rattle.dob_run.proofs.crew_open.open_endpoints.Goals.{In_ok-rows, In_ok-endpoints}
 
@@ -28,12 +28,8 @@ pub returns-clause-crew : goal.returns-clause-crew
 returns-clause-crew c =
     let laid = (goal.at.returns-clause-crew c).In_ok-rows in
     let here = (goal.at.returns-clause-crew c).In_ok-endpoints in
-    let endpoints = c.in_ok-endpoints.endpoints.items in
-    record {
-      seats = subst (λ (k : ℕ). AreSeats c.in-Ok.board.rest.table_id k (map seat_in endpoints)) (sym (c.in-Ok.ensures.nodes ∙ c.get.ensures.value))
-          (new_seats c.args.capacity c.args.nodes c.in_ok-rows.rows.items c.in_ok-rows.inlets.items c.in-Ok.board c.in-Ok.seats.items c.in_ok-rows.ensures (are_seats laid) (are_fresh laid) endpoints (all here));
-      paired = new_paired c.args.capacity c.args.nodes c.in_ok-rows.rows.items c.in_ok-rows.inlets.items c.in-Ok.board c.in-Ok.seats.items c.in_ok-rows.ensures (are_seats laid) (are_fresh laid) endpoints (all here);
-    }
+    new_crew c.args.capacity c.args.nodes c.in_ok-rows.rows.items c.in_ok-rows.inlets.items c.in-Ok.board c.in-Ok.seats.items c.in_ok-rows.ensures
+    (are_seats laid) (are_fresh laid) c.in_ok-endpoints.endpoints.items (all here) (c.in-Ok.ensures.nodes ∙ c.get.ensures.value)
 
 pub returns-clause-new : goal.returns-clause-new
 returns-clause-new c =

@@ -1,26 +1,21 @@
 -- The runner has the endpoint and a node just opened, which has made no step, and nothing has gone over its links.
-use Rattle.dob_run.proofs.Common.{◌∙◌, arith, subst, sym, ℕ, IsOpened, Node, IsNew, Endpoint}
+use Rattle.dob_run.proofs.Common.{◌∙◌, subst, sym, ℕ, IsOpened, Node, IsNew, Endpoint}
 use Rattle.dob_run.proofs.crew_open.open_runner.Goals as goal
 use Rattle.dob_run.proofs.crew_open.open_runner.Goals.{In_ok-node}
 
 is_new : (c : In_ok-node) → IsNew c.args.classes.now.family c.in_ok-node.node c.args.endpoint
 is_new c =
-    let new = c.requires.1 in
+    let new = c.requires.new.1 in
     let opened = c.in_ok-node.ensures.opened in record {
       openings = opened.0;
       are_openings = opened.1;
-      opened = subst (λ (k : ℕ). IsOpened opened.0 c.args.classes.now.family c.args.endpoint.seat.node k c.in_ok-node.node) c.in-Some.ensures.0 opened.2;
+      opened = subst (λ (k : ℕ). IsOpened opened.0 c.args.classes.now.family c.args.endpoint.seat.node k c.in_ok-node.node) (sym c.requires.nodes) opened.2;
       sound = c.in_ok-node.ensures.sound;
       black = new.black;
       running = new.running;
       unsent = λ to outlet at. (new.unsent to outlet at).0;
       untaken = new.untaken.0;
     }
-
-pub unreachable-requires : goal.unreachable-requires
-unreachable-requires c =
-    let seat = c.args.endpoint.seat in
-    c.in_default.ensures (omega (arith, seat.within), seat.size)
 
 pub new-runner-requires : goal.new-runner-requires
 new-runner-requires c = is_new (goal.at.new-runner-requires c).In_ok-node

@@ -1,6 +1,5 @@
 -- Each endpoint gets its runner, in order.
-use Rattle.dob_run.proofs.Common.{◌∙◌, List, subst, slice_get-get_or, AllZip, IfOk, slice_index_or, made_all, Endpoint, Runner, IsRunnerOf}
-use Rattle.std.specs.Prelude.{Result}
+use Rattle.dob_run.proofs.Common.{◌∙◌, List, Result, subst, slice_get-get_or, AllZip, IfOk, slice_index_or, made_all, Endpoint, Runner, IsRunnerOf}
 use Rattle.dob_pieces.specs.declared.memory.Memory.{Memory}
 use Rattle.dob_run.proofs.crew_open.runners_of.Goals as goal
 
@@ -8,7 +7,8 @@ pub collect-requires-clause-ready : goal.collect-requires-clause-ready
 collect-requires-clause-ready g c κs within =
     let endpoints = c.args.endpoints.items in
     rw (c.map.ensures.base, c.map.ensures.f, c.with_min_len.ensures.base, c.into_par_iter.ensures)
-    (λ k d low. ((c.requires.0, c.requires.1 k (slice_index_or endpoints k d) (slice_get-get_or endpoints k d low)), λ given made. tt))
+    (λ k d low. (let at = slice_get-get_or endpoints k d low in
+    (((c.requires.new.0, c.requires.new.1 k (slice_index_or endpoints k d) at), c.requires.nodes k (slice_index_or endpoints k d) at), λ given made. tt)))
 
 pub returns : goal.returns
 returns g c =

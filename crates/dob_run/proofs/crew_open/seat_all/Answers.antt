@@ -1,6 +1,5 @@
 -- While a seat is left so are a row and an inlet, of its size and with its counts, and they become its endpoint.
-use Rattle.dob_run.proofs.Common.{◌∙◌, ◌≡◌, Global, [], ap, arith, length, refl, rules, subst, ℕ, Outlet, AreSeated}
-use Rattle.std.proofs.Common.{Vec}
+use Rattle.dob_run.proofs.Common.{◌∙◌, ◌≡◌, Global, [], ap, arith, length, refl, rules, subst, ℕ, Vec, Outlet, AreSeated}
 use Rattle.dob_run.proofs.Places.{each_more, gone_all, next_at, none_at, none_gone, one_gone, one_longer, thing_left}
 use Rattle.dob_run.proofs.crew_open.seat_all.Goals as goal
 

@@ -1,6 +1,6 @@
 -- The owner shows an entry, whose code stands for it.
 use Rattle.dob_run.proofs.Common.{length, refl, subst, sym, Value, IsShownByOwner}
-use Rattle.dob_run.proofs.Shown.{shown_entry}
+use Rattle.dob_run.proofs.CrewStopped.{shown_entry}
 use Rattle.dob_run.proofs.gathering.code_of.Goals as goal
 
 pub value_of-requires-clause-own : goal.value_of-requires-clause-own

@@ -2,7 +2,7 @@
 use Rattle.dob_run.proofs.Common.{◌-◌, ◌<◌, ◌∙◌, List, arith, length, subst, sym, ℕ, AllZip, range_with_len, classes_of, IsCodeShown, AreFrom}
 use Rattle.rayon.specs.Numbers.{nat_range}
 use Rattle.rayon.proofs.ToStd.{nat_range-All}
-use Rattle.dob_run.proofs.Scanned.{found_are}
+use Rattle.dob_run.proofs.Places.{found_are}
 use Rattle.dob_run.proofs.gathering.codes_of.Goals as goal
 
 pub collect-requires-clause-ready : goal.collect-requires-clause-ready

@@ -1,6 +1,5 @@
 -- The owner stands at its place.
-use Rattle.dob_run.proofs.Common.{◌∙◌, ◌≡◌, Some, length, subst, sym, ℕ, same_Some, read_there, owner_of, HasValueNow, Share}
-use Rattle.std.proofs.Common.{slice_get}
+use Rattle.dob_run.proofs.Common.{◌∙◌, ◌≡◌, Some, length, subst, sym, ℕ, same_Some, slice_get, read_there, owner_of, HasValueNow, Share}
 use Rattle.dob_run.proofs.gathering.value_of.Goals as goal
 use Rattle.dob_run.proofs.gathering.value_of.Goals.{After-index-shares-node}
 

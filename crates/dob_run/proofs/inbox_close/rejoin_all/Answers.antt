@@ -1,9 +1,8 @@
 -- While a row of sending ends is left so is the taking end of its inbox, and its links go to their senders' rows.
-use Rattle.dob_run.proofs.Common.{◌+◌, ◌∙◌, ◌≡◌, Global, arith, length, refl, rules, subst, sym, vec_len, ℕ, Rejoined, AreJoined, AreDealt, AreInOrder, AreRows}
-use Rattle.std.proofs.Common.{Vec}
-use Rattle.std.proofs.lemmas.Result.{IfOk-weaker}
+use Rattle.dob_run.proofs.Common.{◌+◌, ◌∙◌, ◌≡◌, Global, arith, length, refl, rules, subst, sym, vec_len, ℕ, Vec, Rejoined, AreJoined, AreDealt, AreInOrder}
+use Rattle.dob_run.proofs.Common.{AreRows, IfOk-weaker}
 use Rattle.dob_run.proofs.Places.{gone_all, next_at, none_gone, one_gone, thing_left}
-use Rattle.dob_run.proofs.InboxesClosed.{HaveLinks, are_joined, links_more, rows_longer}
+use Rattle.dob_run.proofs.Inboxes.{HaveLinks, are_joined, links_more, rows_longer}
 use Rattle.dob_run.proofs.inbox_close.rejoin_all.Goals as goal
 use Rattle.dob_run.proofs.inbox_close.rejoin_all.Goals.{At-loop-row}
 

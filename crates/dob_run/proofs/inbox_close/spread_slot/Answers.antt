@@ -1,5 +1,5 @@
 -- The next place gets what the slot has of that sender.
-use Rattle.std.proofs.Common.{rules, arith, refl, ◌∙◌}
+use Rattle.dob_run.proofs.Common.{◌∙◌, arith, refl, rules}
 use Rattle.dob_run.proofs.Places.{row_grows}
 use Rattle.dob_run.proofs.inbox_close.spread_slot.Goals as goal
 

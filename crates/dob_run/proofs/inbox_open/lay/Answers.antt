@@ -1,6 +1,6 @@
 -- One inbox more is laid: its outlets are dealt to the nodes, and its inlet goes last.
 use Rattle.dob_run.proofs.Common.{◌≡◌, length, rules, subst, vec_len, ℕ, AreDealt, AreRows}
-use Rattle.dob_run.proofs.InboxesOpened.{none_laid, laid_more}
+use Rattle.dob_run.proofs.Inboxes.{none_laid, laid_more}
 use Rattle.dob_run.proofs.inbox_open.lay.Goals as goal
 
 pub loop-init : goal.loop-init

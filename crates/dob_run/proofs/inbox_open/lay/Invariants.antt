@@ -1,5 +1,5 @@
 -- The inboxes of the nodes below the counter are laid, with an outlet of each node to each of them.
-use Rattle.dob_run.specs.InboxOpen.{AreLaidUpto}
+use Rattle.dob_run.proofs.Common.{AreLaidUpto}
 use Rattle.dob_run.proofs.inbox_open.lay.Given as goal
 
 abbrev pub invariant-loop : goal.invariant-loop

@@ -1,5 +1,5 @@
 -- Each of the new inbox's ends has an outlet, and its taking end the inlet, with nothing sent or taken and empty slots.
-use Rattle.dob_run.proofs.InboxesOpened.{one_laid}
+use Rattle.dob_run.proofs.Inboxes.{one_laid}
 use Rattle.dob_run.proofs.inbox_open.lay_one.Goals as goal
 
 pub returns : goal.returns

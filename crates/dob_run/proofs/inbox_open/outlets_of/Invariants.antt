@@ -1,5 +1,5 @@
 -- The ends gone over have their outlets, and the others are left.
-use Rattle.dob_run.proofs.Common.{◌≡◌, None, Some, length, ℕ, into_iter_items, slice_get, Outlet}
+use Rattle.dob_run.proofs.Common.{◌≡◌, None, Some, length, ℕ, slice_get, into_iter_items, Outlet}
 use Rattle.dob_run.proofs.Places.{HaveGone}
 use Rattle.dob_run.proofs.inbox_open.outlets_of.Given as goal
 

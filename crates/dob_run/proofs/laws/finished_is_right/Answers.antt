@@ -1,5 +1,5 @@
 -- What a crew shows is the value table once its runners are lawful and white and all batches posted were taken.
-use Rattle.dob_run.proofs.CrewFinished.{finished_right}
+use Rattle.dob_run.proofs.CrewStopped.{finished_right}
 use Rattle.dob_run.proofs.laws.finished_is_right.Goals as goal
 
 pub returns : goal.returns

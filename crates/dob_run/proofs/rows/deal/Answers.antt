@@ -1,7 +1,7 @@
 -- The next thing goes last in the row at its own place, and after the last row all are dealt.
 use Rattle.dob_run.proofs.Common.{◌≡◌, Some, arith, refl, rules, subst, ℕ, slice_get, read_there, AreDealt}
 use Rattle.dob_run.proofs.Places.{gone_all, next_at, one_gone}
-use Rattle.dob_run.proofs.InboxesClosed.{dealt_one}
+use Rattle.dob_run.proofs.Inboxes.{dealt_one}
 use Rattle.dob_run.proofs.rows.deal.Goals as goal
 
 pub unreachable-requires : goal.unreachable-requires

@@ -1,7 +1,7 @@
 -- The next row goes behind the others, and after the last all things stand row by row.
 use Rattle.dob_run.proofs.Common.{◌+◌, ◌∙◌, ap, arith, length, refl, rules, subst, ℕ, AreInOrder}
 use Rattle.dob_run.proofs.Places.{gone_all, next_at, none_gone, one_gone}
-use Rattle.dob_run.proofs.InboxesClosed.{joined_more}
+use Rattle.dob_run.proofs.Inboxes.{joined_more}
 use Rattle.dob_run.proofs.rows.join.Goals as goal
 
 pub loop-row-init : goal.loop-row-init

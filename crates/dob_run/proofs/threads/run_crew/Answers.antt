@@ -1,8 +1,6 @@
 -- The runners of a new crew suit the classes of its family, so they have run, of sizes within the limits.
-use Rattle.dob_run.proofs.Common.{rules, subst, Family, KeepsRunner, says_no, Ends, EndsBy, IsNewCrew, AllSuit}
-use Rattle.dob_run.proofs.ByThreads.{are_let_on}
-use Rattle.dob_run.proofs.CrewRunners.{all_suit, crew_kept, run_sized}
-use Rattle.rayon.proofs.ListFacts.{AllZip-weaken}
+use Rattle.dob_run.proofs.Common.{rules, subst, Family, KeepsRunner, says_no, Ends, EndsBy, IsNewCrew, AllSuit, HasRun, AllZip-weaken}
+use Rattle.dob_run.proofs.CrewRunners.{are_let_on, all_suit, crew_kept, sized}
 use Rattle.dob_run.proofs.threads.run_crew.Goals as goal
 
 pub run_each-requires : goal.run_each-requires
@@ -15,7 +13,8 @@ pub returns-clause-ran : goal.returns-clause-ran
 returns-clause-ran g c = λ nodes batch_size capacity these.
     let Says = g.G.Gate.says c.args.gate.now in
     let old = c.in_ok-board.runners.items in
-    run_sized (says_no Says) c.args.until.now c.args.family nodes batch_size capacity c.args.sizes.now c.in_ok-board.board c.in_ok-ended.ended.items these (record {
+    sized (λ a b d. HasRun (says_no Says) c.args.until.now c.args.family a b d c.in_ok-board.board c.in_ok-ended.ended.items)
+    nodes batch_size capacity c.args.sizes.now these (record {
       within = c.args.sizes.now.within;
       old = old;
       opened = subst (λ (family : Family). IsNewCrew family c.args.sizes.now.nodes c.args.sizes.now.batch_size c.args.sizes.now.capacity c.in_ok-board.board old)

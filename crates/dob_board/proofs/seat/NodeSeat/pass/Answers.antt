@@ -1,13 +1,13 @@
--- The token passed has a word, and to store it keeps the rule and makes the event; one that comes again is in bounds.
-use Rattle.std.proofs.Common.{◌≡◌, ℤ, w64, rules, arith, ap, sym, subst, ◌∙◌, false}
-use Rattle.dob_board.proofs.Names.{ints, to_z-of_z, Token, Pass, IsToken, IsPacked, passed_on, token_at, passed_by, stand_of, witnessed_by}
-use Rattle.dob_board.proofs.Done.{HasMade}
-use Rattle.dob_board.proofs.Passing.{passes_call, passes_done, passed_fits}
+-- The token passed has a word, and to store it keeps the rule.
+use Rattle.std.proofs.Common.{◌≡◌, ℤ, w64, Option, Some, false, rules, arith, ap, sym, subst, ◌∙◌}
+use Rattle.dob_board.proofs.Names.{ints, to_z-of_z, Token, IsToken, IsPacked, passed_on, token_at, passed_by, Passed, IsInBounds, step, none}
+use Rattle.dob_board.proofs.Allowed.{Seated, seated}
+use Rattle.dob_board.proofs.Passing.{passes_asks, passed_fits}
 use Rattle.dob_board.proofs.seat.NodeSeat.pass.Goals as goal
-use Rattle.dob_board.proofs.seat.NodeSeat.pass.Goals.{After-passed-token, After-token_at-self}
+use Rattle.dob_board.proofs.seat.NodeSeat.pass.Goals.{After-passed-token}
 
-passed_is : (c : After-passed-token) → c.passed-token.result ≡ passed_by c.args.self.now.nodes (stand_of c.args.self.now) c.in-Some.token
-passed_is c = c.passed-token.ensures ∙ ap (λ (z : ℤ). passed_on c.args.self.now.nodes c.in-Some.token z c.args.self.now.black)
+passed_is : (c : After-passed-token) → c.passed-token.result ≡ passed_by c.args.self.now.nodes c.args.self.now.stand c.in-Some.token
+passed_is c = c.passed-token.ensures ∙ ap (λ (z : ℤ). passed_on c.args.self.now.nodes c.in-Some.token z c.args.self.now.stand.black)
     (to_z-of_z w64 c.counter.result (search rules) ∙ c.counter.ensures.counter)
 
 pub passed-token-requires : goal.passed-token-requires
@@ -24,35 +24,23 @@ passed-token-requires c =
 pub pack-requires : goal.pack-requires
 pack-requires c =
     let seat = c.args.self.now in
-    subst IsToken (ap (λ (z : ℤ). passed_on seat.nodes c.in-Some.token z seat.black) c.counter.ensures.counter ∙ sym (passed_is (goal.at.pack-requires c).After-passed-token))
-    (passed_fits seat.nodes seat.node c.in-Some.token c.counter.result seat.black seat.size seat.within (seat.in_bounds c.in-Some.token c.in-Some.is)
+    subst IsToken (ap (λ (z : ℤ). passed_on seat.nodes c.in-Some.token z seat.stand.black) c.counter.ensures.counter
+    ∙ sym (passed_is (goal.at.pack-requires c).After-passed-token))
+    (passed_fits seat.nodes seat.node c.in-Some.token c.counter.result seat.stand.black seat.size seat.within (seat.in_bounds c.in-Some.token c.in-Some.is)
     c.counter.ensures.low c.counter.ensures.high)
 
 pub store-requires : goal.store-requires
-store-requires c =
-    let seat = c.args.self.now in (
-      search rules,
-      rw (c.deref.ensures, seat.words) (omega arith),
-      passes_call _ seat.nodes seat.node _ _ c.pack.result _ (stand_of seat) c.in-Some.token (witnessed_by seat)
-          (search rules) seat.view_is c.in-Some.is
-          (subst (λ (t : Token). IsPacked t c.pack.result) (passed_is (goal.at.store-requires c).After-passed-token) c.pack.ensures),
-    )
-
-done : (c : After-token_at-self) → c.passed-token.result ≡ passed_by c.args.self.now.nodes (stand_of c.args.self.now) c.in-Some.token →
-    HasMade c.args.self.now (Pass c.args.self.now.node) (record (stand_of c.args.self.now) { black = false; token = c.token_at-self.result }) c.store.new.seat.me
-done c is = passes_done c.args.self.now c.in-Some.token c.token_at-self.result c.pack.result c.store.new.seat.me c.in-Some.is
-    (c.token_at-self.ensures ∙ ap (token_at c.args.self.now.node) is) c.store.ensures.2
+store-requires c = rw c.deref.ensures (passes_asks c.args.self.now c.in-Some.token c.pack.result c.in-Some.is
+    (subst (λ (t : Token). IsPacked t c.pack.result) (passed_is (goal.at.store-requires c).After-passed-token) c.pack.ensures))
 
 pub invariant_of-self : goal.invariant_of-self
 invariant_of-self c =
-    let at = goal.at.invariant_of-self c in
-    let is = done at.After-token_at-self (passed_is at.After-passed-token) in
-    let view = is.view_is in
-    let bounds = is.fit.in_bounds in
+    let seat = c.args.self.now in
+    let me = c.store.new.seat.me in
+    let tells = (subst (λ (p : Seated). Passed (step 0 1 c.pack.result 0 none) p c.pack.result me) seat.view_is c.store.ensures.2) c.in-Some.token c.in-Some.is in
+    let same : c.token_at-self.result ≡ token_at seat.node (passed_by seat.nodes seat.stand c.in-Some.token) =
+    c.token_at-self.ensures ∙ ap (token_at seat.node) (passed_is (goal.at.invariant_of-self c).After-passed-token) in
+    let view = tells.0.0
+    ∙ ap (λ (t : Option Token). seated seat.nodes seat.node (record seat.stand { black = false; token = t }) me.0.witnessed) (sym same) in
+    let bounds : (t : Token) → c.token_at-self.result ≡ Some t → IsInBounds seat.nodes seat.node t = λ t e. tells.1 t (sym same ∙ e) in
     search rules
-
-pub returns-clause-event : goal.returns-clause-event
-returns-clause-event c = (let at = goal.at.returns-clause-event c in done at.After-token_at-self (passed_is at.After-passed-token)).made
-
-pub returns-clause-passed : goal.returns-clause-passed
-returns-clause-passed c = search rules fits 100

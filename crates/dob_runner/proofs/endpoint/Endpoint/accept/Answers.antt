@@ -1,7 +1,7 @@
 -- The accepted batch is one more of its sender's worked ones and of the seat's count, and the outlets are kept.
 use Rattle.dob_runner.proofs.Common.{◌++◌, ◌<◌, ◌∙◌, ◌∷◌, ◌≡◌, List, Option, Some, [], ap, arith, refl, rules, subst, sym, ℕ, IfSome, BatchView, TakesOne}
 use Rattle.dob_runner.proofs.Common.{Stand, senders_of, AreBatchesTaken, AreCounts, AreOwn, KeepsOutlet, offered, worked, in_slot, Inlet}
-use Rattle.dob_runner.proofs.Senders.{taken_rises}
+use Rattle.dob_runner.proofs.Links.{taken_rises}
 use Rattle.dob_runner.proofs.Keeping.{outlet_same, inlet_kept, each_same}
 use Rattle.dob_runner.proofs.endpoint.Endpoint.accept.Goals as goal
 use Rattle.dob_runner.proofs.endpoint.Endpoint.accept.Goals.{After-release}
@@ -21,7 +21,7 @@ invariant_of-self-2 c =
     let taken_is = ap (λ (s : Stand). s.taken) one.counted in
     let posted_is = ap (λ (s : Stand). s.posted) one.counted in
     let within : c.args.from < endpoint.seat.nodes = subst (λ (k : ℕ). c.args.from < k) endpoint.senders (subst (λ (k : ℕ). k < senders_of endpoint.inlet.end) held.2 (endpoint.inlet.within held.0 held.1)) in
-    let counted = taken_rises endpoint.seat.nodes endpoint.seat.taken.items endpoint.inlet c.release.new.self c.args.from held.0 endpoint.taken
+    let counted = taken_rises endpoint.seat.nodes endpoint.seat.stand.taken endpoint.inlet c.release.new.self c.args.from held.0 endpoint.taken
     (omega (arith, endpoint.seat.taken_len, within)) held.2 (one_more endpoint.inlet c.release.new.self held.0 held.1 c.release.ensures.worked) in
     record {
       outlets_len = endpoint.outlets_len ∙ sym c.take.ensures.same.nodes;

@@ -1,14 +1,15 @@
 -- The seat looks for the token, and hands it on just where it finds it: it announces the end just where it may, and else passes it.
-use Rattle.dob_runner.proofs.Common.{◌∙◌, List, refl, subst, sym, ℕ, both_ways, HasAnnounced, KnewOwnFailure, Halt, AreBatchesTaken, AreCounts, AreOwn, offered}
+use Rattle.dob_runner.proofs.Common.{◌∙◌, List, false, refl, subst, sym, true, ℕ, both_ways, HasAnnounced, KnewOwnFailure, Halt, AreBatchesTaken, AreCounts}
+use Rattle.dob_runner.proofs.Common.{AreOwn, offered}
 use Rattle.dob_runner.proofs.Keeping.{links_trans, own_looked, passed_counts}
-use Rattle.dob_runner.proofs.TurnParts.{token_away, token_moved}
+use Rattle.dob_runner.proofs.TurnParts.{token_by}
 use Rattle.dob_runner.proofs.endpoint.Endpoint.move_token.Goals as goal
 
 pub invariant_of-self-else-may_announce : goal.invariant_of-self-else-may_announce
 invariant_of-self-else-may_announce c =
     let found = c.finds_token.new.self in
     let same = c.pass.ensures.same in
-    let counts = passed_counts found.seat c.pass.new.self found.seat.token refl (c.finds_token.ensures.found.0 c.if-not-finds_token.false) c.pass.ensures.passed in
+    let counts = passed_counts found.seat c.pass.new.self found.seat.stand.token refl (c.finds_token.ensures.found.0 c.if-not-finds_token.false) c.pass.ensures.passed in
     record {
       outlets_len = found.outlets_len ∙ sym same.nodes;
       senders = found.senders ∙ sym same.nodes;
@@ -19,7 +20,8 @@ invariant_of-self-else-may_announce c =
 
 pub returns-then-not-finds_token-clause-moves : goal.returns-then-not-finds_token-clause-moves
 returns-then-not-finds_token-clause-moves c =
-    token_away c.args.self.now.seat c.finds_token.new.self.seat c.finds_token.result c.if-not-finds_token.true c.finds_token.ensures.looked c.finds_token.ensures.found
+    token_by c.args.self.now.seat c.finds_token.new.self.seat c.finds_token.new.self.seat c.finds_token.result false c.if-not-finds_token.true
+    c.finds_token.ensures.looked c.finds_token.ensures.found (λ yes. absurd (cc)) (λ none. refl)
 
 pub returns-then-not-finds_token-clause-own : goal.returns-then-not-finds_token-clause-own
 returns-then-not-finds_token-clause-own c = λ own. sym c.finds_token.ensures.halt
@@ -28,12 +30,12 @@ pub returns-then-may_announce-clause-moves : goal.returns-then-may_announce-clau
 returns-then-may_announce-clause-moves c =
     let found = c.finds_token.new.self.seat in
     let halt_is = c.announce.ensures.found.halt_is in
-    token_moved c.args.self.now.seat found c.announce.new.self c.finds_token.result c.if-not-finds_token.false
+    token_by c.args.self.now.seat found c.announce.new.self c.finds_token.result true c.if-not-finds_token.false
     c.finds_token.ensures.looked c.finds_token.ensures.found
-    (record {
+    (λ yes. record {
       announced = λ may. subst (λ (h : Halt). HasAnnounced found c.announce.new.self h) (sym halt_is) c.announce.ensures.event;
       passed = λ unable. absurd (unable (c.may_announce.ensures.0 c.if-may_announce.true));
-    })
+    }) (λ none. absurd (cc))
 
 pub returns-then-may_announce-clause-links : goal.returns-then-may_announce-clause-links
 returns-then-may_announce-clause-links c =
@@ -41,14 +43,15 @@ returns-then-may_announce-clause-links c =
 
 pub returns-then-may_announce-clause-own : goal.returns-then-may_announce-clause-own
 returns-then-may_announce-clause-own c =
-    own_looked c.args.self.now.seat c.finds_token.new.self.seat c.announce.new.self.halt c.finds_token.ensures.halt c.finds_token.ensures.keeps.links.seat.node
+    own_looked c.args.self.now.seat c.finds_token.new.self.seat c.announce.new.self.stand.halt c.finds_token.ensures.halt c.finds_token.ensures.keeps.links.seat.node
     (subst (λ (h : Halt). KnewOwnFailure c.finds_token.new.self.seat h) (sym c.announce.ensures.found.halt_is) c.announce.ensures.own)
 
 pub returns-else-may_announce-clause-moves : goal.returns-else-may_announce-clause-moves
 returns-else-may_announce-clause-moves c =
-    token_moved c.args.self.now.seat c.finds_token.new.self.seat c.pass.new.self c.finds_token.result c.if-not-finds_token.false
+    token_by c.args.self.now.seat c.finds_token.new.self.seat c.pass.new.self c.finds_token.result true c.if-not-finds_token.false
     c.finds_token.ensures.looked c.finds_token.ensures.found
-    (record { announced = λ may. absurd (both_ways _ c.if-may_announce.false (c.may_announce.ensures.1 may)); passed = λ unable. c.pass.ensures.event })
+    (λ yes. record { announced = λ may. absurd (both_ways _ c.if-may_announce.false (c.may_announce.ensures.1 may)); passed = λ unable. c.pass.ensures.event })
+    (λ none. absurd (cc))
 
 pub returns-else-may_announce-clause-links : goal.returns-else-may_announce-clause-links
 returns-else-may_announce-clause-links c =

@@ -1,7 +1,7 @@
 -- The posted batch is one more of the outlet's offered ones and of the seat's count, and the other links are kept.
 use Rattle.dob_runner.proofs.Common.{◌∙◌, ◌∷◌, ◌≡◌, List, Some, [], ap, arith, length, length-append, refl, rules, subst, suc, sym, ℕ, slice_get, slice_set}
 use Rattle.dob_runner.proofs.Common.{read_there, Stand, place_of, SendEnd, AreBatchesTaken, AreCounts, AreOwn, KeepsOutlet, offered}
-use Rattle.dob_runner.proofs.Counted.{counts_rise, own_set}
+use Rattle.dob_runner.proofs.Links.{counts_rise, own_set}
 use Rattle.dob_runner.proofs.Keeping.{outlet_same, outlet_kept, inlet_same, one_kept}
 use Rattle.dob_runner.proofs.endpoint.Endpoint.post.Goals as goal
 use Rattle.dob_runner.proofs.endpoint.Endpoint.post.Goals.{After-index_mut}
@@ -29,7 +29,7 @@ invariant_of-self c =
       own = subst (λ (node : ℕ). AreOwn node (slice_set endpoint.outlets.items c.args.to c.hold.new.self)) (sym c.post.ensures.same.node)
           (own_set endpoint.seat.node endpoint.outlets.items c.args.to old c.hold.new.self endpoint.own at (ap (λ (e : SendEnd). place_of e) c.hold.ensures.end));
       posted = subst (λ (counts : List ℕ). AreCounts offered counts (slice_set endpoint.outlets.items c.args.to c.hold.new.self)) (sym posted_is)
-          (counts_rise offered endpoint.seat.posted.items endpoint.outlets.items c.args.to old c.hold.new.self endpoint.posted at (omega (arith, endpoint.seat.posted_len, c.requires.node)) more);
+          (counts_rise offered endpoint.seat.stand.posted endpoint.outlets.items c.args.to old c.hold.new.self endpoint.posted at (omega (arith, endpoint.seat.posted_len, c.requires.node)) more);
       taken = subst (λ (p : ℕ × List ℕ). AreBatchesTaken p.0 p.1 endpoint.inlet) (λ q. ((sym c.post.ensures.same.nodes) q, (sym taken_is) q)) endpoint.taken;
     }
 

@@ -1,6 +1,6 @@
 -- The runner stays lawful where its first own items are applied, and none is left where all can be.
 use Rattle.dob_runner.proofs.Common.{◌↔◌, ◌∷◌, ◌≡◌, List, [], arith, false, inl, length, ltb, refl, subst, sym, ℕ, ltb-false, Item}
-use Rattle.dob_runner.proofs.Keeping.{endpoint_same, goes_by, broken_for, own_reason, some_cause, node_goes, agrees_going, agrees_failed}
+use Rattle.dob_runner.proofs.Keeping.{endpoint_same, goes_by, broken_for, own_reason, node_goes}
 use Rattle.dob_runner.proofs.Lawfuls.{applied_items, still_coloured}
 use Rattle.dob_runner.proofs.runner.Runner.apply_all.Goals as goal
 
@@ -12,31 +12,20 @@ none_left (item ∷ own) count is = (λ none. (let no = ltb-false 0 count none i
 pub apply_every_own-requires-clause-going : goal.apply_every_own-requires-clause-going
 apply_every_own-requires-clause-going c = (let r = c.args.self.now in node_goes r.node.failed r.failed r.agrees c.requires)
 
-pub invariant_of-self-in-Err : goal.invariant_of-self-in-Err
-invariant_of-self-in-Err c =
+pub invariant_of-self-in-Err-clause-lawful : goal.invariant_of-self-in-Err-clause-lawful
+invariant_of-self-in-Err-clause-lawful c = λ _.
     let r = c.args.self.now in
     let step = c.in-Err.ensures.step in
-    let fails = c.fail_for.ensures in
-    record {
-      going = λ running. absurd (fails.stopped running);
-      own = λ _. some_cause _ c.in-Err.why fails.cause;
-      agrees = agrees_failed c.apply_every_own.new.self.failed _ c.in-Err.why c.in-Err.ensures.keeps.failed fails.cause;
-      lawful = λ _. still_coloured r.family r.batch_size c.apply_every_own.new.self r.endpoint c.fail_for.new.endpoint
-          (applied_items r.family r.batch_size step.items r.node c.apply_every_own.new.self r.endpoint (r.lawful (inl c.requires)) step.applied
-          c.in-Err.ensures.keeps.sound) fails.keeps;
-    }
+    still_coloured r.family r.batch_size c.apply_every_own.new.self r.endpoint c.fail_for.new.endpoint
+    (applied_items r.family r.batch_size step.items r.node c.apply_every_own.new.self r.endpoint (r.lawful (inl c.requires)) step.applied
+    c.in-Err.ensures.keeps.sound) c.fail_for.ensures.keeps
 
-pub invariant_of-self : goal.invariant_of-self
-invariant_of-self c =
+pub invariant_of-self-clause-lawful : goal.invariant_of-self-clause-lawful
+invariant_of-self-clause-lawful c = λ _.
     let r = c.args.self.now in
     let step = c.in-Ok.ensures.step in
-    record {
-      going = r.going;
-      own = r.own;
-      agrees = agrees_going c.apply_every_own.new.self.failed _ c.in-Ok.ensures.keeps.going;
-      lawful = λ _. applied_items r.family r.batch_size step.items r.node c.apply_every_own.new.self r.endpoint (r.lawful (inl c.requires)) step.applied
-          c.in-Ok.ensures.keeps.sound;
-    }
+    applied_items r.family r.batch_size step.items r.node c.apply_every_own.new.self r.endpoint (r.lawful (inl c.requires)) step.applied
+    c.in-Ok.ensures.keeps.sound
 
 pub returns-in-Err : goal.returns-in-Err
 returns-in-Err c = broken_for c.args.self.now _ c.in-Err.why c.fail_for.ensures refl refl (own_reason _ c.in-Err.why c.in-Err.ensures.step.stopped)

@@ -1,7 +1,7 @@
 -- The settlements expanded so far and the next make one step, over classes of the same family, or a failed one.
 use Rattle.dob_runner.proofs.Common.{◌≡◌, ◌⊎◌, None, arith, false, inl, inr, length, refl, true, ℕ, ExpandsSome, IsAbove, IsHeldUp, Runner}
 use Rattle.dob_runner.proofs.Keeping.{runner_same, goes_same, broken_on}
-use Rattle.dob_runner.proofs.TurnParts.{expanded_more, within_first, none_expanded, some_expanded}
+use Rattle.dob_runner.proofs.TurnParts.{expanded_more, within_none, within_one, none_expanded, some_expanded}
 use Rattle.dob_runner.proofs.runner.Runner.expand_all.Goals as goal
 use Rattle.dob_runner.proofs.runner.Runner.expand_all.Goals.{In_ok-more}
 
@@ -31,7 +31,8 @@ loop-init c =
     let one = c.in_ok-any.ensures in
     some_expanded c.args.limit c.args.self.now c.expand_one.new.self c.is_held_up.result c.is_above.result c.in_ok-any.any one.goes one.endpoint
     (let more = (one.expanded c.if-not-any.false).expanded in omega (arith, more))
-    (within_first c.args.limit c.args.self.now c.expand_one.new.self c.in_ok-any.any c.is_above.result c.if-is_above.false c.is_above.ensures.1 one)
+    (within_one c.args.limit c.args.self.now.node c.args.self.now c.expand_one.new.self c.in_ok-any.any c.is_above.result
+    (within_none c.args.limit c.args.self.now.node) c.if-is_above.false c.is_above.ensures.1 one)
     c.if-is_held_up.false c.is_held_up.ensures.1 c.if-is_above.false c.is_above.ensures.1 c.if-not-any.false one.done.1
 
 pub returns-in_err-more : goal.returns-in_err-more

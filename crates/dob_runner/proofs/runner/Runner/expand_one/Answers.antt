@@ -1,6 +1,6 @@
 -- An expanded settlement leaves the runner lawful, and so does lack of memory.
 use Rattle.dob_runner.proofs.Common.{Ok, ap, inl, inr, refl, subst, sym, cases_Bool, Node, IsLawfulRunner, no_gate}
-use Rattle.dob_runner.proofs.Keeping.{endpoint_same, goes_by, broken_for, memory_reason, some_cause, node_goes, agrees_going, agrees_failed}
+use Rattle.dob_runner.proofs.Keeping.{endpoint_same, goes_by, broken_for, memory_reason, node_goes, agrees_going}
 use Rattle.dob_runner.proofs.Lawfuls.{expanded_one, unchanged_failed}
 use Rattle.dob_runner.proofs.TurnParts.{same_answer}
 use Rattle.dob_runner.proofs.runner.Runner.expand_one.Goals as goal
@@ -8,17 +8,10 @@ use Rattle.dob_runner.proofs.runner.Runner.expand_one.Goals as goal
 pub expand-requires-clause-going : goal.expand-requires-clause-going
 expand-requires-clause-going c = (let r = c.args.self.now in node_goes r.node.failed r.failed r.agrees c.requires.unfailed)
 
-pub invariant_of-self-in-Err : goal.invariant_of-self-in-Err
-invariant_of-self-in-Err c =
-    let r = c.args.self.now in
-    let fails = c.fail_for.ensures in
-    record {
-      going = λ running. absurd (fails.stopped running);
-      own = λ _. some_cause _ c.in-Err.why fails.cause;
-      agrees = agrees_failed c.expand.new.self.failed _ c.in-Err.why c.in-Err.ensures.keeps.failed fails.cause;
-      lawful = λ _. unchanged_failed r.family r.batch_size r.node c.expand.new.self r.endpoint c.fail_for.new.endpoint (r.lawful (inl c.requires.unfailed))
-          c.in-Err.ensures.step.unchanged c.in-Err.ensures.keeps.sound fails.keeps;
-    }
+pub invariant_of-self-in-Err-clause-lawful : goal.invariant_of-self-in-Err-clause-lawful
+invariant_of-self-in-Err-clause-lawful c = λ _. (let r = c.args.self.now in
+    unchanged_failed r.family r.batch_size r.node c.expand.new.self r.endpoint c.fail_for.new.endpoint (r.lawful (inl c.requires.unfailed))
+    c.in-Err.ensures.step.unchanged c.in-Err.ensures.keeps.sound c.fail_for.ensures.keeps)
 
 pub invariant_of-self : goal.invariant_of-self
 invariant_of-self c =

@@ -1,8 +1,7 @@
 -- The runner keeps its place and its family through the turns so far and the next, also where the next fails, for a reason.
 use Rattle.dob_runner.proofs.Common.{◌∙◌, sym, says_no}
 use Rattle.dob_runner.proofs.Keeping.{goes_trans, runner_trans, reasoned_unfailed}
-use Rattle.dob_runner.proofs.Ending.{steps_keep, steps_reasoned}
-use Rattle.dob_runner.proofs.Pacing.{adds_more, turn_goes}
+use Rattle.dob_runner.proofs.TurnParts.{steps_keep, steps_reasoned, adds_more, turn_goes}
 use Rattle.dob_runner.proofs.runner.Runner.go.Goals as goal
 
 pub turn_alone-requires-clause-family : goal.turn_alone-requires-clause-family

@@ -1,5 +1,5 @@
 -- A node is on one level, and on none where it has expanded all.
-use Rattle.std.proofs.lemmas.Bool.{ltb-true, lt-ltb}
+use Rattle.dob_runner.proofs.Common.{lt-ltb, ltb-true}
 use Rattle.dob_runner.proofs.TurnParts.{above_is, above_none}
 use Rattle.dob_runner.proofs.runner.Runner.is_above.Goals as goal
 

@@ -1,5 +1,5 @@
 -- A runner that hasn't failed has a sound node.
-use Rattle.std.proofs.Common.{inl}
+use Rattle.dob_runner.proofs.Common.{inl}
 use Rattle.dob_runner.proofs.runner.Runner.level.Goals as goal
 
 pub level-requires : goal.level-requires

@@ -1,7 +1,7 @@
 -- Each turn finds the classes of the runner's family, and keeps the runner's place whatever its answer; one that fails has a reason.
 use Rattle.dob_runner.proofs.Common.{◌∙◌, inl, inr, refl, sym, says_no}
 use Rattle.dob_runner.proofs.Keeping.{runner_trans, runner_same, turn_keeps, turn_reasoned, reasoned_unfailed}
-use Rattle.dob_runner.proofs.Ending.{let_by_turn}
+use Rattle.dob_runner.proofs.TurnParts.{let_by_turn}
 use Rattle.dob_runner.proofs.runner.Runner.make_turns.Goals as goal
 
 pub turn-requires-clause-family : goal.turn-requires-clause-family

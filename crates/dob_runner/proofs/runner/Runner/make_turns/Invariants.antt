@@ -6,5 +6,5 @@ abbrev pub invariant-loop : goal.invariant-loop
 invariant-loop g l = record {
   keeps : KeepsRunner l.fn.self l.self;
   reasoned : IsReasoned (says_no (g.G.Gate.says l.fn.gate)) l.self;
-  let_on : (l.self.endpoint.seat.halt ≡ l.fn.self.endpoint.seat.halt) ⊎ (l.self.failed ≡ None → g.G.Gate.says l.fn.gate l.self.endpoint.seat.node true);
+  let_on : (l.self.endpoint.seat.stand.halt ≡ l.fn.self.endpoint.seat.stand.halt) ⊎ (l.self.failed ≡ None → g.G.Gate.says l.fn.gate l.self.endpoint.seat.node true);
 }

@@ -1,5 +1,5 @@
 -- The batches sent to the nodes so far and to the next make one step of the runner, which fails where the next fails.
-use Rattle.dob_runner.specs.TurnRounds.{SendsAll}
+use Rattle.dob_runner.proofs.Common.{SendsAll}
 use Rattle.dob_runner.proofs.Keeping.{broken_on}
 use Rattle.dob_runner.proofs.Sending.{none_sent, sends_more}
 use Rattle.dob_runner.proofs.runner.Runner.send_all.Goals as goal

@@ -1,5 +1,5 @@
 -- It has sent to each node so far.
-use Rattle.dob_runner.specs.TurnRounds.{SendsBelow}
+use Rattle.dob_runner.proofs.Common.{SendsBelow}
 use Rattle.dob_runner.proofs.runner.Runner.send_all.Given as goal
 
 abbrev pub invariant-loop-to : goal.invariant-loop-to

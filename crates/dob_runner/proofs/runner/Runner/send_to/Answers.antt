@@ -1,11 +1,10 @@
 -- The slot's filling and the offer of its batch make one step. The offer leaves the counts and the offered batches, at most 2^40, as they were, and so the
 -- runner lawful, sent or not.
-use Rattle.dob_runner.proofs.Common.{◌<◌, ◌≡◌, Some, ap, inl, length, refl, KeepsOutlet, offered, GoesOn, SendsTo}
-use Rattle.std.proofs.Common.{slice_get}
-use Rattle.dob_runner.proofs.Counted.{counts_stay, own_set}
+use Rattle.dob_runner.proofs.Common.{◌<◌, ◌≡◌, ◌≢◌, None, Some, ap, inl, length, refl, slice_get, KeepsOutlet, offered, GoesOn, SendsTo}
+use Rattle.dob_runner.proofs.Links.{counts_stay, own_set}
 use Rattle.dob_runner.proofs.Keeping.{runner_same, broken_on, goes_by, goes_trans, outlet_same, inlet_same, one_kept, seat_same}
 use Rattle.dob_runner.proofs.Lawfuls.{offered_again}
-use Rattle.dob_runner.proofs.Sending.{low_still, in_outlets, outlet_at, slot_empty, slot_full, few_there, own_unsent, sends_none, sends_offered}
+use Rattle.dob_runner.proofs.Sending.{low_still, in_outlets, outlet_at, slot_there, few_there, own_unsent, sends_none, sends_offered}
 use Rattle.dob_runner.proofs.runner.Runner.send_to.Goals as goal
 use Rattle.dob_runner.proofs.runner.Runner.send_to.Goals.{In_ok-cut_for, After-index_mut-outlet}
 
@@ -38,23 +37,17 @@ invariant_of-endpoint g c =
       outlets_len = f.endpoint.outlets_len;
       senders = f.endpoint.senders;
       own = own_set f.endpoint.seat.node f.endpoint.outlets.items c.args.to old c.offer.new.self f.endpoint.own at c.offer.ensures.keeps.0.1;
-      posted = counts_stay offered f.endpoint.seat.posted.items f.endpoint.outlets.items c.args.to old c.offer.new.self f.endpoint.posted at (ap length c.offer.ensures.same);
+      posted = counts_stay offered f.endpoint.seat.stand.posted f.endpoint.outlets.items c.args.to old c.offer.new.self f.endpoint.posted at (ap length c.offer.ensures.same);
       taken = f.endpoint.taken;
     }
 
-pub invariant_of-self : goal.invariant_of-self
-invariant_of-self g c =
+pub invariant_of-self-clause-lawful : goal.invariant_of-self-clause-lawful
+invariant_of-self-clause-lawful g c = λ _.
     let f = c.cut_for.new.self in
     let went : GoesOn c.args.self.now f = c.in_ok-cut_for.ensures.0.goes in
-    let back = goal.at.invariant_of-self g c in
-    let at = there g back.After-index_mut-outlet (low g back.In_ok-cut_for) in
-    record {
-      going = λ _. went.unfailed;
-      own = f.own;
-      agrees = f.agrees;
-      lawful = λ _. offered_again f.family f.batch_size c.args.to f.node f.endpoint _ (f.lawful (inl went.unfailed)) refl
-          (c.index_mut-outlet.result.now, c.offer.new.self, at, c.offer.ensures, refl) refl;
-    }
+    let back = goal.at.invariant_of-self-clause-lawful g c in
+    offered_again f.family f.batch_size c.args.to f.node f.endpoint _ (f.lawful (inl went.unfailed)) refl
+    (c.index_mut-outlet.result.now, c.offer.new.self, there g back.After-index_mut-outlet (low g back.In_ok-cut_for), c.offer.ensures, refl) refl
 
 pub returns-in_err-cut_for : goal.returns-in_err-cut_for
 returns-in_err-cut_for g c = broken_on (SendsTo c.args.to c.args.small) c.args.self.now c.args.self.now c.cut_for.new.self c.from_residual.result c.in_err-cut_for.field-0.0
@@ -67,7 +60,7 @@ pub returns-then-not-is_full : goal.returns-then-not-is_full
 returns-then-not-is_full g c =
     let f = c.cut_for.new.self in
     sends_none c.args.to c.args.small c.args.self.now f c.in_ok-cut_for.field-0 c.if-to-self.false c.in_ok-cut_for.ensures
-    (slot_empty f.endpoint c.args.to c.index.result.now (low g (goal.at.returns-then-not-is_full g c).In_ok-cut_for) c.index.ensures
+    (slot_there f.endpoint c.args.to c.index.result.now (low g (goal.at.returns-then-not-is_full g c).In_ok-cut_for) c.index.ensures (λ s. s ≡ None)
     (c.is_full.ensures.empty c.if-not-is_full.true))
 
 pub returns : goal.returns
@@ -79,7 +72,8 @@ returns g c =
     let back = goal.at.returns g c in
     let within = low g back.In_ok-cut_for in
     let at = there g back.After-index_mut-outlet within in
-    let full = slot_full f.endpoint c.args.to c.index.result.now within c.index.ensures (c.is_full.ensures.full c.if-not-is_full.false) old at in
+    let full = slot_there f.endpoint c.args.to c.index.result.now within c.index.ensures (λ s. s ≢ None) (c.is_full.ensures.full c.if-not-is_full.false)
+    old at in
     sends_offered c.args.to c.args.small r f c.in_ok-cut_for.field-0 c.if-to-self.false fills _
     (goes_trans r f _ fills.0.goes (goes_by (record {
       seat = seat_same f.endpoint.seat;

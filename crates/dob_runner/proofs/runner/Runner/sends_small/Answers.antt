@@ -1,5 +1,5 @@
 -- The node is on one level, and was on one before, or on none.
-use Rattle.std.proofs.Common.{arith}
+use Rattle.dob_runner.proofs.Common.{arith}
 use Rattle.dob_runner.proofs.TurnParts.{small_idle, small_above, small_later}
 use Rattle.dob_runner.proofs.runner.Runner.sends_small.Goals as goal
 

@@ -1,22 +1,20 @@
 -- The runner is lawful whether no batch came or one was applied; a refused one blackened its seat before any end, and one for which
 -- there is no memory lies in the slot.
 use Rattle.dob_runner.proofs.Common.{◌++◌, ◌∙◌, ◌≡◌, ◌≢◌, Err, None, ap, arith, inl, inr, refl, subst, sym, Memory, IsSound, IsUnchanged, Node, IsSameSeat}
-use Rattle.dob_runner.proofs.Common.{TakesOne, NodeSeat, Stand, KeepsEndpoint, IsLawfulRunner, HoldsFor, KeepsInlet, KeepsOutlet, worked, no_gate}
-use Rattle.dob_runner.proofs.Common.{Endpoint, Runner, Inlet}
-use Rattle.dob_runner.proofs.Senders.{taken_still}
-use Rattle.dob_runner.proofs.Keeping.{endpoint_trans, goes_by, links_kept, own_still, some_cause, failed_first, refused_reason, node_goes, agrees_going}
-use Rattle.dob_runner.proofs.Keeping.{agrees_failed}
-use Rattle.dob_runner.proofs.Keeping.{unspared_reason, memory_reason, still_trans, seat_same, each_same, outlet_same}
+use Rattle.dob_runner.proofs.Common.{TakesOne, NodeSeat, Stand, KeepsEndpoint, IsLawfulRunner, HoldsFor, KeepsInlet, KeepsOutlet, worked, no_gate, Endpoint}
+use Rattle.dob_runner.proofs.Common.{Runner, Inlet}
+use Rattle.dob_runner.proofs.Links.{taken_still, takes_none, takes_one, of_other, fits_node, unchanged_same}
+use Rattle.dob_runner.proofs.Keeping.{broken_by, endpoint_trans, goes_by, links_kept, own_still, failed_first, refused_reason, node_goes, agrees_going}
+use Rattle.dob_runner.proofs.Keeping.{unspared_reason, memory_reason, seat_same, each_same, outlet_same}
 use Rattle.dob_node.proofs.TakenLists.{before_since}
-use Rattle.dob_runner.proofs.Applied.{worked_again, worked_else, worked_more}
+use Rattle.dob_runner.proofs.Knowing.{worked_again, worked_else, worked_more}
 use Rattle.dob_runner.proofs.Lawfuls.{recoloured, same_inlet, applied_batch, unchanged_node}
-use Rattle.dob_runner.proofs.Taking.{takes_none, takes_one, of_other, fits_node, unchanged_same}
 use Rattle.dob_runner.proofs.runner.Runner.take_one.Goals as goal
 use Rattle.dob_runner.proofs.runner.Runner.take_one.Goals.{After-accept, In-Err-apply_batch}
 
 -- what came into the slot isn't worked yet: the runner stays lawful, and nothing is taken back
 still_lawful : (r : Runner) (node : Node) (new : Endpoint) → r.failed ≡ None → IsUnchanged r.node node → IsSound node → new.seat.node ≡ r.endpoint.seat.node →
-    new.seat.nodes ≡ r.endpoint.seat.nodes → new.outlets ≡ r.endpoint.outlets → worked new.inlet ≡ worked r.endpoint.inlet → new.seat.black ≡ r.endpoint.seat.black →
+    new.seat.nodes ≡ r.endpoint.seat.nodes → new.outlets ≡ r.endpoint.outlets → worked new.inlet ≡ worked r.endpoint.inlet → new.seat.stand.black ≡ r.endpoint.seat.stand.black →
     IsLawfulRunner r.family r.batch_size node new
 still_lawful r node new going same sound same_node same_nodes outlets again colour =
     let law = unchanged_node r.family r.batch_size r.node node r.endpoint (r.lawful (inl going)) same sound in
@@ -41,37 +39,20 @@ reserve-requires-clause-going g c = (let r = c.args.self.now in node_goes r.node
 pub accept-requires-clause-held : goal.accept-requires-clause-held
 accept-requires-clause-held g c = (let tested = c.in-Some.ensures in (tested.batch, tested.held, tested.sender))
 
-pub invariant_of-endpoint : goal.invariant_of-endpoint
-invariant_of-endpoint g c =
-    let endpoint = c.args.self.now.endpoint in
-    record {
-      outlets_len = endpoint.outlets_len;
-      senders = c.receive.ensures.keeps.0.1 ∙ endpoint.senders;
-      own = endpoint.own;
-      posted = endpoint.posted;
-      taken = taken_still endpoint.seat.nodes endpoint.seat.taken.items endpoint.inlet c.receive.new.self endpoint.taken c.receive.ensures.worked;
-    }
+pub invariant_of-endpoint-clause-taken : goal.invariant_of-endpoint-clause-taken
+invariant_of-endpoint-clause-taken g c = (let endpoint = c.args.self.now.endpoint in
+    taken_still endpoint.seat.nodes endpoint.seat.stand.taken endpoint.inlet c.receive.new.self endpoint.taken c.receive.ensures.worked)
 
-pub invariant_of-self : goal.invariant_of-self
-invariant_of-self g c = (let r = c.args.self.now in record {
-  going = λ _. c.requires;
-  own = r.own;
-  agrees = r.agrees;
-  lawful = λ _. still_lawful r r.node _ c.requires (unchanged_same r.node) (r.lawful (inl c.requires)).sound refl refl refl c.receive.ensures.worked refl;
-})
+pub invariant_of-self-clause-lawful : goal.invariant_of-self-clause-lawful
+invariant_of-self-clause-lawful g c = λ _. (let r = c.args.self.now in
+    still_lawful r r.node _ c.requires (unchanged_same r.node) (r.lawful (inl c.requires)).sound refl refl refl c.receive.ensures.worked refl)
 
-pub invariant_of-self-in-Err : goal.invariant_of-self-in-Err
-invariant_of-self-in-Err g c =
-    let r = c.args.self.now in
+pub invariant_of-self-in-Err-clause-lawful : goal.invariant_of-self-in-Err-clause-lawful
+invariant_of-self-in-Err-clause-lawful g c = λ _.
     let fails = c.fail_for.ensures in
     let links = fails.keeps.links in
-    record {
-      going = λ running. absurd (fails.stopped running);
-      own = λ _. some_cause _ c.in-Err.refused fails.cause;
-      agrees = agrees_failed c.reserve.new.self.failed _ c.in-Err.refused c.in-Err.ensures.keeps.failed fails.cause;
-      lawful = λ _. still_lawful r c.reserve.new.self c.fail_for.new.endpoint c.requires c.reserve.ensures.step.unchanged c.reserve.ensures.keeps.sound links.seat.node
-          links.seat.nodes links.outlets (ap (λ (i : Inlet). worked i) links.inlet ∙ c.receive.ensures.worked) fails.keeps.colour;
-    }
+    still_lawful c.args.self.now c.reserve.new.self c.fail_for.new.endpoint c.requires c.reserve.ensures.step.unchanged c.reserve.ensures.keeps.sound
+    links.seat.node links.seat.nodes links.outlets (ap (λ (i : Inlet). worked i) links.inlet ∙ c.receive.ensures.worked) fails.keeps.colour
 
 pub invariant_of-self-in_default-accept : goal.invariant_of-self-in_default-accept
 invariant_of-self-in_default-accept g c =
@@ -94,20 +75,15 @@ not_memory g c memory =
     let many = c.held_items.ensures c.in-Some-accept.batch c.in-Some-accept.ensures.held in
     omega (arith, room, less, many)
 
-pub invariant_of-self-in-Err-apply_batch : goal.invariant_of-self-in-Err-apply_batch
-invariant_of-self-in-Err-apply_batch g c =
+pub invariant_of-self-in-Err-apply_batch-clause-lawful : goal.invariant_of-self-in-Err-apply_batch-clause-lawful
+invariant_of-self-in-Err-apply_batch-clause-lawful g c =
     let taken : TakesOne c.args.self.now.endpoint.seat c.accept.new.self.seat c.in-Some-accept.batch.from = c.in-Some-accept.ensures.taken in
     let why = c.in-Err-apply_batch.why in
     let before = c.in-Err-apply_batch.ensures.step.before in
     let fails = c.fail_for-in-Err-apply_batch.ensures in
-    record {
-      going = λ running. absurd (fails.stopped running);
-      own = λ _. some_cause _ why fails.cause;
-      agrees = agrees_failed c.apply_batch.new.self.failed _ why c.in-Err-apply_batch.ensures.keeps.failed fails.cause;
-      lawful = failed_first _ why c.fail_for-in-Err-apply_batch.new.endpoint.seat.halt fails.cause (fails.black (ap (λ (s : Stand). s.black) taken.counted))
-          (unspared_reason before.item c.apply_batch.new.self.share why before.reason
-          (not_memory g (goal.at.invariant_of-self-in-Err-apply_batch g c).In-Err-apply_batch));
-    }
+    failed_first _ why c.fail_for-in-Err-apply_batch.new.endpoint.seat.stand.halt fails.cause (fails.black (ap (λ (s : Stand). s.black) taken.counted))
+    (unspared_reason before.item c.apply_batch.new.self.share why before.reason
+    (not_memory g (goal.at.invariant_of-self-in-Err-apply_batch-clause-lawful g c).In-Err-apply_batch))
 
 pub invariant_of-self-in-Ok-apply_batch : goal.invariant_of-self-in-Ok-apply_batch
 invariant_of-self-in-Ok-apply_batch g c =
@@ -140,23 +116,11 @@ returns-in_default-clause-step g c =
 pub returns-in-Err : goal.returns-in-Err
 returns-in-Err g c =
     let r = c.args.self.now in
-    let failed = c.fail_for.new.endpoint in
     let fails = c.fail_for.ensures in
     let links = fails.keeps.links in
     record {
-      step = record {
-        failed = record {
-          keeps = record {
-            endpoint = endpoint_trans r.endpoint _ failed (kept_by r.endpoint _ refl refl c.receive.ensures.keeps) (links_kept _ failed links);
-            family = refl;
-            batch_size = refl;
-          };
-          cause = fails.cause;
-          stopped = fails.stopped;
-        };
-        still = fails.still;
-        reason = memory_reason no_gate _ c.in-Err.refused c.in-Err.ensures.step.memory;
-      };
+      step = broken_by r _ _ c.in-Err.refused (kept_by r.endpoint _ refl refl c.receive.ensures.keeps) refl fails refl refl
+          (memory_reason no_gate _ c.in-Err.refused c.in-Err.ensures.step.memory);
       refused = λ _. record {
         from = c.in-Some.from;
         holds = subst (λ (i : Inlet). HoldsFor r.family r.endpoint.seat.nodes c.in-Some.from r.endpoint.seat.node i) (sym links.inlet) c.in-Some.ensures;
@@ -198,23 +162,20 @@ returns-clause-step g c =
     let links = fails.keeps.links in
     let kept = endpoint_trans r.endpoint c.accept.new.self failed (accepted g (goal.at.returns-clause-step g c).After-accept)
     (links_kept c.accept.new.self failed links) in
-    record {
-      failed = record { keeps = record { endpoint = kept; family = refl; batch_size = refl }; cause = fails.cause; stopped = fails.stopped };
-      still = still_trans r.endpoint.seat c.accept.new.self.seat failed.seat c.accept.ensures.keeps.seat.node c.accept.ensures.still fails.still;
-      reason = refused_reason _ why (record {
-        was = r;
-        going = c.requires;
-        kept = record { endpoint = kept; family = refl; batch_size = refl };
-        from = batch.from;
-        other = of_other c.in-Some.ensures c.in-Some-accept.ensures.held;
-        batch = batch;
-        fits = fits_node c.in-Some.ensures c.in-Some-accept.ensures.held;
-        came = same_inlet c.accept.new.self failed links.inlet batch.from
-            ∙ worked_more inlet c.accept.new.self.inlet batch c.in-Some-accept.ensures.worked.1
-            ∙ ap (λ xs. xs ++ batch.items) (worked_again r.endpoint.inlet inlet c.receive.ensures.worked batch.from);
-        before = before_since batch.items r.node c.reserve.new.self c.apply_batch.new.self why c.reserve.ensures.step.unchanged c.in-Err-apply_batch.ensures.step.before;
-      });
-    }
+    broken_by r _ c.accept.new.self why (accepted g (goal.at.returns-clause-step g c).After-accept) c.accept.ensures.still fails refl refl
+    (refused_reason _ why (record {
+      was = r;
+      going = c.requires;
+      kept = record { endpoint = kept; family = refl; batch_size = refl };
+      from = batch.from;
+      other = of_other c.in-Some.ensures c.in-Some-accept.ensures.held;
+      batch = batch;
+      fits = fits_node c.in-Some.ensures c.in-Some-accept.ensures.held;
+      came = same_inlet c.accept.new.self failed links.inlet batch.from
+          ∙ worked_more inlet c.accept.new.self.inlet batch c.in-Some-accept.ensures.worked.1
+          ∙ ap (λ xs. xs ++ batch.items) (worked_again r.endpoint.inlet inlet c.receive.ensures.worked batch.from);
+      before = before_since batch.items r.node c.reserve.new.self c.apply_batch.new.self why c.reserve.ensures.step.unchanged c.in-Err-apply_batch.ensures.step.before;
+    }))
 
 pub returns-clause-refused : goal.returns-clause-refused
 returns-clause-refused g c memory =

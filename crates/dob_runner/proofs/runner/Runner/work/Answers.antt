@@ -1,7 +1,7 @@
 -- Taking, expanding, applying and sending make one step of the runner, which fails where one of the four fails.
 use Rattle.dob_runner.proofs.Common.{◌∙◌, refl, sym, GoesOn, Works}
 use Rattle.dob_runner.proofs.Keeping.{runner_same, goes_trans, broken_on}
-use Rattle.dob_runner.proofs.Pacing.{adds_one}
+use Rattle.dob_runner.proofs.TurnParts.{adds_one}
 use Rattle.dob_runner.proofs.runner.Runner.work.Goals as goal
 use Rattle.dob_runner.proofs.runner.Runner.work.Goals.{In_ok-expanded, In_ok-applied}
 

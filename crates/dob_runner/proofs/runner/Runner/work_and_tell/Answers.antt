@@ -1,7 +1,6 @@
 -- The gate is told how many more settlements are expanded after the work than before.
 use Rattle.dob_runner.proofs.Common.{◌-◌, ◌∙◌, ◌≡◌, subst, ℕ, KeepsRunner}
-use Rattle.dob_runner.proofs.Pacing.{works_go}
-use Rattle.dob_runner.proofs.Ending.{steps_keep}
+use Rattle.dob_runner.proofs.TurnParts.{works_go, steps_keep}
 use Rattle.dob_runner.proofs.runner.Runner.work_and_tell.Goals as goal
 
 pub returns-clause-told : goal.returns-clause-told

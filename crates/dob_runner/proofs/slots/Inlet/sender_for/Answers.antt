@@ -1,5 +1,5 @@
 -- The sender is that of the batch in the slot, which is one of the family from it to the other node; and no other batch is.
-use Rattle.std.proofs.Common.{rules, sym}
+use Rattle.dob_runner.proofs.Common.{rules, sym}
 use Rattle.dob_runner.proofs.slots.Inlet.sender_for.Goals as goal
 
 pub returns : goal.returns

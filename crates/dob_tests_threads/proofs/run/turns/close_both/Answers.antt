@@ -15,7 +15,7 @@ use Rattle.dob_tests_threads.proofs.run.turns.close_both.Goals as goal
 
 -- a runner keeps its place, and has stopped
 abbrev HasEnded : Runner → Runner → Type 0
-HasEnded old new = KeepsRunner old new × (new.endpoint.seat.halt ≢ Running)
+HasEnded old new = KeepsRunner old new × (new.endpoint.seat.stand.halt ≢ Running)
 
 module _ (family : Family) (board : Board) (one other first second : Runner) (opened : IsNewCrew family 2 1 1 board (one ∷ other ∷ []))
     (keeps_one : KeepsRunner one first) (keeps_other : KeepsRunner other second) (ended : List Runner) (is : ended ≡ first ∷ second ∷ []) where
@@ -23,7 +23,7 @@ module _ (family : Family) (board : Board) (one other first second : Runner) (op
   still_crew = subst (λ (l : List Runner). IsCrew board (map endpoint_of l)) (sym is)
       (crew_kept board (one ∷ other ∷ []) (first ∷ second ∷ []) opened.crew (keeps_one, (keeps_other, tt)))
 
-  have_stopped : first.endpoint.seat.halt ≢ Running → second.endpoint.seat.halt ≢ Running → HaveStopped family 1 ended
+  have_stopped : first.endpoint.seat.stand.halt ≢ Running → second.endpoint.seat.stand.halt ≢ Running → HaveStopped family 1 ended
   have_stopped stopped_one stopped_other = subst (HaveStopped family 1) (sym is) (λ k runner at.
       let ends : AllZip HasEnded (one ∷ other ∷ []) (first ∷ second ∷ []) = ((keeps_one, stopped_one), ((keeps_other, stopped_other), tt)) in
       let was = zip_at HasEnded (one ∷ other ∷ []) (first ∷ second ∷ []) k runner ends at in
