@@ -1,13 +1,14 @@
--- A file that is read is the one that was written, and what was written is read again.
-use Rattle.dob_certfile.proofs.Common.{◌++◌, ◌-◌, ◌<◌, ◌∙◌, ◌∷◌, ◌≡◌, ◌≤◌, Bool, Err, List, Ok, ap, append_assoc, arith, drop, false, leb, length, refl, subst}
-use Rattle.dob_certfile.proofs.Common.{sym, take, true, ℕ, le-leb, leb-true, length-append, take_at, little_bytes, classes_of-below, classes_of, Entry, Content}
-use Rattle.dob_certfile.proofs.Common.{FitEntries, Fits, bytes_of, claim_bytes, contents_of, entries_bytes, head_bytes, title, ◌>>=◌, FrontContent, are_same}
-use Rattle.dob_certfile.proofs.Common.{entries_at, file_at, front_at, seal_at, wants, Digest, Trailing, Truncated}
+-- A file that is read is the one that was written, what was written is read again, and what a reader says of the bytes.
+use Rattle.dob_certfile.proofs.Common.{◌++◌, ◌-◌, ◌<◌, ◌∙◌, ◌≡◌, ◌≤◌, ◌⊎◌, Err, List, Ok, Result, ap, append_assoc, arith, drop, inl, inr, length, refl, subst}
+use Rattle.dob_certfile.proofs.Common.{sym, take, true, ℕ, le-leb, length-append, take_at, IfErr, IfOk, little_bytes, classes_of-below, classes_of}
+use Rattle.dob_certfile.proofs.Common.{AreAscending, Entry, Content, FitEntries, Fits, bytes_of, content, head_bytes, contents_of, entries_bytes, ◌>>=◌}
+use Rattle.dob_certfile.proofs.Common.{FrontContent, HasCertFault, MayGive, are_same, entries_at, file_at, front_at, seal_at, Defect, Digest}
 use Rattle.sha2.specs.Sha256.{sha256}
 use Rattle.sha2.proofs.Facts256.{length-sha256}
-use Rattle.dob_dbfile.specs.Format.{set_bytes, profile_number}
-use Rattle.dob_certfile.proofs.Fields.{IsBytes, IsBytes-drop, bind_ok, wants_ok, ok_is}
-use Rattle.dob_certfile.proofs.Same.{same_is, is_same, not_same}
+use Rattle.dob_certfile.specs.declared.defect.ReadFault.{ReadFault}
+use Rattle.dob_certfile.specs.declared.defect.ReadFault.TheVariants as faults
+use Rattle.dob_certfile.specs.declared.file.CertificateFile.{CertificateFile}
+use Rattle.dob_certfile.proofs.Fields.{IsBytes, IsBytes-drop, bind_ok, ok_is, same_is, is_same, not_same}
 use Rattle.dob_certfile.proofs.Lists.{entries_take, entries_again, rise_fit, rise_count, rise_ascends, fit_rises, starts_anywhere}
 use Rattle.dob_certfile.proofs.Fronts.{FitsFront, front_text, front_takes, front_again}
 
@@ -15,50 +16,32 @@ use Rattle.dob_certfile.proofs.Fronts.{FitsFront, front_text, front_takes, front
 
 seal_takes : (bytes rest : List ℕ) (done : Unit {0}) → seal_at bytes rest ≡ Ok done → (length rest ≡ 32) × (rest ≡ sha256 (take (length bytes - 32) bytes))
 unfolding seal_at
-seal_takes bytes rest done e =
-    let a = wants_ok (leb 32 (length rest)) Truncated (wants (leb (length rest) 32) Trailing >>= λ ends. wants (are_same rest (sha256 (take (length bytes - 32) bytes))) Digest) done e in
-    let b = wants_ok (leb (length rest) 32) Trailing (wants (are_same rest (sha256 (take (length bytes - 32) bytes))) Digest) done a.1 in
-    let c = right (are_same rest (sha256 (take (length bytes - 32) bytes))) done b.1 in
-    (omega (arith, leb-true 32 (length rest) a.0, leb-true (length rest) 32 b.0), same_is rest (sha256 (take (length bytes - 32) bytes)) c)
-  where
-    right : (b : Bool) (done : Unit {0}) → wants b Digest ≡ Ok done → b ≡ true
-    right true done e = refl
-    right false done e = absurd cc
+seal_takes bytes rest done e = grind (arith, same_is)
 
 -- the contents with their digest
 seal_again : (contents rest : List ℕ) → length rest ≡ 32 → rest ≡ sha256 contents → seal_at (contents ++ rest) rest ≡ Ok tt
 unfolding seal_at
 seal_again contents rest long is =
-    let whole : leb 32 (length rest) ≡ true = le-leb 32 (length rest) (omega (arith, long)) in
-    let ends : leb (length rest) 32 ≡ true = le-leb (length rest) 32 (omega (arith, long)) in
+    let whole = le-leb 32 (length rest) (omega (arith, long)) in
+    let ends = le-leb (length rest) 32 (omega (arith, long)) in
     let before : length (contents ++ rest) - 32 ≡ length contents = omega (arith, length-append contents rest, long) in
     let cut : take (length (contents ++ rest) - 32) (contents ++ rest) ≡ contents = ap (λ (n : ℕ). take n (contents ++ rest)) before ∙ take_at contents rest (length contents) refl in
     let same : are_same rest (sha256 (take (length (contents ++ rest) - 32) (contents ++ rest))) ≡ true = is_same rest _ (is ∙ ap sha256 (sym cut)) in
     rw (whole, ends, same) refl
 
 regroup : (o a b c d e : List ℕ) → ((((o ++ a) ++ b) ++ c) ++ d) ++ e ≡ o ++ (a ++ (b ++ (c ++ (d ++ e))))
-regroup o a b c d e =
-    append_assoc (((o ++ a) ++ b) ++ c) d e ∙ append_assoc ((o ++ a) ++ b) c (d ++ e) ∙ append_assoc (o ++ a) b (c ++ (d ++ e)) ∙ append_assoc o a (b ++ (c ++ (d ++ e)))
+regroup o a b c d e = simp append_assoc
 
 -- what is found of the digest that stands there
 pub seal_right : (bytes rest digest : List ℕ) (n : ℕ) → n ≡ length bytes - 32 → digest ≡ sha256 (take n bytes) → 32 ≤ length rest → length rest ≤ 32 → rest ≡ digest
     → Ok tt ≡ seal_at bytes rest
 unfolding seal_at
-seal_right bytes rest digest n at is low high same =
-    let whole : leb 32 (length rest) ≡ true = le-leb 32 (length rest) low in
-    let ends : leb (length rest) 32 ≡ true = le-leb (length rest) 32 high in
-    let right : are_same rest (sha256 (take (length bytes - 32) bytes)) ≡ true = is_same rest _ (same ∙ is ∙ ap (λ (k : ℕ). sha256 (take k bytes)) at) in
-    rw (whole, ends, right) refl
+seal_right bytes rest digest n at is low high same = grind (arith, is_same)
 
 pub seal_wrong : (bytes rest digest : List ℕ) (n : ℕ) → n ≡ length bytes - 32 → digest ≡ sha256 (take n bytes) → 32 ≤ length rest → length rest ≤ 32 → (rest ≡ digest → ⊥)
     → Err Digest ≡ seal_at bytes rest
 unfolding seal_at
-seal_wrong bytes rest digest n at is low high other =
-    let whole : leb 32 (length rest) ≡ true = le-leb 32 (length rest) low in
-    let ends : leb (length rest) 32 ≡ true = le-leb (length rest) 32 high in
-    let wrong : are_same rest (sha256 (take (length bytes - 32) bytes)) ≡ false =
-    not_same rest (sha256 (take (length bytes - 32) bytes)) (λ same. other (same ∙ sym (is ∙ ap (λ (k : ℕ). sha256 (take k bytes)) at))) in
-    rw (whole, ends, wrong) refl
+seal_wrong bytes rest digest n at is low high other = grind (arith, not_same)
 
 -- ---- the whole file
 
@@ -69,17 +52,12 @@ filed f lost held = record { family = f.family; root = f.root; claim = f.claim; 
 joined : (c : Content) (rest : List ℕ) → contents_of c ++ rest
     ≡ front_text (record { family = c.family; root = c.root; claim = c.claim; lost_count = length c.lost; held_count = length c.held }) ((entries_bytes 0 c.lost ++ entries_bytes 0 c.held) ++ rest)
 unfolding contents_of
-joined c rest =
-    let lost : List ℕ = entries_bytes 0 c.lost in
-    let held : List ℕ = entries_bytes 0 c.held in
-    let more : List ℕ = little_bytes 4 (length c.lost) ++ (little_bytes 4 (length c.held) ++ (lost ++ held)) in
-    ap (λ (x : List ℕ). title ++ 1 ∷ (set_bytes c.family.set ++ profile_number c.family.profile ∷ (little_bytes 4 c.root ++ x)))
-    (append_assoc (claim_bytes c.claim) more rest)
+joined c rest = grind arith
 
 -- ---- reading again
 
 pub few_entries : (classes : ℕ) (entries : List Entry) → FitEntries classes entries → length entries ≤ classes
-few_entries classes entries fits = (let few = rise_count classes 0 entries (fit_rises classes 0 entries fits (starts_anywhere entries)) (omega arith) in omega (arith, few))
+few_entries classes entries fits = omega (arith, rise_count classes 0 entries (fit_rises classes 0 entries fits (starts_anywhere entries)) (omega arith))
 
 pub file_again : (c : Content) → Fits c → file_at (bytes_of c) ≡ Ok c
 unfolding file_at
@@ -152,3 +130,19 @@ pieces c lost held old n1 n2 n3 n4 n5 is_lost is_held e1 e2 e3 e4 e5 =
     ∙ regroup old a (b lost) (b held) (d lost) (d held)
     ∙ ap (λ (xs : List Entry). old ++ (a ++ (b xs ++ (b held ++ (d xs ++ d held))))) is_lost
     ∙ ap (λ (xs : List Entry). old ++ (a ++ (b c.lost ++ (b xs ++ (d c.lost ++ d xs))))) is_held
+
+-- ---- what a reader says of the bytes
+
+pub is_found : (bytes : List ℕ) (r : Result CertificateFile ReadFault) → IsBytes bytes → MayGive content r (file_at bytes) → IfOk r (λ file. Fits (content file) × (bytes ≡ bytes_of (content file)))
+is_found bytes (Ok file) fits given = file_takes bytes (content file) fits given
+is_found bytes (Err e) fits given = tt
+
+pub is_fault : (bytes : List ℕ) (r : Result CertificateFile ReadFault) → MayGive content r (file_at bytes)
+    → IfErr r (λ given. (given ≡ faults.Memory) ⊎ ((defect : Defect) × (given ≡ faults.Defect defect) × HasCertFault bytes defect))
+is_fault bytes (Ok file) given = tt
+is_fault bytes (Err faults.Memory) given = inl refl
+is_fault bytes (Err (faults.Defect defect)) given = inr (defect, refl, given)
+
+-- entries that were read ascend
+pub read_ascends : (classes count : ℕ) (bytes rest : List ℕ) (entries : List Entry) → IsBytes bytes → entries_at classes 0 count bytes ≡ Ok (entries, rest) → AreAscending entries
+read_ascends classes count bytes rest entries fits e = rise_ascends classes 0 entries (entries_take classes 0 count bytes (entries, rest) fits e).2

@@ -1,10 +1,9 @@
 -- The front that is read is the one that was written, and what was written is read again.
-use Rattle.dob_certfile.proofs.Common.{◌%◌, ◌*◌, ◌++◌, ◌+◌, ◌/◌, ◌<◌, ◌∙◌, ◌∷◌, ◌≡◌, ◌≤◌, Err, List, Ok, Result, [], ap, arith, drop, eqb, get_or, inl, inr}
-use Rattle.dob_certfile.proofs.Common.{leb, length, ltb, refl, subst, suc, sym, take, true, zero, ℕ, cases_Bool, cases_lt, drop_more, eq-eqb, eqb-true, le-leb}
-use Rattle.dob_certfile.proofs.Common.{leb-true, lt-ltb, ltb-true, little_bytes, little_number, Family, classes_of-below, classes_of, family_of, FitsClaim}
-use Rattle.dob_certfile.proofs.Common.{claim_bytes}
-use Rattle.dob_certfile.proofs.Common.{title, ◌>>=◌, FrontContent, are_same, claim_at, claim_of_kind, family_at, few_at, front_at, part, profile_at, set_at}
-use Rattle.dob_certfile.proofs.Common.{wants, word, Defect, ClaimByte, EntryCount, Magic, ProfileByte, RootClass, SetByte, Truncated, Version}
+use Rattle.dob_certfile.proofs.Common.{◌++◌, ◌+◌, ◌<◌, ◌∙◌, ◌∷◌, ◌≡◌, ◌≤◌, Err, List, Ok, [], ap, arith, drop, eqb, get_or, inl, inr, leb, rules, length, ltb}
+use Rattle.dob_certfile.proofs.Common.{refl, subst, suc, sym, take, zero, ℕ, cases_Bool, cases_lt, eqb-true, le-leb, leb-true, lt-ltb, ltb-true, drop_more}
+use Rattle.dob_certfile.proofs.Common.{little_bytes, little_number, Family, classes_of-below, classes_of, family_of, FitsClaim, claim_bytes, title, ◌>>=◌}
+use Rattle.dob_certfile.proofs.Common.{FrontContent, are_same, claim_at, claim_of_kind, few_at, part, profile_at, wants, word, family_at, front_at, set_at}
+use Rattle.dob_certfile.proofs.Common.{EntryCount, Magic, ProfileByte, RootClass, SetByte, Truncated, Version}
 use Rattle.std.proofs.Common.{◌≢◌, slice_index}
 use Rattle.std.proofs.lemmas.List.{take-append-drop, drop-drop, length-drop, length-take-le, get_or-drop, get_or-take}
 use Rattle.byteorder.specs.Numbers.{little_number-reads_back}
@@ -16,31 +15,22 @@ use Rattle.dob_value.specs.declared.value.Value.TheVariants.{Win, Loss, Draw}
 use Rattle.dob_dbfile.specs.Format.{set_bytes, profile_number}
 use Rattle.dob_certificate.specs.declared.claim.Claim.{Claim}
 use Rattle.dob_certificate.specs.declared.claim.Claim.TheVariants.{Exactly, LostWithin, WonWithin}
-use Rattle.dob_certfile.proofs.Fields.{IsBytes, bind_ok, wants_ok, ok_is}
-use Rattle.dob_certfile.proofs.Same.{same_is, is_same}
+use Rattle.dob_certfile.proofs.Fields.{IsBytes, bind_ok, wants_ok, ok_is, same_is, is_same}
 
 -- what holds of each four cells holds of each list of four
 of_four : (P : List ℕ → Type 0) → ((a b c d : ℕ) → P (a ∷ b ∷ c ∷ d ∷ [])) → (xs : List ℕ) → length xs ≡ 4 → P xs
-of_four P each [] long = absurd (omega (arith, long))
-of_four P each (a ∷ []) long = absurd (omega (arith, long))
-of_four P each (a ∷ b ∷ []) long = absurd (omega (arith, long))
-of_four P each (a ∷ b ∷ c ∷ []) long = absurd (omega (arith, long))
 of_four P each (a ∷ b ∷ c ∷ d ∷ []) long = each a b c d
-of_four P each (a ∷ b ∷ c ∷ d ∷ x ∷ xs) long = absurd (omega (arith, long))
+of_four P each _ long = absurd (omega (arith, long))
 
 -- ---- the set
 
 few_ok : (n : ℕ) (x : (m : ℕ) × (m ≤ 2)) → few_at n ≡ Ok x → x.0 ≡ n
-few_ok zero x e = sym (ap (λ (p : (m : ℕ) × (m ≤ 2)). p.0) (ok_is _ x e))
-few_ok (suc zero) x e = sym (ap (λ (p : (m : ℕ) × (m ≤ 2)). p.0) (ok_is _ x e))
-few_ok (suc (suc zero)) x e = sym (ap (λ (p : (m : ℕ) × (m ≤ 2)). p.0) (ok_is _ x e))
 few_ok (suc (suc (suc n))) x e = absurd cc
+few_ok _ x e = sym (ap (λ (p : (m : ℕ) × (m ≤ 2)). p.0) (ok_is _ x e))
 
 few_large : (n : ℕ) → 2 < n → few_at n ≡ Err SetByte
-few_large zero large = absurd (omega (arith, large))
-few_large (suc zero) large = absurd (omega (arith, large))
-few_large (suc (suc zero)) large = absurd (omega (arith, large))
 few_large (suc (suc (suc n))) large = refl
+few_large _ large = absurd (omega (arith, large))
 
 few_again : (n : ℕ) → n ≤ 2 → (x : (m : ℕ) × (m ≤ 2)) × (few_at n ≡ Ok x) × (x.0 ≡ n)
 few_again zero few = ((0, omega arith), refl, refl)
@@ -56,12 +46,7 @@ four a b c d w x y z ea eb ec ed = cc
 
 set_of_cells : (a b c d : ℕ) (set : PieceSet) → set_at (a ∷ b ∷ c ∷ d ∷ []) ≡ Ok set → a ∷ b ∷ c ∷ d ∷ [] ≡ set_bytes set
 unfolding set_at
-set_of_cells a b c d set e =
-    let x = bind_ok (few_at a) (λ chicks. few_at b >>= λ elephants. few_at c >>= λ giraffes. wants (eqb d 2) SetByte >>= λ two. Ok (set_from chicks elephants giraffes)) set e in
-    let y = bind_ok (few_at b) (λ elephants. few_at c >>= λ giraffes. wants (eqb d 2) SetByte >>= λ two. Ok (set_from x.0 elephants giraffes)) set x.2 in
-    let z = bind_ok (few_at c) (λ giraffes. wants (eqb d 2) SetByte >>= λ two. Ok (set_from x.0 y.0 giraffes)) set y.2 in
-    let w = wants_ok (eqb d 2) SetByte (Ok (set_from x.0 y.0 z.0)) set z.2 in
-    four a b c d x.0.0 y.0.0 z.0.0 2 (few_ok a x.0 x.1) (few_ok b y.0 y.1) (few_ok c z.0 z.1) (sym (eqb-true d 2 w.0)) ∙ ap set_bytes (ok_is (set_from x.0 y.0 z.0) set w.1)
+set_of_cells a b c d set e = search (rules, few_ok, ok_is)
 
 pub set_takes : (bytes : List ℕ) (set : PieceSet) → length bytes ≡ 4 → set_at bytes ≡ Ok set → bytes ≡ set_bytes set
 set_takes bytes set long = of_four (λ xs. set_at xs ≡ Ok set → xs ≡ set_bytes set) (λ a b c d. set_of_cells a b c d set) bytes long
@@ -82,24 +67,18 @@ set_again set =
     let same : found.0 ≡ set = same_numbers found.0 set (ap (λ (xs : List ℕ). slice_index xs 0) bytes) (ap (λ (xs : List ℕ). slice_index xs 1) bytes) (ap (λ (xs : List ℕ). slice_index xs 2) bytes) in
     found.1 ∙ ap (λ (s : PieceSet). Ok s) same
 
-pub set_known : (bytes : List ℕ) (set : PieceSet) → bytes ≡ set_bytes set → Ok set ≡ set_at bytes
-set_known bytes set is = sym (ap set_at is ∙ set_again set)
-
 none_of_cells : (a b c d : ℕ) → ((set : PieceSet) → a ∷ b ∷ c ∷ d ∷ [] ≢ set_bytes set) → set_at (a ∷ b ∷ c ∷ d ∷ []) ≡ Err SetByte
 unfolding set_at
 none_of_cells a b c d none = elim (cases_lt 2 a) [
   | inl large ↦ rw (few_large a large) refl
   | inr few_a ↦
-      let x = few_again a few_a in
-      elim (cases_lt 2 b) [
+      let x = few_again a few_a in elim (cases_lt 2 b) [
         | inl large ↦ rw (x.1, few_large b large) refl
         | inr few_b ↦
-            let y = few_again b few_b in
-            elim (cases_lt 2 c) [
+            let y = few_again b few_b in elim (cases_lt 2 c) [
               | inl large ↦ rw (x.1, y.1, few_large c large) refl
               | inr few_c ↦
-                  let z = few_again c few_c in
-                  elim (cases_Bool (eqb d 2)) [
+                  let z = few_again c few_c in elim (cases_Bool (eqb d 2)) [
                     | inl two ↦
                         let found = set_cells a b c few_a few_b few_c in
                         absurd (none found.0 (ap (λ (n : ℕ). a ∷ b ∷ c ∷ n ∷ []) (eqb-true d 2 two) ∙ sym found.2))
@@ -125,9 +104,8 @@ profile_again A = refl
 profile_again B = refl
 
 pub profile_none : (byte : ℕ) → 2 ≤ byte → profile_at byte ≡ Err ProfileByte
-profile_none zero above = absurd (omega (arith, above))
-profile_none (suc zero) above = absurd (omega (arith, above))
 profile_none (suc (suc n)) above = refl
+profile_none _ above = absurd (omega (arith, above))
 
 -- a claim has those two bytes, and plies below 255
 abbrev IsClaimOf : ℕ → ℕ → Claim → Type 0
@@ -143,32 +121,16 @@ claim_of (suc (suc (suc (suc zero)))) plies claim small e = subst (IsClaimOf 4 p
 claim_of (suc (suc (suc (suc (suc kind))))) plies claim small e = absurd cc
 
 claim_takes : (kind plies : ℕ) (claim : Claim) → claim_at kind plies ≡ Ok claim → IsClaimOf kind plies claim
-claim_takes kind plies claim e = elim (cases_Bool (ltb plies 255)) [
-  | inl small ↦
-      let made : claim_at kind plies ≡ claim_of_kind kind plies = rw small refl in
-      claim_of kind plies claim (ltb-true plies 255 small) (sym made ∙ e)
-  | inr large ↦
-      let made : claim_at kind plies ≡ Err ClaimByte = rw large refl in
-      absurd (let never : (let r : Result Claim Defect = Err ClaimByte in r) ≡ Ok claim = sym made ∙ e in cc)
-]
+claim_takes kind plies claim e = search rules
 
 -- a word in four cells
 cells_back : (a b c d : ℕ) → a < 256 → b < 256 → c < 256 → d < 256 → little_bytes 4 (little_number 4 (a ∷ b ∷ c ∷ d ∷ [])) ≡ a ∷ b ∷ c ∷ d ∷ []
-cells_back a b c d fa fb fc fd =
-    let n : ℕ = a + 256 * (b + 256 * (c + 256 * (d + 256 * 0))) in
-    let e0 : n % 256 ≡ a = omega (arith, fa, fb, fc, fd) in
-    let e1 : n / 256 % 256 ≡ b = omega (arith, fa, fb, fc, fd) in
-    let e2 : n / 65536 % 256 ≡ c = omega (arith, fa, fb, fc, fd) in
-    let e3 : n / 16777216 % 256 ≡ d = omega (arith, fa, fb, fc, fd) in
-    cc
+cells_back a b c d fa fb fc fd = grind arith
 
 word_back : (bytes : List ℕ) → length bytes ≡ 4 → IsBytes bytes → bytes ≡ little_bytes 4 (little_number 4 bytes)
 word_back bytes long =
     of_four (λ xs. IsBytes xs → xs ≡ little_bytes 4 (little_number 4 xs))
     (λ a b c d fits. sym (cells_back a b c d (fits 0) (fits 1) (fits 2) (fits 3))) bytes long
-
-word_again : (n : ℕ) → n < 4294967296 → little_number 4 (little_bytes 4 n) ≡ n
-word_again n fits = little_number-reads_back 4 n [] fits
 
 -- ---- parts
 
@@ -182,10 +144,9 @@ part_fits place count bytes fits i = elim (cases_lt i count) [
 ]
   where
     take_end : (count : ℕ) (xs : List ℕ) (i : ℕ) → count ≤ i → get_or (take count xs) i 0 < 256
-    take_end zero xs i le = omega arith
-    take_end (suc count) [] i le = omega arith
     take_end (suc count) (x ∷ xs) zero le = absurd (omega (arith, le))
     take_end (suc count) (x ∷ xs) (suc i) le = take_end count xs i (omega (arith, le))
+    take_end _ _ i le = omega arith
 
 -- a part, and what stands behind it
 cut : (place count next : ℕ) (bytes text : List ℕ) → place + count ≡ next → part place count bytes ≡ text → drop place bytes ≡ text ++ drop next bytes
@@ -269,29 +230,23 @@ front_takes bytes f fits e =
 
 family_again : (bytes : List ℕ) (family : Family) → NamesFamily bytes family → family_at bytes ≡ Ok family
 unfolding family_at
-family_again bytes family named =
-    let long : leb 28 (length bytes) ≡ true = le-leb 28 (length bytes) named.long in
-    let titled : are_same (part 0 8 bytes) title ≡ true = is_same (part 0 8 bytes) title named.titled in
-    let known : eqb (get_or bytes 8 0) 1 ≡ true = eq-eqb (get_or bytes 8 0) 1 named.known in
-    let set : set_at (part 9 4 bytes) ≡ Ok family.set = ap set_at named.set ∙ set_again family.set in
-    let profile : profile_at (get_or bytes 13 0) ≡ Ok family.profile = ap profile_at named.profile ∙ profile_again family.profile in
-    rw (long, titled, known, set, profile) refl
+family_again bytes family named = grind (arith, is_same, set_again, profile_again)
 
 front_of_parts : (bytes : List ℕ) (f : FrontContent) → NamesFamily bytes f.family → word 14 bytes ≡ f.root → claim_at (get_or bytes 18 0) (get_or bytes 19 0) ≡ Ok f.claim
     → word 20 bytes ≡ f.lost_count → word 24 bytes ≡ f.held_count → FitsFront f → front_at bytes ≡ Ok f
 unfolding front_at
 front_of_parts bytes f named root claim lost held right =
-    let known : ltb f.root (classes_of f.family) ≡ true = lt-ltb f.root (classes_of f.family) right.root in
-    let few_lost : leb f.lost_count (classes_of f.family) ≡ true = le-leb f.lost_count (classes_of f.family) right.lost in
-    let few_held : leb f.held_count (classes_of f.family) ≡ true = le-leb f.held_count (classes_of f.family) right.held in
+    let known = lt-ltb f.root (classes_of f.family) right.root in
+    let few_lost = le-leb f.lost_count (classes_of f.family) right.lost in
+    let few_held = le-leb f.held_count (classes_of f.family) right.held in
     rw (family_again bytes f.family named, root, claim, lost, held, known, few_lost, few_held) refl
 
 claim_again : (claim : Claim) → FitsClaim claim → (kind : ℕ) × (plies : ℕ) × (claim_bytes claim ≡ kind ∷ plies ∷ []) × (claim_at kind plies ≡ Ok claim)
 claim_again (Exactly Draw) fits = (0, 0, refl, refl)
-claim_again (Exactly (Win plies)) fits = (let small : ltb plies 255 ≡ true = lt-ltb plies 255 fits in (1, plies, refl, rw small refl))
-claim_again (Exactly (Loss plies)) fits = (let small : ltb plies 255 ≡ true = lt-ltb plies 255 fits in (2, plies, refl, rw small refl))
-claim_again (WonWithin plies) fits = (let small : ltb plies 255 ≡ true = lt-ltb plies 255 fits in (3, plies, refl, rw small refl))
-claim_again (LostWithin plies) fits = (let small : ltb plies 255 ≡ true = lt-ltb plies 255 fits in (4, plies, refl, rw small refl))
+claim_again (Exactly (Win plies)) fits = (1, plies, refl, rw (lt-ltb plies 255 fits) refl)
+claim_again (Exactly (Loss plies)) fits = (2, plies, refl, rw (lt-ltb plies 255 fits) refl)
+claim_again (WonWithin plies) fits = (3, plies, refl, rw (lt-ltb plies 255 fits) refl)
+claim_again (LostWithin plies) fits = (4, plies, refl, rw (lt-ltb plies 255 fits) refl)
 
 abbrev cells : FrontContent → ℕ → ℕ → List ℕ → List ℕ
 cells f kind plies rest = title ++ 1 ∷ (set_bytes f.family.set ++ profile_number f.family.profile ∷ (little_bytes 4 f.root ++ (kind ∷ plies ∷
@@ -300,17 +255,18 @@ cells f kind plies rest = title ++ 1 ∷ (set_bytes f.family.set ++ profile_numb
 cells_again : (f : FrontContent) (kind plies : ℕ) (rest : List ℕ) → claim_at kind plies ≡ Ok f.claim → FitsFront f → f.root < 4294967296 → f.lost_count < 4294967296 → f.held_count < 4294967296
     → (front_at (cells f kind plies rest) ≡ Ok f) × (drop 28 (cells f kind plies rest) ≡ rest)
 cells_again f kind plies rest claim right root lost held =
-    let named : NamesFamily (cells f kind plies rest) f.family = record { long = omega arith; titled = refl; known = refl; set = refl; profile = refl } in
-    (front_of_parts (cells f kind plies rest) f named (word_again f.root root) claim (word_again f.lost_count lost) (word_again f.held_count held) right, refl)
+    let named : NamesFamily (cells f kind plies rest) f.family = record { long = omega arith; titled = refl; known = refl; set = refl; profile = refl } in (
+      front_of_parts (cells f kind plies rest) f named (little_number-reads_back 4 f.root [] root) claim
+          (little_number-reads_back 4 f.lost_count [] lost) (little_number-reads_back 4 f.held_count [] held) right,
+      refl,
+    )
 
 pub front_again : (f : FrontContent) (rest : List ℕ) → FitsFront f → (front_at (front_text f rest) ≡ Ok f) × (drop 28 (front_text f rest) ≡ rest)
 front_again f rest right =
-    let few : classes_of f.family < 2147483648 = classes_of-below f.family in
-    let root : f.root < classes_of f.family = right.root in
-    let lost : f.lost_count ≤ classes_of f.family = right.lost in
-    let held : f.held_count ≤ classes_of f.family = right.held in
+    let few = classes_of-below f.family in
     let found = claim_again f.claim right.claim in
-    let again = cells_again f found.0 found.1 rest found.3 right (omega (arith, few, root)) (omega (arith, few, lost)) (omega (arith, few, held)) in
+    let again = cells_again f found.0 found.1 rest found.3 right (omega (arith, few, right.root)) (omega (arith, few, right.lost))
+    (omega (arith, few, right.held)) in
     let text : front_text f rest ≡ cells f found.0 found.1 rest = ap (λ (x : List ℕ). title ++ 1 ∷ (set_bytes f.family.set ++ profile_number f.family.profile ∷ (little_bytes 4 f.root ++ (x
     ++ (little_bytes 4 f.lost_count ++ (little_bytes 4 f.held_count ++ rest)))))) found.2 in
     (ap front_at text ∙ again.0, ap (drop 28) text ∙ again.1)

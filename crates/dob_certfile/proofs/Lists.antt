@@ -1,33 +1,21 @@
--- Entries that are read are those that were written, and what was written is read again.
-use Rattle.dob_certfile.proofs.Common.{◌++◌, ◌+◌, ◌-◌, ◌<◌, ◌∙◌, ◌∷◌, ◌≡◌, ◌≤◌, All, List, Ok, [], ap, append_assoc, arith, false, inl, inr, leb, length, ltb}
-use Rattle.dob_certfile.proofs.Common.{refl, slice_index_or, subst, suc, sym, true, zero, ℕ, cases_lt, le-leb, le-ltb, leb-true, lt-ltb, ltb-true, AreAscending}
-use Rattle.dob_certfile.proofs.Common.{class_at, Entry, FitEntries, FitEntry, FitsPlies, entries_bytes, entry_bytes, plies_byte, ◌>>=◌, byte_at, entries_at}
-use Rattle.dob_certfile.proofs.Common.{entry_at, number_at, plies_of, wants, EntryClass, EntryOrder}
+-- Entries that are read, one after the other, are those that were written, and what was written is read again.
+use Rattle.dob_certfile.proofs.Common.{◌++◌, ◌+◌, ◌-◌, ◌<◌, ◌∙◌, ◌∷◌, ◌≡◌, ◌≤◌, All, Err, List, Ok, Result, [], ap, append_assoc, arith, drop, get_or, rules}
+use Rattle.dob_certfile.proofs.Common.{leb, length, ltb, refl, slice_index_or, subst, suc, sym, zero, ℕ, le-leb, leb-true, lt-ltb, ltb-true, append-nil}
+use Rattle.dob_certfile.proofs.Common.{drop_more, AreAscending, class_at, Entry, FitEntries, FitEntry, FitsPlies, entry_bytes, plies_byte, entries_bytes, ◌>>=◌}
+use Rattle.dob_certfile.proofs.Common.{byte_at, plies_of, wants, entries_at, entry_at, number_at, Defect, EntryClass, EntryOrder}
 use Rattle.dob_certfile.specs.Numbers.{number_bytes}
 use Rattle.dob_certfile.proofs.Fields.{IsBytes, bind_ok, wants_ok, ok_is, Takes, Takes-then, byte_takes, number_takes, number_again}
 
 -- ---- plies
 
 plies_fit : (byte : ℕ) → FitsPlies (plies_of byte)
-plies_fit byte = elim (cases_lt byte 255) [
-  | inl lt ↦ let is : ltb byte 255 ≡ true = lt-ltb byte 255 lt in rw is (inl lt)
-  | inr le ↦ let not_so : ltb byte 255 ≡ false = le-ltb byte 255 le in rw not_so (inr refl)
-]
+plies_fit byte = grind arith
 
 plies_back : (byte : ℕ) → byte < 256 → plies_byte (plies_of byte) ≡ byte
-plies_back byte fits = elim (cases_lt byte 255) [
-  | inl lt ↦ let is : ltb byte 255 ≡ true = lt-ltb byte 255 lt in rw (is, is) refl
-  | inr le ↦
-      let not_so : ltb byte 255 ≡ false = le-ltb byte 255 le in
-      let same : 255 ≡ byte = omega (arith, fits, le) in
-      rw not_so same
-]
+plies_back byte fits = grind arith
 
 plies_again : (plies : ℕ) → FitsPlies plies → plies_of (plies_byte plies) ≡ plies
-plies_again plies fits = elim fits [
-  | inl lt ↦ let is : ltb plies 255 ≡ true = lt-ltb plies 255 lt in rw (is, is) refl
-  | inr ever ↦ subst (λ (n : ℕ). plies_of (plies_byte n) ≡ n) (sym ever) refl
-]
+plies_again plies fits = grind arith
 
 -- ---- one entry
 
@@ -64,12 +52,12 @@ pub entry_again : (classes least : ℕ) (entry : Entry) (rest : List ℕ) → cl
 unfolding entry_at
 entry_again classes least entry rest few is =
     let number : ℕ = entry.class + 1 - least in
-    let from : least ≤ entry.class = is.from in
-    let below : entry.class < classes = is.fits.class in
+    let from = is.from in
+    let below = is.fits.class in
     let regrouped : entry_bytes least entry ++ rest ≡ number_bytes number ++ (plies_byte entry.plies ∷ rest) = append_assoc (number_bytes number) (plies_byte entry.plies ∷ []) rest in
     let read : number_at 4 (number_bytes number ++ (plies_byte entry.plies ∷ rest)) ≡ Ok (number, plies_byte entry.plies ∷ rest) = number_again 4 number (plies_byte entry.plies ∷ rest) (omega (arith, few, below)) in
-    let above : ltb 0 number ≡ true = lt-ltb 0 number (omega (arith, from)) in
-    let known : leb (least + number) classes ≡ true = le-leb (least + number) classes (omega (arith, from, below)) in
+    let above = lt-ltb 0 number (omega (arith, from)) in
+    let known = le-leb (least + number) classes (omega (arith, from, below)) in
     let class : least + number - 1 ≡ entry.class = omega (arith, from) in
     ap (entry_at classes least) regrouped ∙ rw (read, above, known, class, plies_again entry.plies is.fits.plies) refl
 
@@ -101,9 +89,7 @@ pub entries_again : (classes least : ℕ) (entries : List Entry) (rest : List �
 unfolding entries_at entries_bytes
 entries_again classes least [] rest few rises = refl
 entries_again classes least (entry ∷ entries) rest few rises =
-    let regrouped : entries_bytes least (entry ∷ entries) ++ rest ≡ entry_bytes least entry ++ (entries_bytes (entry.class + 1) entries ++ rest) =
-    append_assoc (entry_bytes least entry) (entries_bytes (entry.class + 1) entries) rest in
-    ap (entries_at classes least (suc (length entries))) regrouped
+    ap (entries_at classes least (suc (length entries))) (append_assoc (entry_bytes least entry) (entries_bytes (entry.class + 1) entries) rest)
     ∙ rw (entry_again classes least entry (entries_bytes (entry.class + 1) entries ++ rest) few rises.0, entries_again classes (entry.class + 1) entries rest few rises.1) refl
 
 -- ---- the order by places, and how many there are
@@ -119,25 +105,18 @@ rise_fit classes least (entry ∷ entries) rises = all_at (FitEntry classes) ent
 
 pub rise_count : (classes least : ℕ) (entries : List Entry) → Rise classes least entries → least ≤ classes → length entries + least ≤ classes
 rise_count classes least [] rises from = omega (arith, from)
-rise_count classes least (entry ∷ entries) rises from =
-    let below : entry.class < classes = rises.0.fits.class in
-    let start : least ≤ entry.class = rises.0.from in
-    let rest : length entries + (entry.class + 1) ≤ classes = rise_count classes (entry.class + 1) entries rises.1 (omega (arith, below)) in
-    omega (arith, rest, start)
+rise_count classes least (entry ∷ entries) rises from = grind (arith, (rise_count classes (entry.class + 1) entries rises.1))
 
 ascends_at : (entry next : Entry) (entries : List Entry) → entry.class < next.class → AreAscending (next ∷ entries)
     → (place : ℕ) → place + 1 < length (entry ∷ next ∷ entries) → class_at (entry ∷ next ∷ entries) place < class_at (entry ∷ next ∷ entries) (place + 1)
 ascends_at entry next entries first others zero lt = first
-ascends_at entry next entries first others (suc place) lt =
-    let moved : suc place + 1 ≡ suc (place + 1) = omega arith in
-    subst (λ (n : ℕ). class_at (next ∷ entries) place < class_at (entry ∷ next ∷ entries) n) (sym moved) (others place (omega (arith, lt)))
+ascends_at entry next entries first others (suc place) lt = grind arith
 
 pub rise_ascends : (classes least : ℕ) (entries : List Entry) → Rise classes least entries → AreAscending entries
 rise_ascends classes least [] rises = λ place lt. absurd (omega (arith, lt))
 rise_ascends classes least (entry ∷ []) rises = λ place lt. absurd (omega (arith, lt))
 rise_ascends classes least (entry ∷ next ∷ entries) rises =
-    let from : entry.class + 1 ≤ next.class = rises.1.0.from in
-    ascends_at entry next entries (omega (arith, from)) (rise_ascends classes (entry.class + 1) (next ∷ entries) rises.1)
+    ascends_at entry next entries (omega (arith, rises.1.0.from)) (rise_ascends classes (entry.class + 1) (next ∷ entries) rises.1)
 
 -- the first is from the least
 abbrev pub StartsFrom : ℕ → List Entry → Type 0
@@ -151,7 +130,7 @@ tail_ascends entry entries ascending = λ place lt.
 
 pub tail_starts : (entry : Entry) (entries : List Entry) → AreAscending (entry ∷ entries) → StartsFrom (entry.class + 1) entries
 tail_starts entry [] ascending = tt
-tail_starts entry (next ∷ entries) ascending = (let lt : entry.class < next.class = ascending 0 (omega arith) in omega (arith, lt))
+tail_starts entry (next ∷ entries) ascending = omega (arith, ascending 0 (omega arith))
 
 pub fit_rises : (classes least : ℕ) (entries : List Entry) → FitEntries classes entries → StartsFrom least entries → Rise classes least entries
 fit_rises classes least [] fits starts = tt
@@ -163,3 +142,69 @@ fit_rises classes least (entry ∷ entries) fits starts = (
 pub starts_anywhere : (entries : List Entry) → StartsFrom 0 entries
 starts_anywhere [] = tt
 starts_anywhere (entry ∷ entries) = omega arith
+
+-- ---- as a loop reads them
+
+-- what was read before, and what is still read
+abbrev pub with_front : List Entry → Result (List Entry × List ℕ) Defect → Result (List Entry × List ℕ) Defect
+with_front front read = read >>= λ x. Ok (front ++ x.0, x.1)
+
+regroup : (front : List Entry) (n : Entry) (read : Result (List Entry × List ℕ) Defect) → with_front front (read >>= λ x. Ok (n ∷ x.0, x.1)) ≡ with_front (front ++ n ∷ []) read
+regroup front n (Ok x) = ap (λ (ns : List Entry). Ok (ns, x.1)) (simp append_assoc)
+regroup front n (Err f) = refl
+
+pub goes_on : (classes least : ℕ) (front : List Entry) (count i : ℕ) (bytes : List ℕ) (n : Entry) (after : List ℕ) (total : Result (List Entry × List ℕ) Defect) → i < count
+    → entry_at classes least bytes ≡ Ok (n, after) → with_front front (entries_at classes least (count - i) bytes) ≡ total
+    → with_front (front ++ n ∷ []) (entries_at classes (n.class + 1) (count - (i + 1)) after) ≡ total
+unfolding entries_at
+goes_on classes least front count i bytes n after total lt h so_far =
+    let k : count - i ≡ suc (count - (i + 1)) = omega arith in
+    sym (rw (k, h) (regroup front n (entries_at classes (n.class + 1) (count - (i + 1)) after))) ∙ so_far
+
+pub ends : (classes least : ℕ) (e : Defect) (front : List Entry) (count i : ℕ) (bytes : List ℕ) (total : Result (List Entry × List ℕ) Defect) → i < count
+    → entry_at classes least bytes ≡ Err e → with_front front (entries_at classes least (count - i) bytes) ≡ total → total ≡ Err e
+unfolding entries_at
+ends classes least e front count i bytes total lt h so_far = search rules
+
+pub is_done : (classes least : ℕ) (front : List Entry) (count i : ℕ) (bytes : List ℕ) (total : Result (List Entry × List ℕ) Defect) → count ≤ i
+    → with_front front (entries_at classes least (count - i) bytes) ≡ total → total ≡ Ok (front, bytes)
+unfolding entries_at
+is_done classes least front count i bytes total le so_far = search rules
+
+-- ---- as a loop writes them
+
+starts_after : (entries : List Entry) (i : ℕ) (d : Entry) → AreAscending entries → i < length entries → StartsFrom ((get_or entries i d).class + 1) (drop (suc i) entries)
+starts_after [] i d ascending lt = absurd (omega (arith, lt))
+starts_after (entry ∷ entries) zero d ascending lt = tail_starts entry entries ascending
+starts_after (entry ∷ entries) (suc i) d ascending lt = starts_after entries i d (tail_ascends entry entries ascending) (omega (arith, lt))
+
+-- what was written and what is left are the whole, and the next class is the least or above
+pub record AreWritten (entries : List Entry) (i least : ℕ) (now total : List ℕ) : Type 0 where
+  pub parts : now ++ entries_bytes least (drop i entries) ≡ total
+  pub starts : StartsFrom least (drop i entries)
+
+pub written_more : (entries : List Entry) (i least : ℕ) (d : Entry) (now next total : List ℕ) → i < length entries → AreAscending entries
+    → next ≡ now ++ entry_bytes least (get_or entries i d) → AreWritten entries i least now total → AreWritten entries (i + 1) ((get_or entries i d).class + 1) next total
+unfolding entries_bytes
+written_more entries i least d now next total lt ascending more written =
+    let x : Entry = get_or entries i d in
+    let one : suc i ≡ i + 1 = omega arith in
+    let left : entries_bytes least (drop i entries) ≡ entry_bytes least x ++ entries_bytes (x.class + 1) (drop (i + 1) entries) = ap (entries_bytes least) (drop_more entries i d lt) in
+    record {
+      parts = ap (λ (t : List ℕ). t ++ entries_bytes (x.class + 1) (drop (i + 1) entries)) more
+          ∙ append_assoc now (entry_bytes least x) (entries_bytes (x.class + 1) (drop (i + 1) entries))
+          ∙ ap (λ (t : List ℕ). now ++ t) (sym left)
+          ∙ written.parts;
+      starts = subst (λ (n : ℕ). StartsFrom (x.class + 1) (drop n entries)) one (starts_after entries i d ascending lt);
+    }
+
+pub written_all : (entries : List Entry) (i least : ℕ) (now total : List ℕ) → length entries ≤ i → AreWritten entries i least now total → now ≡ total
+unfolding entries_bytes
+written_all entries i least now total le written =
+    sym (append-nil now) ∙ ap (λ (left : List Entry). now ++ entries_bytes least left) (sym (none_left entries i le)) ∙ written.parts
+  where
+    none_left : (entries : List Entry) (i : ℕ) → length entries ≤ i → drop i entries ≡ []
+    none_left [] zero le = refl
+    none_left [] (suc i) le = refl
+    none_left (entry ∷ entries) zero le = absurd (omega (arith, le))
+    none_left (entry ∷ entries) (suc i) le = none_left entries i (omega (arith, le))

@@ -1,8 +1,8 @@
 -- What lists say of positions is so, where they support each of their entries.
-use Rattle.dob_certificate.proofs.Common.{◌-◌, ◌<◌, ◌≡◌, ◌≤◌, ◌⊎◌, List, arith, inl, inr, suc, zero, ℕ, cases_lt, nat_tests, Family, Profile, Setup, HasStatus}
-use Rattle.dob_certificate.proofs.Common.{Caught, Open, HasClasses-classes_of, IsInClass, class_setup, classes_of, lost_not_caught, lost_not_open, lost_stays}
-use Rattle.dob_certificate.proofs.Common.{Lost, Won, IsListedBeyond, IsSafe, IsSaidHeld, SupportsAllHeld, plies_asked, IsEntryFor, IsAnswered, IsListedWithin}
-use Rattle.dob_certificate.proofs.Common.{IsSaidLost, SupportsAllLost, Entry, EVER}
+use Rattle.dob_certificate.proofs.Common.{◌-◌, ◌<◌, ◌≡◌, ◌≤◌, ◌⊎◌, List, arith, inl, inr, suc, zero, ℕ, Family, Profile, Setup, HasStatus, Caught, Open}
+use Rattle.dob_certificate.proofs.Common.{HasClasses-classes_of, IsInClass, class_setup, classes_of, lost_not_caught, lost_not_open, lost_stays, Lost, Won}
+use Rattle.dob_certificate.proofs.Common.{IsListedBeyond, IsSafe, IsSaidHeld, SupportsAllHeld, plies_asked, IsEntryFor, IsAnswered, IsListedWithin, IsSaidLost}
+use Rattle.dob_certificate.proofs.Common.{SupportsAllLost, Entry, EVER}
 use Rattle.dob_value.specs.Depths.{SameOutlook}
 use Rattle.dob_value.proofs.Rows.{class_outlook}
 
@@ -16,10 +16,7 @@ class_alike family p class within is =
 
 -- with more plies allowed it is listed too
 within_more : (family : Family) (lost : List Entry) (n m : ℕ) (q : Setup) → n ≤ m → IsListedWithin family lost n q → IsListedWithin family lost m q
-within_more family lost n m q more is =
-    let few : is.0.plies ≤ n = is.2 in
-    let enough : is.0.plies ≤ m = omega arith in
-    (is.0, is.1, enough)
+within_more family lost n m q more is = (is.0, is.1, omega (arith, is.2, more))
 
 module _ (family : Family) (lost : List Entry) (supported : SupportsAllLost family lost) where
   -- a listed position has the outlook of its class's representative
@@ -27,21 +24,16 @@ module _ (family : Family) (lost : List Entry) (supported : SupportsAllLost fami
   lost_alike p entry is = class_alike family p entry.class (supported entry is.listed).within is.stands
 
   pub listed_lost : (n : ℕ) (p : Setup) → IsListedWithin family lost n p → Lost family.profile n p
-  listed_lost zero p is =
-      let few : is.0.plies ≤ 0 = is.2 in
-      ((lost_alike p is.0 is.1).lost 0).1 (elim ((supported is.0 is.1.listed).supported) [
-        | inl over ↦ over
-        | inr more ↦ let many : 2 ≤ is.0.plies = more.0 in absurd (omega arith)
-      ])
-  listed_lost (suc zero) p is =
-      let few : is.0.plies ≤ 1 = is.2 in
-      ((lost_alike p is.0 is.1).lost 1).1 (elim ((supported is.0 is.1.listed).supported) [
-        | inl over ↦ inl over
-        | inr more ↦ let many : 2 ≤ is.0.plies = more.0 in absurd (omega arith)
-      ])
+  listed_lost zero p is = ((lost_alike p is.0 is.1).lost 0).1 (elim ((supported is.0 is.1.listed).supported) [
+    | inl over ↦ over
+    | inr more ↦ absurd (omega (arith, is.2, more.0))
+  ])
+  listed_lost (suc zero) p is = ((lost_alike p is.0 is.1).lost 1).1 (elim ((supported is.0 is.1.listed).supported) [
+    | inl over ↦ inl over
+    | inr more ↦ absurd (omega (arith, is.2, more.0))
+  ])
   listed_lost (suc (suc n)) p is =
-      let few : is.0.plies ≤ suc (suc n) = is.2 in
-      let less : is.0.plies - 2 ≤ n = omega arith in
+      let less : is.0.plies - 2 ≤ n = omega (arith, is.2) in
       ((lost_alike p is.0 is.1).lost (suc (suc n))).1 (elim ((supported is.0 is.1.listed).supported) [
         | inl over ↦ inl over
         | inr more ↦ inr (
@@ -54,7 +46,7 @@ module _ (family : Family) (lost : List Entry) (supported : SupportsAllLost fami
               answer.outcome,
               answer.goes,
               elim answer.said [
-                | inl over ↦ let none : 0 ≤ n = omega arith in lost_stays family.profile 0 n answer.outcome none over
+                | inl over ↦ lost_stays family.profile 0 n answer.outcome (omega arith) over
                 | inr listed ↦ listed_lost n answer.outcome (within_more family lost (is.0.plies - 2) n answer.outcome less listed.1)
               ],
             )
@@ -65,7 +57,7 @@ module _ (family : Family) (lost : List Entry) (supported : SupportsAllLost fami
   -- what is said to be lost is so
   pub said_lost : (n : ℕ) (p : Setup) → IsSaidLost family lost n p → Lost family.profile n p
   said_lost n p said = elim said [
-    | inl over ↦ let none : 0 ≤ n = omega arith in lost_stays family.profile 0 n p none over
+    | inl over ↦ lost_stays family.profile 0 n p (omega arith) over
     | inr listed ↦ listed_lost n p listed.1
   ]
 
@@ -81,10 +73,7 @@ module _ (family : Family) (lost : List Entry) (supported : SupportsAllLost fami
 -- no position where the lion can be caught is lost
 caught_not_lost : (profile : Profile) (n : ℕ) (p : Setup) → HasStatus profile p Caught → ¬ Lost profile n p
 caught_not_lost profile zero p caught lost = lost_not_caught profile p lost caught
-caught_not_lost profile (suc n) p caught lost = elim lost [
-  | inl over ↦ lost_not_caught profile p over caught
-  | inr open_loss ↦ open_loss.0.0 caught
-]
+caught_not_lost profile (suc n) p caught lost = grind arith
 
 -- no open position is lost within one ply
 open_not_lost : (profile : Profile) (n : ℕ) (p : Setup) → n ≤ 1 → HasStatus profile p Open → ¬ Lost profile n p
@@ -101,27 +90,15 @@ Covers k n = (EVER ≤ k) ⊎ (n ≤ k)
 
 -- what is asked: two plies less, or ever
 asked_is : (k : ℕ) → ((k < EVER) × (plies_asked k ≡ k - 2)) ⊎ ((EVER ≤ k) × (plies_asked k ≡ k))
-asked_is k = elim (cases_lt k EVER) [
-  | inl below ↦ inl (below, grind (arith, nat_tests, below))
-  | inr ever ↦ inr (ever, grind (arith, nat_tests, ever))
-]
+asked_is k = grind arith
 
 -- what is asked for k plies covers two plies less
 asked_covers : (k n : ℕ) → Covers k (suc (suc n)) → Covers (plies_asked k) n
-asked_covers k n covers = elim (asked_is k) [
-  | inl fewer ↦ elim covers [
-    | inl ever ↦ let below : k < EVER = fewer.0 in absurd (omega (arith, below, ever))
-    | inr enough ↦ let is : plies_asked k ≡ k - 2 = fewer.1 in let within : n ≤ plies_asked k = omega (arith, is, enough) in inr within
-  ]
-  | inr same ↦ let ever : EVER ≤ k = same.0 in let is : plies_asked k ≡ k = same.1 in let still : EVER ≤ plies_asked k = omega (arith, is, ever) in inl still
-]
+asked_covers k n covers = grind (arith, asked_is)
 
 -- an entry that is enough for k plies covers what k does
 entry_covers : (entry k n : ℕ) → k ≤ entry → Covers k n → Covers entry n
-entry_covers entry k n enough covers = elim covers [
-  | inl ever ↦ let still : EVER ≤ entry = omega (arith, ever, enough) in inl still
-  | inr more ↦ let within : n ≤ entry = omega (arith, more, enough) in inr within
-]
+entry_covers entry k n enough covers = grind arith
 
 -- where more than one ply is covered, more than one is asked for
 two_covered : (k n : ℕ) → Covers k (suc (suc n)) → 2 ≤ k

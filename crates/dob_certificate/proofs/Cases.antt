@@ -22,6 +22,16 @@ not_so b is answered p = let so : b ≡ true = answered.1 p in absurd (cc)
 pub at_most : (m n : ℕ) → IsTrue (leb m n) ↔ (m ≤ n)
 at_most m n = (λ shown. grind (arith, nat_tests, shown), λ is. grind (arith, nat_tests, is))
 
+-- of two claims neither holds, or only the second can; and a claim of two of which the first holds
+neither : {P Q : Type 0} → ¬ P → ¬ Q → IsTrue false ↔ (P ⊎ Q)
+neither not_p not_q = said_no (λ either. elim either [ inl p ↦ not_p p | inr q ↦ not_q q ])
+
+second : {P Q : Type 0} {b : Bool} → ¬ P → IsTrue b ↔ Q → IsTrue b ↔ (P ⊎ Q)
+second not_p given = (λ shown. inr (given.0 shown), λ either. elim either [ inl p ↦ absurd (not_p p) | inr q ↦ given.1 q ])
+
+also : {P Q : Type 0} {b : Bool} → P → IsTrue b ↔ Q → IsTrue b ↔ (P × Q)
+also p given = (λ shown. (p, given.0 shown), λ both. given.1 both.1)
+
 -- the one entry for a position is enough, or none is
 pub listed_by : (family : Family) (entries : List Entry) (q : Setup) (Enough : Entry → Type 0) (b : Bool) (entry : Entry) → IsEntryFor family entries q entry →
     ((other : Entry) → IsEntryFor family entries q other → entry ≡ other) → IsTrue b ↔ Enough entry →
@@ -49,10 +59,7 @@ module _ (family : Family) (lost : List Entry) (n : ℕ) (p : Setup) {s : Status
   pub said_lost_caught : s ≡ Caught → HasStatus family.profile p s → IsTrue false ↔ IsSaidLost family lost n p
   said_lost_caught is has =
       let caught = of_status family.profile p has Caught is in
-      said_no (λ said. elim said [
-        | inl over ↦ lost_not_caught family.profile p over caught
-        | inr listed ↦ not_both family.profile p caught listed.0
-      ])
+      neither (λ over. lost_not_caught family.profile p over caught) (λ listed. not_both family.profile p caught listed.0)
 
   pub said_lost_over : (s ≡ Tried) ⊎ (s ≡ Stuck) → HasStatus family.profile p s → IsTrue true ↔ IsSaidLost family lost n p
   said_lost_over is has = said_yes (inl (over_by family.profile p has is))
@@ -60,13 +67,8 @@ module _ (family : Family) (lost : List Entry) (n : ℕ) (p : Setup) {s : Status
   pub said_lost_open : s ≡ Open → HasStatus family.profile p s → (b : Bool) → IsTrue b ↔ IsListedWithin family lost n p
       → IsTrue b ↔ IsSaidLost family lost n p
   said_lost_open is has b listed =
-      let goes_on = of_status family.profile p has Open is in (
-        λ shown. inr (goes_on, listed.0 shown),
-        λ said. elim said [
-          | inl over ↦ absurd (lost_not_open family.profile p over goes_on)
-          | inr more ↦ listed.1 more.1
-        ],
-      )
+      let goes_on = of_status family.profile p has Open is in
+      second (λ over. lost_not_open family.profile p over goes_on) (also goes_on listed)
 
   pub answered_caught : s ≡ Caught → HasStatus family.profile p s → IsTrue true ↔ IsAnswered family lost n p
   answered_caught is has = said_yes (inl (of_status family.profile p has Caught is))
@@ -74,27 +76,13 @@ module _ (family : Family) (lost : List Entry) (n : ℕ) (p : Setup) {s : Status
   pub answered_over : (s ≡ Tried) ⊎ (s ≡ Stuck) → HasStatus family.profile p s → IsTrue false ↔ IsAnswered family lost n p
   answered_over is has =
       let over = over_by family.profile p has is in
-      said_no (λ answered. elim answered [
-        | inl caught ↦ lost_not_caught family.profile p over caught
-        | inr reply ↦ lost_not_open family.profile p over reply.goes_on
-      ])
+      neither (lost_not_caught family.profile p over) (λ reply. lost_not_open family.profile p over reply.goes_on)
 
   pub answered_open : s ≡ Open → HasStatus family.profile p s → (b : Bool) → IsTrue b ↔ HasReply family lost n p → IsTrue b ↔ IsAnswered family lost n p
-  answered_open is has b reply = (
-    λ shown. inr (reply.0 shown),
-    λ answered. elim answered [
-      | inl caught ↦ absurd (not_both family.profile p caught (of_status family.profile p has Open is))
-      | inr more ↦ reply.1 more
-    ],
-  )
+  answered_open is has b reply = second (λ caught. not_both family.profile p caught (of_status family.profile p has Open is)) reply
 
   pub loss_caught : s ≡ Caught → HasStatus family.profile p s → IsTrue false ↔ IsLossSupported family lost n p
-  loss_caught is has =
-      let caught = of_status family.profile p has Caught is in
-      said_no (λ supported. elim supported [
-        | inl over ↦ lost_not_caught family.profile p over caught
-        | inr more ↦ not_both family.profile p caught more.1.goes_on
-      ])
+  loss_caught is has = grind (arith, not_both)
 
   pub loss_over : (s ≡ Tried) ⊎ (s ≡ Stuck) → HasStatus family.profile p s → IsTrue true ↔ IsLossSupported family lost n p
   loss_over is has = said_yes (inl (over_by family.profile p has is))
@@ -102,18 +90,12 @@ module _ (family : Family) (lost : List Entry) (n : ℕ) (p : Setup) {s : Status
   pub loss_soon : s ≡ Open → HasStatus family.profile p s → n < 2 → ¬ IsLossSupported family lost n p
   loss_soon is has few supported = elim supported [
     | inl over ↦ lost_not_open family.profile p over (of_status family.profile p has Open is)
-    | inr more ↦ let many : 2 ≤ n = more.0 in absurd (omega (arith, few, many))
+    | inr more ↦ absurd (omega (arith, few, more.0))
   ]
 
   pub loss_open : s ≡ Open → HasStatus family.profile p s → 2 ≤ n → (b : Bool) → IsTrue b ↔ AreAllAnswered family lost (n - 2) p
       → IsTrue b ↔ IsLossSupported family lost n p
-  loss_open is has many b all = (
-    λ shown. inr (many, all.0 shown),
-    λ supported. elim supported [
-      | inl over ↦ absurd (lost_not_open family.profile p over (of_status family.profile p has Open is))
-      | inr more ↦ all.1 more.1
-    ],
-  )
+  loss_open is has many b all = second (λ over. lost_not_open family.profile p over (of_status family.profile p has Open is)) (also many all)
 
 -- an entry is supported where its representative shows what it has to
 pub supports_lost_by : (family : Family) (lost : List Entry) (entry : Entry) (p : Setup) → entry.class < classes_of family → IsRepresentative family p →
@@ -131,10 +113,7 @@ module _ (family : Family) (held : List Entry) (n : ℕ) (p : Setup) {s : Status
   pub said_held_over : (s ≡ Tried) ⊎ (s ≡ Stuck) → HasStatus family.profile p s → IsTrue false ↔ IsSaidHeld family held n p
   said_held_over is has =
       let over = over_by family.profile p has is in
-      said_no (λ said. elim said [
-        | inl caught ↦ lost_not_caught family.profile p over caught
-        | inr other ↦ lost_not_open family.profile p over other.0
-      ])
+      neither (lost_not_caught family.profile p over) (λ other. lost_not_open family.profile p over other.0)
 
   pub safe_caught : s ≡ Caught → HasStatus family.profile p s → IsTrue false ↔ IsSafe family held n p
   safe_caught is has = said_no (λ safe. safe.free (of_status family.profile p has Caught is))
@@ -160,10 +139,7 @@ module _ (family : Family) (held : List Entry) (n : ℕ) (p : Setup) {s : Status
   pub hold_over : (s ≡ Tried) ⊎ (s ≡ Stuck) → HasStatus family.profile p s → IsTrue false ↔ IsHoldSupported family held n p
   hold_over is has =
       let over = over_by family.profile p has is in
-      said_no (λ supported. elim supported [
-        | inl caught ↦ lost_not_caught family.profile p over caught
-        | inr more ↦ lost_not_open family.profile p over more.0
-      ])
+      neither (lost_not_caught family.profile p over) (λ more. lost_not_open family.profile p over more.0)
 
 pub supports_held_by : (family : Family) (held : List Entry) (entry : Entry) (p : Setup) → entry.class < classes_of family → IsRepresentative family p →
     HasClass family p entry.class → (b : Bool) → IsTrue b ↔ IsHoldSupported family held entry.plies p → IsTrue b ↔ SupportsHeld family held entry

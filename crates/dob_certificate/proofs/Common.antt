@@ -1,10 +1,11 @@
 -- The names that the proofs here use most, from other crates and the definitions of this one.
 pub use Rattle.std.proofs.Common.{◌+◌, ◌-◌, ◌<◌, ◌↔◌, ◌∙◌, ◌≡◌, ◌≢◌, ◌≤◌, ◌⊎◌, Bool, Contains, Err, IfErr, IfNone, IfOk, IfSome, IsTrue, List, None, Ok, Option}
-pub use Rattle.std.proofs.Common.{Result, Some, ap, arith, false, get_or, inl, inr, leb, length, refl, rules, slice_get, subst, suc, sym, true, zero, ℕ}
+pub use Rattle.std.proofs.Common.{Result, Some, add-one, ap, arith, false, get_or, inl, inr, leb, length, refl, rules, slice_get, subst, suc, sym, true, zero}
+pub use Rattle.std.proofs.Common.{ℕ}
 pub use Rattle.std.proofs.lemmas.Bool.{cases_lt}
 pub use Rattle.std.proofs.lemmas.Bool.Decides.{nat_tests}
 pub use Rattle.std.proofs.lemmas.List.Sorted.{IsNonDecreasingBy-from_default, answers_always}
-pub use Rattle.std.proofs.lemmas.Option.{same_Some, slice_get-get_or, slice_get_read}
+pub use Rattle.std.proofs.lemmas.Option.{slice_get-get_or, slice_get_read}
 pub use Rattle.std.proofs.lemmas.Result.{IfOk-weaker, err_from_is_err_and}
 pub use Rattle.dob_pieces.specs.declared.profile.Family.{Family}
 pub use Rattle.dob_pieces.specs.declared.profile.Profile.{Profile}
@@ -15,10 +16,10 @@ pub use Rattle.dob_rank.proofs.OfFamilies.Present.{HasClasses-classes_of}
 pub use Rattle.dob_rank.specs.Families.{HasClass, IsInClass, IsRepresentative, class_setup, classes_of}
 pub use Rattle.dob_classes.proofs.OfFamilies.FamilyRepresentatives.{class_setup_only, one_class}
 pub use Rattle.dob_value.proofs.Depths.{lost_not_caught, lost_not_open, lost_stays, won_stays}
-pub use Rattle.dob_value.proofs.Successors.{move_goes, moves_keep_the_family}
+pub use Rattle.dob_value.proofs.Successors.{move_goes}
 pub use Rattle.dob_value.specs.Values.{HasLost, HasValue, Lost, Won}
 pub use Rattle.dob_certificate.specs.Ascending.{AreAscending, class_at, entry_at}
-pub use Rattle.dob_certificate.specs.Claims.{Holds, Prove, Show, ShowsDraw, ShowsLoss, ShowsValue, ShowsWin, ShowsWon}
+pub use Rattle.dob_certificate.specs.Claims.{Holds, Prove, ShowsDraw, ShowsLoss, ShowsWin, ShowsWon}
 pub use Rattle.dob_certificate.specs.Held.{AreAllHeld, IsHoldSupported, IsListedBeyond, IsSafe, IsSaidHeld, SupportsAllHeld, SupportsHeld, plies_asked}
 pub use Rattle.dob_certificate.specs.Listed.{IsEntryFor}
 pub use Rattle.dob_certificate.specs.Lists.{Supports}

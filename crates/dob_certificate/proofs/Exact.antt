@@ -9,29 +9,22 @@ use Rattle.dob_certificate.proofs.Bounds.{said_lost, answered_won, said_held, sa
 -- what is not lost within one ply less than d, where d isn't 0, is lost in no fewer than d
 least_loss : (profile : Profile) (d : ℕ) (p : Setup) → (0 < d → ¬ Lost profile (d - 1) p) → (n : ℕ) → Lost profile n p → d ≤ n
 least_loss profile d p held n lost = elim (cases_lt n d) [
-  | inl less ↦
-      let some : 0 < d = omega arith in
-      let upto : n ≤ d - 1 = omega arith in
-      absurd (held some (lost_stays profile n (d - 1) p upto lost))
-  | inr more ↦ let enough : d ≤ n = omega arith in enough
+  | inl less ↦ absurd (held (omega arith) (lost_stays profile n (d - 1) p (omega arith) lost))
+  | inr more ↦ more
 ]
 
 -- and likewise of a win
 least_win : (profile : Profile) (d : ℕ) (p : Setup) → (2 ≤ d → ¬ Won profile (d - 1) p) → (n : ℕ) → Won profile n p → d ≤ n
 least_win profile d p held zero won = absurd won
 least_win profile d p held (suc n) won = elim (cases_lt (suc n) d) [
-  | inl less ↦
-      let some : 2 ≤ d = omega arith in
-      let upto : suc n ≤ d - 1 = omega arith in
-      absurd (held some (won_stays profile (suc n) (d - 1) p upto won))
-  | inr more ↦ let enough : d ≤ suc n = omega arith in enough
+  | inl less ↦ absurd (held (omega arith) (won_stays profile (suc n) (d - 1) p (omega arith) won))
+  | inr more ↦ more
 ]
 
 -- what is shown to be won is so
 pub shown_won : (family : Family) (lost : List Entry) (p : Setup) → SupportsAllLost family lost → (d : ℕ) → ShowsWon family lost p d → Won family.profile d p
 shown_won family lost p supported d shown =
-    let some : 0 < d = shown.0 in
-    let back : suc (d - 1) ≡ d = omega arith in
+    let back : suc (d - 1) ≡ d = omega (arith, shown.0) in
     subst (λ k. Won family.profile k p) back (answered_won family lost supported (d - 1) p shown.1)
 
 module _ (family : Family) (lost held : List Entry) (p : Setup) (upper : SupportsAllLost family lost) (lower : SupportsAllHeld family held) where

@@ -1,12 +1,14 @@
 -- Entries one after the other: all are supported so far, or the first that isn't is found.
-use Rattle.dob_certificate.proofs.Common.{◌+◌, ◌<◌, ◌↔◌, ◌≡◌, ◌≢◌, ◌≤◌, Bool, Contains, Err, IsTrue, List, arith, false, inl, inr, length, refl, subst, sym, ℕ}
-use Rattle.dob_certificate.proofs.Common.{cases_lt, slice_get-get_or, Family, Setup, entry_at, SupportsHeld, SupportsAllLost, Entry}
+use Rattle.dob_certificate.proofs.Common.{◌+◌, ◌<◌, ◌↔◌, ◌≡◌, ◌≢◌, ◌≤◌, Bool, Contains, Err, IsTrue, List, arith, false, inr, length, refl, subst, sym, ℕ}
+use Rattle.dob_certificate.proofs.Common.{slice_get-get_or, Family, Setup, entry_at, SupportsHeld, SupportsAllLost, Entry}
+use borrow.Author.Count.{below_more}
 use Rattle.std.proofs.lemmas.Option.{get_or_from_slice_get, slice_get_within}
 use Rattle.dob_certificate.specs.declared.claim.Claim.{Claim as Claimed}
 use Rattle.dob_certificate.specs.declared.refusal.Refusal.{Refusal}
 use Rattle.dob_certificate.specs.declared.refusal.Refusal.TheVariants.{Memory, Unsupported, Claim}
 use Rattle.dob_certificate.specs.Refusals.{IsFirstUnsupported, IsEntryVerdict, IsListVerdict, IsRefusal}
 use Rattle.dob_certificate.proofs.Orders.{no_entry, read_at}
+use Rattle.dob_certificate.proofs.Cases.{said_no}
 
 -- the entries before a place are supported
 abbrev pub AllBefore : (Entry → Type 0) → List Entry → ℕ → Type 0
@@ -14,17 +16,11 @@ AllBefore Supported entries upto = (place : ℕ) → place < upto → Supported 
 
 module _ (Supported : Entry → Type 0) (entries : List Entry) where
   pub entries_more : (upto : ℕ) → Supported (entry_at entries upto) → AllBefore Supported entries upto → AllBefore Supported entries (upto + 1)
-  entries_more upto here before place below = elim (cases_lt place upto) [
-    | inl earlier ↦ before place earlier
-    | inr later ↦
-        let same : upto ≡ place = omega arith in
-        subst (λ k. Supported (entry_at entries k)) same here
-  ]
+  entries_more upto here before = below_more (λ place. Supported (entry_at entries place)) upto before here
 
   pub entries_done : (upto : ℕ) → length entries ≤ upto → AllBefore Supported entries upto → (entry : Entry) → Contains entries entry → Supported entry
   entries_done upto all before entry there =
-      let within : there.0 < length entries = there.1 in
-      subst Supported (read_at entries there.0 entry there.1 there.2) (before there.0 (omega arith))
+      subst Supported (read_at entries there.0 entry there.1 there.2) (before there.0 (omega (arith, all, there.1)))
 
   -- the entry at the place is the first for which the check gives up
   pub first_found : (place : ℕ) (why : Refusal) → place < length entries → AllBefore Supported entries place → IsEntryVerdict Supported (entry_at entries place) (Err why) →
@@ -36,8 +32,7 @@ module _ (Supported : Entry → Type 0) (entries : List Entry) where
     there = slice_get-get_or entries place no_entry within;
     class_is = sym found.0;
     unsupported = found.1;
-    before = λ earlier other less is.
-        subst Supported (get_or_from_slice_get entries earlier other no_entry is) (before earlier less);
+    before = λ earlier other less is. subst Supported (get_or_from_slice_get entries earlier other no_entry is) (before earlier less);
   }
   first_found place Claim within before found = absurd found
 
@@ -56,8 +51,7 @@ pub not_supported : (Supported : Entry → Type 0) (entries : List Entry) (why :
     (b : Bool) → (b ≡ false) × (why ≢ Memory) → IsTrue b ↔ ((entry : Entry) → Contains entries entry → Supported entry)
 not_supported Supported entries Memory found b is = absurd (is.1 refl)
 not_supported Supported entries (Unsupported class) found b is =
-    let answered : b ≡ false = is.0 in
-    (λ shown. absurd (cc), λ all. absurd (not_all Supported entries class found all))
+    rw is.0 (said_no (not_all Supported entries class found))
 not_supported Supported entries Claim found b is = absurd found
 
 -- why a list of the two isn't passed is why the certificate isn't

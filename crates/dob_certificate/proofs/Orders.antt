@@ -1,7 +1,8 @@
 -- Items by ascending keys, as entries by ascending class: what a search finds, and that a key stands at one place at most.
-use Rattle.dob_certificate.proofs.Common.{◌+◌, ◌<◌, ◌∙◌, ◌≡◌, ◌≢◌, ◌≤◌, Contains, Err, IfErr, IfNone, IfOk, IfSome, List, None, Ok, Option, Result, Some, ap}
-use Rattle.dob_certificate.proofs.Common.{arith, get_or, inl, inr, length, subst, suc, sym, zero, ℕ, cases_lt, nat_tests, IsNonDecreasingBy-from_default}
-use Rattle.dob_certificate.proofs.Common.{Family, Setup, IsInClass, one_class, AreAscending, class_at, entry_at, IsEntryFor, Entry}
+use Rattle.dob_certificate.proofs.Common.{◌+◌, ◌<◌, ◌∙◌, ◌≡◌, ◌≢◌, ◌≤◌, Contains, Err, IfErr, IfNone, IfOk, IfSome, List, None, Ok, Option, Result, Some}
+use Rattle.dob_certificate.proofs.Common.{add-one, ap, arith, get_or, inl, inr, length, subst, suc, sym, zero, ℕ, cases_lt, nat_tests}
+use Rattle.dob_certificate.proofs.Common.{IsNonDecreasingBy-from_default, Family, Setup, IsInClass, one_class, AreAscending, class_at, entry_at, IsEntryFor}
+use Rattle.dob_certificate.proofs.Common.{Entry}
 use Rattle.std.specs.List.Sorted.{IsSearchInRange, IsBinarySearchResult, IsNonDecreasingBy}
 use Rattle.std.specs.Ordering.{nat_cmp, ordering_index}
 use Rattle.std.proofs.lemmas.Cmp.{ranked}
@@ -19,9 +20,7 @@ module _ {X : Type 0} (key : X → ℕ) (d : X) (xs : List X)
   rises : (earlier later : ℕ) → earlier < later → later < length xs → key (get_or xs earlier d) < key (get_or xs later d)
   rises earlier zero before within = absurd (omega arith)
   rises earlier (suc later) before within =
-      let next : later + 1 ≡ suc later = omega arith in
-      let step : key (get_or xs later d) < key (get_or xs (suc later) d) =
-      subst (λ k. key (get_or xs later d) < key (get_or xs k d)) next (ascending later (omega arith)) in
+      let step : key (get_or xs later d) < key (get_or xs (suc later) d) = rw add-one at (ascending later (omega arith)) in
       elim (cases_lt earlier later) [
         | inl further ↦ let far = rises earlier later further (omega arith) in omega arith
         | inr here ↦
@@ -32,10 +31,7 @@ module _ {X : Type 0} (key : X → ℕ) (d : X) (xs : List X)
   pub one_place : (a b : ℕ) → a < length xs → b < length xs → key (get_or xs a d) ≡ key (get_or xs b d) → a ≡ b
   one_place a b at_a at_b same = elim (cases_lt a b) [
     | inl before ↦ let low = rises a b before at_b in absurd (omega arith)
-    | inr later ↦ elim (cases_lt b a) [
-      | inl before ↦ let low = rises b a before at_a in absurd (omega arith)
-      | inr back ↦ omega arith
-    ]
+    | inr later ↦ elim (cases_lt b a) [ inl before ↦ let low = rises b a before at_a in absurd (omega arith) | inr back ↦ omega arith ]
   ]
 
   module _ (wanted : ℕ) where
@@ -44,9 +40,7 @@ module _ {X : Type 0} (key : X → ℕ) (d : X) (xs : List X)
     comparisons_rise = IsNonDecreasingBy-from_default (λ (x : X). ordering_index (nat_cmp (key x) wanted)) xs d (λ i j le in_range.
         let keys_rise : key (get_or xs i d) ≤ key (get_or xs j d) = elim (cases_lt i j) [
           | inl before ↦ let less = rises i j before in_range in omega arith
-          | inr back ↦
-              let same : i ≡ j = omega arith in
-              let equal : key (get_or xs i d) ≡ key (get_or xs j d) = ap (λ (k : ℕ). key (get_or xs k d)) same in omega arith
+          | inr back ↦ omega (arith, ap (λ (k : ℕ). key (get_or xs k d)) (let same : i ≡ j = omega arith in same))
         ] in
         grind (arith, nat_tests))
 
@@ -60,12 +54,8 @@ module _ {X : Type 0} (key : X → ℕ) (d : X) (xs : List X)
     searched (Err at) in_range parted = record {
       found = tt;
       absent = λ place within same. elim (cases_lt place at) [
-        | inl before ↦
-            let low : key (get_or xs place d) < wanted = ranked _ wanted _ (sym ((parted comparisons_rise).0 place d (omega arith) before)) in
-            omega arith
-        | inr behind ↦
-            let high : wanted < key (get_or xs place d) = ranked _ wanted _ (sym ((parted comparisons_rise).1 place d behind within)) in
-            omega arith
+        | inl before ↦ omega (arith, same, ranked _ wanted _ (sym ((parted comparisons_rise).0 place d (omega arith) before)))
+        | inr behind ↦ omega (arith, same, ranked _ wanted _ (sym ((parted comparisons_rise).1 place d behind within)))
       ];
     }
 
@@ -78,11 +68,10 @@ read_at entries place entry within is = get_or_default entries place no_entry en
 -- a class has one entry at most
 pub one_entry : (entries : List Entry) → AreAscending entries → (a b : Entry) → Contains entries a → Contains entries b → a.class ≡ b.class → a ≡ b
 one_entry entries ascending a b at_a at_b same =
-    let here_a : entry_at entries at_a.0 ≡ a = read_at entries at_a.0 a at_a.1 at_a.2 in
-    let here_b : entry_at entries at_b.0 ≡ b = read_at entries at_b.0 b at_b.1 at_b.2 in
-    let class_a : class_at entries at_a.0 ≡ a.class = ap (λ (entry : Entry). entry.class) here_a in
-    let class_b : class_at entries at_b.0 ≡ b.class = ap (λ (entry : Entry). entry.class) here_b in
-    let place = one_place (λ (entry : Entry). entry.class) no_entry entries ascending at_a.0 at_b.0 at_a.1 at_b.1 (class_a ∙ same ∙ sym class_b) in
+    let here_a = read_at entries at_a.0 a at_a.1 at_a.2 in
+    let here_b = read_at entries at_b.0 b at_b.1 at_b.2 in
+    let class = λ (entry : Entry). entry.class in
+    let place = one_place class no_entry entries ascending at_a.0 at_b.0 at_a.1 at_b.1 (ap class here_a ∙ same ∙ sym (ap class here_b)) in
     sym here_a ∙ ap (entry_at entries) place ∙ here_b
 
 -- no entry of a class stands in a list none of whose places has it

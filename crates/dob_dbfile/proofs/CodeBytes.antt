@@ -1,9 +1,13 @@
--- Records and the codes that they are.
-use Rattle.dob_dbfile.proofs.Common.{◌%◌, ◌*◌, ◌++◌, ◌+◌, ◌/◌, ◌<◌, ◌∙◌, ◌∷◌, ◌≡◌, ◌≤◌, List, Some, [], ap, append-nil, arith, drop, inl, inr, length}
-use Rattle.dob_dbfile.proofs.Common.{length-drop, refl, slice_get, slice_index, suc, sym, take, take-add, zero, ℕ, cases_eq, flat_map-append, flat_map}
-use Rattle.dob_dbfile.proofs.Common.{little_bytes, little_number, code_of_value, value_at_distance, value_of_code, values_of_codes, Value, code_bytes, records}
+-- Records as the bytes of codes and of values, whole and in pieces.
+use Rattle.dob_dbfile.proofs.Common.{◌%◌, ◌*◌, ◌++◌, ◌+◌, ◌/◌, ◌<◌, ◌∙◌, ◌∷◌, ◌≡◌, ◌≤◌, List, Some, [], add-one, ap, append-nil, append_assoc, arith, drop}
+use Rattle.dob_dbfile.proofs.Common.{length, length-drop, length-take-le, refl, slice_get, slice_index, suc, sym, take, take-add, zero, ℕ, take-append-drop}
+use Rattle.dob_dbfile.proofs.Common.{flat_map-append, All-tail, All, flat_map, little_bytes, little_number, code_of_value, value_at_distance, value_of_code}
+use Rattle.dob_dbfile.proofs.Common.{values_of_codes, IsEntry, Value, code_bytes, records}
 use Rattle.std.proofs.lemmas.List.{take_more, get_or-drop}
 use Rattle.std.proofs.lemmas.Option.{get_or_from_slice_get}
+use Rattle.dob_value.specs.declared.value.Value.TheVariants.{Win, Loss, Draw}
+
+-- ---- records and the codes that they are
 
 -- the bytes of one item more
 flat_more : {X : Type 0} (bytes : X → List ℕ) (xs : List X) (place : ℕ) (x : X) → place < length xs → slice_get xs place ≡ Some x
@@ -20,12 +24,7 @@ records_more = flat_more (λ (v : Value). little_bytes 2 (code_of_value v))
 
 -- a value has its code
 code_of_distance : (plies : ℕ) → code_of_value (value_at_distance plies) ≡ plies + 1
-code_of_distance plies = elim (cases_eq (plies % 2) 1) [
-  | inl odd ↦ rw odd refl
-  | inr even ↦
-      let none : plies % 2 ≡ 0 = omega (arith, even) in
-      rw none refl
-]
+code_of_distance plies = grind arith
 
 pub code_of_code : (code : ℕ) → code_of_value (value_of_code code) ≡ code
 code_of_code zero = refl
@@ -62,3 +61,62 @@ code_more bytes more index code fits there same is =
     ∙ ap (λ (last : List ℕ). take (2 * index) bytes ++ last) (pair_back (drop (2 * index) bytes) two small)
     ∙ sym (take-add (2 * index) 2 bytes)
     ∙ ap (λ (n : ℕ). take n bytes) (sym place)
+
+-- ---- the values that records are
+
+-- an entry's code fits two bytes
+code_fits : (value : Value) → IsEntry value → code_of_value value < 65536
+code_fits (Win plies) entry = omega (arith, entry.1)
+code_fits (Loss plies) entry = omega (arith, entry.1)
+code_fits Draw entry = omega arith
+
+-- and stands for it
+code_back : (value : Value) → IsEntry value → value_of_code (code_of_value value) ≡ value
+code_back (Win plies) entry = ap value_of_code (add-one plies) ∙ rw entry.0 refl
+code_back (Loss plies) entry = ap value_of_code (add-one plies) ∙ rw entry.0 refl
+code_back Draw entry = refl
+
+-- the values of records
+abbrev decoded : List ℕ → List Value
+decoded [] = []
+decoded (low ∷ []) = []
+decoded (low ∷ high ∷ rest) = value_of_code (low + 256 * high) ∷ decoded rest
+
+-- the records of entries are decoded to them
+decoded-records : (values : List Value) → All IsEntry values → decoded (records values) ≡ values
+decoded-records [] entries = refl
+decoded-records (value ∷ values) entries =
+    let entry : IsEntry value = entries 0 value (omega arith) in
+    let code : ℕ = code_of_value value in
+    let fits : code < 65536 = code_fits value entry in
+    let number : code % 256 + 256 * (code / 256 % 256) ≡ code = omega arith in
+    ap (λ (n : ℕ). value_of_code n ∷ decoded (records values)) number
+    ∙ ap (λ (v : Value). v ∷ decoded (records values)) (code_back value entry)
+    ∙ ap (λ (vs : List Value). value ∷ vs) (decoded-records values (All-tail IsEntry value values entries))
+
+-- so entries with the same records are the same
+pub same_records : (xs ys : List Value) → All IsEntry xs → All IsEntry ys → records xs ≡ records ys → xs ≡ ys
+same_records xs ys in_xs in_ys same = sym (decoded-records xs in_xs) ∙ ap decoded same ∙ decoded-records ys in_ys
+
+-- two bytes for each value
+pub length-records : (values : List Value) → length (records values) ≡ 2 * length values
+length-records [] = refl
+length-records (value ∷ values) = let rest = length-records values in omega (arith, rest)
+
+-- ---- the records in pieces
+
+-- the records of the first classes, and of the others
+pub records_front : (values : List Value) (count : ℕ) → records values ≡ records (take count values) ++ records (drop count values)
+records_front values count =
+    ap records (sym (take-append-drop count values)) ∙ flat_map-append (λ (v : Value). little_bytes 2 (code_of_value v)) (take count values) (drop count values)
+
+-- where a piece goes on from the first classes up to others
+pub records_part : (values : List Value) (first end : ℕ) (piece : List ℕ) → records (take first values) ++ piece ≡ records (take end values)
+    → records values ≡ records (take first values) ++ (piece ++ records (drop end values))
+records_part values first end piece joined =
+    records_front values end
+    ∙ ap (λ (front : List ℕ). front ++ records (drop end values)) (sym joined)
+    ∙ append_assoc (records (take first values)) piece (records (drop end values))
+
+pub records_len : (values : List Value) (count : ℕ) → count ≤ length values → length (records (take count values)) ≡ 2 * count
+records_len values count within = length-records (take count values) ∙ ap (λ (n : ℕ). 2 * n) (length-take-le count values within)

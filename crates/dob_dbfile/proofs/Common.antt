@@ -4,7 +4,7 @@ pub use Rattle.std.proofs.Common.{add-one, ap, append-nil, append_assoc, arith, 
 pub use Rattle.std.proofs.Common.{min, refl, rules, slice_get, slice_index, subst, suc, sym, take, take-add, take_all, true, vec_capacity, vec_len, zero, ℕ}
 pub use Rattle.std.proofs.Math.Bool.{or-false}
 pub use Rattle.std.proofs.Math.Nat.{min-le_left, min-le_right}
-pub use Rattle.std.proofs.lemmas.Bool.{cases_eq, cases_lt, cases_order, or_right}
+pub use Rattle.std.proofs.lemmas.Bool.{cases_lt, cases_order, or_right}
 pub use Rattle.std.proofs.lemmas.Grind.{common_steps}
 pub use Rattle.std.proofs.lemmas.List.{drop-drop, drop-take, drop_at, length-append, length-map, take-append-drop, take-append-le, take_at, take_rest}
 pub use Rattle.std.proofs.lemmas.List.Concat.{flat_map-append}

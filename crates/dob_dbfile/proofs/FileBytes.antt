@@ -1,10 +1,8 @@
 -- The bytes of a table's file, part after part.
 use Rattle.dob_dbfile.proofs.Common.{◌*◌, ◌++◌, ◌+◌, ◌∙◌, ◌≡◌, List, ap, append_assoc, arith, drop, inl, inr, length, refl, sym, take, ℕ, drop_at}
 use Rattle.dob_dbfile.proofs.Common.{length-append, length-map, take_at, sha256, Family, Profile, A, value_of_code, values_of_codes, ClassTable, class_table}
-use Rattle.dob_dbfile.proofs.Common.{header_len, IsFile, bytes_in, code_bytes, contents_in, digest_of, front_of, header_in, records}
-use Rattle.dob_dbfile.proofs.Common.{Format, First, Second}
-use Rattle.dob_dbfile.proofs.CodeBytes.{records-codes}
-use Rattle.dob_dbfile.proofs.Decoded.{length-records}
+use Rattle.dob_dbfile.proofs.Common.{header_len, IsFile, bytes_in, code_bytes, front_of, header_in, records, contents_in, digest_of, Format, First, Second}
+use Rattle.dob_dbfile.proofs.CodeBytes.{records-codes, length-records}
 
 -- what stands before the digest
 pub header_records : (format : Format) (table : ClassTable) → header_in format table ++ records table.values ≡ contents_in format table
@@ -48,15 +46,11 @@ length-header First table = refl
 length-header Second table = refl
 
 pub header-front : (format : Format) (table : ClassTable) → take (header_len format) (bytes_in format table) ≡ header_in format table
-header-front format table =
-    let rest : List ℕ = records table.values ++ sha256 (contents_in format table) in
-    ap (take (header_len format)) (file_parts format table) ∙ take_at (header_in format table) rest (header_len format) (length-header format table)
+header-front format table = grind (arith, file_parts, take_at, length-header)
 
 pub behind_header : (format : Format) (table : ClassTable)
     → drop (header_len format) (bytes_in format table) ≡ records table.values ++ sha256 (contents_in format table)
-behind_header format table =
-    let rest : List ℕ = records table.values ++ sha256 (contents_in format table) in
-    ap (drop (header_len format)) (file_parts format table) ∙ drop_at (header_in format table) rest (header_len format) (length-header format table)
+behind_header format table = grind (arith, file_parts, length-header)
 
 pub contents-rest : (format : Format) (table : ClassTable) → drop (header_len format) (contents_in format table) ≡ records table.values
 contents-rest format table =

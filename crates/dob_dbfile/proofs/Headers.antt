@@ -1,11 +1,11 @@
 -- What the tests say of the first bytes they say of all of them.
-use Rattle.dob_dbfile.proofs.Common.{◌++◌, ◌+◌, ◌-◌, ◌∙◌, ◌≡◌, ◌≤◌, List, ap, arith, drop, inr, length, length-drop, length-take-le, refl, subst, sym, take}
-use Rattle.dob_dbfile.proofs.Common.{take_all, ℕ, drop-take, drop_at, length-append, take_at, put_mid, PieceSet, Family, Profile, family_of, GivesFirst, Stream}
-use Rattle.dob_dbfile.proofs.Common.{after, CountsClasses, HasHeader, HasHeaderFault, HasTitle, NamesClasses, NamesFamily, NamesSet, SaysProfile, count_place}
-use Rattle.dob_dbfile.proofs.Common.{header_len, HasFrontFault, GivesFewer, TakesBytes, Fault, Format, First, Second}
+use Rattle.dob_dbfile.proofs.Common.{◌++◌, ◌+◌, ◌-◌, ◌<◌, ◌∙◌, ◌≡◌, ◌≤◌, List, ap, arith, drop, inr, length, length-drop, length-take-le, refl, rules, subst}
+use Rattle.dob_dbfile.proofs.Common.{sym, take, take_all, ℕ, drop-take, drop_at, length-append, take_at, PieceSet, Family, Profile, family_of, GivesFirst}
+use Rattle.dob_dbfile.proofs.Common.{Stream, after, CountsClasses, HasHeader, HasHeaderFault, HasTitle, NamesClasses, NamesFamily, NamesSet, SaysProfile}
+use Rattle.dob_dbfile.proofs.Common.{count_place, header_len, HasFrontFault, GivesFewer, TakesBytes, Fault, Format, First, Second, put_mid}
 use Rattle.std.proofs.lemmas.List.{take-take}
+use Rattle.dob_dbfile.proofs.Pieces.{filled_more}
 use Rattle.dob_dbfile.specs.declared.fault.Fault.TheVariants as fault
-use Rattle.dob_dbfile.proofs.Filled.{filled_more}
 
 -- the number of classes stands in the header's last eight bytes
 pub count_last : (format : Format) → count_place format + 8 ≡ header_len format
@@ -74,9 +74,8 @@ module _ (n : ℕ) (bytes : List ℕ) (long : 20 ≤ n) (there : n ≤ length by
 
   fits_in : (format : Format) (set : PieceSet) → HasHeader format set (take n bytes) → header_len format ≤ n
   fits_in format set has =
-      let is = len in
       let le : header_len format ≤ length (take n bytes) = has.1 in
-      omega (arith, is, le)
+      omega (arith, len, le)
 
   pub counts_lifts : (format : Format) (family : Family) → CountsClasses format family (take n bytes) → CountsClasses format family bytes
   counts_lifts format family counts =
@@ -122,18 +121,20 @@ pub front_refused : (stream : Stream) (given : Fault) → HasHeaderFault stream.
 front_refused stream = by_fault stream.bytes (HasFrontFault stream) (λ wrong. wrong) (λ wrong. wrong) (λ wrong. wrong) (λ wrong. wrong)
 
 -- a header that is cut short where its set is known
+none_there : (stream : Stream) (format : Format) (set : PieceSet) (wanted : ℕ) → NamesSet format set stream.bytes → 20 + wanted ≡ header_len format
+    → length (drop 20 stream.bytes) < wanted → ¬ HasHeader format set stream.bytes
+none_there stream format set wanted names fits cut has =
+    let there : 20 ≤ length stream.bytes = names.0.0 in
+    let le : header_len format ≤ length stream.bytes = has.1 in
+    omega (arith, le, fits, cut, there, length-drop 20 stream.bytes)
+
 pub front_cut : (stream : Stream) (format : Format) (set : PieceSet) (wanted : ℕ) (given : Fault) → NamesSet format set stream.bytes
     → 20 + wanted ≡ header_len format → GivesFewer wanted 20 (after 20 stream) given → (given ≡ fault.Memory → ⊥) → HasFrontFault stream given
 front_cut stream format set wanted fault.Truncated names fits cut known =
-    let there : 20 ≤ length stream.bytes = names.0.0 in
-    let none : ¬ HasHeader format set stream.bytes = λ has.
-    let le : header_len format ≤ length stream.bytes = has.1 in omega (arith, le, fits, cut.0, there, length-drop 20 stream.bytes) in
-    (inr (format, set, names, none), cut.1)
+    (inr (format, set, names, none_there stream format set wanted names fits cut.0), cut.1)
 front_cut stream format set wanted (fault.Io count) names fits cut known =
     let there : 20 ≤ length stream.bytes = names.0.0 in
-    let none : ¬ HasHeader format set stream.bytes = λ has.
-    let le : header_len format ≤ length stream.bytes = has.1 in omega (arith, le, fits, cut.0, there, length-drop 20 stream.bytes) in
-    (inr (format, set, names, none), cut.1, omega (arith, cut.2, there, length-drop 20 stream.bytes))
+    (inr (format, set, names, none_there stream format set wanted names fits cut.0), cut.1, omega (arith, cut.2, there, length-drop 20 stream.bytes))
 front_cut stream format set wanted fault.Memory names fits cut known = absurd (known refl)
 front_cut stream format set wanted _ names fits cut known = absurd cut
 
@@ -183,14 +184,9 @@ header_came stream format h front room more long taken same rest first second =
 
 -- the first bytes of a stream
 pub takes_front : (stream : Stream) (size : ℕ) (room : List ℕ) → size ≤ length stream.bytes → room ≡ take size stream.bytes → TakesBytes stream room
-takes_front stream size room there is =
-    let len : length room ≡ size = ap length is ∙ length-take-le size stream.bytes there in
-    record { within = omega (arith, len, there); same = is ∙ ap (λ (n : ℕ). take n stream.bytes) (sym len) }
+takes_front stream size room there is = search rules
 
 -- the last eight bytes
 pub last_count : (at size len : ℕ) (header : List ℕ) → length header ≡ len → size ≡ len → at + 8 ≡ len
     → take (length header - (size - 8)) (drop (size - 8) header) ≡ take 8 (drop at header)
-last_count at size len header long same is =
-    let place : size - 8 ≡ at = omega (arith, is, same) in
-    let eight : length header - (size - 8) ≡ 8 = omega (arith, is, same, long) in
-    ap (λ (k : ℕ). take k (drop (size - 8) header)) eight ∙ ap (λ (k : ℕ). take 8 (drop k header)) place
+last_count at size len header long same is = grind arith

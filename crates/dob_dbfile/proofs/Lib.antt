@@ -1,21 +1,15 @@
 -- The lemmas, in the order in which they are read.
 mod Common  -- names of other crates and of this one's definitions, for the proofs
 -- What the bytes of a file are.
-mod CodeBytes  -- codes as records
-mod Decoded  -- records as values
+mod CodeBytes  -- records as the bytes of codes and of values
 mod FileBytes  -- a file, part after part
 -- Reading.
-mod Pieces  -- what is read piece after piece
-mod Filled  -- a room that fills
-mod Cuts  -- a stream that is cut
-mod Endings  -- what the end of a file shows
+mod Pieces  -- what is read piece after piece, up to the end of a file
 mod Headers  -- what the tests say of the first bytes
 pub mod Places  -- at most one fault holds
-mod HeldBytes  -- what the bytes of a file show
-mod FrontBytes  -- what the first bytes show of the file
+mod HeldBytes  -- what the bytes of a file and its first bytes show
 mod Verdicts  -- what the steps say of the whole stream
 pub mod Written  -- the file of a table passes
 pub mod Looked  -- what was read by place, and the records in a table's file
 -- Writing.
 mod Sinks  -- what sinks have received
-mod Hashed  -- records in pieces

@@ -1,10 +1,10 @@
 -- What was read by place, and the record of a class in the file of a table.
-use Rattle.dob_dbfile.proofs.Common.{◌*◌, ◌++◌, ◌<◌, ◌∙◌, ◌∷◌, ◌≡◌, List, Some, [], ap, arith, drop, length, slice_get, subst, suc, sym, take}
-use Rattle.dob_dbfile.proofs.Common.{zero, ℕ, drop-drop, All-tail, All, unwrap_or, little_bytes, sha256, Family, classes_of}
-use Rattle.dob_dbfile.proofs.Common.{code_of_value, ClassTable, IsEntry, IsTable, Value, Stream, after, whole, CountsClasses, header_len, IsFile}
-use Rattle.dob_dbfile.proofs.Common.{contents_in, records, HasRecord, RecordsAreEntries, place_of, TakesBytes, Format}
+use Rattle.dob_dbfile.proofs.Common.{◌*◌, ◌++◌, ◌<◌, ◌∙◌, ◌∷◌, ◌≡◌, List, Some, [], ap, arith, drop, length, slice_get, subst, suc, sym, take, zero, ℕ}
+use Rattle.dob_dbfile.proofs.Common.{drop-drop, All-tail, All, unwrap_or, little_bytes, sha256, Family, classes_of, code_of_value, ClassTable, IsEntry, IsTable}
+use Rattle.dob_dbfile.proofs.Common.{Value, Stream, after, whole, CountsClasses, header_len, IsFile, records, contents_in, HasRecord, RecordsAreEntries}
+use Rattle.dob_dbfile.proofs.Common.{place_of, TakesBytes, Format}
 use Rattle.std.proofs.lemmas.Option.{get_or_from_slice_get, same_Some, slice_get_within}
-use Rattle.dob_dbfile.proofs.Decoded.{same_records}
+use Rattle.dob_dbfile.proofs.CodeBytes.{same_records}
 use Rattle.dob_dbfile.proofs.FileBytes.{behind_header, format_of}
 use Rattle.dob_dbfile.proofs.Places.{same_head}
 use Rattle.dob_dbfile.proofs.Written.{counts_file, table_classes}
@@ -12,10 +12,7 @@ use Rattle.dob_dbfile.proofs.Written.{counts_file, table_classes}
 -- the two bytes that were read are the class's
 pub record_is : (stream : Stream) (format : Format) (class : ℕ) (room : List ℕ) (value : Value) → length room ≡ 2
     → TakesBytes (after (place_of format class) stream) room → little_bytes 2 (code_of_value value) ≡ room → IsEntry value → HasRecord stream format class value
-record_is stream format class room value two taken back entry = record {
-  entry = entry;
-  same = ap (λ (n : ℕ). take n (drop (place_of format class) stream.bytes)) (sym two) ∙ sym taken.same ∙ sym back;
-}
+record_is stream format class room value two taken back entry = grind arith
 
 -- ---- the record of a class in the file of a table
 
@@ -28,9 +25,7 @@ one_value a b e = ap (λ (vs : List Value). unwrap_or (slice_get vs 0) a) e
 
 -- a class has one record
 pub one_record : (stream : Stream) (format : Format) (class : ℕ) (v w : Value) → HasRecord stream format class v → HasRecord stream format class w → v ≡ w
-one_record stream format class v w at_v at_w =
-    one_value v w (same_records (v ∷ []) (w ∷ []) (one_entry v at_v.entry) (one_entry w at_w.entry)
-    (ap (λ (bytes : List ℕ). bytes ++ []) (sym at_v.same ∙ at_w.same)))
+one_record stream format class v w at_v at_w = grind (arith, same_records, one_entry)
 
 -- the two bytes of a class are the record of its value
 entry_at : (values : List Value) (class : ℕ) (value : Value) (behind : List ℕ) → All IsEntry values → class < length values → IsEntry value
@@ -42,8 +37,7 @@ entry_at (v ∷ values) zero value behind entries below entry same =
     (one_value v value (same_records (v ∷ []) (value ∷ []) (one_entry v own) (one_entry value entry) (ap (λ (bytes : List ℕ). bytes ++ []) same)))
 entry_at (v ∷ values) (suc class) value behind entries below entry same =
     let place : 2 * suc class ≡ suc (suc (2 * class)) = omega arith in
-    entry_at values class value behind (All-tail IsEntry v values entries) (omega (arith, below)) entry
-    (subst (λ (n : ℕ). take 2 (drop n (records (v ∷ values) ++ behind)) ≡ little_bytes 2 (code_of_value value)) place same)
+    entry_at values class value behind (All-tail IsEntry v values entries) (omega (arith, below)) entry (rw place at same)
 
 -- the record of a class is that of its value
 record_at : (values : List Value) (class : ℕ) (value : Value) (behind : List ℕ) → slice_get values class ≡ Some value
@@ -51,9 +45,7 @@ record_at : (values : List Value) (class : ℕ) (value : Value) (behind : List �
 record_at [] class value behind stands = absurd (let below : class < 0 = slice_get_within {A = Value} [] class value stands in omega (arith, below))
 record_at (v ∷ values) zero value behind stands = ap (λ (x : Value). little_bytes 2 (code_of_value x)) (same_Some v value stands)
 record_at (v ∷ values) (suc class) value behind stands =
-    let place : 2 * suc class ≡ suc (suc (2 * class)) = omega arith in
-    subst (λ (n : ℕ). take 2 (drop n (records (v ∷ values) ++ behind)) ≡ little_bytes 2 (code_of_value value)) (sym place)
-    (record_at values class value behind stands)
+    let place : 2 * suc class ≡ suc (suc (2 * class)) = omega arith in rw place (record_at values class value behind stands)
 
 -- the header of a table's file names its family alone
 pub table_family : (table : ClassTable) (bytes : List ℕ) (format : Format) (family : Family) → IsTable table.family table.values → IsFile bytes table

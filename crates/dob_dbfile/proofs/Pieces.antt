@@ -1,19 +1,20 @@
--- What is read piece after piece.
-use Rattle.dob_dbfile.proofs.Common.{◌*◌, ◌++◌, ◌+◌, ◌-◌, ◌∙◌, ◌≡◌, ◌≤◌, List, [], ap, append-nil, append_assoc, arith, drop, length, length-drop, length-take}
-use Rattle.dob_dbfile.proofs.Common.{min, refl, subst, sym, take, take-add, ℕ, min-le_left, length-append, flat_map-append, little_bytes, Holds256, Stream}
-use Rattle.dob_dbfile.proofs.Common.{after, code_bytes, GivesFewer, HashesNext, ReadsCodes, Fault}
+-- What is read piece after piece: codes, a room that fills, a stream that is cut, and the end of a file.
+use Rattle.dob_dbfile.proofs.Common.{◌*◌, ◌++◌, ◌+◌, ◌-◌, ◌∙◌, ◌≡◌, ◌≤◌, Bool, List, [], ap, append-nil, append_assoc, arith, drop, false, length, length-drop}
+use Rattle.dob_dbfile.proofs.Common.{length-take, length-take-le, min, refl, rules, subst, sym, take, take-add, take_all, true, ℕ, min-le_left, drop-drop}
+use Rattle.dob_dbfile.proofs.Common.{drop-take, length-append, take-append-le, flat_map-append, little_bytes, Holds256, sha256, GivesFirst, Stream, after}
+use Rattle.dob_dbfile.proofs.Common.{whole, code_bytes, EndsWith, GivesFewer, HasDigestFault, HashesNext, IsDigest, ReadsCodes, TakesBytes, Fault, post_of}
+use Rattle.dob_dbfile.proofs.Common.{put_mid}
 use Rattle.sha2.specs.declared.Sha256.{Sha256}
 use Rattle.dob_dbfile.specs.declared.fault.Fault.TheVariants.{Truncated, Memory, Io}
+use Rattle.std.proofs.Common.{drop_at, le_refl, nat_lt}
+use Rattle.std.proofs.lemmas.Slice.{take-put_mid_below}
+use Rattle.dob_dbfile.specs.Memory.{cut}
+
+-- ---- what is read piece after piece
 
 -- nothing has been read
 pub reads_none : (stream : Stream) (codes : List ℕ) → ReadsCodes stream 0 codes codes
-reads_none stream codes = record {
-  within = omega arith;
-  more = [];
-  grown = sym (append-nil codes);
-  same = refl;
-  counted = refl;
-}
+reads_none stream codes = search rules
 
 pub hashes_none : (stream : Stream) (hasher : Sha256) → HashesNext stream 0 hasher hasher
 hashes_none stream hasher message holds = subst (Holds256 hasher) (sym (append-nil message)) holds
@@ -59,3 +60,81 @@ few_more count done records longest room some piece =
     let front : min (2 * records) (length room) ≤ 2 * records = min-le_left (2 * records) (length room) in
     let left : min (count - done) longest ≤ count - done = min-le_left (count - done) longest in
     omega (arith, taken, front, left, piece, some)
+
+-- ---- a room that fills with the bytes of a stream, piece by piece
+
+-- the front of a room, a piece more of which was written
+take_more : (done count k : ℕ) (room part : List ℕ) → done ≤ length room → count ≤ length part
+    → take (done + count) (put_mid done k room part) ≡ take done room ++ take count part
+take_more done count k room part inside fits =
+    let rest = post_of done k room in
+    take-add done count (put_mid done k room part)
+    ∙ ap (λ (front : List ℕ). front ++ take count (drop done (put_mid done k room part))) (take-put_mid_below done k room part done (le_refl done) inside)
+    ∙ ap (λ (back : List ℕ). take done room ++ take count back) (drop_at (take done room) (part ++ rest) done (length-take-le done room inside))
+    ∙ ap (λ (back : List ℕ). take done room ++ back) (take-append-le count part rest fits)
+
+-- a piece more of the stream has come
+pub filled_more : (stream : Stream) (done count k : ℕ) (room part : List ℕ) → done ≤ length room → count ≤ length part
+    → done ≤ length stream.bytes → take done room ≡ take done stream.bytes → GivesFirst (after done stream) count part
+    → (done + count ≤ length stream.bytes) × (take (done + count) (put_mid done k room part) ≡ take (done + count) stream.bytes)
+filled_more stream done count k room part inside fits there same gave = (
+  omega (arith, gave.within, length-drop done stream.bytes),
+  take_more done count k room part inside fits
+      ∙ ap (λ (front : List ℕ). front ++ take count part) same
+      ∙ ap (λ (back : List ℕ). take done stream.bytes ++ back) gave.same
+      ∙ sym (take-add done count stream.bytes),
+)
+
+-- what comes after two pieces
+pub after-after : (stream : Stream) (a b : ℕ) → after b (after a stream) ≡ after (a + b) stream
+after-after stream a b = rw (drop-drop b a stream.bytes) refl
+
+-- ---- a stream that is cut where it has so many bytes
+
+-- the bytes before the cut, kept as a front of all of them
+pub cut-front : (count start : ℕ) (bytes : List ℕ) (fails : Bool) → count ≤ length bytes - start
+    → let old : Stream = record { bytes = drop start bytes; fails = fails } in
+    let new : Stream = record { bytes = drop start (take (start + count) bytes); fails = true } in
+    new ≡ cut count old
+cut-front count start bytes fails within =
+    let enough : nat_lt (length (drop start bytes)) count ≡ false = grind (arith, within, length-drop start bytes) in
+    rw (drop-take start count bytes, enough) refl
+
+-- ---- what the end of a file shows
+
+-- a digest that is cut short
+pub digest_cut : (message : List ℕ) (before : ℕ) (stream : Stream) (fault : Fault) → GivesFewer 32 before stream fault → HasDigestFault message before stream fault
+digest_cut message before stream Truncated cut = cut
+digest_cut message before stream (Io count) cut = (omega (arith, cut.0), cut.1, cut.2)
+digest_cut message before stream Memory cut = tt
+digest_cut message before stream _ cut = absurd cut
+
+-- the room holds all of a stream that ends after as many bytes
+pub record IsAll (stream : Stream) (room : List ℕ) : Type 0 where
+  pub ends : stream.fails ≡ false
+  pub whole : length stream.bytes ≡ length room
+  pub same : stream.bytes ≡ room
+
+pub all_taken : (stream : Stream) (room : List ℕ) → TakesBytes stream room → after (length room) stream ≡ whole [] → IsAll stream room
+all_taken stream room taken end =
+    let none : drop (length room) stream.bytes ≡ [] = ap (λ (s : Stream). s.bytes) end in
+    let rest : length stream.bytes - length room ≡ 0 = sym (length-drop (length room) stream.bytes) ∙ ap length none in
+    let len : length stream.bytes ≡ length room = omega (arith, taken.within, rest) in
+    record {
+      ends = ap (λ (s : Stream). s.fails) end;
+      whole = len;
+      same = sym (take_all (length room) stream.bytes (omega (arith, len))) ∙ sym taken.same;
+    }
+
+-- the codes were read, and then the digest of all before it
+pub ends_with : (stream : Stream) (front codes : List ℕ) (count : ℕ) → length codes ≡ count → ReadsCodes stream (2 * count) [] codes
+    → IsDigest (front ++ take (2 * count) stream.bytes) (after (2 * count) stream) → EndsWith front codes stream
+ends_with stream front codes count counted read digest =
+    let rest : length stream.bytes - 2 * count ≡ 32 = sym (length-drop (2 * count) stream.bytes) ∙ digest.whole in
+    let there : 2 * count ≤ length stream.bytes = read.within in
+    record {
+      ends = digest.ends;
+      whole = omega (arith, rest, there, counted);
+      records = ap code_bytes read.grown ∙ read.same ∙ ap (λ (n : ℕ). take (2 * n) stream.bytes) (sym counted);
+      digest = subst (λ (n : ℕ). drop (2 * n) stream.bytes ≡ sha256 (front ++ take (2 * n) stream.bytes)) (sym counted) digest.digest;
+    }

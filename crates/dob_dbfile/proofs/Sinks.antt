@@ -2,7 +2,7 @@
 use Rattle.dob_dbfile.proofs.Common.{◌++◌, ◌+◌, ◌∙◌, ◌∷◌, ◌≡◌, ◌≤◌, List, None, Option, Some, [], ap, append-nil, append_assoc, arith, drop, false, length}
 use Rattle.dob_dbfile.proofs.Common.{refl, sym, take, take-add, true, ℕ, or-false, or_right, drop_at, length-append, take-append-le, take_at, ◌||◌, AddsFlush}
 use Rattle.dob_dbfile.proofs.Common.{IsNotFlushed, IsSame, Puts, SinkState, SinkWorks, StopsAfter, TakesPiece, Writes, change}
-use Rattle.std.proofs.KnownBytes.{Appends-kept, Appends-nil, Appends-trans, Keeps-refl, Keeps-trans}
+use Rattle.std.proofs.KnownBytes.{Appends-nil, Appends-trans, Keeps-refl, Keeps-trans}
 use Rattle.std.specs.Io.KnownBytes.{Appends, Keeps, append_known}
 use Rattle.dob_dbfile.specs.declared.device.FailedAfter.{FailedAfter}
 use Rattle.dob_dbfile.specs.Writing.{StopsBehind}
@@ -27,13 +27,7 @@ works_on a b c works notes = notes ∙ or-false b.has_failed ∙ works
 pub stops_after : (a b c : SinkState) (bytes : List ℕ) (count : ℕ) → count ≤ length bytes → TakesPiece (change a b) (take count bytes) → IsNotFlushed (change a b)
     → IsSame (change a b) → Keeps b.received c.received → Keeps b.flushes c.flushes → c.writer ≡ b.writer → c.has_failed ≡ (b.has_failed || true)
     → StopsAfter (change a c) bytes count
-stops_after a b c bytes count within part unflushed same kept flushes again notes = record {
-  within = within;
-  part = Appends-kept a.received b.received c.received (take count bytes) part kept;
-  unflushed = Keeps-trans a.flushes b.flushes c.flushes unflushed flushes;
-  fails = notes ∙ or_right b.has_failed true refl;
-  same = again ∙ same;
-}
+stops_after a b c bytes count within part unflushed same kept flushes again notes = grind (arith, or_right)
 
 -- ---- pieces, one after the other
 

@@ -1,23 +1,21 @@
 -- A file of a table passes all tests, and is that of no other table.
 use Rattle.dob_dbfile.proofs.Common.{◌*◌, ◌+◌, ◌∙◌, ◌≡◌, ◌≤◌, ◌⊎◌, Err, List, Ok, Result, ap, arith, drop, false, inl, inr, length, length-take, min, refl}
-use Rattle.dob_dbfile.proofs.Common.{subst, sym, take, ℕ, min-le_right, drop_at, length-append, take_at, sha256, Family, classes_of, ClassTable, IsTable}
+use Rattle.dob_dbfile.proofs.Common.{rules, subst, sym, take, ℕ, min-le_right, drop_at, length-append, take_at, sha256, Family, classes_of, ClassTable, IsTable}
 use Rattle.dob_dbfile.proofs.Common.{class_table, Value, whole, CountsClasses, HasDigest, HasReadFault, NamesFamily, PassesAll, SaysProfile, contents_len}
-use Rattle.dob_dbfile.proofs.Common.{count_place, header_len, IsFile, bytes_in, contents_in, count_bytes, header_in, records, Fault, Format, First, Second}
+use Rattle.dob_dbfile.proofs.Common.{count_place, header_len, IsFile, bytes_in, count_bytes, header_in, records, contents_in, Fault, Format, First, Second}
 use Rattle.std.specs.Result.{IfOk, IfErr, MatchResult}
 use Rattle.sha2.proofs.Facts256.{length-sha256}
-use Rattle.dob_rank.specs.Families.{IsRepresentative}
 use Rattle.dob_rank.proofs.OfFamilies.Present.{HasClasses-classes_of}
 use Rattle.dob_value.proofs.ClassNumbers.{one_count}
-use Rattle.dob_dbfile.specs.declared.fault.Fault.TheVariants as fault
-use Rattle.dob_dbfile.proofs.Decoded.{same_records}
+use Rattle.dob_dbfile.proofs.CodeBytes.{same_records}
 use Rattle.dob_dbfile.proofs.FileBytes.{Tells, IsFileIn, contents-rest, format_of, header-front, length-contents, length-header}
 use Rattle.dob_dbfile.proofs.Headers.{counts_lifts, header_long}
 use Rattle.dob_dbfile.proofs.Places.{same_head, no_fault}
+use Rattle.dob_dbfile.specs.declared.fault.Fault.TheVariants as fault
 
 -- how many classes a table has
 pub table_classes : (table : ClassTable) → IsTable table.family table.values → length table.values ≡ classes_of table.family
-table_classes table is =
-    one_count (IsRepresentative table.family) (length table.values) (classes_of table.family) is.classes (HasClasses-classes_of table.family)
+table_classes table is = search (rules, one_count, HasClasses-classes_of)
 
 -- its header says its profile
 says : (format : Format) (table : ClassTable) → Tells format table.family.profile → SaysProfile format table.family.profile (header_in format table)
@@ -91,11 +89,7 @@ same_values format family xs ys is_xs is_ys same =
 same_tables : (f g : Format) (p q : Family) (xs ys : List Value) → f ≡ g → p ≡ q → IsTable p xs → IsTable q ys
     → bytes_in f (class_table p xs) ≡ bytes_in g (class_table q ys) → class_table p xs ≡ class_table q ys
 same_tables f g p q xs ys one_format one is_xs is_ys same =
-    subst
-    (λ (family : Family). IsTable family ys → bytes_in f (class_table p xs) ≡ bytes_in f (class_table family ys) → class_table p xs ≡ class_table family ys)
-    one
-    (λ is found. same_values f p xs ys is_xs is found)
-    is_ys (same ∙ ap (λ (format : Format). bytes_in format (class_table q ys)) (sym one_format))
+    rw (← one) (same_values f p xs ys is_xs (rw (← one) at is_ys) (rw (← one, ← one_format) at same))
 
 -- no two tables have one file
 pub same_files : (bytes : List ℕ) (a b : ClassTable) → IsTable a.family a.values → IsTable b.family b.values → IsFile bytes a → IsFile bytes b → a ≡ b

@@ -1,9 +1,11 @@
 -- Outlines of positions, and puzzles that are alike.
-use Rattle.dob_probe.proofs.Common.{◌&&◌, ◌++◌, ◌==◌, ◌∙◌, ◌∷◌, ◌≡◌, Bool, Contains, List, [], arith, false, inl, inr, refl, subst, sym, true, true≢false}
-use Rattle.dob_probe.proofs.Common.{ℕ, and_from, and_parts, cases_Bool, eq-eqb, eqb-true, Contains-append_right, list_any, one_lion, HasLions, Enemy, Mover}
-use Rattle.dob_probe.proofs.Common.{Setup, class_setup, ClassTable, AreAlike, AreLike, AreOutlines, IsOutline, IsOutlineOf, same_outline, Puzzle}
+use Rattle.dob_probe.proofs.Common.{◌&&◌, ◌++◌, ◌∙◌, ◌∷◌, ◌≡◌, Bool, Contains, List, [], arith, false, inl, inr, refl, subst, sym, true, true≢false}
+use Rattle.dob_probe.proofs.Common.{and_parts, cases_Bool, Contains-append_right, list_any, one_lion, HasLions, Enemy, Mover, Setup, class_setup, ClassTable}
+use Rattle.dob_probe.proofs.Common.{AreAlike, AreLike, AreOutlines, IsOutline, IsOutlineOf, same_outline, Puzzle}
 use Rattle.dob_pieces.proofs.Lists.{cons_cases}
 use Rattle.dob_probe.specs.declared.outlines.Outline.{Outline}
+use Rattle.std.proofs.lemmas.Bool.Decides.{nat_tests}
+use Rattle.dob_pieces.proofs.Zips.{zip_one}
 
 same_fields : (a b : Outline) → a.chicks ≡ b.chicks → a.elephants ≡ b.elephants → a.giraffes ≡ b.giraffes → a.lion ≡ b.lion → a.enemy_lion ≡ b.enemy_lion → a ≡ b
 same_fields a b c e g l n = λ i. record { chicks = c i; elephants = e i; giraffes = g i; lion = l i; enemy_lion = n i }
@@ -15,33 +17,22 @@ one_outline p a b lions is_a is_b =
     (one_lion Mover p a.lion b.lion lions is_a.lion is_b.lion) (one_lion Enemy p a.enemy_lion b.enemy_lion lions is_a.enemy_lion is_b.enemy_lion)
 
 same_itself : (a : Outline) → same_outline a a ≡ true
-same_itself a =
-    let is : (n : ℕ) → (n == n) ≡ true = λ n. eq-eqb n n refl in
-    and_from (a.chicks == a.chicks) _ (is a.chicks) (and_from (a.elephants == a.elephants) _ (is a.elephants)
-    (and_from (a.giraffes == a.giraffes) _ (is a.giraffes) (and_from (a.lion == a.lion) _ (is a.lion) (is a.enemy_lion))))
+same_itself a = grind (arith, nat_tests)
 
 same_is : (a b : Outline) → same_outline a b ≡ true → a ≡ b
-same_is a b e =
-    let chicks = and_parts (a.chicks == b.chicks) _ e in
-    let elephants = and_parts (a.elephants == b.elephants) _ chicks.1 in
-    let giraffes = and_parts (a.giraffes == b.giraffes) _ elephants.1 in
-    let lions = and_parts (a.lion == b.lion) _ giraffes.1 in
-    same_fields a b (eqb-true a.chicks b.chicks chicks.0) (eqb-true a.elephants b.elephants elephants.0) (eqb-true a.giraffes b.giraffes giraffes.0)
-    (eqb-true a.lion b.lion lions.0) (eqb-true a.enemy_lion b.enemy_lion lions.1)
+same_is a b e = grind (arith, nat_tests)
 
 module _ (table : ClassTable) (q : Setup) (outline : Outline) (is : IsOutline q outline) where
   -- one of the puzzles has the outline, and is alike
   pub some_like : (puzzles : List Puzzle) (outlines : List Outline) → AreOutlines table puzzles outlines → list_any (same_outline outline) outlines ≡ true
       → (listed : Puzzle) × Contains puzzles listed × AreAlike (class_setup table.family listed.class) q
-  some_like [] [] are any = absurd (true≢false (sym any))
-  some_like [] (o ∷ outlines) are any = absurd are
-  some_like (p ∷ puzzles) [] are any = absurd are
   some_like (p ∷ puzzles) (o ∷ outlines) are any = elim (cases_Bool (same_outline outline o)) [
-    | inl same ↦ (p, (0, omega arith, refl), (outline, subst (IsOutline (class_setup table.family p.class)) (sym (same_is outline o same)) are.0.same, is))
+    | inl same ↦ (p, (0, omega arith, refl), (outline, rw (same_is outline o same) are.0.same, is))
     | inr other ↦
         let later = some_like puzzles outlines are.1 (rw other at any) in
         (later.0, Contains-append_right (p ∷ []) puzzles later.0 later.1, later.2)
   ]
+  some_like puzzles outlines are any = grind arith
 
   -- none has it, and none is alike
   pub none_like : HasLions q → (puzzles : List Puzzle) (outlines : List Outline) → AreOutlines table puzzles outlines → list_any (same_outline outline) outlines ≡ false
@@ -62,10 +53,7 @@ module _ (table : ClassTable) (q : Setup) (outline : Outline) (is : IsOutline q 
 -- one puzzle more with its outline
 pub outlines_more : (table : ClassTable) (puzzles : List Puzzle) (outlines : List Outline) (puzzle : Puzzle) (outline : Outline) → IsOutlineOf table puzzle outline
     → AreOutlines table puzzles outlines → AreOutlines table (puzzles ++ puzzle ∷ []) (outlines ++ outline ∷ [])
-outlines_more table [] [] puzzle outline is are = (is, tt)
-outlines_more table [] (o ∷ outlines) puzzle outline is are = absurd are
-outlines_more table (p ∷ puzzles) [] puzzle outline is are = absurd are
-outlines_more table (p ∷ puzzles) (o ∷ outlines) puzzle outline is are = (are.0, outlines_more table puzzles outlines puzzle outline is are.1)
+outlines_more table puzzles outlines puzzle outline is are = zip_one (IsOutlineOf table) puzzles outlines puzzle outline are is
 
 module _ (table : ClassTable) (puzzles : List Puzzle) (outlines : List Outline) (puzzle : Puzzle) (outline : Outline) (is : IsOutlineOf table puzzle outline)
     (are : AreOutlines table puzzles outlines) where

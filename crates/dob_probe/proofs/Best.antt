@@ -1,8 +1,8 @@
 -- By the value table lines are the best lines, and none breaks off.
-use Rattle.dob_probe.proofs.Common.{◌-◌, ◌∙◌, ◌∷◌, ◌≡◌, ◌≤◌, Err, IfErr, IfOk, List, MatchResult, None, Ok, Result, Some, [], ap, arith, inl, inr, refl, subst}
-use Rattle.dob_probe.proofs.Common.{suc, sym, zero, ℕ, cases_lt, Setup, Goes, CanCatch, HasStatus, Move, Open, IsPositionOf, consistent_is_right}
-use Rattle.dob_probe.proofs.Common.{moves_keep_the_family, ClassTable, IsConsistent, IsValueTable, Value, Draw, Loss, Win, IsFaultOfLine, Begins}
-use Rattle.dob_probe.proofs.Common.{ValuedMove, GivenBy, IsLine, LacksMove, LeadsTo, value_wanted, Fault, FarChick, Inconsistent, Memory, OtherSet}
+use Rattle.dob_probe.proofs.Common.{◌-◌, ◌∙◌, ◌∷◌, ◌≡◌, ◌≤◌, Err, IfErr, IfOk, List, MatchResult, Ok, Result, Some, [], ap, arith, inl, inr, subst, suc, sym}
+use Rattle.dob_probe.proofs.Common.{zero, ℕ, cases_lt, Setup, Goes, CanCatch, HasStatus, Move, Open, IsPositionOf, consistent_is_right, moves_keep_the_family}
+use Rattle.dob_probe.proofs.Common.{ClassTable, IsConsistent, IsValueTable, Value, Loss, Win, IsFaultOfLine, Begins, ValuedMove, GivenBy, IsLine, LacksMove}
+use Rattle.dob_probe.proofs.Common.{LeadsTo, value_wanted, Fault, Inconsistent, Memory}
 use Rattle.dob_value.specs.Values.{Won, Lost, HasValue}
 use Rattle.dob_value.proofs.Depths.{won_stays, won_not_lost, at_most_one_value}
 use Rattle.dob_probe.specs.Laws.{LinesAreBest, NoneBreaks}
@@ -16,8 +16,7 @@ module _ (table : ClassTable) (right : IsValueTable table.family table.values) w
   pub of_value : (p : Setup) (v : Value) → IsPositionOf table.family p → HasValue table.family.profile p v → GivenBy table p v
   of_value p v is value =
       let given = right.known p is in
-      let same = at_most_one_value table.family.profile p given.0 v (to_value p given.0 is given.1) value in
-      subst (λ w. GivenBy table p w) same given.1
+      rw (at_most_one_value table.family.profile p given.0 v (to_value p given.0 is given.1) value) at given.1
 
   after : (p : Setup) (m : Move) (q : Setup) → IsPositionOf table.family p → HasStatus table.family.profile p Open → Goes table.family.profile p m q → IsPositionOf table.family q
   after p m q is goes_on goes = moves_keep_the_family table.family p m q is goes_on goes
@@ -36,19 +35,11 @@ module _ (table : ClassTable) (right : IsValueTable table.family table.values) w
 
   -- a position lost within n plies, but in no fewer, is a loss in n; and likewise one won
   loss_of : (n : ℕ) (q : Setup) (v : Value) → HasValue table.family.profile q v → Lost table.family.profile n q → ((e : ℕ) → Lost table.family.profile e q → n ≤ e) → v ≡ Loss n
-  loss_of n q (Win e) value lost least = absurd (won_not_lost table.family.profile e n q value.0 lost)
-  loss_of n q (Loss e) value lost least =
-      let up : n ≤ e = least e value.0 in
-      let down : e ≤ n = value.1 n lost in
-      let same : e ≡ n = omega arith in
-      ap (λ k. Loss k) same
-  loss_of n q Draw value lost least = absurd ((value n).1 lost)
+  loss_of n q v value lost least = grind (arith, won_not_lost table.family.profile, least)
 
   -- a position won within n plies is a win in at most n
   win_of : (n : ℕ) (q : Setup) (v : Value) → HasValue table.family.profile q v → Won table.family.profile n q → (e : ℕ) × (v ≡ Win e) × (e ≤ n)
-  win_of n q (Win e) value won = (e, refl, value.1 n won)
-  win_of n q (Loss e) value won = absurd (won_not_lost table.family.profile n e q won value.0)
-  win_of n q Draw value won = absurd ((value n).0 won)
+  win_of n q v value won = grind (arith, won_not_lost table.family.profile)
 
   win_goes_on : (n : ℕ) (p : Setup) → IsPositionOf table.family p → ¬ CanCatch p → HasValue table.family.profile p (Win n)
       → ((m : Move) (q : Setup) → ¬ LeadsTo table.family.profile (HasValue table.family.profile) p (Loss (n - 1)) m q) → ⊥
@@ -60,16 +51,15 @@ module _ (table : ClassTable) (right : IsValueTable table.family table.values) w
         let m = open_win.1 in
         let q = open_win.2 in
         let goes = open_win.3 in
-        let given = right.known q (after p m q is goes_on goes) in
-        let known = to_value q given.0 (after p m q is goes_on goes) given.1 in
-        let least : (e : ℕ) → Lost table.family.profile e q → n ≤ e = λ e lost.
-        let bound : suc n ≤ suc e = value.1 (suc e) (inr (goes_on, m, q, goes, lost)) in omega arith in
-        let same = loss_of n q given.0 known open_win.4 least in
+        let member = after p m q is goes_on goes in
+        let given = right.known q member in
+        let known = to_value q given.0 member given.1 in
+        let least : (e : ℕ) → Lost table.family.profile e q → n ≤ e = λ e lost. omega (arith, value.1 (suc e) (inr (goes_on, m, q, goes, lost))) in
         let back : n ≡ suc n - 1 = omega arith in
         none m q (record {
           goes_on = goes_on;
           goes = goes;
-          has = subst (λ v. HasValue table.family.profile q v) (same ∙ ap (λ k. Loss k) back) known;
+          has = subst (λ v. HasValue table.family.profile q v) (loss_of n q given.0 known open_win.4 least ∙ ap (λ k. Loss k) back) known;
         })
   ]
 
@@ -108,13 +98,10 @@ module _ (table : ClassTable) (right : IsValueTable table.family table.values) w
   goes_on_by : (v wanted : Value) (p : Setup) → IsPositionOf table.family p → ¬ CanCatch p → HasValue table.family.profile p v → value_wanted v ≡ Some wanted →
       ((m : Move) (q : Setup) → ¬ LeadsTo table.family.profile (HasValue table.family.profile) p wanted m q) → ⊥
   goes_on_by (Win n) wanted p is no_catch value next none =
-      let same : wanted ≡ Loss (n - 1) = cc in
-      win_goes_on n p is no_catch value (subst (λ w. (m : Move) (q : Setup) → ¬ LeadsTo table.family.profile (HasValue table.family.profile) p w m q) same none)
-  goes_on_by (Loss zero) wanted p is no_catch value next none = let never : None ≡ Some wanted = next in absurd (cc)
+      let same : wanted ≡ Loss (n - 1) = cc in win_goes_on n p is no_catch value (rw same at none)
   goes_on_by (Loss (suc n)) wanted p is no_catch value next none =
-      let same : wanted ≡ Win n = cc in
-      loss_goes_on n p is value (subst (λ w. (m : Move) (q : Setup) → ¬ LeadsTo table.family.profile (HasValue table.family.profile) p w m q) same none)
-  goes_on_by Draw wanted p is no_catch value next none = let never : None ≡ Some wanted = next in absurd (cc)
+      let same : wanted ≡ Win n = cc in loss_goes_on n p is value (rw same at none)
+  goes_on_by v wanted p is no_catch value next none = absurd (cc)
 
   lacks_none : (p : Setup) → IsPositionOf table.family p → ¬ LacksMove table.family.profile (GivenBy table) p
   lacks_none p is lacks =
@@ -141,8 +128,6 @@ pub best_answered : {T : Type 0} (moves_of : T → List Move) (table : ClassTabl
     MatchResult result (λ t. IsLine table.family.profile (HasValue table.family.profile) p (moves_of t)) (λ fault. fault ≡ Memory)
 best_answered moves_of table p (Ok t) line fault consistent is =
     lines_are_best table p (moves_of t) (consistent_is_right table.family table.values consistent) is line
-best_answered moves_of table p (Err FarChick) line fault consistent is = absurd (fault is.allowed)
-best_answered moves_of table p (Err OtherSet) line fault consistent is = absurd (fault.1 is.of_set)
 best_answered moves_of table p (Err (Inconsistent class)) line fault consistent is =
     absurd (none_breaks table p class (consistent_is_right table.family table.values consistent) is fault.1)
-best_answered moves_of table p (Err Memory) line fault consistent is = refl
+best_answered moves_of table p (Err fault) line holds consistent is = grind arith

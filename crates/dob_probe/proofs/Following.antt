@@ -1,8 +1,8 @@
 -- The value that follows from the successors' values, and that no other does.
-use Rattle.dob_probe.proofs.Common.{◌+◌, ◌<◌, ◌∙◌, ◌≡◌, ◌≤◌, Bool, Contains, List, None, Option, Some, ap, arith, false, length, refl, subst, sym, true, ℕ}
-use Rattle.dob_probe.proofs.Common.{same_Some, slice_get_within, Setup, Goes, HasStatus, Move, Status, Caught, Open, Stuck, Tried, IsPositionOf, one_of_class}
-use Rattle.dob_probe.proofs.Common.{moves_keep_the_family, IsLeastLoss, ClassTable, FollowsFromSuccessors, IsConsistent, IsTable, MAX_DISTANCE, Value, Draw}
-use Rattle.dob_probe.proofs.Common.{Loss, Win, ClassBreaks, ClassFollows, HasEntry, GivenBy, HasNext, IsGreatestWin, TellsDraw, value_after}
+use Rattle.dob_probe.proofs.Common.{◌<◌, ◌∙◌, ◌≡◌, Bool, Contains, List, None, Option, Some, ap, arith, false, length, refl, subst, sym, true, ℕ, same_Some}
+use Rattle.dob_probe.proofs.Common.{slice_get_within, Setup, Goes, HasStatus, Move, Status, Open, IsPositionOf, one_of_class, moves_keep_the_family}
+use Rattle.dob_probe.proofs.Common.{IsLeastLoss, ClassTable, FollowsFromSuccessors, IsConsistent, IsTable, Value, Draw, Loss, Win, ClassBreaks, ClassFollows}
+use Rattle.dob_probe.proofs.Common.{HasEntry, GivenBy, HasNext, IsGreatestWin, TellsDraw, value_after}
 use Rattle.dob_moves.proofs.Cases.{one_status}
 use Rattle.dob_value.specs.Graphs.{AreSuccessors}
 use Rattle.dob_value.specs.Follows.{HasSuccessor, SuccessorsAreWins, FollowsAt, Follows}
@@ -20,9 +20,7 @@ module _ (table : ClassTable) (p : Setup) (is : IsPositionOf table.family p) whe
     has_of v there = are.sound v there
 
     of_has : (v : Value) → HasSuccessor table.family.profile Has p v → Contains values v
-    of_has v has =
-        let next = are.whole goes_on has.0 has.1 has.2 in
-        subst (Contains values) (one goes_on has.0 has.1 next.0 v has.2 next.2 has.3) next.1
+    of_has v has = let next = are.whole goes_on has.0 has.1 has.2 in rw (one goes_on has.0 has.1 next.0 v has.2 next.2 has.3) at next.1
 
     win_each : (none : (plies : ℕ) → ¬ Contains values (Loss plies)) (no_draw : ¬ Contains values Draw) (q : Setup) (v : Value) →
         Contains values v → Has q v → (plies : ℕ) × Has q (Win plies)
@@ -42,20 +40,14 @@ module _ (table : ClassTable) (p : Setup) (is : IsPositionOf table.family p) whe
         (least, refl, has_of (Loss least) known.0, λ other has. known.1 other (of_has (Loss other) has))
     follows_from None greatest true none wins there = (
       λ plies has. none plies (of_has (Loss plies) has),
-      λ all.
-          let next = has_of Draw there in
-          let win = all next.0 next.1 next.2 in
-          let never : Draw ≡ Win win.0 = one goes_on next.0 next.1 Draw (Win win.0) next.2 next.3 win.1 in
-          absurd (cc),
+      λ all. let next = has_of Draw there in let win = all next.0 next.1 next.2 in absurd (cc (one goes_on next.0 next.1 Draw (Win win.0) next.2 next.3 win.1)),
     )
     follows_from None (Some greatest) false none known no_draw = (
       greatest,
       refl,
       has_of (Win greatest) known.0,
       λ other has. known.1 other (of_has (Win other) has),
-      λ m q goes.
-          let next = are.whole goes_on m q goes in
-          win_each none no_draw q next.0 next.1 next.2,
+      λ m q goes. let next = are.whole goes_on m q goes in win_each none no_draw q next.0 next.1 next.2,
     )
     follows_from None None false none no_win no_draw =
         let move = goes_on.2 in
@@ -66,54 +58,32 @@ module _ (table : ClassTable) (p : Setup) (is : IsPositionOf table.family p) whe
     pub least_has_next : IsTable table.family table.values → (least : Option ℕ) → IsLeastLoss values least → HasNext least
     least_has_next whole None none = tt
     least_has_next whole (Some least) known =
-        let next = has_of (Loss least) known.0 in
-        let entry = given_is_entry table next.1 (Loss least) whole next.3 in
-        let short : least ≤ MAX_DISTANCE = entry.1 in
-        omega arith
+        let next = has_of (Loss least) known.0 in omega (arith, (given_is_entry table next.1 (Loss least) whole next.3).1)
 
     pub greatest_has_next : IsTable table.family table.values → (greatest : Option ℕ) → IsGreatestWin values greatest → HasNext greatest
     greatest_has_next whole None none = tt
     greatest_has_next whole (Some greatest) known =
-        let next = has_of (Win greatest) known.0 in
-        let entry = given_is_entry table next.1 (Win greatest) whole next.3 in
-        let short : greatest ≤ MAX_DISTANCE = entry.1 in
-        omega arith
+        let next = has_of (Win greatest) known.0 in omega (arith, (given_is_entry table next.1 (Win greatest) whole next.3).1)
 
   -- one value follows
   not_loss_and_wins : HasStatus table.family.profile p Open → (plies : ℕ) → HasSuccessor table.family.profile Has p (Loss plies) → ¬ SuccessorsAreWins table.family.profile Has p
   not_loss_and_wins goes_on plies has all =
-      let win = all has.0 has.1 has.2 in
-      let never : Loss plies ≡ Win win.0 = one goes_on has.0 has.1 (Loss plies) (Win win.0) has.2 has.3 win.1 in
-      absurd (cc)
+      let win = all has.0 has.1 has.2 in absurd (cc (one goes_on has.0 has.1 (Loss plies) (Win win.0) has.2 has.3 win.1))
 
   one_from : HasStatus table.family.profile p Open → (v w : Value) → FollowsFromSuccessors table.family.profile Has p v → FollowsFromSuccessors table.family.profile Has p w → v ≡ w
-  one_from goes_on (Win a) (Win b) x y =
-      let up : x.0 ≤ y.0 = x.3 y.0 y.2 in
-      let down : y.0 ≤ x.0 = y.3 x.0 x.2 in
-      let at_a : a ≡ x.0 + 1 = x.1 in
-      let at_b : b ≡ y.0 + 1 = y.1 in
-      let same : a ≡ b = omega arith in
-      ap (λ n. Win n) same
+  one_from goes_on (Win a) (Win b) x y = ap (λ n. Win n) (omega (arith, x.1, y.1, x.3 y.0 y.2, y.3 x.0 x.2))
   one_from goes_on (Win a) (Loss b) x y = absurd (not_loss_and_wins goes_on x.0 x.2 y.4)
   one_from goes_on (Win a) Draw x y = absurd (y.0 x.0 x.2)
   one_from goes_on (Loss a) (Win b) x y = absurd (not_loss_and_wins goes_on y.0 y.2 x.4)
-  one_from goes_on (Loss a) (Loss b) x y =
-      let up : y.0 ≤ x.0 = x.3 y.0 y.2 in
-      let down : x.0 ≤ y.0 = y.3 x.0 x.2 in
-      let at_a : a ≡ x.0 + 1 = x.1 in
-      let at_b : b ≡ y.0 + 1 = y.1 in
-      let same : a ≡ b = omega arith in
-      ap (λ n. Loss n) same
+  one_from goes_on (Loss a) (Loss b) x y = ap (λ n. Loss n) (omega (arith, x.1, y.1, x.3 y.0 y.2, y.3 x.0 x.2))
   one_from goes_on (Loss a) Draw x y = absurd (y.1 x.4)
   one_from goes_on Draw (Win b) x y = absurd (x.0 y.0 y.2)
   one_from goes_on Draw (Loss b) x y = absurd (x.1 y.4)
   one_from goes_on Draw Draw x y = refl
 
   one_at : (s : Status) → HasStatus table.family.profile p s → (v w : Value) → FollowsAt table.family.profile Has p s v → FollowsAt table.family.profile Has p s w → v ≡ w
-  one_at Caught status v w a b = a ∙ sym b
-  one_at Tried status v w a b = a ∙ sym b
-  one_at Stuck status v w a b = a ∙ sym b
   one_at Open status v w a b = one_from status v w a b
+  one_at s status v w a b = cc
 
   pub one_follows : (v w : Value) → Follows table.family.profile Has p v → Follows table.family.profile Has p w → v ≡ w
   one_follows v w a b =
@@ -126,9 +96,8 @@ module _ (table : ClassTable) (class : ℕ) (representative : Setup) (v : Value)
     (follows : Follows table.family.profile (GivenBy table) representative found) where
   pub class_follows : found ≡ v → ClassFollows table class
   class_follows same other w entry =
-      let same_representative = one_of_class table.family representative other class has.represents entry.represents has.number entry.number in
-      let same_value = same_Some v w (sym has.entry ∙ entry.entry) in
-      subst (λ q. Follows table.family.profile (GivenBy table) q w) same_representative (subst (Follows table.family.profile (GivenBy table) representative) (same ∙ same_value) follows)
+      let here = one_of_class table.family representative other class has.represents entry.represents has.number entry.number in
+      rw (← here, ← same ∙ same_Some v w (sym has.entry ∙ entry.entry)) follows
 
   pub class_breaks : ¬ (found ≡ v) → ClassBreaks table class
   class_breaks apart = record {
@@ -145,8 +114,7 @@ pub consistent_of_all : (table : ClassTable) → IsTable table.family table.valu
 consistent_of_all table whole all = record {
   table = whole;
   follows = λ representative class v represents number entry.
-      let within : class < length table.values = slice_get_within table.values class v entry in
-      all class within representative v (record { represents = represents; number = number; entry = entry });
+      all class (slice_get_within table.values class v entry) representative v (record { represents = represents; number = number; entry = entry });
 }
 
 pub consistent_has_no_break : (table : ClassTable) (class : ℕ) → IsConsistent table.family table.values → ¬ ClassBreaks table class

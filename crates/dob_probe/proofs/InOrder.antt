@@ -1,14 +1,11 @@
 -- A position's moves in their order, and the first of them with values.
-use Rattle.dob_probe.proofs.Common.{◌+◌, ◌<◌, ◌↔◌, ◌≡◌, ◌⊎◌, AllPairs, Contains, List, Some, [], ap, arith, get_or, inl, inr, length, slice_get, subst, sym, ℕ}
-use Rattle.dob_probe.proofs.Common.{get_or_from_slice_get, Profile, Setup, place, AreMoves, Move, ComesBefore, ValuedMove}
+use Rattle.dob_probe.proofs.Common.{◌+◌, ◌<◌, ◌↔◌, ◌≡◌, ◌⊎◌, AllPairs, Contains, List, Some, [], arith, length, slice_get, ℕ, get_or_from_slice_get, Profile}
+use Rattle.dob_probe.proofs.Common.{Setup, place, AreMoves, Move, ComesBefore, ValuedMove}
 
 pub in_order : (profile : Profile) (p : Setup) (legal : List Move) (i j : ℕ) (a b : Move) → AreMoves profile p legal → i < j → j < length legal →
     slice_get legal i ≡ Some a → slice_get legal j ≡ Some b → place a < place b
 in_order profile p legal i j a b are below within at_i at_j =
-    let low = ap place (get_or_from_slice_get legal i a a at_i) in
-    let high = ap place (get_or_from_slice_get legal j b a at_j) in
-    let rising : place (get_or legal i a) < place (get_or legal j a) = are.ordered i j a below within in
-    omega (arith, low, high, rising)
+    rw (get_or_from_slice_get legal i a a at_i, get_or_from_slice_get legal j b a at_j) at (are.ordered i j a below within)
 
 pub same_valued : (a b : ValuedMove) → a.played ≡ b.played → a.value ≡ b.value → a ≡ b
 same_valued a b played value = λ i. record { played = played i; value = value i }
@@ -28,10 +25,7 @@ before_next profile p legal upto list played are within here first valued there 
 
 pub one_more : (legal : List Move) (upto : ℕ) (list new : List ValuedMove) (more : ValuedMove) → slice_get legal upto ≡ Some more.played →
     ((x : ValuedMove) → Contains new x ↔ (Contains list x ⊎ (x ≡ more))) → AreOfFirst legal upto list → AreOfFirst legal (upto + 1) new
-one_more legal upto list new more here has first valued there = elim ((has valued).0 there) [
-  | inl earlier ↦ let known = first valued earlier in let below : known.0 < upto = known.1 in (known.0, omega (arith, below), known.2)
-  | inr same ↦ (upto, omega arith, subst (λ (x : ValuedMove). slice_get legal upto ≡ Some x.played) (sym same) here)
-]
+one_more legal upto list new more here has first valued there = grind (arith, (has valued).0 there, first valued)
 
 -- before the first there are none
 pub none_first : (legal : List Move) → AreOfFirst legal 0 []

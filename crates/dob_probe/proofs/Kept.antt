@@ -1,7 +1,7 @@
 -- What is kept of a list of values, as the list grows.
-use Rattle.dob_probe.proofs.Common.{◌++◌, ◌∷◌, ◌≡◌, ◌≤◌, ◌⊎◌, Bool, Contains, List, None, Option, Some, [], arith, false, inl, inr, max, min, subst, sym, true}
-use Rattle.dob_probe.proofs.Common.{ℕ, cases_lt, Contains-append_left, Contains-push, Contains-push_cases, IsLeastLoss, greater_of, lesser_of, Value, Draw}
-use Rattle.dob_probe.proofs.Common.{Loss, Win, AreSummed, IsGreatestWin, TellsDraw, Successors}
+use Rattle.dob_probe.proofs.Common.{◌++◌, ◌∷◌, ◌≡◌, ◌≤◌, ◌⊎◌, Bool, Contains, List, None, Option, Some, [], arith, max, min, true, ℕ, Contains-append_left}
+use Rattle.dob_probe.proofs.Common.{Contains-push, Contains-push_cases, IsLeastLoss, greater_of, lesser_of, Value, Draw, Loss, Win, AreSummed, IsGreatestWin}
+use Rattle.dob_probe.proofs.Common.{TellsDraw, Successors}
 use Rattle.dob_value.proofs.Distances.{same_win, same_loss}
 
 -- of the values of one kind, given by their distances, that one is the first in an order, or there is none
@@ -13,59 +13,35 @@ module _ (Of : ℕ → Value) (Before : ℕ → ℕ → Type 0) (values : List V
   -- a value of another kind changes nothing
   first_same : (first : Option ℕ) (v : Value) → ((plies : ℕ) → ¬ (v ≡ Of plies)) → IsFirst Of Before values first
       → IsFirst Of Before (values ++ v ∷ []) first
-  first_same None v other none = λ plies there. elim (Contains-push_cases values v (Of plies) there) [
-    | inl earlier ↦ none plies earlier
-    | inr same ↦ other plies same
-  ]
-  first_same (Some first) v other known = (
-    Contains-append_left values (v ∷ []) (Of first) known.0,
-    λ plies there. elim (Contains-push_cases values v (Of plies) there) [
-      | inl earlier ↦ known.1 plies earlier
-      | inr same ↦ absurd (other plies same)
-    ],
-  )
+  first_same None v other none = λ plies there. grind (arith, Contains-push_cases values v (Of plies) there, none plies, other plies)
+  first_same (Some first) v other known =
+      (Contains-append_left values (v ∷ []) (Of first) known.0, λ plies there. grind (arith, Contains-push_cases values v (Of plies) there, known.1 plies, other plies))
 
   -- with one more of the kind the first is that one or the one before, whichever is before the other
   module _ (plies : ℕ) (own : (other : ℕ) → Of plies ≡ Of other → plies ≡ other) where
     first_alone : Before plies plies → IsFirst Of Before values None → IsFirst Of Before (values ++ Of plies ∷ []) (Some plies)
     first_alone itself none = (
       Contains-push values (Of plies),
-      λ other there. elim (Contains-push_cases values (Of plies) (Of other) there) [
-        | inl earlier ↦ absurd (none other earlier)
-        | inr same ↦ subst (Before plies) (own other same) itself
-      ],
+      λ other there. grind (arith, Contains-push_cases values (Of plies) (Of other) there, none other, own other, itself),
     )
 
     first_of_two : (first new : ℕ) → (new ≡ plies) ⊎ (new ≡ first) → Before new plies
         → ((other : ℕ) → Before first other → Before new other) → IsFirst Of Before values (Some first)
         → IsFirst Of Before (values ++ Of plies ∷ []) (Some new)
     first_of_two first new one late more known = (
-      elim one [
-        | inl e ↦ subst (λ (n : ℕ). Contains (values ++ Of plies ∷ []) (Of n)) (sym e) (Contains-push values (Of plies))
-        | inr e ↦ subst (λ (n : ℕ). Contains (values ++ Of plies ∷ []) (Of n)) (sym e) (Contains-append_left values (Of plies ∷ []) (Of first) known.0)
-      ],
-      λ other there. elim (Contains-push_cases values (Of plies) (Of other) there) [
-        | inl earlier ↦ more other (known.1 other earlier)
-        | inr same ↦ subst (Before new) (own other same) late
-      ],
+      grind (arith, one, Contains-push values (Of plies), Contains-append_left values (Of plies ∷ []) (Of first)),
+      λ other there. grind (arith, Contains-push_cases values (Of plies) (Of other) there, known.1 other, more other, own other, late),
     )
 
 one_of_min : (a b : ℕ) → (min a b ≡ b) ⊎ (min a b ≡ a)
-one_of_min a b = elim (cases_lt b a) [
-  | inl below ↦ inl (omega (arith, below))
-  | inr upto ↦ inr (omega (arith, upto))
-]
+one_of_min a b = grind arith
 
 one_of_max : (a b : ℕ) → (max a b ≡ b) ⊎ (max a b ≡ a)
-one_of_max a b = elim (cases_lt a b) [
-  | inl below ↦ inl (omega (arith, below))
-  | inr upto ↦ inr (omega (arith, upto))
-]
+one_of_max a b = grind arith
 
 module _ (values : List Value) where
   least_same : (least : Option ℕ) (v : Value) → ((plies : ℕ) → ¬ (v ≡ Loss plies)) → IsLeastLoss values least → IsLeastLoss (values ++ v ∷ []) least
-  least_same None v other none = first_same Loss (λ a b. a ≤ b) values None v other none
-  least_same (Some least) v other known = first_same Loss (λ a b. a ≤ b) values (Some least) v other known
+  least_same least v other known = grind (arith, first_same Loss (λ a b. a ≤ b) values least v other)
 
   greatest_same : (greatest : Option ℕ) (v : Value) → ((plies : ℕ) → ¬ (v ≡ Win plies)) → IsGreatestWin values greatest →
       IsGreatestWin (values ++ v ∷ []) greatest
@@ -73,11 +49,7 @@ module _ (values : List Value) where
   greatest_same (Some greatest) v other known = first_same Win (λ a b. b ≤ a) values (Some greatest) v other known
 
   draw_same : (draw : Bool) (v : Value) → ¬ (v ≡ Draw) → TellsDraw values draw → TellsDraw (values ++ v ∷ []) draw
-  draw_same true v other there = Contains-append_left values (v ∷ []) Draw there
-  draw_same false v other none = λ there. elim (Contains-push_cases values v Draw there) [
-    | inl earlier ↦ none earlier
-    | inr same ↦ other same
-  ]
+  draw_same draw v other tells = grind (arith, Contains-push_cases values v Draw, Contains-append_left values (v ∷ []) Draw)
 
   -- a loss more, and a win more
   least_more : (least : Option ℕ) (plies : ℕ) → IsLeastLoss values least →

@@ -1,10 +1,9 @@
 -- The only move to a value, and the puzzles of the places so far of a walk over the classes.
-use Rattle.dob_probe.proofs.Common.{◌++◌, ◌+◌, ◌-◌, ◌<◌, ◌∙◌, ◌∷◌, ◌≡◌, ◌≤◌, ◌⊎◌, AllPairs, Bool, Contains, List, None, Option, Some, [], ap, ap₂, arith, false}
-use Rattle.dob_probe.proofs.Common.{get_or, inl, inr, length, slice_get, subst, sym, true, true≢false, ℕ, cases_lt, Contains-append_left, Contains-get_or}
-use Rattle.dob_probe.proofs.Common.{Contains-push, Contains-push_cases, all_pairs_push, same_Some, slice_get_within, before_or_here, standing, Profile, Setup}
-use Rattle.dob_probe.proofs.Common.{place, AreMoves, Move, ClassTable, IsEntry, IsTable, MAX_DISTANCE, Value, Loss, Win, HasEntry, GivenBy, LeadsTo, AreLike}
-use Rattle.dob_probe.proofs.Common.{ArePuzzles, IsListedNext, IsOnlyTo, IsPassed, IsPuzzle, IsSpread, walk_place, IsPuzzleOf, IsSingleMove, begin_at}
-use Rattle.dob_probe.proofs.Common.{class_on, first_class, Puzzle}
+use Rattle.dob_probe.proofs.Common.{◌++◌, ◌+◌, ◌-◌, ◌<◌, ◌∙◌, ◌∷◌, ◌≡◌, ◌≤◌, ◌⊎◌, AllPairs, Bool, Contains, List, None, Option, Some, [], ap, arith, false}
+use Rattle.dob_probe.proofs.Common.{get_or, inl, inr, length, slice_get, subst, sym, true, ℕ, cases_lt, Contains-append_left, Contains-get_or, Contains-push}
+use Rattle.dob_probe.proofs.Common.{Contains-push_cases, all_pairs_push, slice_get_within, before_or_here, standing, Profile, Setup, place, AreMoves, Move}
+use Rattle.dob_probe.proofs.Common.{ClassTable, IsEntry, IsTable, Value, Loss, Win, HasEntry, GivenBy, LeadsTo, AreLike, ArePuzzles, IsListedNext, IsPassed}
+use Rattle.dob_probe.proofs.Common.{IsPuzzle, IsSpread, walk_place, IsPuzzleOf, IsSingleMove, begin_at, class_on, first_class, Puzzle}
 use Rattle.std.proofs.Common.{length-append, is_some}
 use Rattle.dob_classes.proofs.OfFamilies.FamilyRepresentatives.{one_of_class}
 use Rattle.dob_probe.specs.declared.walks.Walk.{Walk}
@@ -34,18 +33,17 @@ module _ (profile : Profile) (Has : Setup → Value → Type 0) (p : Setup) (wan
       ((q : Setup) → ¬ LeadsTo profile Has p wanted played q) → IsSingleBelow profile Has p wanted legal upto single →
       IsSingleBelow profile Has p wanted legal (upto + 1) single
   single_skipped upto played None here elsewhere before = none_below_more profile Has p wanted legal upto played here elsewhere before
-  single_skipped upto played (Some single) here elsewhere before =
-      let below : before.index < upto = before.below in record {
-        index = before.index;
-        below = omega (arith, below);
-        there = before.there;
-        outcome = before.outcome;
-        leads = before.leads;
-        only = λ other move q within there leads. elim (before_or_here legal upto other played move here there within) [
-          | inl earlier ↦ before.only other move q earlier there leads
-          | inr same ↦ absurd (elsewhere q (subst (λ m. LeadsTo profile Has p wanted m q) same leads))
-        ];
-      }
+  single_skipped upto played (Some single) here elsewhere before = record {
+    index = before.index;
+    below = omega (arith, before.below);
+    there = before.there;
+    outcome = before.outcome;
+    leads = before.leads;
+    only = λ other move q within there leads. elim (before_or_here legal upto other played move here there within) [
+      | inl earlier ↦ before.only other move q earlier there leads
+      | inr same ↦ absurd (elsewhere q (rw same at leads))
+    ];
+  }
 
   -- the first one that leads there
   pub single_found : (upto : ℕ) (played : Move) (q : Setup) → slice_get legal upto ≡ Some played → LeadsTo profile Has p wanted played q →
@@ -66,18 +64,17 @@ module _ (profile : Profile) (Has : Setup → Value → Type 0) (p : Setup) (wan
   pub single_twice : (upto : ℕ) (played : Move) (single : Option Move) (q : Setup) → is_some single ≡ true → AreMoves profile p legal → upto < length legal →
       slice_get legal upto ≡ Some played → LeadsTo profile Has p wanted played q → IsSingleBelow profile Has p wanted legal upto single →
       IsSingleMove profile Has p wanted None
-  single_twice upto played None q some are within here leads before = absurd (true≢false (sym some))
+  single_twice upto played None q some are within here leads before = absurd (cc)
   single_twice upto played (Some single) q some are within here leads before = λ move only.
-      let one : move ≡ single = only.only single before.outcome before.leads in
-      let other : move ≡ played = only.only played q leads in
-      let rising = in_order profile p legal before.index upto single played are before.below within before.there here in
-      let same : place single ≡ place played = ap place (sym one ∙ other) in
-      absurd (omega (arith, rising, same))
+      omega (
+        arith,
+        in_order profile p legal before.index upto single played are before.below within before.there here,
+        ap place (sym (only.only single before.outcome before.leads) ∙ only.only played q leads),
+      )
 
   pub single_taken : (upto : ℕ) (played : Move) (single : Option Move) (q : Setup) → is_some single ≡ false → slice_get legal upto ≡ Some played →
       LeadsTo profile Has p wanted played q → IsSingleBelow profile Has p wanted legal upto single → IsSingleBelow profile Has p wanted legal (upto + 1) (Some played)
-  single_taken upto played None q none here leads before = single_found upto played q here leads before
-  single_taken upto played (Some single) q none here leads before = absurd (true≢false none)
+  single_taken upto played single q none here leads before = grind (arith, single_found upto played q here leads)
 
   pub single_all : (upto : ℕ) (single : Option Move) → AreMoves profile p legal → length legal ≤ upto → IsSingleBelow profile Has p wanted legal upto single →
       IsSingleMove profile Has p wanted single
@@ -87,8 +84,7 @@ module _ (profile : Profile) (Has : Setup → Value → Type 0) (p : Setup) (wan
     leads = before.leads;
     only = λ other r leads.
         let there = standing legal other (are.whole other leads.goes_on (r, leads.goes)) in
-        let within : there.0 < length legal = there.1 in
-        before.only there.0 other r (omega (arith, within, all)) there.2 leads;
+        before.only there.0 other r (omega (arith, there.1, all)) there.2 leads;
   }
 
 -- ---- the puzzles of the classes
@@ -98,24 +94,21 @@ module _ (table : ClassTable) (plies : ℕ) where
   pub puzzle_missing : (class : ℕ) (representative : Setup) → HasEntry table class representative (Win plies) →
       IsSingleMove table.family.profile (GivenBy table) representative (Loss (plies - 1)) None → IsPuzzleOf table plies class None
   puzzle_missing class representative has none = λ puzzle is given.
-      let won = subst (λ k. HasEntry table k given.representative (Win plies)) is given.won in
+      let won = rw is at given.won in
       let same = one_of_class table.family given.representative representative class won.represents has.represents won.number has.number in
-      none puzzle.played
-      (subst (λ p. IsOnlyTo table.family.profile (GivenBy table) p (Loss (plies - 1)) puzzle.played) same given.solved)
+      none puzzle.played (rw same at given.solved)
 
   -- of a class with another entry there is none
   pub not_won : (class : ℕ) (value : Value) → slice_get table.values class ≡ Some value → ¬ (value ≡ Win plies) → IsPuzzleOf table plies class None
-  not_won class value entry apart = λ puzzle is given.
-      apart (same_Some value (Win plies) (sym entry ∙ subst (λ k. slice_get table.values k ≡ Some (Win plies)) is given.won.entry))
+  not_won class value entry apart = λ puzzle is given. apart (cc (rw is at given.won.entry))
 
   -- a class has one puzzle at most
   one_puzzle : (a b : Puzzle) → a.class ≡ b.class → IsPuzzle table plies a → IsPuzzle table plies b → a ≡ b
   one_puzzle a b is of_a of_b =
-      let won = subst (λ k. HasEntry table k of_a.representative (Win plies)) is of_a.won in
+      let won = rw is at of_a.won in
       let same = one_of_class table.family of_b.representative of_a.representative b.class of_b.won.represents won.represents of_b.won.number won.number in
-      let solved = subst (λ p. IsOnlyTo table.family.profile (GivenBy table) p (Loss (plies - 1)) b.played) same of_b.solved in
-      let played = of_a.solved.only b.played solved.outcome solved.leads in
-      ap₂ (λ (k : ℕ) (m : Move). let x : Puzzle = record { class = k; played = m } in x) is played
+      let solved = rw same at of_b.solved in
+      λ i. record { class = is i; played = of_a.solved.only b.played solved.outcome solved.leads i }
 
 module _ (table : ClassTable) (plies : ℕ) (walk : Walk) where
   -- the first place of the walk
@@ -132,12 +125,7 @@ module _ (table : ClassTable) (plies : ℕ) (walk : Walk) where
     pub ordered : AllPairs (λ a b. walk_place table walk a.class < walk_place table walk b.class) list
 
   pub puzzles_none : ArePuzzlesBelow begin []
-  puzzles_none = record {
-    sound = λ puzzle there. absurd (omega (arith, there.1));
-    whole = λ puzzle is from below. absurd (omega (arith, from, below));
-    unlike = λ spread i j d before within. absurd (omega (arith, within));
-    ordered = λ i j d before within. absurd (omega (arith, within));
-  }
+  puzzles_none = grind arith
 
   -- a puzzle is of a class of the table
   class_of : (puzzle : Puzzle) → IsPuzzle table plies puzzle → puzzle.class < length table.values
@@ -155,10 +143,7 @@ module _ (table : ClassTable) (plies : ℕ) (walk : Walk) where
     kept : (list : List Puzzle) → ((puzzle : Puzzle) → IsPuzzle table plies puzzle → puzzle.class ≡ class → upto ≤ walk_place table walk puzzle.class
         → Contains list puzzle ⊎ IsPassed table walk list puzzle) → ArePuzzlesBelow upto list → ArePuzzlesBelow (upto + 1) list
     kept list here_is are = record {
-      sound = λ puzzle there.
-          let found = are.sound puzzle there in
-          let below : walk_place table walk puzzle.class < upto = found.1 in
-          (found.0, omega (arith, below), found.2);
+      sound = λ puzzle there. let found = are.sound puzzle there in (found.0, omega (arith, found.1), found.2);
       whole = λ puzzle is from below. elim (cases_lt (walk_place table walk puzzle.class) upto) [
         | inl earlier ↦ are.whole puzzle is from earlier
         | inr later ↦ here_is puzzle is (of_place puzzle is below later) later
@@ -173,16 +158,14 @@ module _ (table : ClassTable) (plies : ℕ) (walk : Walk) where
     -- what was listed or passed is so of a longer list
     longer : (list : List Puzzle) (more puzzle : Puzzle) → Contains list puzzle ⊎ IsPassed table walk list puzzle
         → Contains (list ++ more ∷ []) puzzle ⊎ IsPassed table walk (list ++ more ∷ []) puzzle
-    longer list more puzzle (inl there) = inl (Contains-append_left list (more ∷ []) puzzle there)
-    longer list more puzzle (inr passed) = inr (passed.0, (passed.1.0, Contains-append_left list (more ∷ []) passed.1.0 passed.1.1, passed.1.2, passed.1.3))
+    longer list more puzzle either = grind (arith, Contains-append_left list (more ∷ []))
 
     -- a puzzle is passed
     pub puzzles_passed : (list : List Puzzle) (more : Puzzle) → IsPuzzleOf table plies class (Some more) → IsSpread walk
         → (listed : Puzzle) → Contains list listed → AreLike table listed more → ArePuzzlesBelow upto list → ArePuzzlesBelow (upto + 1) list
     puzzles_passed list more found spread listed there like are = kept list (λ puzzle is at later.
         let same = one_puzzle table plies more puzzle (found.0 ∙ sym at) found.1 is in
-        let before : walk_place table walk listed.class < upto = (are.sound listed there).1 in
-        inr (spread, (listed, there, subst (λ (x : Puzzle). AreLike table listed x) same like, omega (arith, before, later)))) are
+        inr (spread, (listed, there, rw same at like, omega (arith, (are.sound listed there).1, later)))) are
 
     pub puzzles_more : (list : List Puzzle) (more : Puzzle) → begin ≤ upto → IsPuzzleOf table plies class (Some more)
         → (IsSpread walk → (listed : Puzzle) → Contains list listed → ¬ AreLike table listed more) → ArePuzzlesBelow upto list
@@ -191,13 +174,9 @@ module _ (table : ClassTable) (plies : ℕ) (walk : Walk) where
         let here_is : walk_place table walk more.class ≡ upto =
         ap (walk_place table walk) (found.0 ∙ on) ∙ place_class _ (length table.values) upto (first_below walk.seed (length table.values) (omega (arith, here))) here in record {
           sound = λ puzzle there. elim (Contains-push_cases list more puzzle there) [
-            | inl earlier ↦
-                let known = are.sound puzzle earlier in
-                let below : walk_place table walk puzzle.class < upto = known.1 in
-                (known.0, omega (arith, below), known.2)
-            | inr same ↦
-                let place : walk_place table walk more.class ≡ walk_place table walk puzzle.class = ap (λ (x : Puzzle). walk_place table walk x.class) same in
-                (omega (arith, place, here_is, from), omega (arith, place, here_is), subst (λ x. IsPuzzle table plies x) same found.1)
+            | inl earlier ↦ let known = are.sound puzzle earlier in (known.0, omega (arith, known.1), known.2)
+            | inr same ↦ subst (λ x. (begin ≤ walk_place table walk x.class) × (walk_place table walk x.class < upto + 1) × IsPuzzle table plies x) same
+                (omega (arith, here_is, from), omega (arith, here_is), found.1)
           ];
           whole = λ puzzle is first below. elim (cases_lt (walk_place table walk puzzle.class) upto) [
             | inl earlier ↦ longer list more puzzle (are.whole puzzle is first earlier)
@@ -208,32 +187,27 @@ module _ (table : ClassTable) (plies : ℕ) (walk : Walk) where
           unlike = λ spread. all_pairs_push (λ a b. ¬ AreLike table a b) list more (are.unlike spread)
               (λ k d within. fresh spread (get_or list k d) (Contains-get_or list k d within));
           ordered = all_pairs_push (λ a b. walk_place table walk a.class < walk_place table walk b.class) list more are.ordered
-              (λ k d within.
-              let below : walk_place table walk (get_or list k d).class < upto = (are.sound (get_or list k d) (Contains-get_or list k d within)).1 in
-              omega (arith, below, here_is));
+              (λ k d within. omega (arith, (are.sound (get_or list k d) (Contains-get_or list k d within)).1, here_is));
         }
 
     -- a puzzle is listed next, or passed
     pub puzzles_next : (is_spread : Bool) (list new : List Puzzle) (more : Puzzle) → is_spread ≡ is_some walk.seed → begin ≤ upto
         → IsPuzzleOf table plies class (Some more) → IsListedNext table is_spread more list new → ArePuzzlesBelow upto list → ArePuzzlesBelow (upto + 1) new
-    puzzles_next is_spread list new more same from found (inl next) are =
-        subst (ArePuzzlesBelow (upto + 1)) (sym next.0) (puzzles_more list more from found (λ spread. next.1 (same ∙ spread)) are)
+    puzzles_next is_spread list new more same from found (inl next) are = rw next.0 (puzzles_more list more from found (λ spread. next.1 (same ∙ spread)) are)
     puzzles_next is_spread list new more same from found (inr passed) are =
-        subst (ArePuzzlesBelow (upto + 1)) (sym passed.0) (puzzles_passed list more found (sym same ∙ passed.1) passed.2.0 passed.2.1 passed.2.2 are)
+        rw passed.0 (puzzles_passed list more found (sym same ∙ passed.1) passed.2.0 passed.2.1 passed.2.2 are)
 
   -- so it is one more at most
   pub next_few : (is_spread : Bool) (list new : List Puzzle) (more : Puzzle) → IsListedNext table is_spread more list new → length new ≤ length list + 1
-  next_few is_spread list new more (inl next) = let long = length-append list (more ∷ []) in let e = ap length next.0 in omega (arith, long, e)
-  next_few is_spread list new more (inr passed) = let e = ap length passed.0 in omega (arith, e)
+  next_few is_spread list new more either = grind (arith, length-append list (more ∷ []))
 
   -- what is listed or passed is what a puzzle may be
   settled : (list : List Puzzle) (puzzle : Puzzle) {Full : Type 0} → Contains list puzzle ⊎ IsPassed table walk list puzzle
       → Contains list puzzle ⊎ IsPassed table walk list puzzle ⊎ Full
-  settled list puzzle (inl there) = inl there
-  settled list puzzle (inr passed) = inr (inl passed)
+  settled list puzzle {Full} either = grind arith
 
   -- a list that is as long as was asked for, or has the puzzles of all places
-  ended : (upto count : ℕ) (list : List Puzzle) → length list ≤ count → (length list ≡ count) ⊎ (length table.values ≤ upto) → ArePuzzlesBelow upto list
+  pub ended : (upto count : ℕ) (list : List Puzzle) → length list ≤ count → (length list ≡ count) ⊎ (length table.values ≤ upto) → ArePuzzlesBelow upto list
       → ArePuzzles table walk plies count list
   ended upto count list few end are = record {
     sound = λ puzzle there.
@@ -249,26 +223,17 @@ module _ (table : ClassTable) (plies : ℕ) (walk : Walk) where
         elim (cases_lt (walk_place table walk puzzle.class) upto) [
           | inl earlier ↦ settled list puzzle (are.whole puzzle is (behind_begin walk.behind _ (length table.values) puzzle.class within walked) earlier)
           | inr later ↦ elim end [
-            | inl full ↦ inr (inr (
-              full,
-              λ listed there.
-                  let below : walk_place table walk listed.class < upto = (are.sound listed there).1 in
-                  omega (arith, below, later),
+            | inl full ↦ inr (inr (full, λ listed there. omega (arith, (are.sound listed there).1, later)))
+            | inr all ↦ absurd (omega (
+              arith,
+              all,
+              later,
+              place_below _ (length table.values) puzzle.class (first_below walk.seed (length table.values) (omega (arith, within))) within,
             ))
-            | inr all ↦
-                let below = place_below _ (length table.values) puzzle.class (first_below walk.seed (length table.values) (omega (arith, within))) within in
-                absurd (omega (arith, below, all, later))
           ]
         ];
     unlike = are.unlike;
   }
-
-  pub puzzles_full : (upto count : ℕ) (list : List Puzzle) → length list ≡ count → ArePuzzlesBelow upto list → ArePuzzles table walk plies count list
-  puzzles_full upto count list full are = ended upto count list (omega (arith, full)) (inl full) are
-
-  pub puzzles_all : (upto count : ℕ) (list : List Puzzle) → length table.values ≤ upto → length list ≤ count → ArePuzzlesBelow upto list →
-      ArePuzzles table walk plies count list
-  puzzles_all upto count list all few are = ended upto count list few (inr all) are
 
   -- no table has so long a distance
   pub puzzles_too_long : (count : ℕ) → IsTable table.family table.values → 65535 < plies → ArePuzzles table walk plies count []
@@ -278,7 +243,5 @@ module _ (table : ClassTable) (plies : ℕ) (walk : Walk) where
     few = omega arith;
     unlike = λ spread i j d before within. absurd (omega (arith, within));
     whole = λ puzzle given walked.
-        let entry : IsEntry (Win plies) = all_at IsEntry table.values puzzle.class (Win plies) is.entries given.won.entry in
-        let short : plies ≤ MAX_DISTANCE = entry.1 in
-        absurd (omega (arith, short, long));
+        absurd (omega (arith, long, (all_at IsEntry table.values puzzle.class (Win plies) is.entries given.won.entry).1));
   }

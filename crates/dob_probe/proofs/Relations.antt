@@ -50,10 +50,7 @@ module _ (profile : Profile) (Is : Setup → Type 0)
 
     pub listed_by : (p : Setup) (list : List ValuedMove) → Is p → AreValuedMoves profile By p list → AreValuedMoves profile Other p list
     listed_by p list is are = record {
-      sound = λ valued listed. elim (are.sound valued listed) [
-        | inl catch ↦ inl catch
-        | inr has ↦ inr (valued_by By Other there p valued is has)
-      ];
+      sound = λ valued listed. elim (are.sound valued listed) [ inl catch ↦ inl catch | inr has ↦ inr (valued_by By Other there p valued is has) ];
       caught = are.caught;
       whole = λ valued has. are.whole valued (valued_by Other By back p valued is has);
       ordered = are.ordered;

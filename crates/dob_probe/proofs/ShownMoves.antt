@@ -1,5 +1,5 @@
 -- What the enemy sees of a move, and the class that sets of squares show.
-use Rattle.dob_probe.proofs.Common.{◌-◌, ◌<◌, ◌∙◌, ◌≡◌, ◌≢◌, ◌≤◌, Bool, None, Some, ap, arith, inl, inr, length, refl, set, subst, sym, ℕ, cases_eq, cases_lt}
+use Rattle.dob_probe.proofs.Common.{◌-◌, ◌<◌, ◌∙◌, ◌≡◌, ◌≢◌, Bool, None, Some, ap, arith, inl, inr, length, refl, set, sym, ℕ, cases_eq, cases_lt}
 use Rattle.dob_probe.proofs.Common.{get_or-set_other, get_or-set_same, length-set, at-turned, length-turned, IsLegal, at, held, mirrored, piece_of, turned}
 use Rattle.dob_probe.proofs.Common.{turned_cell, with_one_less, Kind, Enemy, Mover, Setup, dropped, stepped, with_cell, HasArrived}
 use Rattle.dob_pieces.specs.declared.kind.HandKind.{HandKind}
@@ -49,28 +49,22 @@ step_arrived p kind from to grows twelve low_from low_to = record {
 pub drop_arrived : (p : Setup) (kind : HandKind) (to : ℕ) → length p.board ≡ 12 → to < 12 →
     HasArrived (turned p) (turned (dropped p kind to)) (11 - to) (kind_on_board kind)
 unfolding dropped
-drop_arrived p kind to twelve low_to = record {
-  here = at-turned (dropped p kind to) (11 - to) (omega (arith, low_to))
-      ∙ ap (λ (k : ℕ). turned_cell (at (dropped p kind to) k)) (let twice : 11 - (11 - to) ≡ to = omega (arith, low_to) in twice)
-      ∙ ap turned_cell (get_or-set_same p.board to (Some (piece_of Mover (kind_on_board kind))) None (omega (arith, twelve, low_to)));
-  there = λ s below apart.
-      at-turned (dropped p kind to) s below
-      ∙ ap turned_cell (get_or-set_other p.board to (11 - s) _ None (omega (arith, low_to, below, apart)))
-      ∙ sym (at-turned p s below);
-}
+drop_arrived p kind to twelve low_to =
+    let twice : 11 - (11 - to) ≡ to = omega (arith, low_to) in record {
+      here = rw (at-turned (dropped p kind to) (11 - to) (omega (arith, low_to)), twice, get_or-set_same p.board to (Some (piece_of Mover (kind_on_board kind))) None (omega (arith, twelve, low_to))) refl;
+      there = λ s below apart. rw (at-turned (dropped p kind to) s below, at-turned p s below, get_or-set_other p.board to (11 - s) (Some (piece_of Mover (kind_on_board kind))) None (omega (arith, low_to, below, apart))) refl;
+    }
 
 -- the hands, as the enemy sees them
 pub hands_after_step : (p : Setup) (kind : Kind) (from to : ℕ) (grows : Bool) (hand : Hand) → hand ≡ with_caught p.hands.mover (at p to) →
     (turned (stepped p kind from to grows)).hands ≡ record { mover = p.hands.enemy; enemy = hand }
 unfolding turned stepped
-hands_after_step p kind from to grows hand is =
-    subst (λ (h : Hand). (turned (stepped p kind from to grows)).hands ≡ record { mover = p.hands.enemy; enemy = h }) (sym is) refl
+hands_after_step p kind from to grows hand is = rw is refl
 
 pub hands_after_drop : (p : Setup) (kind : HandKind) (to : ℕ) (hand : Hand) → hand ≡ with_one_less p.hands.mover kind →
     (turned (dropped p kind to)).hands ≡ record { mover = p.hands.enemy; enemy = hand }
 unfolding turned dropped
-hands_after_drop p kind to hand is =
-    subst (λ (h : Hand). (turned (dropped p kind to)).hands ≡ record { mover = p.hands.enemy; enemy = h }) (sym is) refl
+hands_after_drop p kind to hand is = rw is refl
 
 -- a hand has room for one more
 pub held_low : (p : Setup) → IsLegal p → (k : HandKind) → held p.hands.mover k < 255
@@ -90,7 +84,6 @@ arrived_on before after square kind twelve low arrived = record {
 -- of a position and its mirror image one is no later than the other
 pub one_is_first : (set : PieceSet) (s : Setup) → length s.board ≡ 12 → IsPositionOfSet set s → (IsFirstOfTwo s → ⊥) → (IsFirstOfTwo (mirrored s) → ⊥) → ⊥
 one_is_first set s twelve position later image_later = elim (cases_lt (rank_of_set set (mirrored s)) (rank_of_set set s)) [
-  | inl less ↦ image_later (first_by_rank set (mirrored s) (IsPositionOfSet-mirrored set s position)
-      (subst (λ (t : Setup). rank_of_set set (mirrored s) ≤ rank_of_set set t) (sym (mirrored-mirrored s twelve)) (omega (arith, less))))
+  | inl less ↦ image_later (first_by_rank set (mirrored s) (IsPositionOfSet-mirrored set s position) (rw (mirrored-mirrored s twelve) (omega (arith, less))))
   | inr most ↦ later (first_by_rank set s position most)
 ]

@@ -1,9 +1,9 @@
 -- What is counted of each code, as classes are gone over and parts of them are added up.
 use Rattle.dob_probe.proofs.Common.{◌%◌, ◌++◌, ◌+◌, ◌-◌, ◌<◌, ◌^◌, ◌∙◌, ◌∷◌, ◌≡◌, ◌≢◌, ◌≤◌, All, AllPairs, Bool, Contains, List, None, Option, Some, [], ap}
-use Rattle.dob_probe.proofs.Common.{append-nil, ap₂, arith, cond, count_by, drop, false, get_or, inl, inr, length, option_to_list, refl, rules, set, slice_get}
+use Rattle.dob_probe.proofs.Common.{append-nil, arith, cond, count_by, drop, false, get_or, inl, inr, length, option_to_list, refl, rules, set, slice_get}
 use Rattle.dob_probe.proofs.Common.{subst, suc, sym, take, true, zero, ℕ, cases_eq, cases_lt, get_or-set_other, get_or-set_same, get_or_default}
-use Rattle.dob_probe.proofs.Common.{Contains-append_left, Contains-get_or, Contains-push, Contains-push_cases, all_pairs_push, get_or_from_slice_get, same_Some}
-use Rattle.dob_probe.proofs.Common.{slice_get-get_or, slice_get_within, get_front, IsEntry, Value, Draw, Loss, Win, AreSlots, part_of}
+use Rattle.dob_probe.proofs.Common.{Contains-append_left, Contains-get_or, Contains-push, Contains-push_cases, all_pairs_push, get_or_from_slice_get}
+use Rattle.dob_probe.proofs.Common.{slice_get_within, get_front, IsEntry, Value, AreSlots, part_of}
 use Rattle.std.proofs.lemmas.List.{drop-take, get_or-drop, get_or_past, length-append, length-drop, length-take, take-append-drop, take-take, take_more}
 use Rattle.std.proofs.lemmas.List.Sums.{sum_by-append, sum_by-cons, count_by-le-length}
 use Rattle.dob_value.specs.Codes.{code_of_value}
@@ -11,18 +11,13 @@ use Rattle.dob_probe.specs.declared.groups.Group.{Group}
 use Rattle.dob_probe.specs.Statistics.{has_code, IsGroup, AreGroups}
 use Rattle.dob_probe.proofs.Entries.{all_at}
 use Rattle.dob_probe.specs.Slots.{HasSlot, both_slots, with_class, HasRoom}
+use Rattle.std.proofs.lemmas.Bool.Decides.{nat_tests}
+use Rattle.std.proofs.lemmas.Grind.{common_steps}
+use Rattle.std.proofs.lemmas.Option.{gets, slice_get_read}
 
 -- entries of one code are the same
 pub one_of_code : (v w : Value) → IsEntry v → IsEntry w → code_of_value v ≡ code_of_value w → v ≡ w
-one_of_code (Win a) (Win b) v w e = let same : a ≡ b = omega (arith, e) in ap (λ n. let x : Value = Win n in x) same
-one_of_code (Win a) (Loss b) v w e = absurd (omega (arith, e, v.0, w.0))
-one_of_code (Win a) Draw v w e = absurd (omega (arith, e))
-one_of_code (Loss a) (Win b) v w e = absurd (omega (arith, e, v.0, w.0))
-one_of_code (Loss a) (Loss b) v w e = let same : a ≡ b = omega (arith, e) in ap (λ n. let x : Value = Loss n in x) same
-one_of_code (Loss a) Draw v w e = absurd (omega (arith, e))
-one_of_code Draw (Win b) v w e = absurd (omega (arith, e))
-one_of_code Draw (Loss b) v w e = absurd (omega (arith, e))
-one_of_code Draw Draw v w e = refl
+one_of_code v w a b e = grind arith
 
 -- ---- what is counted
 
@@ -32,15 +27,8 @@ count_one p v = sum_by-cons (λ x. cond {A = ℕ} (p x) 1 0) v [] ∙ omega arit
 -- where none is counted none is there
 none_counted : (p : Value → Bool) (xs : List Value) (v : Value) (k : ℕ) → count_by p xs ≡ 0 → p v ≡ true → ¬ (slice_get xs k ≡ Some v)
 none_counted p [] v k none own there = absurd (cc)
-none_counted p (x ∷ xs) v zero none own there =
-    let same : x ≡ v = same_Some x v there in
-    let here : p x ≡ true = ap p same ∙ own in
-    let one : cond {A = ℕ} (p x) 1 0 ≡ 1 = ap (λ b. cond {A = ℕ} b 1 0) here in
-    let step : count_by p (x ∷ xs) ≡ cond {A = ℕ} (p x) 1 0 + count_by p xs = sum_by-cons (λ y. cond {A = ℕ} (p y) 1 0) x xs in
-    absurd (omega (arith, none, one, step))
-none_counted p (x ∷ xs) v (suc k) none own there =
-    let step : count_by p (x ∷ xs) ≡ cond {A = ℕ} (p x) 1 0 + count_by p xs = sum_by-cons (λ y. cond {A = ℕ} (p y) 1 0) x xs in
-    none_counted p xs v k (omega (arith, none, step)) own there
+none_counted p (x ∷ xs) v zero none own there = grind (arith, nat_tests, sum_by-cons (λ y. cond {A = ℕ} (p y) 1 0) x xs)
+none_counted p (x ∷ xs) v (suc k) none own there = none_counted p xs v k (omega (arith, sum_by-cons (λ y. cond {A = ℕ} (p y) 1 0) x xs, none)) own there
 
 has_own : (v : Value) (code : ℕ) → code_of_value v ≡ code → has_code code v ≡ true
 has_own v code e = search rules
@@ -57,10 +45,7 @@ in_front (x ∷ xs) ys v zero within there = there
 in_front (x ∷ xs) ys v (suc j) within there = in_front xs ys v j (omega (arith, within)) there
 
 at_rest : (xs ys : List Value) (j : ℕ) → slice_get (xs ++ ys) (length xs + j) ≡ slice_get ys j
-at_rest [] ys j = let same : 0 + j ≡ j = omega arith in ap (slice_get ys) same
-at_rest (x ∷ xs) ys j =
-    let same : length (x ∷ xs) + j ≡ suc (length xs + j) = omega arith in
-    ap (slice_get (x ∷ xs ++ ys)) same ∙ at_rest xs ys j
+at_rest xs ys j = grind (arith, gets, common_steps)
 
 -- of the first values and the rest the codes below a number have their slots, and the others those of the first values still
 abbrev pub AreAdded : List Value → List Value → ℕ → List (Option Group) → Type 0
@@ -87,43 +72,33 @@ module _ (xs ys : List Value) (classes : ℕ) (long : length xs ≡ classes) (fe
   slot_joined : (code : ℕ) (slot more : Option Group) → HasSlot xs code slot → HasSlot ys code more → HasSlot (xs ++ ys) code (both_slots slot more classes)
   slot_joined code None None none none_more = let both = count_both (has_code code) in omega (arith, both, none, none_more)
   slot_joined code (Some group) None has none =
-      let both = count_both (has_code (code_of_value group.value)) in
-      let old = has.1.classes in
-      let no : count_by (has_code (code_of_value group.value)) ys ≡ 0 = subst (λ (n : ℕ). count_by (has_code n) ys ≡ 0) (sym has.0) none in
-      (has.0, first_group group group.classes has.1 (omega (arith, both, old, no)))
+      (has.0, first_group group group.classes has.1 (omega (arith, count_both (has_code (code_of_value group.value)), has.1.classes, rw (sym has.0) at none)))
   slot_joined code None (Some further) none has =
       let within = slice_get_within ys further.first further.value has.1.first in
-      let whole = length-append xs ys in
-      let first : (classes + further.first) % 2 ^ 64 ≡ length xs + further.first = omega (arith, long, few, within, whole) in
-      let no : count_by (has_code (code_of_value further.value)) xs ≡ 0 = subst (λ (n : ℕ). count_by (has_code n) xs ≡ 0) (sym has.0) none in (
+      let first : (classes + further.first) % 2 ^ 64 ≡ length xs + further.first = omega (arith, long, few, within, length-append xs ys) in
+      let no : count_by (has_code (code_of_value further.value)) xs ≡ 0 = rw has.0 none in (
         has.0,
         record {
           entry = has.1.entry;
-          classes =
-              let both = count_both (has_code (code_of_value further.value)) in
-              let old = has.1.classes in
-              omega (arith, both, old, no);
-          first = subst (λ (n : ℕ). slice_get (xs ++ ys) n ≡ Some further.value) (sym first) (at_rest xs ys further.first ∙ has.1.first);
+          classes = omega (arith, count_both (has_code (code_of_value further.value)), has.1.classes, no);
+          first = rw first (at_rest xs ys further.first ∙ has.1.first);
           before = λ class below there. elim (cases_lt class (length xs)) [
             | inl front ↦
                 none_counted (has_code (code_of_value further.value)) xs further.value class no (has_own further.value (code_of_value further.value) refl)
                 (in_front xs ys further.value class front there)
             | inr behind ↦
                 let place : class ≡ length xs + (class - length xs) = omega (arith, behind) in
-                has.1.before (class - length xs) (omega (arith, below, first, behind))
-                (sym (at_rest xs ys (class - length xs)) ∙ subst (λ (n : ℕ). slice_get (xs ++ ys) n ≡ Some further.value) place there)
+                has.1.before (class - length xs) (omega (arith, below, first, behind)) (sym (at_rest xs ys (class - length xs)) ∙ (rw place at there))
           ];
         },
       )
   slot_joined code (Some group) (Some further) has more =
-      let both = count_both (has_code (code_of_value group.value)) in
-      let old = has.1.classes in
-      let new : further.classes ≡ count_by (has_code (code_of_value group.value)) ys =
-      more.1.classes ∙ ap (λ (n : ℕ). count_by (has_code n) ys) (more.0 ∙ sym has.0) in
-      let low = count_by-le-length (has_code (code_of_value group.value)) xs in
-      let high = count_by-le-length (has_code (code_of_value group.value)) ys in
-      let whole = length-append xs ys in
-      (has.0, first_group group ((group.classes + further.classes) % 2 ^ 64) has.1 (omega (arith, both, old, new, low, high, whole, few)))
+      let p = has_code (code_of_value group.value) in
+      let new : further.classes ≡ count_by p ys = more.1.classes ∙ ap (λ (n : ℕ). count_by (has_code n) ys) (more.0 ∙ sym has.0) in (
+        has.0,
+        first_group group ((group.classes + further.classes) % 2 ^ 64) has.1
+            (omega (arith, count_both p, has.1.classes, new, count_by-le-length p xs, count_by-le-length p ys, length-append xs ys, few)),
+      )
 
   pub added_none : (slots : List (Option Group)) → AreSlots xs slots → AreAdded xs ys 0 slots
   added_none slots are code = (λ below. absurd (omega (arith, below)), λ from. are code)
@@ -133,36 +108,25 @@ module _ (xs ys : List Value) (classes : ℕ) (long : length xs ≡ classes) (fe
       → ((k : ℕ) → get_or wide k None ≡ get_or slots k None) → AreSlots ys more → AreAdded xs ys upto slots → AreAdded xs ys (upto + 1) (set wide upto new)
   added_more slots wide more upto slot next new read read_next made within within_more same are added code = elim (cases_eq upto code) [
     | inl own ↦
-        let is_slot : slot ≡ get_or slots upto None = read ∙ (get_or_default wide upto slot None within ∙ same upto) in
-        let is_next : next ≡ get_or more upto None = read_next ∙ get_or_default more upto next None within_more in
-        let joined : HasSlot (xs ++ ys) upto new =
-        subst (λ (o : Option Group). HasSlot (xs ++ ys) upto o) (sym made)
-        (slot_joined upto slot next (subst (λ (o : Option Group). HasSlot xs upto o) (sym is_slot) ((added upto).1 (omega arith)))
-        (subst (λ (o : Option Group). HasSlot ys upto o) (sym is_next) (are upto))) in
-        let here : HasSlot (xs ++ ys) upto (get_or (set wide upto new) upto None) =
-        subst (λ (o : Option Group). HasSlot (xs ++ ys) upto o) (sym (get_or-set_same wide upto new None within)) joined in (
-          λ below. subst (λ (k : ℕ). HasSlot (xs ++ ys) k (get_or (set wide upto new) k None)) own here,
-          λ from. absurd (omega (arith, own, from)),
+        let joined = slot_joined upto (get_or slots upto None) (get_or more upto None) ((added upto).1 (omega arith)) (are upto) in
+        rw (← own, get_or-set_same wide upto new None within, made, read, get_or_default wide upto slot None within, same upto, read_next, get_or_default more upto next None within_more) (
+          λ below. joined,
+          λ from. absurd (omega (arith, from)),
         )
-    | inr other ↦
-        let stays : get_or slots code None ≡ get_or (set wide upto new) code None =
-        sym (same code) ∙ sym (get_or-set_other wide upto code new None (λ e. other (sym e))) in (
-          λ below. subst (λ (o : Option Group). HasSlot (xs ++ ys) code o) stays ((added code).0 (omega (arith, below, other))),
-          λ from. subst (λ (o : Option Group). HasSlot xs code o) stays ((added code).1 (omega (arith, from))),
-        )
+    | inr other ↦ rw (get_or-set_other wide upto code new None (λ e. other (sym e)), same code) (
+      λ below. (added code).0 (omega (arith, below, other)),
+      λ from. (added code).1 (omega (arith, from)),
+    )
   ]
 
   -- the codes behind the last of the second part are in the first one alone
   only_first : (code : ℕ) (slot : Option Group) → HasSlot xs code slot → HasSlot ys code None → HasSlot (xs ++ ys) code slot
-  only_first code None has none = slot_joined code None None has none
-  only_first code (Some group) has none = slot_joined code (Some group) None has none
+  only_first code slot has none = grind (arith, slot_joined code slot None has none)
 
   pub added_all : (slots more : List (Option Group)) (upto : ℕ) → length more ≤ upto → AreSlots ys more → AreAdded xs ys upto slots → AreSlots (xs ++ ys) slots
   added_all slots more upto all are added code = elim (cases_lt code upto) [
     | inl below ↦ (added code).0 below
-    | inr from ↦
-        only_first code (get_or slots code None) ((added code).1 from)
-        (subst (λ (o : Option Group). HasSlot ys code o) (get_or_past more code None (omega (arith, all, from))) (are code))
+    | inr from ↦ only_first code (get_or slots code None) ((added code).1 from) (rw (get_or_past more code None (omega (arith, all, from))) at (are code))
   ]
 
 -- ---- one value more
@@ -172,40 +136,21 @@ single v = record { value = v; classes = 1; first = 0 }
 
 -- a value alone has the slot of its own code
 alone_own : (v : Value) → IsEntry v → HasSlot (v ∷ []) (code_of_value v) (Some (single v))
-alone_own v entry = (
-  refl,
-  record {
-    entry = entry;
-    classes =
-        let yes : cond {A = ℕ} (has_code (code_of_value v) v) 1 0 ≡ 1 = ap (λ b. cond {A = ℕ} b 1 0) (has_own v (code_of_value v) refl) in
-        omega (arith, count_one (has_code (code_of_value v)) v, yes);
-    first = refl;
-    before = λ class below. absurd (omega (arith, below));
-  },
-)
+alone_own v entry =
+    (refl, record { entry = entry; classes = rw (count_one, has_own v (code_of_value v) refl) refl; first = refl; before = λ class below. absurd (omega (arith, below)) })
 
 alone_other : (v : Value) (code : ℕ) → code_of_value v ≢ code → HasSlot (v ∷ []) code None
-alone_other v code apart =
-    let no : cond {A = ℕ} (has_code code v) 1 0 ≡ 0 = ap (λ b. cond {A = ℕ} b 1 0) (has_other v code apart) in
-    omega (arith, count_one (has_code code) v, no)
+alone_other v code apart = rw (count_one, has_other v code apart) refl
 
 -- a class more is the value alone, joined
 joined_one : (slot : Option Group) (v : Value) (class : ℕ) → HasRoom slot → class < 2 ^ 64
     → both_slots slot (Some (single v)) class ≡ Some (with_class slot v class)
-joined_one None v class room small =
-    let place : (class + 0) % 2 ^ 64 ≡ class = omega (arith, small) in
-    ap (λ (n : ℕ). let group : Group = record { value = v; classes = 1; first = n } in Some group) place
-joined_one (Some group) v class room small =
-    let count : (group.classes + 1) % 2 ^ 64 ≡ group.classes + 1 = omega (arith, room) in
-    ap (λ (n : ℕ). Some (record group { classes = n })) count
+joined_one slot v class room small = grind arith
 
 -- one more can be counted while there are fewer classes than a word holds
 pub slot_has_room : (xs : List Value) (code : ℕ) (slot : Option Group) → length xs + 1 < 2 ^ 64 → HasSlot xs code slot → HasRoom slot
 slot_has_room xs code None room has = tt
-slot_has_room xs code (Some group) room has =
-    let few = count_by-le-length (has_code (code_of_value group.value)) xs in
-    let old = has.1.classes in
-    omega (arith, few, old, room)
+slot_has_room xs code (Some group) room has = omega (arith, count_by-le-length (has_code (code_of_value group.value)) xs, has.1.classes, room)
 
 module _ (xs : List Value) (v : Value) (room : length xs + 1 < 2 ^ 64) where
   few : length (xs ++ v ∷ []) < 2 ^ 64
@@ -220,15 +165,13 @@ module _ (xs : List Value) (v : Value) (room : length xs + 1 < 2 ^ 64) where
       let new : Option Group = Some (with_class old v (length xs)) in
       elim (cases_eq (code_of_value v) code) [
         | inl own ↦
-            let here : HasSlot xs (code_of_value v) old = subst (HasSlot xs (code_of_value v)) (sym (same (code_of_value v))) (are (code_of_value v)) in
+            let here : HasSlot xs (code_of_value v) old = rw (same (code_of_value v)) (are (code_of_value v)) in
             let joined = joined_one old v (length xs) (slot_has_room xs (code_of_value v) old room here) (omega (arith, room)) in
-            subst (λ k. HasSlot (xs ++ v ∷ []) k (get_or (set wide (code_of_value v) new) k None)) own
-            (subst (HasSlot (xs ++ v ∷ []) (code_of_value v)) (joined ∙ sym (get_or-set_same wide (code_of_value v) new None within))
-            (slot_joined xs (v ∷ []) (length xs) refl few (code_of_value v) old (Some (single v)) here (alone_own v entry)))
+            rw (← own, get_or-set_same wide (code_of_value v) new None within)
+            (rw joined at (slot_joined xs (v ∷ []) (length xs) refl few (code_of_value v) old (Some (single v)) here (alone_own v entry)))
         | inr other ↦
-            let there : HasSlot xs code (get_or wide code None) = subst (HasSlot xs code) (sym (same code)) (are code) in
-            subst (HasSlot (xs ++ v ∷ []) code) (sym (get_or-set_other wide (code_of_value v) code new None (λ e. other (sym e))))
-            (only_first xs (v ∷ []) (length xs) refl few code (get_or wide code None) there (alone_other v code other))
+            rw (get_or-set_other wide (code_of_value v) code new None (λ e. other (sym e)), same code)
+            (only_first xs (v ∷ []) (length xs) refl few code (get_or slots code None) (are code) (alone_other v code other))
       ]
 
 -- the same of numbers and a group that were read and made
@@ -237,25 +180,18 @@ pub slots_counted : (xs : List Value) (v : Value) (slots wide : List (Option Gro
     code < length wide →
     ((k : ℕ) → get_or wide k None ≡ get_or slots k None) → AreSlots xs slots → AreSlots (xs ++ v ∷ []) (set wide code (Some group))
 slots_counted xs v slots wide code class slot group is_code read made counted room entry within same are =
-    let is_slot : slot ≡ get_or wide code None = read ∙ get_or_default wide code slot None within in
-    let is_group : group ≡ with_class (get_or wide (code_of_value v) None) v (length xs) =
-    made ∙ (ap (λ (o : Option Group). with_class o v class) (is_slot ∙ ap (λ (n : ℕ). get_or wide n None) is_code)
-    ∙ ap (λ (n : ℕ). with_class (get_or wide (code_of_value v) None) v n) (sym counted)) in
-    subst (λ (n : ℕ). AreSlots (xs ++ v ∷ []) (set wide n (Some group))) (sym is_code)
-    (subst (λ (g : Group). AreSlots (xs ++ v ∷ []) (set wide (code_of_value v) (Some g))) (sym is_group)
-    (slots_more xs v (omega (arith, counted, room)) slots wide entry (subst (λ (n : ℕ). n < length wide) is_code within) same are))
+    rw (made, read ∙ get_or_default wide code slot None within, ← counted, is_code)
+    (slots_more xs v (omega (arith, counted, room)) slots wide entry (rw is_code at within) same are)
 
 pub room_counted : (xs : List Value) (slots wide : List (Option Group)) (code class : ℕ) (slot : Option Group) → slot ≡ get_or wide code slot →
     length xs ≡ class → class + 1 < 2 ^ 64 → code < length wide → ((k : ℕ) → get_or wide k None ≡ get_or slots k None) → AreSlots xs slots → HasRoom slot
 room_counted xs slots wide code class slot read counted room within same are =
-    let is_slot : slot ≡ get_or wide code None = read ∙ get_or_default wide code slot None within in
-    subst HasRoom (sym is_slot)
-    (slot_has_room xs code (get_or wide code None) (omega (arith, room, counted)) (subst (HasSlot xs code) (sym (same code)) (are code)))
+    rw (read ∙ get_or_default wide code slot None within)
+    (slot_has_room xs code (get_or wide code None) (omega (arith, room, counted)) (rw same (are code)))
 
 -- an empty slot at the end changes nothing
 pub none_behind : (slots : List (Option Group)) (k : ℕ) → get_or (slots ++ None ∷ []) k None ≡ get_or slots k None
-none_behind [] zero = refl
-none_behind [] (suc k) = refl
+none_behind [] k = grind arith
 none_behind (slot ∷ slots) zero = refl
 none_behind (slot ∷ slots) (suc k) = none_behind slots k
 
@@ -275,21 +211,14 @@ module _ (values : List Value) where
       let long = length-drop first values in
       let next : class + 1 - first ≡ class - first + 1 = omega (arith, from) in
       let place : first + (class - first) ≡ class = omega (arith, from) in
-      ap (λ (n : ℕ). part_of values first n) next
-      ∙ (take_more (drop first values) (class - first) v (omega (arith, from, within, long))
-      ∙ ap (λ (x : Value). part_of values first (class - first) ++ x ∷ [])
-      (get_or-drop first values (class - first) v ∙ (ap (λ (n : ℕ). get_or values n v) place ∙ get_or_from_slice_get values class v v there)))
+      rw (next, take_more (drop first values) (class - first) v (omega (arith, from, within, long)), get_or-drop, place, get_or_from_slice_get values class v v there) refl
 
   pub part_long : (first end : ℕ) → first ≤ end → end ≤ length values → length (part_of values first (end - first)) ≡ end - first
-  part_long first end from within =
-      let long = length-drop first values in
-      let cut = length-take (end - first) (drop first values) in
-      omega (arith, from, within, long, cut)
+  part_long first end from within = omega (arith, from, within, length-drop first values, length-take (end - first) (drop first values))
 
   pub part_joins : (first count : ℕ) → take first values ++ part_of values first count ≡ take (first + count) values
   part_joins first count =
-      ap₂ (λ (l r : List Value). l ++ r) (sym (take-take first (first + count) values (omega arith))) (sym (drop-take first count values))
-      ∙ take-append-drop first (take (first + count) values)
+      rw (← take-take first (first + count) values (omega arith), ← drop-take first count values) (take-append-drop first (take (first + count) values))
 
 -- ---- the groups that are there
 
@@ -299,11 +228,7 @@ pub record AreFirstGroups (slots : List (Option Group)) (upto : ℕ) (groups : L
   pub ordered : AllPairs (λ a b. code_of_value a.value < code_of_value b.value) groups
 
 pub groups_none : (slots : List (Option Group)) → AreFirstGroups slots 0 []
-groups_none slots = record {
-  sound = λ group there. absurd (omega (arith, there.1));
-  whole = λ k group below there. absurd (omega arith);
-  ordered = λ i j d lt within. absurd (omega (arith, within));
-}
+groups_none slots = grind arith
 
 module _ (values : List Value) (slots : List (Option Group)) (are : AreSlots values slots) where
   group_of : (k : ℕ) (group : Group) → get_or slots k None ≡ Some group → (code_of_value group.value ≡ k) × IsGroup values group
@@ -312,67 +237,47 @@ module _ (values : List Value) (slots : List (Option Group)) (are : AreSlots val
   pub groups_more : (upto : ℕ) (groups : List Group) (slot : Option Group) → get_or slots upto None ≡ slot → AreFirstGroups slots upto groups →
       AreFirstGroups slots (upto + 1) (groups ++ option_to_list slot)
   groups_more upto groups None here before = record {
-    sound = λ group there.
-        let old = before.sound group (subst (λ xs. Contains xs group) (append-nil groups) there) in
-        let below : old.0 < upto = old.1 in
-        (old.0, omega (arith, below), old.2);
+    sound = λ group there. let old = before.sound group (rw append-nil at there) in (old.0, omega (arith, old.1), old.2);
     whole = λ k group below there. elim (cases_lt k upto) [
-      | inl earlier ↦ subst (λ xs. Contains xs group) (sym (append-nil groups)) (before.whole k group earlier there)
-      | inr from ↦
-          let same : upto ≡ k = omega arith in
-          let never : None ≡ Some group = sym here ∙ (ap (λ n. get_or slots n None) same ∙ there) in
-          absurd (cc)
+      | inl earlier ↦ rw append-nil (before.whole k group earlier there)
+      | inr from ↦ let same : k ≡ upto = omega arith in absurd (cc (here, ap (λ n. get_or slots n None) same))
     ];
-    ordered = subst (AllPairs (λ a b. code_of_value a.value < code_of_value b.value)) (sym (append-nil groups)) before.ordered;
+    ordered = rw append-nil before.ordered;
   }
   groups_more upto groups (Some new) here before = record {
     sound = λ group there. elim (Contains-push_cases groups new group there) [
-      | inl earlier ↦
-          let old = before.sound group earlier in
-          let below : old.0 < upto = old.1 in
-          (old.0, omega (arith, below), old.2)
-      | inr same ↦ (upto, omega arith, here ∙ ap (λ g. let o : Option Group = Some g in o) same)
+      | inl earlier ↦ let old = before.sound group earlier in (old.0, omega (arith, old.1), old.2)
+      | inr same ↦ (upto, omega arith, rw same at here)
     ];
     whole = λ k group below there. elim (cases_lt k upto) [
       | inl earlier ↦ Contains-append_left groups (new ∷ []) group (before.whole k group earlier there)
       | inr from ↦
           let same : upto ≡ k = omega arith in
-          let is : new ≡ group = same_Some new group (sym here ∙ (ap (λ n. get_or slots n None) same ∙ there)) in
+          let is : new ≡ group = cc (here, ap (λ n. get_or slots n None) same) in
           subst (Contains (groups ++ new ∷ [])) is (Contains-push groups new)
     ];
     ordered = all_pairs_push (λ a b. code_of_value a.value < code_of_value b.value) groups new before.ordered (λ k d within.
         let old = before.sound (get_or groups k d) (Contains-get_or groups k d within) in
-        let below : old.0 < upto = old.1 in
-        let low = (group_of old.0 (get_or groups k d) old.2).0 in
-        let high = (group_of upto new here).0 in
-        omega (arith, below, low, high));
+        omega (arith, old.1, (group_of old.0 (get_or groups k d) old.2).0, (group_of upto new here).0));
   }
 
   pub groups_all : (upto : ℕ) (groups : List Group) → length slots ≤ upto → All IsEntry values → AreFirstGroups slots upto groups → AreGroups values groups
   groups_all upto groups all entries found = record {
-    sound = λ group there.
-        let old = found.sound group there in
-        (group_of old.0 group old.2).1;
-    whole = λ v there. own v (entry_of v there) there (get_or slots (code_of_value v) None) refl;
+    sound = λ group there. let old = found.sound group there in (group_of old.0 group old.2).1;
+    whole = λ v there. own v (all_at IsEntry values there.0 v entries (read v there)) there (get_or slots (code_of_value v) None) refl;
     ordered = found.ordered;
   }
     where
       read : (v : Value) (there : Contains values v) → slice_get values there.0 ≡ Some v
-      read v there = slice_get-get_or values there.0 v there.1 ∙ ap (λ x. let o : Option Value = Some x in o) there.2
-
-      entry_of : (v : Value) → Contains values v → IsEntry v
-      entry_of v there = all_at IsEntry values there.0 v entries (read v there)
+      read v there = slice_get_read values _ there.0 v refl there.1 (sym there.2)
 
       own : (v : Value) → IsEntry v → Contains values v → (slot : Option Group) → get_or slots (code_of_value v) None ≡ slot →
           (group : Group) × Contains groups group × (group.value ≡ v)
       own v entry there None here =
-          let none : count_by (has_code (code_of_value v)) values ≡ 0 = subst (HasSlot values (code_of_value v)) here (are (code_of_value v)) in
-          absurd (none_counted (has_code (code_of_value v)) values v there.0 none (has_own v (code_of_value v) refl) (read v there))
+          absurd (none_counted (has_code (code_of_value v)) values v there.0 (rw here at (are (code_of_value v))) (has_own v (code_of_value v) refl) (read v there))
       own v entry there (Some group) here = elim (cases_lt (code_of_value v) (length slots)) [
         | inl within ↦
             let known = group_of (code_of_value v) group here in
             (group, found.whole (code_of_value v) group (omega (arith, within, all)) here, one_of_code group.value v known.1.entry entry known.0)
-        | inr past ↦
-            let never : None ≡ Some group = sym (get_or_past slots (code_of_value v) None past) ∙ here in
-            absurd (cc)
+        | inr past ↦ absurd (cc (get_or_past slots (code_of_value v) None past))
       ]

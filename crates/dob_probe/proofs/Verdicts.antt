@@ -1,6 +1,6 @@
 -- What a verdict of a class says, and the first fault among those of all classes.
-use Rattle.dob_probe.proofs.Common.{◌+◌, ◌<◌, ◌≡◌, ◌≤◌, ◌⊎◌, Err, IfErr, None, Ok, Option, Result, Some, arith, inl, inr, length, refl, subst, sym, true, ℕ}
-use Rattle.dob_probe.proofs.Common.{ClassTable, IsConsistent, IsTable, ClassBreaks, ClassFollows, Fault, FarChick, Inconsistent, Memory, OtherSet}
+use Rattle.dob_probe.proofs.Common.{◌+◌, ◌<◌, ◌≡◌, ◌≤◌, ◌⊎◌, Err, IfErr, None, Ok, Option, Result, Some, arith, length, true, ℕ, ClassTable, IsConsistent}
+use Rattle.dob_probe.proofs.Common.{IsTable, ClassFollows, Fault, Inconsistent, Memory}
 use Rattle.std.specs.Prelude.{is_err}
 use Rattle.dob_probe.specs.Faults.{IsVerdict, IsFaultOfCheck}
 use Rattle.dob_probe.proofs.Following.{consistent_has_no_break}
@@ -18,21 +18,13 @@ module _ (table : ClassTable) where
   module _ (whole : IsTable table.family table.values) where
     -- what a fault says of the table
     pub fault_holds : (verdict : Verdict) → IsFirstFault 0 (length table.values) (Some verdict) → IfErr verdict (IsFaultOfCheck table)
-    fault_holds (Ok _) first = tt
-    fault_holds (Err FarChick) first = first.2
-    fault_holds (Err OtherSet) first = first.2
-    fault_holds (Err (Inconsistent class)) first =
-        let same : class ≡ first.0 = first.2.0 in record {
-          within = let below : first.0 < 0 + length table.values = first.1 in omega arith;
-          breaks = subst (ClassBreaks table) (sym same) first.2.1;
-          before = λ other below. first.4 other (omega arith) (omega arith);
-        }
-    fault_holds (Err Memory) first = tt
+    fault_holds (Err (Inconsistent class)) first = record {
+      within = omega (arith, first.1, first.2.0);
+      breaks = rw first.2.0 first.2.1;
+      before = λ other below. first.4 other (omega arith) (omega (arith, first.2.0));
+    }
+    fault_holds verdict first = grind arith
 
   pub passed_answered : (verdict : Verdict) → IfErr verdict (IsFaultOfCheck table) → IsConsistent table.family table.values →
       (verdict ≡ Ok tt) ⊎ (verdict ≡ Err Memory)
-  passed_answered (Ok _) fault consistent = inl refl
-  passed_answered (Err FarChick) fault consistent = absurd fault
-  passed_answered (Err OtherSet) fault consistent = absurd fault
-  passed_answered (Err (Inconsistent class)) fault consistent = absurd (consistent_has_no_break table class consistent fault.breaks)
-  passed_answered (Err Memory) fault consistent = inr refl
+  passed_answered verdict fault consistent = grind (arith, consistent_has_no_break table)

@@ -1,15 +1,15 @@
 -- Lines as they grow, and where they break off.
-use Rattle.dob_probe.proofs.Common.{◌%◌, ◌++◌, ◌+◌, ◌-◌, ◌<◌, ◌∙◌, ◌∷◌, ◌≡◌, ◌≤◌, ◌⊎◌, Err, IfErr, IfOk, List, None, Ok, Result, Some, [], ap, append-nil}
-use Rattle.dob_probe.proofs.Common.{arith, get_or, inl, inr, length, refl, slice_get, subst, suc, sym, zero, ℕ, cases_order, same_Some, slice_get_read}
-use Rattle.dob_probe.proofs.Common.{before_or_here, standing, Profile, Setup, Goes-is, Goes, AreMoves, CanCatch, IsFirstCatch, Move, IsInClass, IsPositionOf}
-use Rattle.dob_probe.proofs.Common.{move_goes, moves_keep_the_family}
+use Rattle.dob_probe.proofs.Common.{◌++◌, ◌+◌, ◌<◌, ◌∙◌, ◌∷◌, ◌≡◌, ◌≤◌, ◌⊎◌, Err, IfErr, IfOk, List, None, Ok, Result, Some, [], ap, append-nil, arith}
+use Rattle.dob_probe.proofs.Common.{get_or, inl, inr, length, refl, slice_get, subst, sym, ℕ, same_Some, slice_get_read, before_or_here, standing, Profile}
+use Rattle.dob_probe.proofs.Common.{Setup, Goes-is, Goes, AreMoves, CanCatch, IsFirstCatch, Move, IsInClass, IsPositionOf, move_goes, moves_keep_the_family}
+use Rattle.dob_probe.proofs.Common.{ClassTable, IsEntry, Value, Draw, Loss, Win, IsFaultOfLine, IsGap, Begins, BreaksAt, Continues, EndsAt, GivenBy, GoesOnTo}
+use Rattle.dob_probe.proofs.Common.{IsFirstTo, IsLine, LacksMove, LeadsTo, value_wanted, Fault, Inconsistent, Memory}
 use Rattle.dob_pieces.specs.declared.profile.Family.{Family}
-use Rattle.dob_probe.proofs.Common.{ClassTable, IsEntry, MAX_DISTANCE, Value, Draw, Loss, Win, IsFaultOfLine, IsGap, Begins, BreaksAt, Continues, EndsAt}
-use Rattle.dob_probe.proofs.Common.{GivenBy, GoesOnTo, IsFirstTo, IsLine, LacksMove, LeadsTo, value_wanted, Fault, FarChick, Inconsistent, Memory, OtherSet}
 use Rattle.dob_classes.proofs.OfFamilies.FamilyRepresentatives.{one_class}
 use Rattle.dob_probe.specs.Laws.{LinesDontBreak, OneBreak}
 use Rattle.dob_probe.proofs.Entries.{one_given}
 use Rattle.dob_probe.proofs.InOrder.{in_order}
+use Rattle.std.proofs.lemmas.Bool.{cases_lt}
 
 -- ---- one move more, and the rest of the line after a beginning
 
@@ -49,16 +49,14 @@ module _ (profile : Profile) (Has : Setup → Value → Type 0) (p : Setup) (wan
 
     pub first_here : (q : Setup) (value : Value) → Goes profile p played q → Has q value → value ≡ wanted → IsFirstTo profile Has p wanted played q
     first_here q value goes has same = record {
-      leads = record { goes_on = (move_goes profile p legal index played are within read).0; goes = goes; has = subst (Has q) same has };
+      leads = record { goes_on = (move_goes profile p legal index played are within read).0; goes = goes; has = rw same at has };
       first = λ other r leads_too.
           let there = standing legal other (are.whole other leads_too.goes_on (r, leads_too.goes)) in
-          elim (cases_order there.0 index) [
-            | inl same ↦
-                let here_too : slice_get legal there.0 ≡ Some played = subst (λ k. slice_get legal k ≡ Some played) (sym same) here in
-                inl (same_Some played other (sym here_too ∙ there.2))
-            | inr order ↦ elim order [
+          elim (cases_lt index there.0) [
+            | inl after ↦ inr (in_order profile p legal index there.0 played other are after there.1 here there.2)
+            | inr upto ↦ elim (before_or_here legal index there.0 played other here there.2 (omega arith)) [
               | inl before ↦ absurd (none there.0 other r before there.2 leads_too)
-              | inr after ↦ inr (in_order profile p legal index there.0 played other are after there.1 here there.2)
+              | inr same ↦ inl (sym same)
             ]
           ];
     }
@@ -67,8 +65,7 @@ module _ (profile : Profile) (Has : Setup → Value → Type 0) (p : Setup) (wan
       (move : Move) (q : Setup) → ¬ LeadsTo profile Has p wanted move q
   none_leads upto are all none move q leads =
       let there = standing legal move (are.whole move leads.goes_on (q, leads.goes)) in
-      let below : there.0 < length legal = there.1 in
-      none there.0 move q (omega arith) there.2 leads
+      none there.0 move q (omega (arith, there.1)) there.2 leads
 
 -- ---- lines and breaks exclude each other
 
@@ -77,37 +74,23 @@ module _ (table : ClassTable) where
   Has = GivenBy table
 
   one_wanted : (p : Setup) (v w : Value) → IsPositionOf table.family p → GoesOnTo Has p v → GoesOnTo Has p w → v ≡ w
-  one_wanted p v w is a b =
-      let same = one_given table p a.value b.value is a.has b.has in
-      same_Some v w (sym a.next ∙ ap value_wanted same ∙ b.next)
+  one_wanted p v w is a b = same_Some v w (sym a.next ∙ ap value_wanted (one_given table p a.value b.value is a.has b.has) ∙ b.next)
 
   not_over : (p : Setup) (wanted : Value) → IsPositionOf table.family p → EndsAt Has p → ¬ GoesOnTo Has p wanted
-  not_over p wanted is a b =
-      let same = one_given table p a.value b.value is a.has b.has in
-      let never : None ≡ Some wanted = sym a.over ∙ ap value_wanted same ∙ b.next in
-      absurd (cc)
+  not_over p wanted is a b = absurd (cc (a.over, b.next, one_given table p a.value b.value is a.has b.has))
 
   one_move : (p : Setup) (wanted : Value) (m n : Move) (q r : Setup) → IsFirstTo table.family.profile Has p wanted m q → IsFirstTo table.family.profile Has p wanted n r → m ≡ n
-  one_move p wanted m n q r a b = elim (a.first n r b.leads) [
-    | inl same ↦ same
-    | inr before ↦ elim (b.first m q a.leads) [
-      | inl same ↦ sym same
-      | inr after ↦ absurd (omega arith)
-    ]
-  ]
+  one_move p wanted m n q r a b = grind (arith, a.first n r b.leads, b.first m q a.leads)
 
   -- the line goes on in one way
   one_way : (p : Setup) (m n : Move) (q r : Setup) → IsPositionOf table.family p → Continues table.family.profile Has p m q → Continues table.family.profile Has p n r → q ≡ r
   one_way p m n q r is a b =
-      let wanted : b.0 ≡ a.0 = one_wanted p b.0 a.0 is b.1 a.1 in
-      let other : IsFirstTo table.family.profile Has p a.0 n r = subst (λ w. IsFirstTo table.family.profile Has p w n r) wanted b.2 in
-      let same : n ≡ m = one_move p a.0 n m r q other a.2 in
-      Goes-is table.family.profile p m q a.2.leads.goes ∙ sym (Goes-is table.family.profile p m r (subst (λ k. Goes table.family.profile p k r) same other.leads.goes))
+      let other = rw (one_wanted p b.0 a.0 is b.1 a.1) at b.2 in
+      let same = one_move p a.0 n m r q other a.2 in
+      Goes-is table.family.profile p m q a.2.leads.goes ∙ sym (Goes-is table.family.profile p m r (rw same at other.leads.goes))
 
   lacks_not_continues : (p : Setup) (m : Move) (q : Setup) → IsPositionOf table.family p → LacksMove table.family.profile Has p → ¬ Continues table.family.profile Has p m q
-  lacks_not_continues p m q is lacks next =
-      let wanted : next.0 ≡ lacks.0 = one_wanted p next.0 lacks.0 is next.1 lacks.1 in
-      lacks.2 m q (subst (λ w. LeadsTo table.family.profile Has p w m q) wanted next.2.leads)
+  lacks_not_continues p m q is lacks next = lacks.2 m q (rw (one_wanted p next.0 lacks.0 is next.1 lacks.1) at next.2.leads)
 
   next_is : (p : Setup) (m : Move) (q : Setup) → IsPositionOf table.family p → Continues table.family.profile Has p m q → IsPositionOf table.family q
   next_is p m q is next = moves_keep_the_family table.family p m q is next.2.leads.goes_on next.2.leads.goes
@@ -124,8 +107,7 @@ module _ (table : ClassTable) where
   line_or_break (l ∷ line) (m ∷ ms) p q is way begins lacks = elim way [
     | inl catch ↦ begins.1.1.no_catch (l, catch.0.catches)
     | inr next ↦
-        let same : begins.0 ≡ next.0 = one_way p m l begins.0 next.0 is begins.1 next.1 in
-        line_or_break line ms next.0 q (next_is p l next.0 is next.1) next.2 (subst (λ s. Begins table.family.profile Has s ms q) same begins.2) lacks
+        line_or_break line ms next.0 q (next_is p l next.0 is next.1) next.2 (rw (one_way p m l begins.0 next.0 is begins.1 next.1) at begins.2) lacks
   ]
 
   one_end : (ms ns : List Move) (p q r : Setup) → IsPositionOf table.family p → Begins table.family.profile Has p ms q → Begins table.family.profile Has p ns r →
@@ -136,8 +118,7 @@ module _ (table : ClassTable) where
   one_end (m ∷ ms) [] p q r is a b lacks lacks_too =
       absurd (lacks_not_continues p m a.0 is (subst (LacksMove table.family.profile Has) (sym b) lacks_too) a.1)
   one_end (m ∷ ms) (n ∷ ns) p q r is a b lacks lacks_too =
-      let same : b.0 ≡ a.0 = one_way p n m b.0 a.0 is b.1 a.1 in
-      one_end ms ns a.0 q r (next_is p m a.0 is a.1) a.2 (subst (λ s. Begins table.family.profile Has s ns r) same b.2) lacks lacks_too
+      one_end ms ns a.0 q r (next_is p m a.0 is a.1) a.2 (rw (one_way p n m b.0 a.0 is b.1 a.1) at b.2) lacks lacks_too
 
 pub lines_dont_break : LinesDontBreak
 lines_dont_break table p moves class is line breaks =
@@ -180,8 +161,7 @@ module _ {profile : Profile} {Has : Setup → Value → Type 0} {p : Setup} {mov
 
 pub line_catches : {profile : Profile} {Has : Setup → Value → Type 0} {p : Setup} {moves : List Move} {q : Setup} {value : Value}
     → IsBegun profile Has p moves q value → (m : Move) → IsFirstCatch q m → IsLine profile Has p (moves ++ m ∷ [])
-line_catches {profile = profile} {Has = Has} {p = p} {moves = moves} {q = q} on m catch =
-    line_after profile Has moves (m ∷ []) p q on.begins (inl (catch, refl))
+line_catches {profile} {Has} {p} {moves} {q} on m catch = line_after profile Has moves (m ∷ []) p q on.begins (inl (catch, refl))
 
 -- and the positions are of the table's family
 pub record IsOnLine (table : ClassTable) (p : Setup) (moves : List Move) (q : Setup) (value : Value) : Type 0 where
@@ -192,19 +172,7 @@ pub record IsOnLine (table : ClassTable) (p : Setup) (moves : List Move) (q : Se
 
 -- the value that is wanted is again one of a table
 wanted_is_entry : (value wanted : Value) → IsEntry value → value_wanted value ≡ Some wanted → IsEntry wanted
-wanted_is_entry (Win zero) wanted entry next = absurd (omega (arith, entry.0))
-wanted_is_entry (Win (suc n)) wanted entry next =
-    let same : wanted ≡ Loss (suc n - 1) = cc in
-    let odd : suc n % 2 ≡ 1 = entry.0 in
-    let short : suc n ≤ MAX_DISTANCE = entry.1 in
-    subst IsEntry (sym same) (omega arith, omega arith)
-wanted_is_entry (Loss zero) wanted entry next = let never : None ≡ Some wanted = next in absurd (cc)
-wanted_is_entry (Loss (suc n)) wanted entry next =
-    let same : wanted ≡ Win n = cc in
-    let even : suc n % 2 ≡ 0 = entry.0 in
-    let short : suc n ≤ MAX_DISTANCE = entry.1 in
-    subst IsEntry (sym same) (omega arith, omega arith)
-wanted_is_entry Draw wanted entry next = let never : None ≡ Some wanted = next in absurd (cc)
+wanted_is_entry value wanted entry next = grind arith
 
 module _ {table : ClassTable} {p : Setup} {moves : List Move} {q : Setup} {value : Value} (come : IsOnLine table p moves q value) (no_catch : ¬ CanCatch q)
     (wanted : Value) (next : value_wanted value ≡ Some wanted) where
@@ -217,10 +185,8 @@ module _ {table : ClassTable} {p : Setup} {moves : List Move} {q : Setup} {value
   }
 
   pub gap_breaks : (fault : Fault) → IsGap table q wanted fault → IsFaultOfLine table p fault
-  gap_breaks FarChick gap = absurd gap
-  gap_breaks OtherSet gap = absurd gap
   gap_breaks (Inconsistent class) gap = (come.started, (moves, q, come.on.begins, gap.0, (wanted, goes_on_to come.on no_catch wanted next, gap.1)))
-  gap_breaks Memory gap = tt
+  gap_breaks fault gap = grind arith
 
 -- ---- what is said of a line, whatever came of it
 
@@ -229,17 +195,12 @@ module _ {T : Type 0} (moves_of : T → List Move) (table : ClassTable) (p : Set
       IfErr result (IsFaultOfLine table p) → IsPositionOf table.family p → BreaksAt table p class →
       (result ≡ Err (Inconsistent class)) ⊎ (result ≡ Err Memory)
   break_answered class (Ok t) line fault is breaks = absurd (lines_dont_break table p (moves_of t) class is line breaks)
-  break_answered class (Err FarChick) line fault is breaks = absurd (fault is.allowed)
-  break_answered class (Err OtherSet) line fault is breaks = absurd (fault.1 is.of_set)
-  break_answered class (Err (Inconsistent other)) line fault is breaks =
-      let same = one_break table p other class is fault.1 breaks in
-      inl (ap (λ k. let r : Result T Fault = Err (Inconsistent k) in r) same)
-  break_answered class (Err Memory) line fault is breaks = inr refl
+  break_answered class (Err (Inconsistent other)) line fault is breaks = inl (rw (one_break table p other class is fault.1 breaks) refl)
+  break_answered class (Err fault) line holds is breaks = grind arith
 
 -- a move to positions with another value doesn't lead to the value that is wanted, where a position of the family has one value at most
 pub other_value : (family : Family) (Has : Setup → Value → Type 0) → ((q : Setup) (v w : Value) → IsPositionOf family q → Has q v → Has q w → v ≡ w)
     → (p : Setup) (m : Move) (value wanted : Value) → IsPositionOf family p → ((q : Setup) → Goes family.profile p m q → Has q value) → ¬ (value ≡ wanted)
     → (q : Setup) → ¬ LeadsTo family.profile Has p wanted m q
 other_value family Has one p m value wanted is says apart q leads =
-    let member = moves_keep_the_family family p m q is leads.goes_on leads.goes in
-    apart (one q value wanted member (says q leads.goes) leads.has)
+    apart (one q value wanted (moves_keep_the_family family p m q is leads.goes_on leads.goes) (says q leads.goes) leads.has)

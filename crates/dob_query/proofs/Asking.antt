@@ -1,10 +1,8 @@
 -- The faults of the records, of the header and of opening the file are those of asking it, and by the file of a value table the answer is right.
-use Rattle.dob_query.proofs.Common.{◌≡◌, List, inr, subst, sym, ℕ, Err, IfOk, Ok, Result, Family, Profile, Setup, ClassTable, HasValue}
-use Rattle.dob_query.proofs.Common.{Value, Stream, whole, CountsClasses, Format, IsRefusal, IsRecorded, ShelfChange, AnswersOver, Ending}
-use Rattle.dob_query.proofs.Common.{IsAnswered, AnswersQuestionRight, AreAnswerLines, AreRightAnswerLines, IsAnswerOf, IsAskFault}
-use Rattle.dob_query.proofs.Common.{IsAskingFault, IsFaultOfAsking, IsOfNamed, IsRecordsFault, IsToldBy, HasValueFile, IsTextOf, Fault}
-use Rattle.dob_query.proofs.Common.{File, Memory, Table, Text, Question, Best}
-use Rattle.dob_query.proofs.Common.{Look, Moves, MovesObject, ValueObject}
+use Rattle.dob_query.proofs.Common.{◌≡◌, List, inr, subst, sym, ℕ, IfOk, Result, Family, Profile, Setup, ClassTable, HasValue, Value, Stream, whole}
+use Rattle.dob_query.proofs.Common.{CountsClasses, Format, IsRefusal, IsRecorded, ShelfChange, AnswersOver, Ending, IsAnswered, AnswersQuestionRight}
+use Rattle.dob_query.proofs.Common.{AreAnswerLines, AreRightAnswerLines, IsAnswerOf, IsAskFault, IsAskingFault, IsFaultOfAsking, IsOfNamed, IsRecordsFault}
+use Rattle.dob_query.proofs.Common.{IsToldBy, HasValueFile, IsTextOf, Fault, File, Memory, Table, Question, Best, Look, Moves, MovesObject, ValueObject}
 use Rattle.dob_moves.specs.declared.game_move.Move.{Move as GameMove}
 use Rattle.dob_dbfile.proofs.Looked.{table_family}
 use Rattle.dob_probe.specs.Lines.{GivenBy, IsLine}
@@ -16,18 +14,17 @@ use Rattle.dob_probe.proofs.Best.{lines_are_best}
 use Rattle.dob_probe.proofs.ByValue.{valued_rightly}
 use Rattle.dob_records.proofs.Tabled.{given_by_record, line_by, listed_by, record_of_given}
 use Rattle.dob_query.proofs.TableFaults.{over_weaker}
+use Rattle.std.proofs.Common.{arith}
 
 -- what each of the bytes that a file may have gives of an Ok value, all of them give of it
 pub ok_each : {T E : Type 0} (Has : List ℕ → Type 0) (P : List ℕ → T → Type 0) (result : Result T E) → ((bytes : List ℕ) → Has bytes → IfOk result (P bytes))
     → IfOk result (λ t. (bytes : List ℕ) → Has bytes → P bytes t)
-ok_each Has P (Ok t) each = λ bytes has. each bytes has
-ok_each Has P (Err fault) each = tt
+ok_each Has P result each = grind (arith, each)
 
 -- where what is right is right in another way, and each fault that holds too
 pub answered_weaker : {X : Type 0} (c : ShelfChange) (Is Other : X → Type 0) (Holds Also : Fault → Type 0) (result : Result X Fault)
     → ((x : X) → Is x → Other x) → ((fault : Fault) → Holds fault → Also fault) → IsAnswered c Is Holds result → IsAnswered c Other Also result
-answered_weaker c Is Other Holds Also (Ok x) right fault is = (right x is.0, is.1)
-answered_weaker c Is Other Holds Also (Err given) right fault is = (fault given is.0, is.1)
+answered_weaker c Is Other Holds Also result right fault is = grind (arith, right, fault)
 
 -- ---- faults of asking a source
 
@@ -63,9 +60,7 @@ module _ (question : Question) (Has : List ℕ → Type 0) (p : Setup) where
 
   -- and of asking for the position of a text
   pub asks_for_text : (words : List ℕ) (fault : Fault) → IsTextOf words p → IsAskingFault question Has p fault → IsAskFault question Has words fault
-  asks_for_text words Memory named holds = tt
-  asks_for_text words (Text fault) named holds = absurd holds
-  asks_for_text words fault named holds = (p, named, holds)
+  asks_for_text words fault named holds = grind arith
 
 -- ---- by the file of a value table
 

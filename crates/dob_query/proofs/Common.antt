@@ -1,6 +1,6 @@
 -- The names that the proofs here use most, from other crates and the definitions of this one.
 pub use Rattle.std.proofs.Common.{◌++◌, ◌+◌, ◌-◌, ◌<◌, ◌^◌, ◌||◌, ◌∙◌, ◌∷◌, ◌≡◌, ◌⊎◌, Bool, Global, List, None, Option, Some, [], ap, append-nil, arith, codes}
-pub use Rattle.std.proofs.Common.{drop, false, flat_map, fold, get_or, inl, inr, length, refl, rules, string_bytes, subst, suc, sym, take, true, true≢false, ℕ}
+pub use Rattle.std.proofs.Common.{drop, false, flat_map, fold, get_or, inl, inr, length, refl, rules, string_bytes, subst, suc, sym, take, true, ℕ}
 pub use Rattle.std.proofs.Math.Bool.{or-false}
 pub use Rattle.std.proofs.lemmas.List.{append_assoc, length-append, take-append-drop, take_more}
 pub use Rattle.std.proofs.lemmas.List.Elements.{Contains-append_left, Contains-get_or}
@@ -12,9 +12,8 @@ pub use Rattle.std.specs.Prelude.{Contains, Err, IfErr, IfOk, IfSome, IsTrue, Ok
 pub use Rattle.dob_pieces.specs.declared.profile.Family.{Family}
 pub use Rattle.dob_pieces.specs.declared.profile.Profile.{Profile}
 pub use Rattle.dob_pieces.specs.declared.setup.Setup.{Setup}
-pub use Rattle.dob_text.specs.MoveText.{move_text, square_text}
 pub use Rattle.dob_rank.proofs.OfFamilies.Present.{HasClasses-classes_of}
-pub use Rattle.dob_rank.specs.Families.{HasClass, IsPositionOf, IsRepresentative, RepresentsClass, class_number, class_setup, classes_of}
+pub use Rattle.dob_rank.specs.Families.{HasClass, IsPositionOf, IsRepresentative, class_number, class_setup, classes_of}
 pub use Rattle.dob_classes.proofs.OfFamilies.FamilyRepresentatives.{class_setup_only}
 pub use Rattle.dob_value.specs.Follows.{ClassTable, IsValueTable}
 pub use Rattle.dob_value.specs.Values.{HasValue}
@@ -38,19 +37,19 @@ pub use Rattle.dob_query.specs.Endings.{Answers, AnswersOver, Ending, IsAnswered
 pub use Rattle.dob_query.specs.Faults.{fault_of_shelf, fault_of_value, is_io, is_io_error}
 pub use Rattle.dob_query.specs.Keeping.{AreThese, FillsSink, IsFillingFault, IsShelfFault, IsTally, IsTallyAt, KeepsFilled, LeavesFiles, class_lines}
 pub use Rattle.dob_query.specs.Migrations.{AreMigrateLines, IsMigrateFault}
-pub use Rattle.dob_query.specs.Objects.{played_objects, put_fields, step_fields, valued_fields, valued_objects}
+pub use Rattle.dob_query.specs.Objects.{played_objects, valued_objects}
 pub use Rattle.dob_query.specs.Program.{IsFaultOf, IsValueLineOf, IsValueOf}
-pub use Rattle.dob_query.specs.Puzzles.{AnswersPuzzlesRight, ArePuzzleLines, IsPuzzlesFault, line_of_puzzle, puzzle_lines, puzzle_text}
+pub use Rattle.dob_query.specs.Puzzles.{AnswersPuzzlesRight, ArePuzzleLines, IsPuzzlesFault, line_of_puzzle, puzzle_lines}
 pub use Rattle.dob_query.specs.Questions.{AnswersQuestionRight, AreAnswerLines, AreRightAnswerLines, GivesWhole, IsAnswerBy, IsAnswerOf, IsAskFault}
-pub use Rattle.dob_query.specs.Questions.{IsAskingFault, IsFaultOfAsking, IsOfNamed, IsRecordsFault, IsToldBy, LacksFor, TellsMoves, TellsPlay}
-pub use Rattle.dob_query.specs.Shows.{AnswersShowRight, AreDrawn, AreRightShowLines, AreShowLines, IsDrawingFault, IsFaultBy, IsShowFault}
+pub use Rattle.dob_query.specs.Questions.{IsAskingFault, IsFaultOfAsking, IsOfNamed, IsRecordsFault, IsToldBy, LacksFor}
+pub use Rattle.dob_query.specs.Shows.{AnswersShowRight, AreDrawn, AreRightShowLines, AreShowLines, IsDrawingFault, IsShowFault}
 pub use Rattle.dob_query.specs.Sizes.{count_line}
 pub use Rattle.dob_query.specs.Stats.{AnswersStatsRight, AreStatsLines, IsStatsFault, group_text, longest_of, with_group, with_value}
 pub use Rattle.dob_query.specs.Tables.{HasValueFile, IsFileOf, IsOpeningFault, IsPositionFault, IsRightFileOf, IsShut, IsTextOf}
 pub use Rattle.dob_query.specs.Telling.{AnswersLines, AreAllLines, EndsLines, HearsLine, PutsText, TellsOf, TellsSome, Told, told_of}
-pub use Rattle.dob_query.specs.Zugzwangs.{AnswersZugzwangsRight, AreOfTable, AreZugzwangLines, IsOfTable, first_pairs, pair_line, pair_text, zugzwang_lines}
+pub use Rattle.dob_query.specs.Zugzwangs.{AnswersZugzwangsRight, AreOfTable, AreZugzwangLines, IsOfTable, first_pairs, pair_line, zugzwang_lines}
 pub use Rattle.dob_query.specs.declared.fault.Fault.{Fault}
-pub use Rattle.dob_query.specs.declared.fault.Fault.TheVariants.{Certificate, File, Io, Memory, PuzzlePlies, Run, SetText, Table, Text, TooDeep}
+pub use Rattle.dob_query.specs.declared.fault.Fault.TheVariants.{Certificate, File, Io, Memory, Table, Text}
 pub use Rattle.dob_query.specs.declared.questions.Question.{Question}
-pub use Rattle.dob_query.specs.declared.questions.Question.TheVariants.{Best, Draw, Line, LineObject, Look, Moves, MovesObject, ValueObject}
+pub use Rattle.dob_query.specs.declared.questions.Question.TheVariants.{Best, Draw, Look, Moves, MovesObject, ValueObject}
 pub use Rattle.dob_query.specs.declared.tally.Tally.{Tally}

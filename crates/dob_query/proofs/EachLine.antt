@@ -1,13 +1,13 @@
 -- The answers to lines, one more at a time; what was told is what is owed for `--each`, and by a value table's file the values told are right.
-use Rattle.dob_query.proofs.Common.{◌++◌, ◌||◌, ◌∙◌, ◌∷◌, ◌≡◌, ◌⊎◌, Bool, List, None, Option, Some, [], ap, append-nil, false, flat_map, inl, inr, refl, subst}
-use Rattle.dob_query.proofs.Common.{sym, true, ℕ, or-false, Err, IfErr, Ok, OnOk, Result, is_err, Profile, ClassTable, Value, Change, Puts, SinkState, Stops}
-use Rattle.dob_query.proofs.Common.{change, FailsWhere, ShelfChange, AnswersEachRight, AreEachLines, IsAnswer, IsEachFault, IsGivenTo, answer_line, Ending}
-use Rattle.dob_query.proofs.Common.{is_io, IsValueOf, HasValueFile, IsFileOf, IsOpeningFault, AnswersLines, AreAllLines, EndsLines, HearsLine, PutsText}
-use Rattle.dob_query.proofs.Common.{TellsOf, TellsSome, Told, Fault, File, Io, Memory}
-use Rattle.std.proofs.Common.{append_assoc}
+use Rattle.dob_query.proofs.Common.{◌++◌, ◌||◌, ◌∙◌, ◌∷◌, ◌≡◌, ◌⊎◌, Bool, List, None, Option, Some, [], ap, append-nil, false, flat_map, inl, inr, refl}
+use Rattle.dob_query.proofs.Common.{subst, sym, true, ℕ, or-false, Err, IfErr, Ok, OnOk, Result, is_err, Profile, ClassTable, Value, Change, Puts, SinkState}
+use Rattle.dob_query.proofs.Common.{Stops, change, FailsWhere, ShelfChange, AnswersEachRight, AreEachLines, IsAnswer, IsEachFault, IsGivenTo, answer_line}
+use Rattle.dob_query.proofs.Common.{Ending, is_io, IsValueOf, HasValueFile, IsFileOf, IsOpeningFault, AnswersLines, AreAllLines, EndsLines, HearsLine}
+use Rattle.dob_query.proofs.Common.{PutsText, TellsOf, TellsSome, Told, Fault, Io, Memory}
+use Rattle.std.proofs.Common.{append_assoc, arith}
 use Rattle.std.proofs.lemmas.Grind.{flat_map-append}
 use Rattle.std.proofs.lemmas.List.Folds.{concat-append, list_any-append}
-use Rattle.std.specs.List.{concat, list_any}
+use Rattle.std.specs.List.{list_any}
 use Rattle.std.specs.Str.Lines.{lines as lines_of}
 use Rattle.dob_query.specs.Telling.{AreAnswers, AreFirstLines, PutsAll, StopsText, TellsEach, TellsLinesOf, TellsOne, TellsOver, told_refused, told_text}
 use Rattle.dob_query.proofs.TableFaults.{value_right}
@@ -60,17 +60,13 @@ put_one first last piece puts = (piece ∷ [], (last, puts, refl), sym (append-n
 
 put_more : (first next last : SinkState) (xs ys : List ℕ) → PutsText (change first next) xs → PutsText (change next last) ys
     → PutsText (change first last) (xs ++ ys)
-put_more first next last xs ys one more = (
-  one.0 ++ more.0,
-  all_behind first next last one.0 more.0 one.1 more.1,
-  ap (λ (l : List ℕ). l ++ ys) one.2 ∙ ap (λ (l : List ℕ). concat one.0 ++ l) more.2 ∙ sym (concat-append one.0 more.0),
-)
+put_more first next last xs ys one more =
+    (one.0 ++ more.0, all_behind first next last one.0 more.0 one.1 more.1, rw (one.2, more.2) (sym (concat-append one.0 more.0)))
 
 -- what a call that tells gave
 pub put_or_stopped : (c : Change) (text : List ℕ) (result : Result (Unit {0}) Fault) → OnOk result (PutsText c text)
     → IfErr result (λ fault. (fault ≡ Io) × Stops c text) → PutsText c text ⊎ Stops c text
-put_or_stopped c text (Ok done) put stopped = inl put
-put_or_stopped c text (Err fault) put stopped = inr stopped.1
+put_or_stopped c text result put stopped = grind arith
 
 -- ---- the lines that were heard
 
@@ -88,8 +84,7 @@ module _ (Is : List ℕ → Told → Type 0) (input : Option (List ℕ)) (first 
     lines = [];
     split = λ known is. (known, is, refl);
     text = [];
-    right = subst (λ (b : Bool). TellsOf Is [] b held) (sym none)
-        (subst (λ (l : List ℕ). TellsOf Is [] false l) (sym empty) (none_told Told told_text told_refused Is));
+    right = rw (none, empty) (none_told Told told_text told_refused Is);
     told = put_none first;
   }
 
@@ -102,9 +97,7 @@ module _ {Is : List ℕ → Told → Type 0} {input left : Option (List ℕ)} {f
     lines = heard.lines;
     split = heard.split;
     text = heard.text ++ front;
-    right = subst (λ (b : Bool). TellsOf Is heard.lines b ((heard.text ++ front) ++ rest)) (sym same)
-        (subst (λ (l : List ℕ). TellsOf Is heard.lines is_refused l)
-        (ap (λ (l : List ℕ). heard.text ++ l) is ∙ sym (append_assoc heard.text front rest)) heard.right);
+    right = rw (same, append_assoc heard.text front rest, ← is) heard.right;
     told = put_more first now next heard.text front heard.told put;
   }
 
@@ -117,15 +110,10 @@ module _ {Is : List ℕ → Told → Type 0} {input left : Option (List ℕ)} {f
         lines = heard.lines ++ line ∷ [];
         split = λ known is.
             let was = heard.split known is in
-            let takes = hears.2 was.0 was.1 in (
-              takes.0,
-              takes.1,
-              was.2 ∙ ap (λ (l : List (List ℕ)). heard.lines ++ l) takes.2 ∙ sym (append_assoc heard.lines (line ∷ []) (lines_of takes.0)),
-            );
+            let takes = hears.2 was.0 was.1 in (takes.0, takes.1, was.2 ∙ (rw takes.2 (sym (append_assoc heard.lines (line ∷ []) (lines_of takes.0)))));
         text = heard.text;
         right = one_told Told told_text told_refused Is heard.lines line one is_refused new.is_refused (heard.text ++ held) (heard.text ++ new.text)
-            heard.right (weaker line one hears.3)
-            (ap (λ (l : List ℕ). heard.text ++ l) hears.4 ∙ sym (append_assoc heard.text held one.text)) hears.5;
+            heard.right (weaker line one hears.3) (rw hears.4 (sym (append_assoc heard.text held one.text))) hears.5;
         told = heard.told;
       }
 
@@ -134,9 +122,7 @@ module _ {Is : List ℕ → Told → Type 0} {input left : Option (List ℕ)} {f
       → TellsSome (AreAllLines input) (TellsOf Is) is_refused (PutsText (change first last))
   all_told last none put = record {
     lines = heard.lines;
-    which = λ known is.
-        let was = heard.split known is in
-        sym (was.2 ∙ ap (λ (l : List ℕ). heard.lines ++ lines_of l) (none was.0 was.1) ∙ append-nil heard.lines);
+    which = λ known is. let was = heard.split known is in rw (was.2, none was.0 was.1) (sym (append-nil heard.lines));
     text = heard.text ++ held;
     right = heard.right;
     told = put_more first now last heard.text held heard.told put;
@@ -162,11 +148,7 @@ module _ {Is : List ℕ → Told → Type 0} {input left : Option (List ℕ)} {f
 
   -- of bytes that are known all are known
   pub never_known : left ≡ None → input ≡ None
-  never_known none = go input refl
-    where
-      go : (i : Option (List ℕ)) → input ≡ i → input ≡ None
-      go None is = is
-      go (Some known) is = let was = heard.split known is in absurd (cc)
+  never_known none = grind (arith, heard.split)
 
 -- what is held stayed as it was
 pub same_heard : {Is : List ℕ → Told → Type 0} {input left : Option (List ℕ)} {first now : SinkState} {is_refused : Bool} {held : List ℕ} (new : Told)
@@ -181,24 +163,17 @@ still_works failed by works = ap (λ (b : Bool). failed || b) works ∙ or-false
 -- what ends all by another one that answers
 pub ends_weaker : (Ends Other : Fault → Type 0) (left input : Option (List ℕ)) (fault : Fault) → ((fault : Fault) → Ends fault → Other fault)
     → (left ≡ None → input ≡ None) → EndsLines Ends left fault → EndsLines Other input fault
-ends_weaker Ends Other left input fault weaker none (inl ends) = inl (weaker fault ends)
-ends_weaker Ends Other left input fault weaker none (inr (inl memory)) = inr (inl memory)
-ends_weaker Ends Other left input fault weaker none (inr (inr io)) = inr (inr (io.0, none io.1))
+ends_weaker Ends Other left input fault weaker none ends = grind (arith, weaker, none)
 
 -- ---- faults that end all
 
 -- one of opening the file
 pub opening_ends : (c : ShelfChange) (file : List ℕ) (fault : Fault) → IsOpeningFault (c.before.has file) fault → IsEachFault c file fault
-opening_ends c file (File fault) holds = holds
-opening_ends c file Memory holds = tt
-opening_ends c file Io holds = inl holds
-opening_ends c file fault holds = absurd holds
+opening_ends c file fault holds = grind arith
 
 -- one of the lines
 pub lines_end : (c : ShelfChange) (file : List ℕ) (fault : Fault) → EndsLines (λ f. f ≡ Memory) c.before.input fault → IsEachFault c file fault
-lines_end c file fault (inl memory) = subst (IsEachFault c file) (sym memory) tt
-lines_end c file fault (inr (inl memory)) = subst (IsEachFault c file) (sym memory) tt
-lines_end c file fault (inr (inr io)) = subst (IsEachFault c file) (sym io.0) (inr io.1)
+lines_end c file fault ends = grind arith
 
 -- ---- what was told
 
@@ -254,8 +229,7 @@ lines_weaker c AreLines Are Holds e right (inr (f, told, line)) = inr (f, over_w
 
 -- no call failed but for what the fault says, where opening the file didn't
 pub fails_on : (before mid after fault : Bool) → mid ≡ (before || false) → (after || false) ≡ (mid || fault) → after ≡ (before || fault)
-fails_on before mid after fault opened told =
-    sym (or-false after) ∙ told ∙ ap (λ (b : Bool). b || fault) (opened ∙ or-false before)
+fails_on before mid after fault opened told = grind arith
 
 -- answers of one kind are of another one
 pub answers_are : (A : Type 0) (Is Other : List ℕ → A → Type 0) → ((line : List ℕ) (answer : A) → Is line answer → Other line answer)
@@ -281,12 +255,7 @@ module _ (A : Type 0) (tell : A → List ℕ) (refuses : A → Bool) (Is : List 
   answers_by [] [] are = ([], tt, refl, refl)
   answers_by (l ∷ ls) (t ∷ ts) are =
       let one = are.0 in
-      let more = answers_by ls ts are.1 in (
-        one.0 ∷ more.0,
-        (one.1, more.1),
-        ap (λ (x : List ℕ). x ++ flat_map told_text ts) one.2 ∙ ap (λ (x : List ℕ). tell one.0 ++ x) more.2,
-        ap (λ (b : Bool). b || list_any told_refused ts) one.3 ∙ ap (λ (b : Bool). refuses one.0 || b) more.3,
-      )
+      let more = answers_by ls ts are.1 in (one.0 ∷ more.0, (one.1, more.1), rw (one.2, more.2) refl, rw (one.3, more.3) refl)
   answers_by ls ts are = absurd are
 
   pub tells_by : (lines : List (List ℕ)) (is_refused : Bool) (text : List ℕ) → TellsOf (TellsOne tell refuses Is) lines is_refused text

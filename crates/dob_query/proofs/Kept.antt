@@ -1,13 +1,13 @@
 -- What is told of a table, the lines of its counts; and what files are kept that were filled.
-use Rattle.dob_query.proofs.Common.{◌++◌, ◌||◌, ◌∙◌, ◌∷◌, ◌≡◌, Bool, List, None, Option, Some, [], ap, codes, false, inl, inr, length, refl, subst, sym}
-use Rattle.dob_query.proofs.Common.{ℕ, or-false, decimal, Err, IsTrue, Ok, Result, String, Value, Change, others_chain, others_kept, Files, HasJust, SameFiles}
+use Rattle.dob_query.proofs.Common.{◌++◌, ◌||◌, ◌∙◌, ◌∷◌, ◌≡◌, Bool, List, Option, Some, [], ap, codes, false, inl, inr, length, refl, subst, sym, ℕ}
+use Rattle.dob_query.proofs.Common.{or-false, decimal, Err, IsTrue, Ok, Result, String, Value, Change, others_chain, others_kept, Files, HasJust, SameFiles}
 use Rattle.dob_query.proofs.Common.{SameOthers, ShelfChange, ShelfState, is_failed, shelf_change, ShelfFault, IsAnswered, fault_of_shelf, is_io, FillsSink}
-use Rattle.dob_query.proofs.Common.{IsShelfFault, IsTally, KeepsFilled, LeavesFiles, class_lines, count_line, Fault, Io, Memory}
-use Rattle.dob_query.proofs.Common.{Tally}
+use Rattle.dob_query.proofs.Common.{IsShelfFault, IsTally, KeepsFilled, LeavesFiles, class_lines, count_line, Fault, Io, Memory, Tally, ◌+◌, arith, get_or}
+use Rattle.dob_query.proofs.Common.{suc}
 use Rattle.std.proofs.Common.{append_assoc}
+use Rattle.dob_query.specs.Reaches.{level_line, level_lines}
 use Rattle.std.specs.Prelude.{string_bytes}
 use Rattle.std.specs.Io.KnownBytes.{Appends}
-use Rattle.dob_shelf.specs.declared.shelf.ShelfFault.TheVariants as shelf_fault
 
 -- ---- lines
 
@@ -26,19 +26,18 @@ lines_told values tally classes count is =
     (three_lines (codes "win ") (decimal tally.wins) (codes "loss ") (decimal tally.losses) (count_line (codes "draw ") tally.draws))
     ∙ (two_lines (codes "classes ") (decimal classes) _ ∙ rw (count, is.wins, is.losses, is.draws) refl)
 
+-- one distance more
+pub one_level : (levels : List ℕ) (distance : ℕ) → level_lines levels (distance + 1) ≡ level_lines levels distance ++ level_line distance (get_or levels distance 0)
+one_level levels distance = let next : distance + 1 ≡ suc distance = omega arith in ap (level_lines levels) next
+
 -- an empty sink that takes the bytes has just these
 pub received_all : (old new : Option (List ℕ)) (bytes : List ℕ) → old ≡ Some [] → Appends old new bytes → new ≡ Some bytes
-received_all old new bytes e h = go new (subst (λ (o : Option (List ℕ)). Appends o new bytes) e h)
-  where
-    go : (o : Option (List ℕ)) → Appends (Some []) o bytes → o ≡ Some bytes
-    go None h = absurd h
-    go (Some ys) h = ap (λ (x : List ℕ). Some x) h
+received_all old new bytes e h = grind arith
 
 -- ---- files that are filled and kept
 
 pub same_chain : (Old Mid New : Files) → SameFiles Old Mid → SameFiles Mid New → SameFiles Old New
-same_chain Old Mid New first second name bytes =
-    (λ h. (second name bytes).0 ((first name bytes).0 h), λ h. (first name bytes).1 ((second name bytes).1 h))
+same_chain Old Mid New first second name bytes = grind (arith, first name bytes, second name bytes)
 
 pub others_after : (name : List ℕ) (Old Mid New : Files) → SameFiles Old Mid → SameOthers name Mid New → SameOthers name Old New
 others_after name Old Mid New same others = others_chain name Old Mid New (others_kept name Old Mid same) others
@@ -49,19 +48,15 @@ fails_later old mid new failed first second = second ∙ ap (λ (b : Bool). b ||
 
 -- what holds of lack of memory and of a device that failed holds of a fault of keeping a file
 pub of_shelf_fault : (P : Fault → Type 0) → P Memory → P Io → (fault : Fault) → IsShelfFault fault → P fault
-of_shelf_fault P memory io Memory holds = memory
-of_shelf_fault P memory io Io holds = io
-of_shelf_fault P memory io fault holds = absurd holds
+of_shelf_fault P memory io fault holds = grind arith
 
 -- a fault of the shelf is one of keeping a file, and a device's just where that failed
 pub shelf_keeps : (fault : ShelfFault) → IsShelfFault (fault_of_shelf fault)
-shelf_keeps shelf_fault.Memory = tt
-shelf_keeps shelf_fault.Failed = tt
+shelf_keeps fault = grind arith
 
 pub shelf_fails : {X : Type 0} (made : Result X ShelfFault) (before after : Bool) (fault : ShelfFault) → after ≡ (before || is_failed {X = X} (Err fault))
     → after ≡ (before || is_io (fault_of_shelf fault))
-shelf_fails made before after shelf_fault.Memory failed = failed
-shelf_fails made before after shelf_fault.Failed failed = failed
+shelf_fails made before after fault failed = grind arith
 
 -- a sink that works is kept, and nothing fails
 pub keeps_working : (before sunk after : Bool) → sunk ≡ false → after ≡ ((before || sunk) || false) → after ≡ (before || false)
@@ -99,5 +94,4 @@ filled_answers {X} c name sunk Fits Holds (Err given) result empty fills kept =
 -- where the file is filled by bytes alone, each fault is one of the shelf
 pub shelf_leaves : (c : ShelfChange) (mid : ShelfState) → SameFiles c.before.has mid.has → (fault : Fault)
     → LeavesFiles (record c { before = mid }) IsShelfFault fault → IsShelfFault fault × SameFiles c.before.has c.after.has
-shelf_leaves c mid same fault holds =
-    (elim holds.0 [ inl unfilled ↦ unfilled | inr unkept ↦ unkept ], same_chain c.before.has mid.has c.after.has same holds.1)
+shelf_leaves c mid same fault holds = grind (arith, same_chain c.before.has mid.has c.after.has same)

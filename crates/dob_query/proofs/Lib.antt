@@ -7,12 +7,8 @@ pub mod EachLine  -- the answers to lines, one more at a time, and that what was
 pub mod Tallies  -- the tally of a list from those of its parts
 pub mod Statistics  -- the longest win and loss of a table are among its groups
 pub mod Asking  -- the faults of the records, of the header and of opening the file are those of asking it, and by a value table's file the answer is right
-pub mod Rightly  -- by a value table's file drawings, counts and puzzles are right
-pub mod Showing  -- the faults of drawing a position, and of keeping its picture, are those of showing it
-pub mod Migrating  -- what is kept of a file, and the faults of that, are those of migrating it
-pub mod Puzzling  -- the lines of puzzles, and which classes they are of
-pub mod Paired  -- the pairs of a table whose lines are written, and by a value table's file they are right
-pub mod Reaching  -- what can be reached, by rules or by a file, and how the lines tell it
+pub mod Rightly  -- by a value table's file drawings, counts, puzzles, pairs and what can be reached are right
+pub mod Puzzling  -- the lines of puzzles, and which classes these and pairs are of
 pub mod Placed  -- what lines come to by the records of a source is what is owed for asking for each
 pub mod Proven  -- the faults of a certificate's file and of its lists are those of verifying it, and of asking it for a reply
-pub mod MadeFaults  -- the certificate that is kept, and the faults of reading a file, of making and of keeping it, are those of certifying
+pub mod MadeFaults  -- the certificate that is kept, and the faults of reading a file, of making and of keeping it, are those of certifying, migrating or showing

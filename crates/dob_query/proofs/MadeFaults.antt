@@ -1,25 +1,25 @@
--- The faults of reading a file, of making a certificate and of keeping its bytes are those of certifying.
+-- The faults of reading a file, of making a certificate and of keeping its bytes are those of certifying; so it goes with migrating and showing.
 use Rattle.dob_query.proofs.Common.{◌∙◌, ◌≡◌, Bool, List, false, inl, inr, refl, subst, sym, ℕ, Err, IsTrue, Ok, Result, String, Setup, ClassTable, Change}
 use Rattle.dob_query.proofs.Common.{Content, HasJust, SameFiles, ShelfChange, ShelfState, is_io, AreThese, FillsSink, IsShelfFault, LeavesFiles, IsFileOf}
-use Rattle.dob_query.proofs.Common.{IsOpeningFault, IsTextOf, Fault, Certificate, File, Io, Memory, Table}
+use Rattle.dob_query.proofs.Common.{IsOpeningFault, IsTextOf, Fault, Certificate, Io, Memory, Table, Option, Some, codes, length, Files, AreMigrateLines}
+use Rattle.dob_query.proofs.Common.{IsAskingFault, IsDrawingFault, IsFillingFault, IsMigrateFault, IsShowFault, count_line, Draw}
+use Rattle.dob_dbfile.specs.Format.{bytes_of as table_bytes}
 use Rattle.std.specs.Prelude.{string_bytes}
 use Rattle.dob_certfile.specs.Format.{bytes_of}
 use Rattle.dob_certify.specs.declared.fault.Fault as making
-use Rattle.dob_certify.specs.declared.fault.Fault.TheVariants as making_fault
 use Rattle.dob_certify.specs.Faults.{IsFault}
 use Rattle.dob_query.specs.declared.certificate_fault.CertificateFault.TheVariants.{Unproved, TooMany, Unfit}
 use Rattle.dob_query.specs.Certificates.{AreCertifyLines, AreMade, IsCertifyFault, IsSaidOf, IsTableMakingFault, IsUnfit, fault_of_making, made_lines}
 use Rattle.dob_query.proofs.Kept.{AreKept, of_shelf_fault, same_chain}
+use Rattle.std.proofs.Common.{arith}
 
 -- a fault of making a certificate is one of filling its file, and no device's
 pub making_fills : (table : ClassTable) (is_exact : Bool) (most : ℕ) (position : Setup) (given : making.Fault) → IsFault table is_exact position most given
     → IsTableMakingFault table is_exact most position (fault_of_making given)
-making_fills table is_exact most position making_fault.Memory holds = tt
-making_fills table is_exact most position fault holds = holds
+making_fills table is_exact most position given holds = grind arith
 
 pub making_works : (given : making.Fault) → false ≡ is_io (fault_of_making given)
-making_works making_fault.Memory = refl
-making_works fault = refl
+making_works given = grind arith
 
 -- so is one of what no file can say
 pub unfit_fills : (table : ClassTable) (is_exact : Bool) (most : ℕ) (position : Setup) (said : Content) → IsSaidOf table is_exact position said
@@ -29,9 +29,7 @@ unfit_fills table is_exact most position said made Memory holds = tt
 unfit_fills table is_exact most position said made fault holds = absurd holds
 
 pub unfit_works : (said : Content) (fault : Fault) → IsUnfit said fault → false ≡ is_io fault
-unfit_works said Io holds = absurd holds
-unfit_works said (File f) holds = absurd holds
-unfit_works said fault holds = refl
+unfit_works said fault holds = grind arith
 
 -- and one of filling a file with bytes
 shelf_fills : (table : ClassTable) (is_exact : Bool) (most : ℕ) (position : Setup) (fault : Fault) → IsShelfFault fault
@@ -57,10 +55,7 @@ certificate_fills table is_exact most position said made lined written (Err faul
 module _ (c : ShelfChange) (file : List ℕ) (is_exact : Bool) (most : ℕ) (words : List ℕ) (position : Setup) (named : IsTextOf words position)
     (same : SameFiles c.before.has c.after.has) where
   pub opening_certifies : (fault : Fault) → IsOpeningFault (c.before.has file) fault → IsCertifyFault c file is_exact most words fault
-  opening_certifies (File f) holds = (position, named, holds, same)
-  opening_certifies Memory holds = same
-  opening_certifies Io holds = (position, named, same)
-  opening_certifies fault holds = absurd holds
+  opening_certifies fault holds = grind arith
 
   pub shelf_certifies : (fault : Fault) → IsShelfFault fault → IsCertifyFault c file is_exact most words fault
   shelf_certifies = of_shelf_fault (IsCertifyFault c file is_exact most words) same (position, named, same)
@@ -99,3 +94,43 @@ certify_lines c file out is_exact words position named mid told table read text 
   kept = λ tells. subst (λ (bytes : List ℕ). HasJust out bytes c.after.has) is.1.3 (is.2 (subst (λ (b : Bool). IsTrue b) (sym told) tells));
   same = is.1.2;
 }
+
+-- ---- migrating
+
+-- after the table was read and the other file made, which changed no file
+pub keeping_migrates : (c : ShelfChange) (file : List ℕ) (mid : ShelfState) (table : ClassTable) → IsFileOf (c.before.has file) table
+    → SameFiles c.before.has mid.has → (fault : Fault) → LeavesFiles (record c { before = mid }) (IsFillingFault table) fault → IsMigrateFault c file fault
+keeping_migrates c file mid table read same fault holds = (
+  elim holds.0 [
+    | inl unfilled ↦ inl (inr (table, read, unfilled))
+    | inr unkept ↦ inr unkept
+  ],
+  same_chain c.before.has mid.has c.after.has same holds.1,
+)
+
+-- the lines and the file that was kept
+pub migrate_lines : {X : Type 0} (c : ShelfChange) (file out : List ℕ) (mid : ShelfState) → mid.tells ≡ c.before.tells → (table : ClassTable)
+    → IsFileOf (c.before.has file) table → (text : String X)
+    → AreKept (AreThese (count_line (codes "classes ") (length table.values)) (table_bytes table)) out (record c { before = mid }) text
+    → AreMigrateLines c file out (string_bytes text)
+migrate_lines c file out mid told table read text is = record {
+  table = table;
+  read = read;
+  kept = λ tells. subst (λ (bytes : List ℕ). HasJust out bytes c.after.has) is.1.1 (is.2 (subst (λ (b : Bool). IsTrue b) (sym told) tells));
+  same = is.1.0;
+}
+
+-- ---- showing
+
+-- a fault of asking the file
+pub asking_draws : (Has : Files) (file : List ℕ) (position : Setup) (fault : Fault) → IsAskingFault Draw (Has file) position fault
+    → IsDrawingFault Has (Some file) position fault
+asking_draws Has file position fault holds = grind arith
+
+module _ (c : ShelfChange) (file : Option (List ℕ)) (words : List ℕ) (position : Setup) (named : IsTextOf words position) where
+  -- the file of the picture isn't kept
+  pub picture_shows : (mid : ShelfState) (name : List ℕ) (fault : Fault) → SameFiles c.before.has mid.has → IsShelfFault fault → SameFiles mid.has c.after.has
+      → IsShowFault c file (Some name) words fault
+  picture_shows mid name fault same holds still =
+      let kept = same_chain c.before.has mid.has c.after.has same still in
+      of_shelf_fault (IsShowFault c file (Some name) words) kept (position, named, inr refl, kept) fault holds

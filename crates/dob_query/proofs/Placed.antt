@@ -1,17 +1,17 @@
 -- What the lines of standard input come to by the records of a source is what is owed for asking for each, and right by the file of a value table.
-use Rattle.dob_query.proofs.Common.{◌∙◌, ◌≡◌, Bool, List, Option, ap, inl, inr, refl, subst, sym, true, true≢false, ℕ, Err, IfErr, IfOk, Ok, Result}
-use Rattle.dob_query.proofs.Common.{String, is_err, Family, Profile, Setup, IsPositionOf, Stream, whole, CountsClasses, Format, IsRefusal, IsRecorded}
-use Rattle.dob_query.proofs.Common.{ShelfChange, Ending, GivesWhole, IsRecordsFault, IsToldBy, LacksFor, HasValueFile, IsTextOf, AnswersLines}
-use Rattle.dob_query.proofs.Common.{EndsLines, Fault, File, Io, Memory, Table, Text, Question}
-use Rattle.dob_query.proofs.Common.{Look, ValueObject}
+use Rattle.dob_query.proofs.Common.{◌≡◌, Bool, List, Option, inl, inr, refl, subst, sym, true, ℕ, Err, IfErr, IfOk, Ok, Result, String, is_err, Family}
+use Rattle.dob_query.proofs.Common.{Profile, Setup, IsPositionOf, Stream, whole, CountsClasses, Format, IsRefusal, IsRecorded, ShelfChange, Ending}
+use Rattle.dob_query.proofs.Common.{GivesWhole, IsRecordsFault, IsToldBy, LacksFor, HasValueFile, IsTextOf, AnswersLines, EndsLines, Fault, File, Table}
+use Rattle.dob_query.proofs.Common.{Question, Look, ValueObject}
 use Rattle.std.specs.Prelude.{string_bytes}
 use Rattle.dob_probe.specs.declared.fault.Fault as probing
 use Rattle.dob_dbfile.specs.declared.fault.Fault.TheVariants as file_fault
 use Rattle.dob_probe.specs.declared.fault.Fault.TheVariants as table_fault
-use Rattle.dob_query.specs.QuestionsEach.{AnswersLine, AnswersLineRight, AnswersQuestionEachRight, ArePlaceLines, EndsRecords, GivesRecordAnswer, IsPlaceAnswer}
-use Rattle.dob_query.specs.QuestionsEach.{IsPlacesFault, IsRecordAnswer, IsRecordEnd, TellsRecords, end_of, ended_lines, ends_all}
+use Rattle.dob_query.specs.QuestionsEach.{AnswersLine, AnswersLineRight, AnswersQuestionEachRight, ArePlaceLines, EndsRecords, GivesRecordAnswer}
+use Rattle.dob_query.specs.QuestionsEach.{IsPlaceAnswer, IsPlacesFault, IsRecordAnswer, IsRecordEnd, TellsRecords, end_of, ended_lines, ends_all}
 use Rattle.dob_query.proofs.Asking.{answer_right}
 use Rattle.dob_query.proofs.EachLine.{lines_weaker, tells_are}
+use Rattle.std.proofs.Common.{arith}
 
 module _ (question : Question) (Has : List ℕ → Type 0) (Gives Shows : Stream → Type 0) (gives : (bytes : List ℕ) → Has bytes → Gives (whole bytes))
     (shows : (bytes : List ℕ) → Has bytes → Shows (whole bytes)) where
@@ -34,7 +34,6 @@ module _ (question : Question) (Has : List ℕ → Type 0) (Gives Shows : Stream
         told = is.3 stream (shown stream file);
       },
     )
-    place_answer line (Err (Text fault)) is = is
     place_answer line (Err (Table (table_fault.Inconsistent class))) is = (
       is.0,
       is.1,
@@ -47,7 +46,7 @@ module _ (question : Question) (Has : List ℕ → Type 0) (Gives Shows : Stream
       is.1,
       λ stream file. (format, family, record { named = named stream (given stream file); member = is.2 }, is.3 stream (shown stream file)),
     )
-    place_answer line (Err fault) is = absurd is
+    place_answer line (Err fault) is = grind arith
 
 module _ (question : Question) (c : ShelfChange) (name : List ℕ) (Gives Shows : Stream → Type 0)
     (gives : (bytes : List ℕ) → c.before.has name bytes → Gives (whole bytes))
@@ -62,25 +61,18 @@ module _ (question : Question) (c : ShelfChange) (name : List ℕ) (Gives Shows 
   pub places_ended : (fault : Fault) → EndsRecords Gives Shows known fault → IsPlacesFault c name fault
   places_ended (File fault) (inl front) = λ stream file. front stream (given question (c.before.has name) Gives Shows gives shows stream file)
   places_ended (File fault) (inr fails) = λ stream file.
-      absurd (true≢false (sym (fails stream (shown question (c.before.has name) Gives Shows gives shows stream file)) ∙ ap (λ (s : Stream). s.fails) file.2))
-  places_ended Memory ends = tt
-  places_ended Io ends = inr (sym same ∙ ends)
-  places_ended fault ends = absurd ends
+      absurd (cc (fails stream (shown question (c.before.has name) Gives Shows gives shows stream file), file.2))
+  places_ended fault ends = grind (arith, same)
 
 -- of fewer streams
 pub record_weaker : (question : Question) (Shows Fewer : Stream → Type 0) → ((stream : Stream) → Fewer stream → Shows stream) → (format : Format)
     (family : Family) (line : List ℕ) (answer : Result (List ℕ) Fault) → IsRecordAnswer question Shows format family line answer
     → IsRecordAnswer question Fewer format family line answer
-record_weaker question Shows Fewer shows format family line (Ok lines) is = (is.0, is.1, is.2, λ stream few. is.3 stream (shows stream few))
-record_weaker question Shows Fewer shows format family line (Err (File fault)) is = (is.0, is.1, is.2, λ stream few. is.3 stream (shows stream few))
-record_weaker question Shows Fewer shows format family line (Err (Table (table_fault.Inconsistent class))) is =
-    (is.0, is.1, is.2, λ stream few. is.3 stream (shows stream few))
-record_weaker question Shows Fewer shows format family line answer is = is
+record_weaker question Shows Fewer shows format family line answer is = grind (arith, shows)
 
 -- a fault of one kind is of another one
 pub err_weaker : {X : Type 0} (P Q : Fault → Type 0) (r : Result X Fault) → ((fault : Fault) → P fault → Q fault) → IfErr r P → IfErr r Q
-err_weaker P Q (Ok x) weaker is = tt
-err_weaker P Q (Err fault) weaker is = weaker fault is
+err_weaker P Q r weaker is = grind (arith, weaker)
 
 -- ---- what a line came to
 
@@ -88,19 +80,13 @@ module _ (question : Question) (Shows : Stream → Type 0) (format : Format) (fa
   -- why the family refuses its position
   pub refused_line : (X : Type 0) (fault : probing.Fault) → IsTextOf line position → IsRefusal family position fault
       → GivesRecordAnswer {X = X} question Shows format family line (Err (Table fault))
-  refused_line X table_fault.FarChick named refused = (position, named, refused)
-  refused_line X table_fault.OtherSet named refused = (position, named, refused)
-  refused_line X fault named refused = absurd refused
+  refused_line X fault named refused = grind arith
 
   -- what the records give of it
   pub told_line : {X : Type 0} (result : Result (String X) Fault) → IsTextOf line position → IsPositionOf family position
       → ((stream : Stream) → Shows stream → IfOk result (λ lines. IsToldBy question family.profile (IsRecorded stream format family) position (string_bytes lines)))
       → IfErr result (IsRecordsFault question Shows format family position) → GivesRecordAnswer question Shows format family line result
-  told_line (Ok lines) named member told fault = (position, named, member, told)
-  told_line (Err (File f)) named member told fault = (position, named, member, fault)
-  told_line (Err (Table (table_fault.Inconsistent class))) named member told fault = (position, named, member, fault)
-  told_line (Err Memory) named member told fault = tt
-  told_line (Err f) named member told fault = absurd fault
+  told_line result named member told fault = grind arith
 
 module _ (question : Question) (Shows : Stream → Type 0) (format : Format) (family : Family) (line : List ℕ) where
   -- a device that fails is the source
@@ -113,24 +99,20 @@ module _ (question : Question) (Shows : Stream → Type 0) (format : Format) (fa
   -- and what ends all is that it failed, or memory
   pub line_ends : (X : Type 0) (fault : Fault) → GivesRecordAnswer {X = X} question Shows format family line (Err fault) → ends_all fault ≡ true
       → IsRecordEnd Shows fault
-  line_ends X Memory is ends = tt
   line_ends X (File (file_fault.Io bytes)) is ends = λ stream shows. lacks_io question refl stream bytes is.0 (is.3 stream shows)
-  line_ends X Io is ends = absurd is
-  line_ends X fault is ends = absurd (true≢false (sym ends))
+  line_ends X fault is ends = grind arith
 
 -- so the source's end is that of all
 pub source_ends : (Gives Shows Later : Stream → Type 0) → ((stream : Stream) → Shows stream → Later stream) → (known : Option (List ℕ)) (fault : Fault)
     → IsRecordEnd Later fault → EndsRecords Gives Shows known fault
-source_ends Gives Shows Later later known Memory ends = tt
 source_ends Gives Shows Later later known (File (file_fault.Io bytes)) ends = inr (λ stream shows. ends stream (later stream shows))
-source_ends Gives Shows Later later known fault ends = absurd ends
+source_ends Gives Shows Later later known fault ends = grind arith
 
 -- and so is a line's
 pub lines_end_records : (Gives Shows Later : Stream → Type 0) → ((stream : Stream) → Shows stream → Later stream) → (known : Option (List ℕ)) (fault : Fault)
     → EndsLines (IsRecordEnd Later) known fault → EndsRecords Gives Shows known fault
 lines_end_records Gives Shows Later later known fault (inl ends) = source_ends Gives Shows Later later known fault ends
-lines_end_records Gives Shows Later later known fault (inr (inl memory)) = subst (EndsRecords Gives Shows known) (sym memory) tt
-lines_end_records Gives Shows Later later known fault (inr (inr io)) = subst (EndsRecords Gives Shows known) (sym io.0) io.1
+lines_end_records Gives Shows Later later known fault (inr ends) = grind arith
 
 -- ---- by the file of a value table
 

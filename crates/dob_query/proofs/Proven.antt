@@ -1,46 +1,38 @@
 -- The faults of reading a certificate and of its lists are those of verifying it, of making one, and of asking one for a reply.
-use Rattle.dob_query.proofs.Common.{◌||◌, ◌≡◌, ◌⊎◌, Bool, List, false, inl, inr, subst, ℕ, Err, IfErr, IfOk, Ok, Result, String, Setup}
-use Rattle.dob_query.proofs.Common.{Content, HasCertFault, FailsWhere, ShelfChange, ShelfFault, fault_of_shelf, is_io, IsTextOf, Fault, Certificate}
-use Rattle.dob_query.proofs.Common.{File, Io, Memory, Text}
+use Rattle.dob_query.proofs.Common.{◌||◌, ◌≡◌, ◌⊎◌, Bool, List, false, inr, ℕ, Err, IfErr, IfOk, Ok, Result, String, Setup, Content, HasCertFault, FailsWhere}
+use Rattle.dob_query.proofs.Common.{ShelfChange, ShelfFault, fault_of_shelf, is_io, IsTextOf, Fault, Certificate, Memory, Text}
 use Rattle.std.specs.Prelude.{string_bytes}
 use Rattle.dob_certfile.specs.declared.defect.Defect.{Defect as AnyDefect}
 use Rattle.dob_certfile.specs.declared.defect.ReadFault.{ReadFault}
 use Rattle.dob_certfile.specs.declared.defect.ReadFault.TheVariants as reading
 use Rattle.dob_query.specs.declared.certificate_fault.CertificateFault.TheVariants.{Unproved}
-use Rattle.dob_query.specs.Certificates.{AreBytes, GivesVerify, IsBytesFault, IsCertificateFile, IsReadingFault, IsVerdict, IsVerdictFault}
-use Rattle.dob_query.specs.Certificates.{IsVerifyFault, fault_of_reading}
+use Rattle.dob_query.specs.Certificates.{AreBytes, GivesVerify, IsBytesFault, IsCertificateFile, IsReadingFault, IsVerdict, IsVerdictFault, IsVerifyFault}
+use Rattle.dob_query.specs.Certificates.{fault_of_reading}
 use Rattle.dob_query.specs.Replying.{GivesReply, IsReplyFault, IsReplyFaultOf, IsToldReply}
 use Rattle.dob_query.proofs.TableFaults.{is_shut}
 use Rattle.dob_shelf.specs.declared.shelf.ShelfFault.TheVariants as shelf_fault
+use Rattle.std.proofs.Common.{arith}
 
 -- ---- the file
 
 module _ (Has : List ℕ → Type 0) where
   -- a file that a shelf has isn't read only for lack of memory
   pub shelf_bytes : (lower : ShelfFault) → ((bytes : List ℕ) → Has bytes → lower ≡ shelf_fault.Memory) → IsBytesFault Has (fault_of_shelf lower)
-  shelf_bytes shelf_fault.Memory found = tt
-  shelf_bytes shelf_fault.Failed found = is_shut Has found
+  shelf_bytes lower found = grind (arith, is_shut Has)
 
   pub bytes_read : (fault : Fault) → IsBytesFault Has fault → IsReadingFault Has fault
-  bytes_read Memory holds = tt
-  bytes_read Io holds = holds
-  bytes_read fault holds = absurd holds
+  bytes_read fault holds = grind arith
 
   -- the defect of the bytes is the file's
   pub defect_read : (found : List ℕ) → AreBytes Has found → (given : ReadFault)
       → (given ≡ reading.Memory) ⊎ ((defect : AnyDefect) × (given ≡ reading.Defect defect) × HasCertFault found defect)
       → IsReadingFault Has (fault_of_reading given)
-  defect_read found are reading.Memory why = tt
-  defect_read found are (reading.Defect defect) (inl memory) = absurd (cc)
-  defect_read found are (reading.Defect defect) (inr why) = λ bytes has.
-      let same : why.0 ≡ defect = cc in
-      subst (λ (b : List ℕ). HasCertFault b defect) (are bytes has) (subst (λ (d : AnyDefect). HasCertFault found d) same why.2)
+  defect_read found are given why = grind (arith, are)
 
   -- ---- verifying
 
   pub read_verifies : (fault : Fault) → IsReadingFault Has fault → IsVerifyFault Has fault
-  read_verifies (Certificate (Unproved r)) holds = absurd holds
-  read_verifies fault holds = holds
+  read_verifies fault holds = grind arith
 
   pub verdict_verifies : (said : Content) → IsCertificateFile Has said → (fault : Fault) → IsVerdictFault said fault → IsVerifyFault Has fault
   verdict_verifies said is (Certificate (Unproved r)) holds = (said, is, holds)
@@ -49,14 +41,11 @@ module _ (Has : List ℕ → Type 0) where
 
 -- a defect of a file is no device's
 pub read_fails : (before after : Bool) (given : ReadFault) → after ≡ (before || false) → after ≡ (before || is_io (fault_of_reading given))
-read_fails before after reading.Memory failed = failed
-read_fails before after (reading.Defect defect) failed = failed
+read_fails before after given failed = grind arith
 
 verdict_fails : (said : Content) (before after : Bool) (fault : Fault) → IsVerdictFault said fault → after ≡ (before || false)
     → after ≡ (before || is_io fault)
-verdict_fails said before after Io holds failed = absurd holds
-verdict_fails said before after (File f) holds failed = absurd holds
-verdict_fails said before after fault holds failed = failed
+verdict_fails said before after fault holds failed = grind arith
 
 -- what is given for a certificate is given for its file
 pub verified : {X : Type 0} (c : ShelfChange) (file : List ℕ) (result : Result (String X) Fault) (said : Content) → IsCertificateFile (c.before.has file) said
@@ -69,14 +58,11 @@ verified c file (Err fault) said is failed ok err =
 
 reply_fails : (said : Content) (p : Setup) (before after : Bool) (fault : Fault) → IsReplyFault said p fault → after ≡ (before || false)
     → after ≡ (before || is_io fault)
-reply_fails said p before after Io holds failed = absurd holds
-reply_fails said p before after (File f) holds failed = absurd holds
-reply_fails said p before after fault holds failed = failed
+reply_fails said p before after fault holds failed = grind arith
 
 module _ (Has : List ℕ → Type 0) (words : List ℕ) (position : Setup) (named : IsTextOf words position) where
   pub read_replies : (fault : Fault) → IsReadingFault Has fault → IsReplyFaultOf Has words fault
-  read_replies (Text f) holds = absurd holds
-  read_replies fault holds = (position, named, inl holds)
+  read_replies fault holds = grind arith
 
   told_replies : (said : Content) → IsCertificateFile Has said → (fault : Fault) → IsReplyFault said position fault → IsReplyFaultOf Has words fault
   told_replies said is (Text f) holds = absurd holds

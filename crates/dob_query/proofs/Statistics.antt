@@ -2,7 +2,6 @@
 use Rattle.dob_query.proofs.Common.{◌<◌, ◌∷◌, List, [], arith, fold, length, suc, slice_get_within, Value, longest_of, with_group, with_value}
 use Rattle.std.proofs.Common.{Contains, IfSome}
 use Rattle.dob_pieces.proofs.Lists.{head_in}
-use Rattle.dob_value.specs.declared.value.Value.TheVariants.{Win, Loss, Draw}
 use Rattle.dob_probe.specs.declared.groups.Group.{Group}
 use Rattle.dob_probe.specs.Statistics.{AreGroups}
 use Rattle.dob_query.specs.declared.stats.Longest.{Longest}
@@ -15,9 +14,7 @@ module _ (P : Group → Type 0) where
   Have longest = IfSome longest.win P × IfSome longest.loss P
 
   have_more : (value : Value) (group : Group) (longest : Longest) → P group → Have longest → Have (with_value value group longest)
-  have_more (Win plies) group longest it has = (it, has.1)
-  have_more (Loss plies) group longest it has = (has.0, it)
-  have_more Draw group longest it has = has
+  have_more value group longest it has = grind arith
 
   -- what holds of each group holds of the longest
   longest_have : (groups : List Group) (longest : Longest) → ((group : Group) → Contains groups group → P group) → Have longest

@@ -1,14 +1,14 @@
 -- The faults of a table are those of the file that it was read from, and by the file of a value table the value told is right.
-use Rattle.dob_query.proofs.Common.{◌||◌, ◌≡◌, Bool, List, false, inl, inr, subst, ℕ, Err, Profile, Setup, ClassTable, IsValueTable, HasValue, Value}
-use Rattle.dob_query.proofs.Common.{IsFaultOfCheck, IsRefusal, FailsWhere, ShelfChange, is_failed, ShelfFault, IsGivenTo, Answers, AnswersOver, Ending}
-use Rattle.dob_query.proofs.Common.{fault_of_shelf, is_io, IsValueLineOf, IsValueOf, HasValueFile, IsFileOf, IsOpeningFault, IsPositionFault, IsShut, IsTextOf}
-use Rattle.dob_query.proofs.Common.{Fault, File, Io, Memory, Table}
+use Rattle.dob_query.proofs.Common.{◌≡◌, List, false, subst, ℕ, Profile, Setup, ClassTable, IsValueTable, HasValue, Value, IsFaultOfCheck, IsRefusal}
+use Rattle.dob_query.proofs.Common.{FailsWhere, ShelfChange, ShelfFault, IsGivenTo, Answers, AnswersOver, Ending, fault_of_shelf, is_io, IsValueLineOf}
+use Rattle.dob_query.proofs.Common.{IsValueOf, HasValueFile, IsFileOf, IsOpeningFault, IsPositionFault, IsShut, IsTextOf, Fault, Table}
 use Rattle.dob_pieces.specs.Profiles.{IsAllowed}
 use Rattle.dob_dbfile.proofs.Written.{same_files}
 use Rattle.dob_probe.specs.declared.fault.Fault as probing
 use Rattle.dob_probe.specs.declared.fault.Fault.TheVariants as table_fault
 use Rattle.dob_shelf.specs.declared.shelf.ShelfFault.TheVariants as shelf_fault
 use Rattle.dob_query.specs.Tables.{AnswersProbe, AnswersProbeRight, IsCheckFault, IsProbingFault, IsProbeLine}
+use Rattle.std.proofs.Common.{arith}
 
 module _ (Has : List ℕ → Type 0) (table : ClassTable) (file : IsFileOf Has table) where
   pub check_fault_holds : (fault : probing.Fault) → IsFaultOfCheck table fault → IsCheckFault Has (Table fault)
@@ -32,32 +32,17 @@ is_shut Has found bytes has = let never : shelf_fault.Failed ≡ shelf_fault.Mem
 
 pub shelf_fault_holds : (Has : List ℕ → Type 0) (lower : ShelfFault) → ((bytes : List ℕ) → Has bytes → lower ≡ shelf_fault.Memory)
     → IsOpeningFault Has (fault_of_shelf lower)
-shelf_fault_holds Has shelf_fault.Memory found = tt
-shelf_fault_holds Has shelf_fault.Failed found = is_shut Has found
-
--- and a call failed just where that is a device's fault
-pub shelf_fails : (before after : Bool) (lower : ShelfFault) → after ≡ (before || is_failed {X = Unit {0}} (Err lower))
-    → after ≡ (before || is_io (fault_of_shelf lower))
-shelf_fails before after shelf_fault.Memory failed = failed
-shelf_fails before after shelf_fault.Failed failed = failed
+shelf_fault_holds Has lower found = grind (arith, is_shut Has)
 
 -- a fault of opening the file is one of asking for the position of a text
 pub opening_fault_holds : (Has : List ℕ → Type 0) (words : List ℕ) (position : Setup) (fault : Fault) → IsTextOf words position
     → IsOpeningFault Has fault → IsPositionFault Has words fault
-opening_fault_holds Has words position (File fault) named holds = (position, named, holds)
-opening_fault_holds Has words position Io named holds = (position, named, holds)
-opening_fault_holds Has words position Memory named holds = tt
-opening_fault_holds Has words position fault named holds = absurd holds
+opening_fault_holds Has words position fault named holds = grind arith
 
 module _ (Has : List ℕ → Type 0) (profile : Profile) (file : HasValueFile Has profile) where
   -- the table that was read is the value table
   pub right_table : (table : ClassTable) → IsFileOf Has table → IsValueTable table.family table.values × (table.family.profile ≡ profile)
-  right_table table is =
-      let same : file.table ≡ table =
-      same_files file.bytes file.table table file.right.table is.whole file.file (is.same file.bytes file.has) in (
-        subst (λ (t : ClassTable). IsValueTable t.family t.values) same file.right,
-        subst (λ (t : ClassTable). t.family.profile ≡ profile) same file.rules,
-      )
+  right_table table is = rw (← same_files file.bytes file.table table file.right.table is.whole file.file (is.same file.bytes file.has)) (file.right, file.rules)
 
   -- so the value that it gives a text's position is the one that this has by definition
   pub value_right : (table : ClassTable) → IsFileOf Has table → (words : List ℕ) (value : Value) → IsGivenTo table words value → IsValueOf profile words value
@@ -78,11 +63,7 @@ module _ (Has : List ℕ → Type 0) (profile : Profile) (file : HasValueFile Ha
 -- where lines of one kind are of another one
 answers_weaker : (A B : List ℕ → Type 0) (Holds : Fault → Type 0) (e : Ending) → ((lines : List ℕ) → A lines → B lines)
     → Answers A Holds e → Answers B Holds e
-answers_weaker A B Holds e weaker (inl t) =
-    inl (record { lines = t.lines; right = weaker t.lines t.right; done = t.done; told = t.told; silent = t.silent })
-answers_weaker A B Holds e weaker (inr (inl t)) = inr (inl t)
-answers_weaker A B Holds e weaker (inr (inr t)) =
-    inr (inr (record { lines = t.lines; right = weaker t.lines t.right; part = t.part; told = t.told }))
+answers_weaker A B Holds e weaker is = grind (arith, weaker)
 
 -- the same over a shelf
 pub over_weaker : (c : ShelfChange) (A B : List ℕ → Type 0) (Holds : Fault → Type 0) (e : Ending) → ((lines : List ℕ) → A lines → B lines)

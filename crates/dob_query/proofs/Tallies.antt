@@ -1,7 +1,8 @@
 -- The tally of a list from tallies of its parts.
-use Rattle.dob_query.proofs.Common.{◌++◌, ◌+◌, ◌<◌, ◌^◌, ◌∷◌, ◌≡◌, List, Some, [], ap, arith, length, refl, subst, sym, ℕ, append_assoc, length-append, AllZip}
-use Rattle.dob_query.proofs.Common.{range_with_len, slice_get, Value, IsTally, IsTallyAt, Tally}
+use Rattle.dob_query.proofs.Common.{◌++◌, ◌+◌, ◌<◌, ◌^◌, ◌∷◌, ◌≡◌, List, Some, [], ap, arith, length, refl, subst, sym, ℕ, append_assoc, length-append}
+use Rattle.dob_query.proofs.Common.{AllZip, range_with_len, slice_get, Value, IsTally, IsTallyAt, Tally}
 use Rattle.dob_query.specs.Keeping.{AreAddedUp}
+use Rattle.dob_pieces.proofs.Elements.{middle}
 
 -- the tally of one value each, place by place
 abbrev AreOnes : List Value → List Tally → Type 0
@@ -36,10 +37,9 @@ pub both_whole : (ones more : List Tally) (left right both : Tally) → IsWhole 
     → IsWhole (ones ++ more) both
 both_whole ones more left right both of_left of_right added values few are =
     let parts = parts_of ones more values are in
-    let long = length-append parts.first parts.second in
-    let all : length (parts.first ++ parts.second) < 2 ^ 64 = subst (λ (l : List Value). length l < 2 ^ 64) parts.joined few in
-    subst (λ (l : List Value). IsTally l both) (sym parts.joined)
-    (added parts.first parts.second all (of_left parts.first (omega arith) parts.left) (of_right parts.second (omega arith) parts.right))
+    let all = rw parts.joined at few in
+    rw parts.joined (added parts.first parts.second all (of_left parts.first (omega (arith, all, length-append parts.first parts.second)) parts.left)
+    (of_right parts.second (omega (arith, all, length-append parts.first parts.second)) parts.right))
 
 -- of no values
 pub none_whole : (none : Tally) → IsTally [] none → IsWhole [] none
@@ -54,8 +54,7 @@ one_whole one (value ∷ next ∷ values) few are = absurd are.1
 
 -- the values at the places from one on
 at_length : (before rest : List Value) (value found : Value) → slice_get (before ++ value ∷ rest) (length before) ≡ Some found → found ≡ value
-at_length [] rest value found e = cc
-at_length (first ∷ before) rest value found e = at_length before rest value found e
+at_length before rest value found e = cc (middle before rest value)
 
 pub ones_at : (before rest : List Value) (ones : List Tally) → AllZip (IsTallyAt (before ++ rest)) (range_with_len (length before) (length rest)) ones
     → AreOnes rest ones

@@ -194,7 +194,7 @@ fn levels_asked(alloc: Global, has_levels: bool, levels: &[u64]) -> Result<Strin
 }
 
 // A line for each distance.
-#[tactic(auto, using(crate::proofs::Reaching::one_level))]
+#[tactic(auto, using(crate::proofs::Kept::one_level))]
 fn level_lines(alloc: Global, levels: &[u64]) -> Result<String, Memory>
     ensures { IfOk result (λ lines. string_bytes lines ≡ level_lines levels.now (length levels.now)) }
 {

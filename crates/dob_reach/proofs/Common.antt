@@ -1,7 +1,7 @@
 -- The names that the proofs here use most, from other crates and the definitions of this one.
 pub use Rattle.std.proofs.Common.{◌%◌, ◌*◌, ◌++◌, ◌+◌, ◌-◌, ◌/◌, ◌<◌, ◌==◌, ◌^◌, ◌↔◌, ◌∙◌, ◌∷◌, ◌≡◌, ◌≢◌, ◌≤◌, ◌⊎◌, AllPairs, Bool, Contains, List, Some, []}
-pub use Rattle.std.proofs.Common.{ap, append-nil, append_assoc, arith, bit_or, drop, false, get_or, inl, inr, length, length-append, min, refl, set, subst, suc}
-pub use Rattle.std.proofs.Common.{sym, take, true, vec_len, w64, zero, ℕ}
+pub use Rattle.std.proofs.Common.{ap, append-nil, append_assoc, arith, bit_or, drop, false, get_or, inl, inr, length, length-append, min, refl, set, subst}
+pub use Rattle.std.proofs.Common.{suc, sym, take, true, vec_len, w64, zero, ℕ}
 pub use Rattle.std.proofs.Math.Seq.{get_or-append_seam, take-add}
 pub use Rattle.std.proofs.lemmas.Bool.{cases_eq, cases_lt, eqb-true, false≢true, true≢false}
 pub use Rattle.std.proofs.lemmas.List.{get_or_append_left, get_or_default, get_or_past, length-drop, length-take, length_push, nil_from_length}
@@ -14,7 +14,7 @@ pub use Rattle.rayon.proofs.ListFacts.{AllZip-weaken, IfOk-then}
 pub use Rattle.dob_pieces.proofs.Lists.{cons_cases, head_in, none_in_empty, rest_in, stands_or}
 pub use Rattle.dob_pieces.specs.declared.profile.Family.{Family}
 pub use Rattle.dob_pieces.specs.declared.setup.Setup.{Setup}
-pub use Rattle.dob_moves.proofs.ProfileMoves.{Goes-mirrored, HasStatus-mirrored, goes_there, status_there}
+pub use Rattle.dob_moves.proofs.ProfileMoves.{Goes-mirrored, HasStatus-mirrored}
 pub use Rattle.dob_moves.specs.Moves.{Goes}
 pub use Rattle.dob_moves.specs.Statuses.{AreMoves, HasStatus}
 pub use Rattle.dob_moves.specs.declared.position_status.Status.TheVariants.{Open}

@@ -1,8 +1,8 @@
 -- Counts of numbers with a property: put together, of a list's items, and below a bound.
-use Rattle.dob_reach.proofs.Common.{◌++◌, ◌+◌, ◌<◌, ◌∙◌, ◌∷◌, ◌≡◌, ◌≤◌, ◌⊎◌, AllPairs, Contains, List, [], arith, get_or, inl, inr, length, length-append, refl}
-use Rattle.dob_reach.proofs.Common.{subst, suc, sym, zero, ℕ, cases_eq, cases_lt, get_or_default, Contains-append_cases, Contains-append_left}
-use Rattle.dob_reach.proofs.Common.{Contains-append_right, range_with_len, cons_cases, head_in, none_in_empty, rest_in, Among, HasJust}
-use Rattle.std.proofs.lemmas.List.FromFn.{length-range_with_len}
+use Rattle.dob_reach.proofs.Common.{◌++◌, ◌+◌, ◌<◌, ◌∙◌, ◌∷◌, ◌≡◌, ◌≤◌, ◌⊎◌, AllPairs, Among, Contains, Contains-append_cases, Contains-append_left}
+use Rattle.dob_reach.proofs.Common.{Contains-append_right, HasJust, List, [], arith, cons_cases, get_or, get_or_default, head_in, inl, inr, length}
+use Rattle.dob_reach.proofs.Common.{length-append, none_in_empty, range_with_len, refl, rest_in, subst, sym, ℕ}
+use Rattle.std.proofs.lemmas.List.FromFn.{length-range_with_len, get_or-range_with_len}
 use Rattle.std.proofs.lemmas.List.Kept.{AllPairs-cons}
 use Rattle.dob_classes.proofs.OfFamilies.Counted.{pairs-head, pairs-tail, no_longer}
 
@@ -43,8 +43,8 @@ apart_more xs x once absent =
 -- ---- just so many
 
 -- two properties of the same numbers have one count
-pub just_same : (P Q : ℕ → Type 0) (count : ℕ) → ((k : ℕ) → P k → Q k) → ((k : ℕ) → Q k → P k) → HasJust P count → HasJust Q count
-just_same P Q count onward back has = record {
+pub just_same : {P Q : ℕ → Type 0} {count : ℕ} → HasJust P count → ((k : ℕ) → P k → Q k) → ((k : ℕ) → Q k → P k) → HasJust Q count
+just_same has onward back = record {
   list = has.list;
   sound = λ number there. onward number (has.sound number there);
   whole = λ number is. has.whole number (back number is);
@@ -52,8 +52,8 @@ just_same P Q count onward back has = record {
   counted = has.counted;
 }
 
-pub just_none : (P : ℕ → Type 0) → ((k : ℕ) → ¬ P k) → HasJust P 0
-just_none P none = record {
+pub just_none : {P : ℕ → Type 0} → ((k : ℕ) → ¬ P k) → HasJust P 0
+just_none none = record {
   list = [];
   sound = λ number there. absurd (none_in_empty number there);
   whole = λ number is. absurd (none number is);
@@ -62,8 +62,8 @@ just_none P none = record {
 }
 
 -- of properties that no number has both
-pub just_both : (P Q : ℕ → Type 0) (m n : ℕ) → ((k : ℕ) → P k → ¬ Q k) → HasJust P m → HasJust Q n → HasJust (λ k. P k ⊎ Q k) (m + n)
-just_both P Q m n across p q = record {
+pub just_both : {P Q : ℕ → Type 0} {m n : ℕ} → HasJust P m → HasJust Q n → ((k : ℕ) → P k → ¬ Q k) → HasJust (λ k. P k ⊎ Q k) (m + n)
+just_both p q across = record {
   list = p.list ++ q.list;
   sound = λ number there. elim (Contains-append_cases p.list q.list number there) [
     | inl left ↦ inl (p.sound number left)
@@ -88,19 +88,14 @@ just_list numbers once = record {
 }
 
 -- numbers below a bound are no more than it
-range_has : (count from number : ℕ) → from ≤ number → number < from + count → Contains (range_with_len from count) number
-range_has zero from number low high = absurd (omega arith)
-range_has (suc count) from number low high = elim (cases_eq from number) [
-  | inl same ↦ subst (Contains (from ∷ range_with_len (from + 1) count)) same (head_in from (range_with_len (from + 1) count))
-  | inr other ↦ rest_in from number (range_with_len (from + 1) count) (range_has count (from + 1) number (omega arith) (omega arith))
-]
+range_has : (bound number : ℕ) → number < bound → Contains (range_with_len 0 bound) number
+range_has bound number low =
+    (number, omega (arith, length-range_with_len 0 bound, low), omega (arith, get_or-range_with_len 0 bound number number low))
 
-pub just_few : (P : ℕ → Type 0) (count bound : ℕ) → ((k : ℕ) → P k → k < bound) → HasJust P count → count ≤ bound
-just_few P count bound low has =
-    let fits = no_longer has.list (range_with_len 0 bound) has.once
-    (λ number there. range_has bound 0 number (omega arith) (omega (arith, low number (has.sound number there)))) in
-    let long = length-range_with_len 0 bound in
-    omega (arith, fits, long, has.counted)
+pub just_few : {P : ℕ → Type 0} {count bound : ℕ} → HasJust P count → ((k : ℕ) → P k → k < bound) → count ≤ bound
+just_few {bound = bound} has low =
+    let fits = no_longer has.list (range_with_len 0 bound) has.once (λ number there. range_has bound number (low number (has.sound number there))) in
+    omega (arith, fits, length-range_with_len 0 bound, has.counted)
 
 -- one number alone
 pub just_one : (number : ℕ) → HasJust (λ k. k ≡ number) 1
@@ -111,34 +106,6 @@ just_one number = record {
   once = apart_first number [] (λ k there. absurd (none_in_empty k there)) (λ i j d lt within. absurd (omega (arith, within)));
   counted = refl;
 }
-
--- ---- the numbers below a place that have a property, one place more
-
-abbrev pub Below : (ℕ → Type 0) → ℕ → ℕ → Type 0
-Below P place k = (k < place) × P k
-
-pub below_more : (P : ℕ → Type 0) (place count : ℕ) → P place → HasJust (Below P place) count → HasJust (Below P (place + 1)) (count + 1)
-below_more P place count is has =
-    just_same (λ k. Below P place k ⊎ (k ≡ place)) (Below P (place + 1)) (count + 1)
-    (λ k which. elim which [
-      | inl low ↦ (omega (arith, low.0), low.1)
-      | inr same ↦ (omega (arith, same), subst P (sym same) is)
-    ])
-    (λ k low. elim (cases_lt k place) [
-      | inl less ↦ inl (less, low.1)
-      | inr high ↦ inr (omega (arith, high, low.0))
-    ])
-    (just_both (Below P place) (λ k. k ≡ place) count 1 (λ k low same. absurd (omega (arith, low.0, same))) has (just_one place))
-
-pub below_same : (P : ℕ → Type 0) (place count : ℕ) → (¬ P place) → HasJust (Below P place) count → HasJust (Below P (place + 1)) count
-below_same P place count not_is has =
-    just_same (Below P place) (Below P (place + 1)) count
-    (λ k low. (omega (arith, low.0), low.1))
-    (λ k low. elim (cases_lt k place) [
-      | inl less ↦ (less, low.1)
-      | inr high ↦ let same : k ≡ place = omega (arith, high, low.0) in absurd (not_is (subst P same low.1))
-    ])
-    has
 
 -- ---- so many of a list
 
@@ -164,25 +131,13 @@ among_none P x not_is = inr (not_is, refl)
 
 -- so many numbers of a list without repeats have the property
 pub among_just : (P : ℕ → Type 0) (numbers : List ℕ) (count : ℕ) → Among P numbers count → AllPairs Apart numbers → HasJust (λ k. Contains numbers k × P k) count
-among_just P [] count none once =
-    subst (HasJust (λ k. Contains [] k × P k)) (sym none) (just_none (λ k. Contains [] k × P k) (λ k is. none_in_empty k is.0))
+among_just P [] count none once = rw none (just_none (λ k is. none_in_empty k is.0))
 among_just P (x ∷ xs) count some once = elim some [
-  | inl one ↦
-      let rest = among_just P xs one.1 one.3 (pairs-tail Apart x xs once) in
-      subst (HasJust (λ k. Contains (x ∷ xs) k × P k)) (sym one.2)
-      (just_same (λ k. (Contains xs k × P k) ⊎ (k ≡ x)) (λ k. Contains (x ∷ xs) k × P k) (one.1 + 1)
-      (λ k which. elim which [
-        | inl later ↦ (rest_in x k xs later.0, later.1)
-        | inr same ↦ (subst (Contains (x ∷ xs)) (sym same) (head_in x xs), subst P (sym same) one.0)
-      ])
-      (λ k is. elim (cons_cases x xs k is.0) [ inl same ↦ inr (sym same) | inr later ↦ inl (later, is.1) ])
-      (just_both (λ k. Contains xs k × P k) (λ k. k ≡ x) one.1 1 (λ k later same. behind_first x xs once k later.0 (sym same)) rest (just_one x)))
-  | inr other ↦
-      just_same (λ k. Contains xs k × P k) (λ k. Contains (x ∷ xs) k × P k) count
+  | inl one ↦ rw one.2 (just_same (just_both (among_just P xs one.1 one.3 (pairs-tail Apart x xs once)) (just_one x)
+      (λ k later same. behind_first x xs once k later.0 (sym same)))
+      (λ k which. elim which [ inl later ↦ (rest_in x k xs later.0, later.1) | inr same ↦ rw same (head_in x xs, one.0) ])
+      (λ k is. elim (cons_cases x xs k is.0) [ inl same ↦ inr (sym same) | inr later ↦ inl (later, is.1) ]))
+  | inr other ↦ just_same (among_just P xs count other.1 (pairs-tail Apart x xs once))
       (λ k later. (rest_in x k xs later.0, later.1))
-      (λ k is. elim (cons_cases x xs k is.0) [
-        | inl same ↦ absurd (other.0 (subst P (sym same) is.1))
-        | inr later ↦ (later, is.1)
-      ])
-      (among_just P xs count other.1 (pairs-tail Apart x xs once))
+      (λ k is. elim (cons_cases x xs k is.0) [ inl same ↦ absurd (other.0 (rw (← same) at is.1)) | inr later ↦ (later, is.1) ])
 ]

@@ -1,6 +1,6 @@
 -- Numbers marked one after the other.
-use Rattle.dob_reach.proofs.Common.{◌%◌, ◌*◌, ◌++◌, ◌+◌, ◌/◌, ◌<◌, ◌^◌, ◌∙◌, ◌∷◌, ◌≡◌, ◌≢◌, ◌≤◌, Contains, List, [], ap, arith, bit_or, get_or, inl, inr}
-use Rattle.dob_reach.proofs.Common.{length, set, subst, sym, w64, ℕ, cases_eq, Contains-append_left, AreMarked, IsMarked, KeepsMarks, mark_of}
+use Rattle.dob_reach.proofs.Common.{◌%◌, ◌*◌, ◌++◌, ◌+◌, ◌/◌, ◌<◌, ◌^◌, ◌∙◌, ◌∷◌, ◌≡◌, ◌≢◌, ◌≤◌, AreMarked, Contains, Contains-append_left, IsMarked}
+use Rattle.dob_reach.proofs.Common.{KeepsMarks, List, [], ap, arith, bit_or, cases_eq, get_or, inl, inr, length, mark_of, set, subst, sym, w64, ℕ}
 use Rattle.std.proofs.lemmas.List.Elements.{Contains-push, Contains-push_cases}
 use Rattle.std.specs.Int.{bit_at}
 use Rattle.std.proofs.lemmas.List.{get_or-set_other, get_or-set_same}
@@ -37,8 +37,8 @@ module _ (words : List ℕ) (number word : ℕ) (bits : number + 1 ≤ length wo
 
 -- ---- marks
 
-pub keeps_both : (a b c : List ℕ) → KeepsMarks a b → KeepsMarks b c → KeepsMarks a c
-keeps_both a b c first second = record { long = second.long ∙ first.long; kept = λ number is. second.kept number (first.kept number is) }
+pub keeps_both : {a b c : List ℕ} → KeepsMarks a b → KeepsMarks b c → KeepsMarks a c
+keeps_both first second = record { long = second.long ∙ first.long; kept = λ number is. second.kept number (first.kept number is) }
 
 -- a number was marked before
 pub marked_twice : (before words done next : List ℕ) (number : ℕ) → AreMarked before words done next → IsMarked words number

@@ -1,6 +1,6 @@
 -- Plays of moves and the classes that they come to.
-use Rattle.dob_reach.proofs.Common.{◌≡◌, Bool, inl, inr, refl, subst, suc, sym, true, zero, ℕ, Family, Setup, Goes-mirrored, HasStatus-mirrored, Goes}
-use Rattle.dob_reach.proofs.Common.{HasStatus, Open, IsInClass, IsPositionOf, class_number, IsInClass-class_number, moves_keep_the_family, Met, Leads}
+use Rattle.dob_reach.proofs.Common.{◌≡◌, Bool, Family, Goes, Goes-mirrored, HasStatus, HasStatus-mirrored, IsInClass, IsInClass-class_number, IsPositionOf}
+use Rattle.dob_reach.proofs.Common.{Leads, Met, Open, Setup, class_number, inl, inr, moves_keep_the_family, refl, subst, suc, sym, true, zero, ℕ}
 use Rattle.dob_pieces.specs.Setups.{mirrored}
 use Rattle.dob_pieces.proofs.Boards.{IsLegal-mirrored}
 use Rattle.dob_pieces.proofs.Symmetries.{mirrored-mirrored}

@@ -1,6 +1,6 @@
 -- What a round makes of what was marked, of any steps among numbers; and what is marked where nothing is left to go on from.
-use Rattle.dob_reach.proofs.Common.{◌+◌, ◌∷◌, ◌≡◌, ◌≤◌, Contains, List, [], arith, inl, inr, refl, subst, suc, sym, zero, ℕ, cases_lt, head_in, none_in_empty}
-use Rattle.dob_reach.proofs.Common.{stands_or, HasDistance, IsReached, Met, IsMarked, AreMet, IsMarkedWithin, IsNearer}
+use Rattle.dob_reach.proofs.Common.{◌+◌, ◌∷◌, ◌≡◌, ◌≤◌, AreMet, Contains, HasDistance, IsMarked, IsMarkedWithin, IsNearer, IsReached, List, Met, [], arith}
+use Rattle.dob_reach.proofs.Common.{cases_lt, head_in, inl, inr, none_in_empty, refl, stands_or, subst, suc, sym, zero, ℕ}
 use Rattle.dob_reach.proofs.Counts.{apart_first, only_one}
 
 -- a number has one distance
@@ -16,9 +16,9 @@ module _ (Steps : ℕ → ℕ → Type 0) (from : ℕ) where
   met_at_once zero number low met = met
   met_at_once (suc n) number low met = absurd (omega (arith, low))
 
-  pub begun : (words : List ℕ) → ((number : ℕ) → IsMarked words number → number ≡ from) → IsMarked words from → IsMarkedWithin Steps from 0 words (from ∷ [])
-  begun words alone marked = record {
-    sound = λ number is. (0, omega arith, subst (HasDistance Steps from 0) (sym (alone number is)) itself);
+  pub begun : {words : List ℕ} → ((number : ℕ) → IsMarked words number → number ≡ from) → IsMarked words from → IsMarkedWithin Steps from 0 words (from ∷ [])
+  begun {words = words} alone marked = record {
+    sound = λ number is. (0, omega arith, rw (alone number is) itself);
     whole = λ n number low met. subst (IsMarked words) (met_at_once n number low met) marked;
     front_sound = λ number there. subst (HasDistance Steps from 0) (only_one from number there) itself;
     front_whole = λ number has. subst (Contains (from ∷ [])) has.0 (head_in from []);
@@ -27,7 +27,7 @@ module _ (Steps : ℕ → ℕ → Type 0) (from : ℕ) where
   }
 
 -- a round
-module _ (Steps : ℕ → ℕ → Type 0) (from d : ℕ) (before words front next : List ℕ) (known : IsMarkedWithin Steps from d before front)
+module _ {Steps : ℕ → ℕ → Type 0} {from d : ℕ} {before words front next : List ℕ} (known : IsMarkedWithin Steps from d before front)
     (met : AreMet Steps before words front next) where
   next_far : (number : ℕ) → Contains next number → HasDistance Steps from (d + 1) number
   next_far number there =
@@ -89,7 +89,7 @@ module _ (Steps : ℕ → ℕ → Type 0) (from d : ℕ) (before words front nex
   }
 
 -- nothing is left to go on from
-module _ (Steps : ℕ → ℕ → Type 0) (from d : ℕ) (words : List ℕ) (known : IsMarkedWithin Steps from d words []) where
+module _ {Steps : ℕ → ℕ → Type 0} {from d : ℕ} {words : List ℕ} (known : IsMarkedWithin Steps from d words []) where
   all_marked : (n number : ℕ) → Met Steps n from number → IsMarked words number
   all_marked zero number met = known.whole 0 number (omega arith) met
   all_marked (suc n) number met = known.closed met.0 number (all_marked n met.0 met.1) (none_in_empty met.0) met.2

@@ -1,8 +1,8 @@
 -- The search of a family's classes: before its first round, after a round, and at its end.
-use Rattle.dob_reach.proofs.Common.{◌++◌, ◌+◌, ◌<◌, ◌==◌, ◌^◌, ◌∙◌, ◌∷◌, ◌≡◌, ◌≤◌, ◌⊎◌, Bool, Contains, List, [], ap, arith, false, get_or, inl, inr, length}
-use Rattle.dob_reach.proofs.Common.{subst, suc, sym, true, zero, ℕ, get_or-append_seam, cases_lt, eqb-true, true≢false, get_or_append_left, get_or_past}
-use Rattle.dob_reach.proofs.Common.{length_push, Family, classes_of, Among, HasJust, HasDistance, IsReached, Met, IsOpen, Leads, HasBits, IsMarked}
-use Rattle.dob_reach.proofs.Common.{AreReachedFrom, AreMet, IsMarkedWithin, IsNearer, IsSearched, Reached}
+use Rattle.dob_reach.proofs.Common.{◌++◌, ◌+◌, ◌<◌, ◌==◌, ◌^◌, ◌∙◌, ◌∷◌, ◌≡◌, ◌≤◌, ◌⊎◌, Among, AreMet, AreReachedFrom, Bool, Contains, Family, HasBits}
+use Rattle.dob_reach.proofs.Common.{HasDistance, HasJust, IsMarked, IsNearer, IsOpen, IsSearched, Leads, List, Met, Reached, [], ap, arith, cases_lt}
+use Rattle.dob_reach.proofs.Common.{classes_of, eqb-true, false, get_or, get_or-append_seam, get_or_append_left, get_or_past, inl, inr, length, length_push}
+use Rattle.dob_reach.proofs.Common.{subst, suc, sym, true, true≢false, zero, ℕ}
 use Rattle.dob_reach.proofs.Counts.{among_just, just_both, just_few, just_list, just_none, just_same}
 use Rattle.dob_reach.proofs.Rounds.{begun, nearer_reached, one_distance, one_round, reached_marked, reached_nearer}
 use Rattle.dob_reach.proofs.Stepping.{class_low}
@@ -12,12 +12,11 @@ pub told_more : (Told : ℕ → ℕ → Type 0) (old new : List ℕ) (count : �
     → ((distance : ℕ) → distance < length old → Told distance (get_or old distance 0)) → Told (length old) count → (distance : ℕ) → distance < length new → Told distance (get_or new distance 0)
 told_more Told old new count is before last distance below =
     let long = ap length is ∙ length_push old count in
-    subst (λ (xs : List ℕ). Told distance (get_or xs distance 0)) (sym is)
-    (elim (cases_lt distance (length old)) [
-      | inl low ↦ subst (Told distance) (sym (get_or_append_left old (count ∷ []) 0 distance low)) (before distance low)
+    rw is (elim (cases_lt distance (length old)) [
+      | inl low ↦ rw (get_or_append_left old (count ∷ []) 0 distance low) (before distance low)
       | inr high ↦
           let same : length old ≡ distance = omega (arith, high, below, long) in
-          subst (λ k. Told k (get_or (old ++ count ∷ []) k 0)) same (subst (Told (length old)) (sym (get_or-append_seam old count [] 0)) last)
+          subst (λ k. Told k (get_or (old ++ count ∷ []) k 0)) same (rw (get_or-append_seam old count [] 0) last)
     ])
 
 module _ (family : Family) (from : ℕ) where
@@ -61,27 +60,24 @@ module _ (family : Family) (from : ℕ) where
       record {
         begins = begins;
         few = few;
-        marks_are = subst (λ n. IsMarkedWithin (Leads family) from n reached.marks.words.items front) (sym none)
-            (subst (IsMarkedWithin (Leads family) from 0 reached.marks.words.items) (sym front_is) (begun (Leads family) from reached.marks.words.items alone marked));
-        all = subst (λ n. HasJust (Near n) reached.classes) (sym none) (subst (HasJust (Near 0)) (sym classes) (just_none (Near 0) none_nearer));
-        opens_are = subst (λ n. HasJust (λ k. Near n k × IsOpen family k) reached.opens) (sym none)
-            (subst (HasJust (λ k. Near 0 k × IsOpen family k)) (sym opens) (just_none (λ k. Near 0 k × IsOpen family k) (λ k is. none_nearer k is.0)));
+        marks_are = rw (none, front_is) (begun (Leads family) from alone marked);
+        all = rw (none, classes) (just_none none_nearer);
+        opens_are = rw (none, opens) (just_none (λ k is. none_nearer k is.0));
         levels_are = λ distance low. absurd (omega (arith, low, none));
         each = λ distance low. absurd (omega (arith, low, none));
         first = λ none_yet. (let one = ap length front_is in omega (arith, one));
         bits = bits;
       }
 
-  module _ (reached : Reached) (front : List ℕ) (known : IsSearched family from reached front) where
+  module _ {reached : Reached} {front : List ℕ} (known : IsSearched family from reached front) where
     abbrev d : ℕ
     d = length reached.levels.items
 
     at_front : HasJust (At d) (length front)
-    at_front = just_same (Contains front) (At d) (length front) known.marks_are.front_sound known.marks_are.front_whole (just_list front known.marks_are.front_once)
+    at_front = just_same (just_list front known.marks_are.front_once) known.marks_are.front_sound known.marks_are.front_whole
 
     both : HasJust (Near (d + 1)) (reached.classes + length front)
-    both = just_same (λ k. Near d k ⊎ At d k) (Near (d + 1)) (reached.classes + length front) (nearer_from d) (nearer_or_at d)
-        (just_both (Near d) (At d) reached.classes (length front) (not_both d) known.all at_front)
+    both = just_same (just_both known.all at_front (not_both d)) (nearer_from d) (nearer_or_at d)
 
     -- the classes of the front are classes of the family
     pub front_low : (number : ℕ) → Contains front number → number < classes_of family
@@ -89,23 +85,21 @@ module _ (family : Family) (from : ℕ) where
 
     -- all that were counted, and the front's, are no more than there are
     pub counted_few : reached.classes + length front ≤ classes_of family
-    counted_few = just_few (Near (d + 1)) (reached.classes + length front) (classes_of family) (λ k near. met_low known.begins near.0 k near.2.0) both
+    counted_few = just_few both (λ k near. met_low known.begins near.0 k near.2.0)
 
     module _ (opens : ℕ) (open_are : Among (IsOpen family) front opens) where
       open_front : HasJust (λ k. At d k × IsOpen family k) opens
-      open_front = just_same (λ k. Contains front k × IsOpen family k) (λ k. At d k × IsOpen family k) opens
+      open_front = just_same (among_just (IsOpen family) front opens open_are known.marks_are.front_once)
           (λ k is. (known.marks_are.front_sound k is.0, is.1)) (λ k is. (known.marks_are.front_whole k is.0, is.1))
-          (among_just (IsOpen family) front opens open_are known.marks_are.front_once)
 
       open_both : HasJust (λ k. Near (d + 1) k × IsOpen family k) (reached.opens + opens)
-      open_both = just_same (λ k. (Near d k × IsOpen family k) ⊎ (At d k × IsOpen family k)) (λ k. Near (d + 1) k × IsOpen family k) (reached.opens + opens)
+      open_both = just_same (just_both known.opens_are open_front (λ k near at. not_both d k near.0 at.0))
           (λ k which. elim which [ inl near ↦ (nearer_from d k (inl near.0), near.1) | inr at ↦ (nearer_from d k (inr at.0), at.1) ])
           (λ k is. elim (nearer_or_at d k is.0) [ inl near ↦ inl (near, is.1) | inr at ↦ inr (at, is.1) ])
-          (just_both (λ k. Near d k × IsOpen family k) (λ k. At d k × IsOpen family k) reached.opens opens (λ k near at. not_both d k near.0 at.0) known.opens_are open_front)
 
       -- and so are those that are open
       pub opens_few : reached.opens + opens ≤ classes_of family
-      opens_few = just_few (λ k. Near (d + 1) k × IsOpen family k) (reached.opens + opens) (classes_of family) (λ k near. met_low known.begins near.0.0 k near.0.2.0) open_both
+      opens_few = just_few open_both (λ k near. met_low known.begins near.0.0 k near.0.2.0)
 
     module _ (new : Reached) (next : List ℕ) (opens : ℕ) (some : 0 < length front)
         (levels_are : new.levels.items ≡ reached.levels.items ++ length front ∷ []) (classes_are : new.classes ≡ reached.classes + length front)
@@ -114,24 +108,13 @@ module _ (family : Family) (from : ℕ) where
       longer : length new.levels.items ≡ d + 1
       longer = ap length levels_are ∙ length_push reached.levels.items (length front)
 
-      marks_next : IsMarkedWithin (Leads family) from (length new.levels.items) new.marks.words.items next
-      marks_next = subst (λ k. IsMarkedWithin (Leads family) from k new.marks.words.items next) (sym longer)
-          (one_round (Leads family) from d reached.marks.words.items new.marks.words.items front next known.marks_are met)
-
-      all_next : HasJust (Near (length new.levels.items)) new.classes
-      all_next = subst (λ k. HasJust (Near k) new.classes) (sym longer) (subst (HasJust (Near (d + 1))) (sym classes_are) both)
-
-      opens_next : HasJust (λ k. Near (length new.levels.items) k × IsOpen family k) new.opens
-      opens_next = subst (λ n. HasJust (λ k. Near n k × IsOpen family k) new.opens) (sym longer)
-          (subst (HasJust (λ k. Near (d + 1) k × IsOpen family k)) (sym opens_are) (open_both opens open_are))
-
       pub searched_next : IsSearched family from new next
       searched_next = record {
         begins = known.begins;
         few = known.few;
-        marks_are = marks_next;
-        all = all_next;
-        opens_are = opens_next;
+        marks_are = rw longer (one_round known.marks_are met);
+        all = rw (longer, classes_are) both;
+        opens_are = rw (longer, opens_are) (open_both opens open_are);
         levels_are = told_more (λ distance count. HasJust (At distance) count) reached.levels.items new.levels.items (length front) levels_are
             known.levels_are at_front;
         each = told_more (λ distance count. 0 < count) reached.levels.items new.levels.items (length front) levels_are known.each some;
@@ -140,20 +123,20 @@ module _ (family : Family) (from : ℕ) where
       }
 
   -- at the end
-  module _ (reached : Reached) (known : IsSearched family from reached []) where
+  module _ {reached : Reached} (known : IsSearched family from reached []) where
     abbrev far : ℕ
     far = length reached.levels.items
 
     level_beyond : (distance : ℕ) → far ≤ distance → HasJust (At distance) 0
-    level_beyond distance high = just_none (At distance) (λ k at.
-        let near = reached_nearer (Leads family) from far reached.marks.words.items known.marks_are k (distance, at.0) in
+    level_beyond distance high = just_none (λ k at.
+        let near = reached_nearer known.marks_are k (distance, at.0) in
         let same = one_distance (Leads family) from near.0 distance k near.2 at in
         absurd (omega (arith, same, near.1, high)))
 
     levels_end : (distance : ℕ) → HasJust (At distance) (get_or reached.levels.items distance 0)
     levels_end distance = elim (cases_lt distance far) [
       | inl low ↦ known.levels_are distance low
-      | inr high ↦ subst (HasJust (At distance)) (sym (get_or_past reached.levels.items distance 0 high)) (level_beyond distance high)
+      | inr high ↦ rw (get_or_past reached.levels.items distance 0 high) (level_beyond distance high)
     ]
 
     some_end : 0 < far
@@ -164,18 +147,14 @@ module _ (family : Family) (from : ℕ) where
 
     pub reached_end : AreReachedFrom family from reached
     reached_end = record {
-      all = just_same (Near far) (IsReached (Leads family) from) reached.classes
-          (nearer_reached (Leads family) from far reached.marks.words.items known.marks_are)
-          (reached_nearer (Leads family) from far reached.marks.words.items known.marks_are) known.all;
-      opens_are = just_same (λ k. Near far k × IsOpen family k) (λ k. IsReached (Leads family) from k × IsOpen family k) reached.opens
-          (λ k is. (nearer_reached (Leads family) from far reached.marks.words.items known.marks_are k is.0, is.1))
-          (λ k is. (reached_nearer (Leads family) from far reached.marks.words.items known.marks_are k is.0, is.1)) known.opens_are;
+      all = just_same known.all (nearer_reached known.marks_are) (reached_nearer known.marks_are);
+      opens_are = just_same known.opens_are (λ k is. (nearer_reached known.marks_are k is.0, is.1)) (λ k is. (reached_nearer known.marks_are k is.0, is.1));
       levels_are = levels_end;
       some = some_end;
       each = known.each;
       marked = λ class. (
         λ is. let near = known.marks_are.sound class is in (near.0, near.2.0),
-        reached_marked (Leads family) from far reached.marks.words.items known.marks_are class,
+        reached_marked known.marks_are class,
       );
       bits = known.bits;
     }

@@ -1,10 +1,11 @@
 -- The classes that are reached by their values, one class more each time.
-use Rattle.dob_reach.proofs.Common.{◌+◌, ◌<◌, ◌↔◌, ◌∙◌, ◌≡◌, ◌≤◌, List, Some, arith, length, sym, ℕ, slice_get_within, slice_get, HasJust, IsMarked}
+use Rattle.dob_reach.proofs.Common.{◌+◌, ◌<◌, ◌↔◌, ◌∙◌, ◌≡◌, ◌≤◌, HasJust, IsMarked, List, Some, arith, cases_lt, inl, inr, length, slice_get}
+use Rattle.dob_reach.proofs.Common.{slice_get_within, sym, ℕ}
 use Rattle.dob_value.specs.declared.value.Value.{Value}
 use Rattle.dob_value.specs.declared.value.Value.TheVariants.{Win, Loss, Draw}
 use Rattle.dob_reach.specs.declared.values.ByValue.{ByValue}
 use Rattle.dob_reach.specs.Values.{AreCounted, IsDrawn, IsLost, IsWon, with_value}
-use Rattle.dob_reach.proofs.Counts.{Below, below_more, below_same, just_few, just_none, just_same}
+use Rattle.dob_reach.proofs.Counts.{just_both, just_none, just_one, just_same}
 
 module _ (words : List ℕ) (values : List Value) where
   abbrev pub MarkedBelow : ℕ → ℕ → Type 0
@@ -13,27 +14,20 @@ module _ (words : List ℕ) (values : List Value) where
   module _ (Is : ℕ → Type 0) where
     one_more : (class count : ℕ) → IsMarked words class → Is class → HasJust (λ k. MarkedBelow class k × Is k) count
         → HasJust (λ k. MarkedBelow (class + 1) k × Is k) (count + 1)
-    one_more class count marked is has =
-        just_same (Below (λ k. IsMarked words k × Is k) (class + 1)) (λ k. MarkedBelow (class + 1) k × Is k) (count + 1)
-        (λ k low. ((low.0, low.1.0), low.1.1)) (λ k low. (low.0.0, (low.0.1, low.1)))
-        (below_more (λ k. IsMarked words k × Is k) class count (marked, is)
-        (just_same (λ k. MarkedBelow class k × Is k) (Below (λ k. IsMarked words k × Is k) class) count
-        (λ k low. (low.0.0, (low.0.1, low.1))) (λ k low. ((low.0, low.1.0), low.1.1)) has))
+    one_more class count marked is has = just_same (just_both has (just_one class) (λ k low same. absurd (omega (arith, low.0.0, same))))
+        (λ k which. elim which [ inl low ↦ ((omega (arith, low.0.0), low.0.1), low.1) | inr same ↦ rw same ((omega arith, marked), is) ])
+        (λ k low. elim (cases_lt k class) [ inl less ↦ inl ((less, low.0.1), low.1) | inr high ↦ inr (omega (arith, high, low.0.0)) ])
 
     no_more : (class count : ℕ) → (IsMarked words class → Is class → ⊥) → HasJust (λ k. MarkedBelow class k × Is k) count
         → HasJust (λ k. MarkedBelow (class + 1) k × Is k) count
-    no_more class count not_is has =
-        just_same (Below (λ k. IsMarked words k × Is k) (class + 1)) (λ k. MarkedBelow (class + 1) k × Is k) count
-        (λ k low. ((low.0, low.1.0), low.1.1)) (λ k low. (low.0.0, (low.0.1, low.1)))
-        (below_same (λ k. IsMarked words k × Is k) class count (λ both. not_is both.0 both.1)
-        (just_same (λ k. MarkedBelow class k × Is k) (Below (λ k. IsMarked words k × Is k) class) count
-        (λ k low. (low.0.0, (low.0.1, low.1))) (λ k low. ((low.0, low.1.0), low.1.1)) has))
+    no_more class count not_is has = just_same has (λ k low. ((omega (arith, low.0.0), low.0.1), low.1))
+        (λ k low. elim (cases_lt k class) [
+          | inl less ↦ ((less, low.0.1), low.1)
+          | inr high ↦ let same : k ≡ class = omega (arith, high, low.0.0) in absurd (not_is (rw same at low.0.1) (rw same at low.1))
+        ])
 
     none_yet : HasJust (λ k. MarkedBelow 0 k × Is k) 0
-    none_yet = just_none (λ k. MarkedBelow 0 k × Is k) (λ k low. absurd (omega (arith, low.0.0)))
-
-    pub few : (class count : ℕ) → HasJust (λ k. MarkedBelow class k × Is k) count → count ≤ class
-    few class count has = just_few (λ k. MarkedBelow class k × Is k) count class (λ k low. low.0.0) has
+    none_yet = just_none (λ k low. absurd (omega (arith, low.0.0)))
 
   pub counted_none : AreCounted (MarkedBelow 0) values (record { win = 0; loss = 0; draw = 0 })
   counted_none = record { won = none_yet (IsWon values); lost = none_yet (IsLost values); drawn = none_yet (IsDrawn values) }
@@ -75,5 +69,4 @@ module _ (words : List ℕ) (values : List Value) where
     where
       over : (Is : ℕ → Type 0) (count : ℕ) → ((k : ℕ) → Is k → k < length values) → HasJust (λ k. MarkedBelow class k × Is k) count → HasJust (λ k. Reached k × Is k) count
       over Is count within has =
-          just_same (λ k. MarkedBelow class k × Is k) (λ k. Reached k × Is k) count (λ k low. ((marks k).0 low.0.1, low.1))
-          (λ k is. (((let low = within k is.1 in omega (arith, low, all)), (marks k).1 is.0), is.1)) has
+          just_same has (λ k low. ((marks k).0 low.0.1, low.1)) (λ k is. (((let low = within k is.1 in omega (arith, low, all)), (marks k).1 is.0), is.1))

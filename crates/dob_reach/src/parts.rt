@@ -11,8 +11,9 @@ ghost use Rattle.dob_reach.specs.Marks.{HasBits};
 
 use crate::marks::Marks;
 use dob_classes::Classes;
-use dob_moves::{Move, Status, apply, moves_into};
+use dob_moves::{Move, Status, moves_into};
 use dob_pieces::{Memory, Position};
+use dob_value::outcome_of;
 use rayon::prelude::*;
 use std::alloc::Global;
 use std::thread::Threads;
@@ -165,5 +166,5 @@ fn class_after(classes: &Classes, position: &Position, played: Move) -> u32
     ensures within { result < classes_of classes.now.family }
 {
     let _few = classes.class_count();
-    classes.class_of(&apply(position, played)) as u32
+    classes.class_of(&outcome_of(classes.family, position, played)) as u32
 }

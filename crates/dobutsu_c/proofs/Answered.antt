@@ -1,11 +1,12 @@
 -- An answer of many is that of one call, and those that are written stay.
-use Rattle.dobutsu_c.proofs.Common.{◌+◌, ◌<◌, ◌∙◌, ◌≡◌, ◌≢◌, ◌≤◌, Err, List, MatchResult, Ok, Result, ap, arith, get_or, inl, inr, length, slice_set}
-use Rattle.dobutsu_c.proofs.Common.{subst, suc, sym, ℕ, get_or-set_other, get_or-set_same, get_or_default, Family, Setup, RepresentsClass, Value}
-use Rattle.dobutsu_c.proofs.Common.{HasByFault, IsToldBy, number_by, IsAnswer, start_at, IsShown, shown, ByFault, DobutsuAnswer, Numbering, DobutsuPosition}
-use Rattle.std.proofs.lemmas.Bool.{cases_lt}
-use Rattle.std.proofs.lemmas.Grind.{get_or-set_at}
+use Rattle.dobutsu_c.proofs.Common.{◌+◌, ◌<◌, ◌∙◌, ◌≡◌, ◌≢◌, ◌≤◌, Err, List, MatchResult, Ok, Result, ap, arith, get_or, inl, inr, length, slice_set, suc}
+use Rattle.dobutsu_c.proofs.Common.{sym, ℕ, get_or-set_other, get_or-set_same, get_or_default, Family, Setup, RepresentsClass, Value, HasByFault, IsToldBy}
+use Rattle.dobutsu_c.proofs.Common.{number_by, IsAnswer, start_at, IsShown, shown, ByFault, DobutsuAnswer, Numbering, DobutsuPosition}
+use Rattle.std.proofs.lemmas.Bool.{cases_eq}
+use Rattle.std.proofs.lemmas.Grind.{get_or-set_at, elements}
 use Rattle.dobutsu_c.proofs.Exact.{no_fault, one_told, told_right}
 use Rattle.dobutsu_c.proofs.Indexed.{told_by_right, no_fault_by, one_fault_by}
+use Rattle.std.proofs.Common.{refl}
 
 pub answered : (file : List ℕ) (by : Numbering) (text : List ℕ) (old new : DobutsuAnswer) (probed : Result Value ByFault)
     → MatchResult probed (IsToldBy file text by) (HasByFault file text by)
@@ -34,17 +35,14 @@ answered file by text old new (Err fault) is new_is = record {
 
 -- the next text begins where one ends
 pub begins_next : (ends : List ℕ) (place : ℕ) → start_at ends (place + 1) ≡ get_or ends place 0
-begins_next ends place =
-    let next : place + 1 ≡ suc place = omega arith in
-    ap (start_at ends) next
+begins_next ends place = let next : place + 1 ≡ suc place = omega arith in rw next refl
 
 -- what is said of two places that were read holds of what they are, whatever a place that isn't there is
 pub read_there : {N X : Type 0} (Q : N → X → Type 0) (numbers : List N) (now old : List X) (place : ℕ) (d0 d : N) (e0 e : X) → place < length numbers
     → place < length now → get_or now place e ≡ get_or old place e → Q (get_or numbers place d0) (get_or now place e0)
     → Q (get_or numbers place d) (get_or old place e)
 read_there Q numbers now old place d0 d e0 e there within same is =
-    subst (λ n. Q n (get_or old place e)) (get_or_default numbers place d0 d there)
-    (subst (Q (get_or numbers place d0)) (get_or_default now place e0 e within ∙ same) is)
+    rw (← get_or_default numbers place d0 d there, ← same, ← get_or_default now place e0 e within) is
 
 -- one more place is written: those before it stay, and so do those behind
 module _ {X : Type 0} (P : ℕ → X → X → Type 0) (old now : List X) (place : ℕ) (x : X) (within : place < length now)
@@ -52,36 +50,22 @@ module _ {X : Type 0} (P : ℕ → X → X → Type 0) (old now : List X) (place
     (others : (k : ℕ) (e : X) → place ≤ k → get_or now k e ≡ get_or old k e) where
   pub one_written : ((e : X) → P place (get_or old place e) x)
       → (k : ℕ) (e : X) → k < place + 1 → P k (get_or old k e) (get_or (slice_set now place x) k e)
-  one_written here k e below = elim (cases_lt k place) [
-    | inl earlier ↦
-        subst (P k (get_or old k e)) (sym (get_or-set_other now place k x e (λ same. let e : k ≡ place = same in omega (arith, earlier, e)))) (before k e earlier)
-    | inr from ↦
-        let same : place ≡ k = omega (arith, from, below) in
-        subst (λ (j : ℕ). P j (get_or old j e) (get_or (slice_set now place x) j e)) same
-        (subst (P place (get_or old place e)) (sym (get_or-set_same now place x e within)) (here e))
+  one_written here k e below = elim (cases_eq place k) [
+    | inl same ↦ rw (← same, get_or-set_same now place x e within) (here e)
+    | inr apart ↦ rw (get_or-set_other now place k x e (λ same. apart (sym same))) (before k e (omega arith))
   ]
 
   pub others_left : (k : ℕ) (e : X) → place + 1 ≤ k → get_or (slice_set now place x) k e ≡ get_or old k e
-  others_left k e above =
-      get_or-set_other now place k x e (λ same. let e : k ≡ place = same in omega (arith, above, e)) ∙ others k e (omega (arith, above))
+  others_left k e above = grind (arith, elements, others k e)
 
 pub one_more_class : (family : Family) (first place : ℕ) (now : List DobutsuPosition) (x : DobutsuPosition) (p : Setup) → place < length now
     → RepresentsClass family p (first + place) → IsShown x p
     → ((k : ℕ) → k < place → (setup : Setup) × RepresentsClass family setup (first + k) × ((e : DobutsuPosition) → IsShown (get_or now k e) setup))
     → (k : ℕ) → k < place + 1
     → (setup : Setup) × RepresentsClass family setup (first + k) × ((e : DobutsuPosition) → IsShown (get_or (slice_set now place x) k e) setup)
-one_more_class family first place now x p within represents shown before k below = elim (cases_lt k place) [
-  | inl earlier ↦
-      let known = before k earlier in (
-        known.0,
-        known.1,
-        λ e. subst (λ (q : DobutsuPosition). IsShown q known.0)
-            (sym (get_or-set_other now place k x e (λ same. let e : k ≡ place = same in omega (arith, earlier, e)))) (known.2 e),
-      )
-  | inr from ↦
-      let same : k ≡ place = omega (arith, from, below) in (
-        p,
-        subst (λ (j : ℕ). RepresentsClass family p (first + j)) (sym same) represents,
-        λ e. subst (λ (q : DobutsuPosition). IsShown q p) (sym (get_or-set_at now place k x e same within)) shown,
-      )
+one_more_class family first place now x p within represents shown before k below = elim (cases_eq k place) [
+  | inl same ↦ (p, rw same represents, λ e. rw (get_or-set_at now place k x e same within) shown)
+  | inr apart ↦
+      let known = before k (omega arith) in
+      (known.0, known.1, λ e. rw (get_or-set_other now place k x e apart) (known.2 e))
 ]

@@ -12,19 +12,15 @@ IsRefusalOf c given = (given ≡ refusal.Memory) ⊎ ((p : Setup) × IsRoot c.fa
 pub by_entry : (bytes : List ℕ) (c : Content) (r : Result (Unit {0}) Refusal) (class : ℕ) → bytes ≡ bytes_of c → r ≡ Err (refusal.Unsupported class)
     → IfErr r (λ given. (given ≡ refusal.Memory) ⊎ ((p : Setup) × IsRoot c.family c.root p × IsRefusal c.family c.lost c.held p c.claim given))
     → IsVerifyFault bytes 30 class
-by_entry bytes c r class file is given =
-    let found : IsRefusalOf c (refusal.Unsupported class) = IfErr-at_err (IsRefusalOf c) is given in
-    elim found [
-      | inl never ↦ absurd (let e : refusal.Unsupported class ≡ refusal.Memory = never in cc)
-      | inr told ↦ inr (inr (record { content = c; file = file; root = told.0; is_root = told.1; refused = inl (refl, told.2) }))
-    ]
+by_entry bytes c r class file is given = elim (IfErr-at_err (IsRefusalOf c) is given) [
+  | inl never ↦ absurd (let e : refusal.Unsupported class ≡ refusal.Memory = never in cc)
+  | inr told ↦ inr (inr (record { content = c; file = file; root = told.0; is_root = told.1; refused = inl (refl, told.2) }))
+]
 
 pub by_claim : (bytes : List ℕ) (c : Content) (r : Result (Unit {0}) Refusal) (class : ℕ) → bytes ≡ bytes_of c → r ≡ Err refusal.Claim
     → IfErr r (λ given. (given ≡ refusal.Memory) ⊎ ((p : Setup) × IsRoot c.family c.root p × IsRefusal c.family c.lost c.held p c.claim given))
     → IsVerifyFault bytes 31 class
-by_claim bytes c r class file is given =
-    let found : IsRefusalOf c refusal.Claim = IfErr-at_err (IsRefusalOf c) is given in
-    elim found [
-      | inl never ↦ absurd (let e : (let x : Refusal = refusal.Claim in x) ≡ refusal.Memory = never in cc)
-      | inr told ↦ inr (inr (record { content = c; file = file; root = told.0; is_root = told.1; refused = inr (refl, told.2) }))
-    ]
+by_claim bytes c r class file is given = elim (IfErr-at_err (IsRefusalOf c) is given) [
+  | inl never ↦ absurd (let e : (let x : Refusal = refusal.Claim in x) ≡ refusal.Memory = never in cc)
+  | inr told ↦ inr (inr (record { content = c; file = file; root = told.0; is_root = told.1; refused = inr (refl, told.2) }))
+]

@@ -1,15 +1,13 @@
 -- At most one fault holds, none where the position is one of the file's family, and a position is given one value.
-use Rattle.dobutsu_c.proofs.Common.{◌<◌, ◌≡◌, ◌≢◌, List, ap, refl, subst, ℕ, Family, A, Setup, same_spelled, TextFault, IsPositionOf}
-use Rattle.dobutsu_c.proofs.Common.{class_number, classes_of, IsInClass-class_number, class_number-below, one_class, ClassTable, IsValueTable, HasValue, Value}
-use Rattle.dobutsu_c.proofs.Common.{whole, CountsClasses, HasReadFault, IsNoLonger, IsFile, Format, AreRead, HasProbeFault, IsAsked, IsGiven, IsTextOf, IsTold}
-use Rattle.dobutsu_c.proofs.Common.{Fault}
+use Rattle.dobutsu_c.proofs.Common.{◌<◌, ◌≡◌, ◌≢◌, List, ap, refl, ℕ, Family, A, Setup, same_spelled, TextFault, IsPositionOf, class_number, classes_of}
+use Rattle.dobutsu_c.proofs.Common.{IsInClass-class_number, class_number-below, one_class, ClassTable, IsValueTable, HasValue, Value, whole, CountsClasses}
+use Rattle.dobutsu_c.proofs.Common.{HasReadFault, IsNoLonger, IsFile, Format, AreRead, HasProbeFault, IsAsked, IsGiven, IsTextOf, IsTold, Fault}
 use Rattle.dob_text.specs.Faults.{HasTextFault}
 use Rattle.dob_text.proofs.Verdicts as texts
 use Rattle.dob_pieces.specs.Profiles.{IsAllowed}
 use Rattle.dob_rank.specs.Order.{IsPositionOfSet}
 use Rattle.dob_dbfile.specs.declared.fault.Fault.{Fault as FileFault}
 use Rattle.dob_dbfile.specs.declared.fault.Fault.TheVariants as file_fault
-use Rattle.dob_dbfile.specs.Looking.{HasRecord}
 use Rattle.dob_dbfile.proofs.Looked.{one_record, table_family, table_record}
 use Rattle.dob_dbfile.proofs.Places as files
 use Rattle.dobutsu_c.specs.declared.fault.Fault.TheVariants.{Text, File, FarChick, OtherSet}
@@ -28,8 +26,7 @@ by_read : (file text : List ℕ) (f g : Format) (p q : Family) (s t : Setup) (P 
     → AreRead file text f p s → AreRead file text g q t → P f p s → P g q t
 by_read file text f g p q s t P at_s at_t holds =
     let head = files.same_head f g p q file at_s.1.0.0.0 at_t.1.0.0.0 in
-    let setup : s ≡ t = same_spelled text s t at_s.0.1 at_t.0.1 in
-    subst (λ (h : Format). P h q t) head.0 (subst (λ (r : Family). P f r t) head.1 (subst (P f p) setup holds))
+    rw (head.0, head.1, same_spelled text s t at_s.0.1 at_t.0.1) at holds
 
 -- ---- faults
 
@@ -71,8 +68,7 @@ one_fault file text OtherSet OtherSet at_f at_g = refl
 pub one_given : (file : List ℕ) (format : Format) (family : Family) (setup : Setup) (v w : Value) → IsGiven file format family setup v
     → IsGiven file format family setup w → v ≡ w
 one_given file format family setup v w at_v at_w =
-    one_record (whole file) format at_w.0 v w
-    (subst (λ (class : ℕ). HasRecord (whole file) format class v) (one_class family setup at_v.0 at_w.0 at_v.1 at_w.1) at_v.2) at_w.2
+    one_record (whole file) format at_w.0 v w (rw (one_class family setup at_v.0 at_w.0 at_v.1 at_w.1) at at_v.2) at_w.2
 
 pub one_told : (file text : List ℕ) (v w : Value) → IsTold file text v → IsTold file text w → v ≡ w
 one_told file text v w at_v at_w =

@@ -1,11 +1,9 @@
 -- What is held and asked by an index of the file's family is what is held and asked without it.
-use Rattle.dobutsu_c.proofs.Common.{◌*◌, ◌+◌, ◌-◌, ◌/◌, ◌^◌, ◌∙◌, ◌≡◌, ◌≤◌, List, None, Option, Some, ap, arith, drop, get_or, inl, inr, length, refl, subst}
-use Rattle.dobutsu_c.proofs.Common.{sym, take, ℕ, Family, Profile, A, B, Setup, classes_of-below, classes_of, family_of, Value, IsIndex, whole, IsNoLonger}
-use Rattle.dobutsu_c.proofs.Common.{NamesFamily, count_place, header_len, count_bytes, Format, HasByFault, IsGivenBy, IsIndexFor, IsMarkedBy, IsRight, IsToldBy}
-use Rattle.dobutsu_c.proofs.Common.{number_by, fault_number, AreRead, HasProbeFault, IsAsked, IsGiven, IsTextOf, IsTold, ByFault, Fault, Numbering}
-use Rattle.dob_pieces.specs.declared.piece_set.PieceSet.{PieceSet}
+use Rattle.dobutsu_c.proofs.Common.{◌*◌, ◌+◌, ◌-◌, ◌/◌, ◌^◌, ◌∙◌, ◌≡◌, ◌≤◌, List, None, Option, Some, ap, arith, drop, get_or, inl, inr, length, refl, sym}
+use Rattle.dobutsu_c.proofs.Common.{take, ℕ, Family, Profile, Setup, classes_of-below, classes_of, Value, IsIndex, whole, IsNoLonger, NamesFamily}
+use Rattle.dobutsu_c.proofs.Common.{count_place, header_len, count_bytes, Format, HasByFault, IsGivenBy, IsIndexFor, IsMarkedBy, IsRight, IsToldBy, number_by}
+use Rattle.dobutsu_c.proofs.Common.{fault_number, AreRead, HasProbeFault, IsAsked, IsGiven, IsTextOf, IsTold, ByFault, Fault, Numbering}
 use Rattle.dob_rank.proofs.Positions.Sets.{same_numbers}
-use Rattle.dob_dbfile.specs.declared.header.Format.TheVariants.{First, Second}
 use Rattle.dob_dbfile.proofs.Places.{same_head}
 use Rattle.dobutsu_c.specs.declared.fault.Fault.TheVariants.{Text, File, FarChick, OtherSet}
 use Rattle.dobutsu_c.specs.declared.numbering.Numbering.TheVariants as numbering
@@ -18,17 +16,15 @@ use Rattle.dobutsu_c.proofs.Exact.{no_text_fault, no_file_fault, no_fault, one_f
 -- ---- one family has those numbers
 
 same_profile : (p q : Profile) → profile_number p ≡ profile_number q → p ≡ q
-same_profile A A is = refl
-same_profile A B is = absurd (omega (arith, is))
-same_profile B A is = absurd (omega (arith, is))
-same_profile B B is = refl
+same_profile p q is = grind arith
 
 pub one_family : (chicks elephants giraffes profile : ℕ) (f g : Family) → IsFamily chicks elephants giraffes profile f → IsFamily chicks elephants giraffes profile g
     → f ≡ g
 one_family chicks elephants giraffes profile f g is also =
-    let set : f.set ≡ g.set = same_numbers f.set g.set (is.chicks_are ∙ sym also.chicks_are) (is.elephants_are ∙ sym also.elephants_are)
-    (is.giraffes_are ∙ sym also.giraffes_are) in
-    ap (λ (s : PieceSet). family_of s f.profile) set ∙ ap (family_of g.set) (same_profile f.profile g.profile (is.profile_is ∙ sym also.profile_is))
+    rw (
+      same_numbers f.set g.set (is.chicks_are ∙ sym also.chicks_are) (is.elephants_are ∙ sym also.elephants_are) (is.giraffes_are ∙ sym also.giraffes_are),
+      same_profile f.profile g.profile (is.profile_is ∙ sym also.profile_is),
+    ) refl
 
 -- ---- what is held
 
@@ -38,16 +34,12 @@ all_counted file format family named = tt
 
 -- what is right is marked
 right_marked : (by : Numbering) (family : Family) → IsRight by family → IsMarkedBy by family
-right_marked numbering.Counted family is = is
-right_marked (numbering.Index words) family is = is.marked
+right_marked by family is = grind arith
 
 -- the classes that an index counts are those of its family
 pub counted : (family : Family) (index : List ℕ) (classes : ℕ) → (get_or index 1 0 ≤ 2 ^ 42 → classes ≡ get_or index 1 0) → IsIndex family index
     → classes ≡ classes_of family
-counted family index classes read is =
-    let below = classes_of-below family in
-    let count = is.count_is in
-    read (omega (arith, below, count)) ∙ count
+counted family index classes read is = omega (arith, classes_of-below family, is.count_is, read)
 
 pub held_right : (file : List ℕ) (by : Numbering) (format : Format) (family : Family) (classes : ℕ) → NamesFamily format family file
     → take 8 (drop (count_place format) file) ≡ count_bytes classes → length file ≡ header_len format + 2 * classes + 32 → classes ≡ classes_of family
@@ -57,21 +49,17 @@ held_right file by format family classes named bytes long is =
 
 -- a file of a family is as long as its classes need, which half of what is left of its length are
 header_bound : (format : Format) → (20 ≤ header_len format) × (header_len format ≤ 21)
-header_bound First = (omega arith, omega arith)
-header_bound Second = (omega arith, omega arith)
+header_bound format = grind arith
 
 pub long_classes : (file : List ℕ) (format : Format) (family : Family) → IsNoLonger format family (whole file)
     → (length file - 52) / 2 ≡ classes_of family
-long_classes file format family is =
-    let bound = header_bound format in
-    omega (arith, bound.0, bound.1, is.0.1, is.1)
+long_classes file format family is = omega (arith, (header_bound format).0, (header_bound format).1, is.0.1, is.1)
 
 pub same_classes : (file : List ℕ) (format f : Format) (family g : Family) (classes : ℕ) → IsLongFor file format family classes
     → IsNoLonger f g (whole file) → (family ≡ g) × (classes ≡ classes_of g)
 same_classes file format f family g classes is whole =
     let head = same_head format f family g file is.named whole.0.0.0 in
-    let header : header_len format ≡ header_len f = ap header_len head.0 in
-    (head.1, omega (arith, header, is.long, whole.0.1, whole.1))
+    (head.1, omega (arith, ap header_len head.0, is.long, whole.0.1, whole.1))
 
 -- there is something and nothing
 pub both : {X : Type 0} (found : Option X) (x : X) → found ≡ None → found ≡ Some x → ⊥
@@ -81,28 +69,13 @@ both found x none some = (let e : (let o : Option _ = None in o) ≡ Some x = sy
 
 pub by_file : (file text : List ℕ) (by : Numbering) (setup : Setup) (fault : ByFault) → IsTextOf text setup → HasHeldFault file by fault
     → HasByFault file text by fault
-by_file file text by setup (Asked (File fault)) named is = (setup, named, is.0, is.1)
-by_file file text by setup (Asked (Text fault)) named is = absurd is
-by_file file text by setup (Asked FarChick) named is = absurd is
-by_file file text by setup (Asked OtherSet) named is = absurd is
-by_file file text by setup Index named is = (
-  is.0,
-  is.1,
-  setup,
-  named,
-  elim is.2 [
-    | inl unmarked ↦ inl unmarked
-    | inr whole ↦ inr (whole.1, inl whole.0)
-  ],
-)
+by_file file text by setup Index named is = (is.0, is.1, setup, named, elim is.2 [ inl unmarked ↦ inl unmarked | inr whole ↦ inr (whole.1, inl whole.0) ])
+by_file file text by setup fault named is = grind arith
 
 pub by_file_fault : (file : List ℕ) (by : Numbering) (fault : ByFault) → HasFileFault file fault
     → ((format : Format) (family : Family) → IsNoLonger format family (whole file) → IsRight by family → ⊥) → HasHeldFault file by fault
-by_file_fault file by (Asked (File fault)) is wrong = is
-by_file_fault file by (Asked (Text fault)) is wrong = absurd is
-by_file_fault file by (Asked FarChick) is wrong = absurd is
-by_file_fault file by (Asked OtherSet) is wrong = absurd is
 by_file_fault file by Index is wrong = (is.0, is.1, inr (is.2, wrong is.0 is.1 is.2))
+by_file_fault file by fault is wrong = grind arith
 
 pub read_by : (file text : List ℕ) (by : Numbering) (format : Format) (family : Family) (classes : ℕ) (setup : Setup) → IsIndexFor file by → IsTextOf text setup
     → IsHeldBy file by format family classes → AreRead file text format family setup
@@ -130,23 +103,18 @@ told_by_right file text by value for is = (
 
 -- the numbers are no index of the family that the file names
 no_index : (file : List ℕ) (by : Numbering) (format : Format) (family : Family) (setup : Setup) → IsIndexFor file by → AreNoIndex file by format family setup → ⊥
-no_index file by format family setup for wrong = elim wrong [
-  | inl unmarked ↦ unmarked.0 (right_marked by family (for format family unmarked.2.named))
-  | inr none ↦ none.0 (elim none.1 [
-    | inl read ↦ for format family read.0.0.0
-    | inr fits ↦ for format family fits.1.named
-  ])
-]
+no_index file by format family setup for (inl unmarked) = unmarked.0 (right_marked by family (for format family unmarked.2.named))
+no_index file by format family setup for (inr (none, inl read)) = none (for format family read.0.0.0)
+no_index file by format family setup for (inr (none, inr fits)) = none (for format family fits.1.named)
 
 pub some_fault_by : (file text : List ℕ) (by : Numbering) (given : ByFault) → IsIndexFor file by → HasByFault file text by given
     → (fault : Fault) × HasProbeFault file text fault × (number_by given ≡ fault_number fault)
-some_fault_by file text by (Asked (Text fault)) for is = (Text fault, is, refl)
-some_fault_by file text by (Asked (File fault)) for is = (File fault, is, refl)
 some_fault_by file text by (Asked FarChick) for is =
     (FarChick, (is.0, is.1, is.3, read_by file text by is.0 is.1 is.2 is.3 for is.4.0 is.4.1, is.5), refl)
 some_fault_by file text by (Asked OtherSet) for is =
     (OtherSet, (is.0, is.1, is.3, read_by file text by is.0 is.1 is.2 is.3 for is.4.0 is.4.1, is.5, is.6), refl)
 some_fault_by file text by Index for is = absurd (no_index file by is.0 is.1 is.2 for is.4)
+some_fault_by file text by (Asked fault) for is = (fault, is, refl)
 
 pub no_fault_by : (file text : List ℕ) (by : Numbering) (format : Format) (family : Family) (setup : Setup) (given : ByFault) → IsIndexFor file by
     → IsAsked file text format family setup → HasByFault file text by given → ⊥
@@ -165,8 +133,7 @@ one_fault_by file text by given fault for is holds =
 -- the family that a file names is the one that it is held by
 marked_by : (file : List ℕ) (by : Numbering) (format f : Format) (family g : Family) (classes : ℕ) → IsHeldBy file by format family classes → NamesFamily f g file
     → (IsMarkedBy by g → ⊥) → ⊥
-marked_by file by format f family g classes held names wrong =
-    wrong (subst (λ (p : Family). IsMarkedBy by p) (same_head format f family g file held.named names).1 held.marked)
+marked_by file by format f family g classes held names wrong = wrong (rw (same_head format f family g file held.named names).1 at held.marked)
 
 pub not_unmarked : (file text : List ℕ) (by : Numbering) (format f : Format) (family g : Family) (classes : ℕ) (s : Setup)
     → IsHeldBy file by format family classes → AreRead file text f g s → (IsMarkedBy by g → ⊥) → ⊥

@@ -1,13 +1,14 @@
 -- The moves that are listed by an index, with their values.
-use Rattle.dobutsu_c.proofs.Common.{◌+◌, ◌<◌, ◌↔◌, ◌∙◌, ◌≡◌, ◌≤◌, ◌⊎◌, AllPairs, Contains, List, MatchOption, None, Option, Some, [], ap, arith, inl, inr}
-use Rattle.dobutsu_c.proofs.Common.{length, refl, slice_get, subst, sym, ℕ, Family, Profile, Setup, goes, HasOutcome-is, CanGo, Goes, place, Move, Open}
-use Rattle.dobutsu_c.proofs.Common.{IsPositionOf, Value, Format, same_valued, AreValuedMoves, ComesBefore, HasMoveValue, seen_from_before, ValuedMove}
-use Rattle.dobutsu_c.proofs.Common.{IsGivenBy, IsRight, AreMovesBy, IsGiven, Numbering}
+use Rattle.dobutsu_c.proofs.Common.{◌+◌, ◌<◌, ◌↔◌, ◌∙◌, ◌≡◌, ◌≤◌, ◌⊎◌, AllPairs, Contains, List, MatchOption, Option, Some, [], ap, arith, inl, inr, length}
+use Rattle.dobutsu_c.proofs.Common.{refl, slice_get, sym, ℕ, Family, Profile, Setup, goes, CanGo, Goes, place, Move, Open, IsPositionOf, Value, Format}
+use Rattle.dobutsu_c.proofs.Common.{same_valued, AreValuedMoves, ComesBefore, HasMoveValue, seen_from_before, ValuedMove, IsGivenBy, IsRight, AreMovesBy}
+use Rattle.dobutsu_c.proofs.Common.{IsGiven, Numbering}
 use Rattle.dob_pieces.proofs.Elements.{before_or_here, standing}
 use Rattle.dob_moves.specs.Statuses.{AreMoves, CanCatch, HasStatus}
 use Rattle.dob_probe.proofs.Relations.{valued_by}
 use Rattle.dobutsu_c.proofs.Exact.{one_given}
 use Rattle.dobutsu_c.proofs.Indexed.{given_by}
+use Rattle.dob_moves.proofs.ProfileMoves.{Goes-is}
 
 -- ---- the moves of the first legal, with their values
 
@@ -18,11 +19,7 @@ pub record AreListedBy (profile : Profile) (Has : Setup → Value → Type 0) (p
   pub once : (a b : ValuedMove) → Contains list a → Contains list b → a.played ≡ b.played → a ≡ b
 
 pub none_listed : (profile : Profile) (Has : Setup → Value → Type 0) (p : Setup) (legal : List Move) → AreListedBy profile Has p legal 0 []
-none_listed profile Has p legal = record {
-  sound = λ valued there. absurd (omega (arith, there.1));
-  whole = λ index played below there. absurd (omega (arith, below));
-  once = λ a b there also same. absurd (omega (arith, there.1));
-}
+none_listed profile Has p legal = grind arith
 
 pub more_listed : (profile : Profile) (Has : Setup → Value → Type 0) (p : Setup) (legal : List Move) (upto : ℕ) (list new : List ValuedMove) (more : ValuedMove)
     (value : Value) → slice_get legal upto ≡ Some more.played → HasStatus profile p Open → CanGo profile p more.played
@@ -33,14 +30,7 @@ pub more_listed : (profile : Profile) (Has : Setup → Value → Type 0) (p : Se
 more_listed profile Has p legal upto list new more value here goes_on can_go given seen has later before = record {
   sound = λ valued there. elim ((has valued).0 there) [
     | inl earlier ↦ before.sound valued earlier
-    | inr same ↦ subst (λ (x : ValuedMove). HasMoveValue profile Has p x) (sym same) (record {
-      goes_on = goes_on;
-      outcome = can_go.0;
-      goes = can_go.1;
-      value = value;
-      has = given can_go.0 can_go.1;
-      seen = seen;
-    })
+    | inr same ↦ rw same (record { goes_on = goes_on; outcome = can_go.0; goes = can_go.1; value = value; has = given can_go.0 can_go.1; seen = seen })
   ];
   whole = λ index played below there. elim (before_or_here legal upto index more.played played here there below) [
     | inl earlier ↦ let known = before.whole index played earlier there in (known.0, (has known.0).1 (inl known.1), known.2)
@@ -59,10 +49,7 @@ more_listed profile Has p legal upto list new more value here goes_on can_go giv
 }
   where
     apart : (a b : ValuedMove) → Contains list a → b ≡ more → a.played ≡ b.played → ⊥
-    apart a b early last same =
-        let rising = later a early in
-        let one : place a.played ≡ place more.played = ap place (same ∙ ap (λ (x : ValuedMove). x.played) last) in
-        omega (arith, rising, one)
+    apart a b early last same = omega (arith, later a early, ap place (same ∙ ap (λ (x : ValuedMove). x.played) last))
 
 module _ (file : List ℕ) (by : Numbering) (format : Format) (family : Family) (classes : ℕ) (setup : Setup) where
   pub all_listed : (legal : List Move) (upto : ℕ) (list : List ValuedMove) → (CanCatch setup → ⊥) → AreMoves family.profile setup legal
@@ -72,9 +59,7 @@ module _ (file : List ℕ) (by : Numbering) (format : Format) (family : Family) 
     sound = λ valued there. inr (listed.sound valued there);
     caught = λ catch. absurd (free catch);
     whole = λ played goes_on can_go.
-        let there = standing legal played (are.whole played goes_on can_go) in
-        let within : there.0 < length legal = there.1 in
-        listed.whole there.0 played (omega (arith, within, all)) there.2;
+        let there = standing legal played (are.whole played goes_on can_go) in listed.whole there.0 played (omega (arith, there.1, all)) there.2;
     once = listed.once;
     ordered = ordered;
   }
@@ -93,14 +78,11 @@ module _ (file : List ℕ) (by : Numbering) (format : Format) (family : Family) 
         elim (are.sound known.0 known.1) [
           | inl catch ↦ absurd (has.goes_on.0 (known.0.played, catch.catch.catches))
           | inr found ↦
-              let goes : Goes family.profile setup valued.played found.outcome =
-              subst (λ (m : Move). Goes family.profile setup m found.outcome) known.2 found.goes in
-              let outcome : found.outcome ≡ has.outcome = one_outcome valued.played found.outcome has.outcome goes has.goes in
+              let outcome : found.outcome ≡ has.outcome =
+              Goes-is family.profile setup valued.played found.outcome (rw known.2 at found.goes) ∙ sym (Goes-is family.profile setup valued.played has.outcome has.goes) in
               let given = given_by file by format family classes found.outcome found.value index_is found.has in
-              let value : found.value ≡ has.value = one_given file format family has.outcome found.value has.value
-              (subst (λ (q : Setup). IsGiven file format family q found.value) outcome given) has.has in
-              let same : known.0 ≡ valued = same_valued known.0 valued known.2 (found.seen ∙ ap seen_from_before value ∙ sym has.seen) in
-              subst (Contains list) same known.1
+              let value : found.value ≡ has.value = one_given file format family has.outcome found.value has.value (rw outcome at given) has.has in
+              rw (same_valued known.0 valued known.2 (found.seen ∙ ap seen_from_before value ∙ sym has.seen)) at known.1
         ];
     ordered = are.ordered;
   }
@@ -111,10 +93,6 @@ module _ (file : List ℕ) (by : Numbering) (format : Format) (family : Family) 
           valued_by family.profile (λ q. Unit {0}) (λ p m q is goes_on goes. tt) (IsGivenBy file by format family classes) (IsGiven file format family)
           (λ q value is given. given_by file by format family classes q value index_is given) setup valued tt has
 
-      one_outcome : (m : Move) (q r : Setup) → Goes family.profile setup m q → Goes family.profile setup m r → q ≡ r
-      one_outcome m q r to_q to_r = HasOutcome-is setup m q (goes family.profile setup m q to_q) ∙ sym (HasOutcome-is setup m r (goes family.profile setup m r to_r))
-
 -- what follows of what is there
 pub onward : {X : Type 0} (found : Option X) (N : Type 0) (P Q : X → Type 0) → ((x : X) → P x → Q x) → MatchOption found N P → MatchOption found N Q
-onward None N P Q follows is = is
-onward (Some x) N P Q follows is = follows x is
+onward found N P Q follows is = grind (arith, follows)

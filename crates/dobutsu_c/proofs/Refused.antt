@@ -3,12 +3,11 @@ use Rattle.dobutsu_c.proofs.Common.{◌↔◌, ◌≡◌, Err, IsErrOf, List, Re
 use Rattle.dob_pieces.specs.declared.fault.PositionFault.TheVariants.{Lions, Count, FarLion}
 use Rattle.dob_pieces.specs.Faults.{HasPositionFault}
 use Rattle.dob_pieces.specs.Setups.{Cell, HasLions, HasFewPieces, HasLionOffFarRow, setup_of}
+use Rattle.std.proofs.Common.{arith}
 
 pub fault_holds : (r : Result Position PositionFault) (board : List Cell) (hands : Hands) (fault : PositionFault) → r ≡ Err fault
     → (IsErrOf r Lions ↔ (HasLions (setup_of board hands) → ⊥))
     → (IsErrOf r Count ↔ (HasLions (setup_of board hands) × (HasFewPieces (setup_of board hands) → ⊥)))
     → (IsErrOf r FarLion ↔ (HasLions (setup_of board hands) × HasFewPieces (setup_of board hands) × (HasLionOffFarRow (setup_of board hands) → ⊥)))
     → HasPositionFault (setup_of board hands) (Some fault)
-fault_holds r board hands Lions is lions count far = lions.0 is
-fault_holds r board hands Count is lions count far = count.0 is
-fault_holds r board hands FarLion is lions count far = far.0 is
+fault_holds r board hands fault is lions count far = grind arith

@@ -8,14 +8,14 @@ use Rattle.dob_certificate.specs.Lost.{SupportsLost, SupportsAllLost}
 use Rattle.dob_certificate.proofs.Firsts.{not_all}
 use Rattle.dob_certify.specs.declared.replies.Reply.{Reply}
 use Rattle.dobutsu_c.specs.declared.replies.ReplyFault.{ReplyFault}
-use Rattle.dobutsu_c.specs.declared.replies.ReplyFault.TheVariants.{Text, Bytes, FarChick, OtherSet, Unsupported, Unlisted, Memory}
+use Rattle.dobutsu_c.specs.declared.replies.ReplyFault.TheVariants.{Unsupported, Unlisted}
 use Rattle.dobutsu_c.specs.Replies.{AreAsked, HasNoReply, HasReplyFault, IsRepliedBy, IsReplyBy}
+use Rattle.std.proofs.Common.{arith}
 
 -- where an entry is refused not all are supported, and no list is refused for a claim
 module _ (family : Family) (lost : List Entry) (r : Result (Unit {0}) Refusal) (verdict : IsListVerdict (Supports Lost family lost) lost r) where
   pub unsupported_by : (class : ℕ) → r ≡ Err (refusal.Unsupported class) → ¬ SupportsAllLost family lost
-  unsupported_by class is =
-      not_all (SupportsLost family lost) lost class (subst (IsListVerdict (Supports Lost family lost) lost) is verdict)
+  unsupported_by class is = not_all (SupportsLost family lost) lost class (rw is at verdict)
 
   pub no_claim : r ≡ Err refusal.Claim → ⊥
   no_claim is = subst (IsListVerdict (Supports Lost family lost) lost) is verdict
@@ -25,8 +25,4 @@ pub asked_replied : (file text : List ℕ) (said : Content) (p : Setup) (r : Res
 asked_replied file text said p (Ok found) asked is = (said, p, asked, is)
 asked_replied file text said p (Err Unsupported) asked is = (said, p, asked, is)
 asked_replied file text said p (Err Unlisted) asked is = (said, p, asked, is)
-asked_replied file text said p (Err Memory) asked is = tt
-asked_replied file text said p (Err (Text fault)) asked is = absurd is
-asked_replied file text said p (Err (Bytes defect)) asked is = absurd is
-asked_replied file text said p (Err FarChick) asked is = absurd is
-asked_replied file text said p (Err OtherSet) asked is = absurd is
+asked_replied file text said p r asked is = grind arith

@@ -4,6 +4,7 @@ use Rattle.dobutsu_c.proofs.Common.{fault_number, AreToldMoves, AreToldMovesBy, 
 use Rattle.dobutsu_c.proofs.Exact.{no_fault}
 use Rattle.dobutsu_c.proofs.Indexed.{asked_by, not_unmarked, one_fault_by, some_fault_by, unmarked_fault}
 use Rattle.dobutsu_c.proofs.IndexedMoves.{right_moves}
+use Rattle.std.proofs.Common.{arith}
 
 module _ (file text : List ℕ) (by : Numbering) where
   pub moves_told : (list : List ValuedMove) → IsIndexFor file by → AreToldMovesBy file text by list → AreToldMoves file text list
@@ -35,10 +36,7 @@ module _ (file text : List ℕ) (by : Numbering) where
 
   pub refused_by_told : (number : ℕ) → IsMovesFault file text by number
       → (number ≡ 23) ⊎ ((fault : ByFault) × HasByFault file text by fault × (number ≡ number_by fault))
-  refused_by_told number is = elim is [
-    | inl memory ↦ inl memory.0
-    | inr other ↦ inr other
-  ]
+  refused_by_told number is = grind arith
 
   module _ (f : Format) (g : Family) (s : Setup) (read : AreRead file text f g s) (wrong : IsMarkedBy by g → ⊥) where
     pub marked_told : (list : List ValuedMove) → AreToldMovesBy file text by list → ⊥

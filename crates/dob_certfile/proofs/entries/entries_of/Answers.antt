@@ -1,7 +1,7 @@
 -- One entry more.
 use Rattle.dob_certfile.proofs.Common.{arith, err_from_is_err_and, entries_at}
-use Rattle.dob_certfile.proofs.Loop.{goes_on, ends, is_done}
-use Rattle.dob_certfile.proofs.Verdicts.{read_ascends}
+use Rattle.dob_certfile.proofs.Lists.{goes_on, ends, is_done}
+use Rattle.dob_certfile.proofs.Files.{read_ascends}
 use Rattle.dob_certfile.proofs.entries.entries_of.Goals as goal
 
 pub returns-in_err-entry-clause-read : goal.returns-in_err-entry-clause-read

@@ -1,6 +1,6 @@
 -- What was read before, and what is still read, is the whole.
 use Rattle.dob_certfile.proofs.Common.{◌-◌, ◌≡◌, ◌≤◌, entries_at}
-use Rattle.dob_certfile.proofs.Loop.{with_front}
+use Rattle.dob_certfile.proofs.Lists.{with_front}
 use Rattle.dob_certfile.proofs.entries.entries_of.Given as goal
 
 abbrev pub invariant-loop : goal.invariant-loop

@@ -1,6 +1,6 @@
 -- By one byte, and the number that the bytes after it stand for.
 use Rattle.dob_certfile.proofs.Common.{◌-◌, arith, err_from_is_err_and}
-use Rattle.dob_certfile.proofs.Digits.{number_err, number_low, number_last, number_more_err, number_zero, number_more, low_room, high_room, limit_small}
+use Rattle.dob_certfile.proofs.Fields.{number_err, number_low, number_last, number_more_err, number_zero, number_more, low_room, high_room, limit_small}
 use Rattle.dob_certfile.proofs.numbers.+number_of.Goals as goal
 
 pub returns-in_err-low-clause-read : goal.returns-in_err-low-clause-read

@@ -1,6 +1,6 @@
 -- By one byte, and the bytes of the rest.
 use Rattle.std.proofs.Common.{◌++◌, ◌∙◌, ℕ, List, ap, sym}
-use Rattle.dob_certfile.proofs.Digits.{leb_low, push_more}
+use Rattle.dob_certfile.proofs.Fields.{leb_low, push_more}
 use Rattle.dob_certfile.proofs.numbers.+push_number.Goals as goal
 
 pub returns-then-number-lt128 : goal.returns-then-number-lt128

@@ -1,7 +1,6 @@
 -- By the two laws of what is read.
 use Rattle.dob_certfile.proofs.Common.{◌∙◌, ap, arith, subst, content, MayGive, file_at}
-use Rattle.dob_certfile.proofs.Verdicts.{is_found, is_fault}
-use Rattle.dob_certfile.proofs.Files.{file_again}
+use Rattle.dob_certfile.proofs.Files.{is_found, is_fault, file_again}
 use Rattle.dob_certfile.proofs.read.read_certificate.Goals as goal
 
 pub returns-clause-found : goal.returns-clause-found

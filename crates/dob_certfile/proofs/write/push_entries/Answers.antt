@@ -1,6 +1,6 @@
 -- One entry more.
 use Rattle.dob_certfile.proofs.Common.{◌++◌, entries_bytes}
-use Rattle.dob_certfile.proofs.Writes.{written_more, written_all}
+use Rattle.dob_certfile.proofs.Lists.{written_more, written_all}
 use Rattle.dob_certfile.proofs.write.push_entries.Goals as goal
 
 pub loop-entry-preserved : goal.loop-entry-preserved

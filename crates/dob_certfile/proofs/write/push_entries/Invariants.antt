@@ -1,6 +1,6 @@
 -- What was written and what is left are the whole.
 use Rattle.dob_certfile.proofs.Common.{◌++◌, entries_bytes}
-use Rattle.dob_certfile.proofs.Writes.{AreWritten}
+use Rattle.dob_certfile.proofs.Lists.{AreWritten}
 use Rattle.dob_certfile.proofs.write.push_entries.Given as goal
 
 abbrev pub invariant-loop-entry : goal.invariant-loop-entry

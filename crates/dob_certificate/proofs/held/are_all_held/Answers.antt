@@ -1,21 +1,17 @@
 -- Each move's outcome is one more.
-use Rattle.dob_certificate.proofs.Common.{refl, rules, slice_get_read, move_goes, IsSaidHeld}
+use Rattle.dob_certificate.proofs.Common.{rules, move_goes, IsSaidHeld}
 use Rattle.dob_certificate.proofs.Cases.{said_yes}
-use Rattle.dob_certificate.proofs.Replies.{all_more, all_done}
+use Rattle.dob_certificate.proofs.Replies.{read_more, all_done}
 use Rattle.dob_certificate.proofs.held.are_all_held.Goals as goal
 
 pub outcome_of-outcome-requires-clause-played : goal.outcome_of-outcome-requires-clause-played
-outcome_of-outcome-requires-clause-played c =
-    move_goes c.args.classes.now.family.profile c.args.position.now.setup c.args.replies.now c.loop-reply.reply-index c.reply-item.result
-    c.requires.replies c.loop-reply-test.true c.reply-item.is
+outcome_of-outcome-requires-clause-played c = move_goes _ _ _ c.loop-reply.reply-index _ c.requires.replies c.loop-reply-test.true c.reply-item.is
 
 pub loop-reply-preserved : goal.loop-reply-preserved
 loop-reply-preserved c =
     let family = c.args.classes.now.family in
-    let replies = c.args.replies.now in
-    all_more family.profile (IsSaidHeld family c.args.held.now c.args.plies) c.args.position.now.setup replies c.loop-reply.reply-index
-    c.reply-item.result c.outcome_of-outcome.result.setup
-    (slice_get_read replies _ c.loop-reply.reply-index c.reply-item.result refl c.loop-reply-test.true c.reply-item.is)
+    read_more family.profile (IsSaidHeld family c.args.held.now c.args.plies) c.args.position.now.setup c.args.replies.now c.loop-reply.reply-index
+    c.reply-item.result c.outcome_of-outcome.result.setup c.loop-reply-test.true c.reply-item.is
     c.outcome_of-outcome.ensures.alone (c.is_said_held.ensures.0 (search rules)) c.loop-reply.invariant
 
 pub returns : goal.returns

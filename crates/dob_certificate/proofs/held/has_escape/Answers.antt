@@ -1,21 +1,18 @@
 -- The move that was found is one, and where none was found none is.
-use Rattle.dob_certificate.proofs.Common.{refl, rules, slice_get_read, Setup, move_goes, IsSafe}
+use Rattle.dob_certificate.proofs.Common.{rules, Setup, move_goes, IsSafe}
 use Rattle.dob_certificate.proofs.Cases.{said_no, not_so}
-use Rattle.dob_certificate.proofs.Replies.{all_more, all_done}
+use Rattle.dob_certificate.proofs.Replies.{read_more, all_done}
 use Rattle.dob_certificate.proofs.held.has_escape.Goals as goal
 
 pub outcome_of-outcome-requires-clause-played : goal.outcome_of-outcome-requires-clause-played
-outcome_of-outcome-requires-clause-played c =
-    move_goes c.args.classes.now.family.profile c.args.position.now.setup c.args.legal.now c.loop-played.played-index c.played-item.result
-    c.requires.legal c.loop-played-test.true c.played-item.is
+outcome_of-outcome-requires-clause-played c = move_goes _ _ _ c.loop-played.played-index _ c.requires.legal c.loop-played-test.true c.played-item.is
 
 pub loop-played-preserved : goal.loop-played-preserved
 loop-played-preserved c =
     let family = c.args.classes.now.family in
     let legal = c.args.legal.now in
-    all_more family.profile (λ (q : Setup). ¬ IsSafe family c.args.held.now c.args.plies q) c.args.position.now.setup legal c.loop-played.played-index
-    c.played-item.result c.outcome_of-outcome.result.setup
-    (slice_get_read legal _ c.loop-played.played-index c.played-item.result refl c.loop-played-test.true c.played-item.is)
+    read_more family.profile (λ (q : Setup). ¬ IsSafe family c.args.held.now c.args.plies q) c.args.position.now.setup legal c.loop-played.played-index
+    c.played-item.result c.outcome_of-outcome.result.setup c.loop-played-test.true c.played-item.is
     c.outcome_of-outcome.ensures.alone (not_so c.in_ok-safe.safe (search rules) c.in_ok-safe.ensures) c.loop-played.invariant
 
 pub returns : goal.returns

@@ -3,9 +3,7 @@ use Rattle.dob_certificate.proofs.Cases.{hold_caught, hold_over}
 use Rattle.dob_certificate.proofs.held.is_hold_supported.Goals as goal
 
 pub returns-in-Caught : goal.returns-in-Caught
-returns-in-Caught c =
-    hold_caught c.args.classes.now.family c.args.held.now c.args.plies c.args.position.now.setup c.in-Caught.is c.in_ok-moves_into.ensures.status
+returns-in-Caught c = hold_caught _ _ _ _ c.in-Caught.is c.in_ok-moves_into.ensures.status
 
 pub returns-in-Tried : goal.returns-in-Tried
-returns-in-Tried c =
-    hold_over c.args.classes.now.family c.args.held.now c.args.plies c.args.position.now.setup c.in-Tried.is c.in_ok-moves_into.ensures.status
+returns-in-Tried c = hold_over _ _ _ _ c.in-Tried.is c.in_ok-moves_into.ensures.status

@@ -17,6 +17,5 @@ loop-place-preserved c =
 
 pub returns : goal.returns
 returns c =
-    let same = ap length c.as_slice-place-end.ensures.entries in
-    let all : length c.args.entries.now ≤ c.loop-place.place = omega (arith, same, c.loop-place-test.false) in
+    let all : length c.args.entries.now ≤ c.loop-place.place = omega (arith, ap length c.as_slice-place-end.ensures.entries, c.loop-place-test.false) in
     entries_done (Supports c.args.kind c.args.classes.now.family c.args.entries.now) c.args.entries.now c.loop-place.place all c.loop-place.invariant

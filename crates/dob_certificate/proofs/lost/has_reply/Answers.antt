@@ -1,21 +1,18 @@
 -- The reply that was found is a move, and where none was found none is.
-use Rattle.dob_certificate.proofs.Common.{refl, rules, slice_get_read, Setup, move_goes, IsSaidLost}
+use Rattle.dob_certificate.proofs.Common.{rules, Setup, move_goes, IsSaidLost}
 use Rattle.dob_certificate.proofs.Cases.{said_no, said_yes, not_so}
-use Rattle.dob_certificate.proofs.Replies.{all_more, all_done}
+use Rattle.dob_certificate.proofs.Replies.{read_more, all_done}
 use Rattle.dob_certificate.proofs.lost.has_reply.Goals as goal
 
 pub outcome_of-requires-clause-played : goal.outcome_of-requires-clause-played
-outcome_of-requires-clause-played c =
-    move_goes c.args.classes.now.family.profile c.args.position.now.setup c.args.replies.now c.loop-reply.reply-index c.reply-item.result
-    c.requires.replies c.loop-reply-test.true c.reply-item.is
+outcome_of-requires-clause-played c = move_goes _ _ _ c.loop-reply.reply-index _ c.requires.replies c.loop-reply-test.true c.reply-item.is
 
 pub loop-reply-preserved : goal.loop-reply-preserved
 loop-reply-preserved c =
     let family = c.args.classes.now.family in
     let replies = c.args.replies.now in
-    all_more family.profile (λ (q : Setup). ¬ IsSaidLost family c.args.lost.now c.args.plies q) c.args.position.now.setup replies c.loop-reply.reply-index
-    c.reply-item.result c.outcome_of.result.setup
-    (slice_get_read replies _ c.loop-reply.reply-index c.reply-item.result refl c.loop-reply-test.true c.reply-item.is)
+    read_more family.profile (λ (q : Setup). ¬ IsSaidLost family c.args.lost.now c.args.plies q) c.args.position.now.setup replies c.loop-reply.reply-index
+    c.reply-item.result c.outcome_of.result.setup c.loop-reply-test.true c.reply-item.is
     c.outcome_of.ensures.alone (not_so c.is_said_lost.result (search rules) c.is_said_lost.ensures) c.loop-reply.invariant
 
 pub returns-then-is_said_lost : goal.returns-then-is_said_lost

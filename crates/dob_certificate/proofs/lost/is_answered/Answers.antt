@@ -3,14 +3,10 @@ use Rattle.dob_certificate.proofs.Cases.{answered_caught, answered_open, answere
 use Rattle.dob_certificate.proofs.lost.is_answered.Goals as goal
 
 pub returns-in-Caught : goal.returns-in-Caught
-returns-in-Caught c =
-    answered_caught c.args.classes.now.family c.args.lost.now c.args.plies c.args.position.now.setup c.in-Caught.is c.in_ok-moves_into.ensures.status
+returns-in-Caught c = answered_caught _ _ _ _ c.in-Caught.is c.in_ok-moves_into.ensures.status
 
 pub returns-in-Tried : goal.returns-in-Tried
-returns-in-Tried c =
-    answered_over c.args.classes.now.family c.args.lost.now c.args.plies c.args.position.now.setup c.in-Tried.is c.in_ok-moves_into.ensures.status
+returns-in-Tried c = answered_over _ _ _ _ c.in-Tried.is c.in_ok-moves_into.ensures.status
 
 pub returns-in-Open : goal.returns-in-Open
-returns-in-Open c =
-    answered_open c.args.classes.now.family c.args.lost.now c.args.plies c.args.position.now.setup c.in-Open.is c.in_ok-moves_into.ensures.status
-    c.has_reply.result c.has_reply.ensures
+returns-in-Open c = answered_open _ _ _ _ c.in-Open.is c.in_ok-moves_into.ensures.status c.has_reply.result c.has_reply.ensures

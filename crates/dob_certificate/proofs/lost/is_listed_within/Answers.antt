@@ -4,9 +4,7 @@ use Rattle.dob_certificate.proofs.Cases.{said_no, at_most, listed_by}
 use Rattle.dob_certificate.proofs.lost.is_listed_within.Goals as goal
 
 pub returns-in-Some : goal.returns-in-Some
-returns-in-Some c =
-    listed_by c.args.classes.now.family c.args.lost.now c.args.position.now.setup (λ (entry : Entry). entry.plies ≤ c.args.plies) _ c.in-Some.entry
-    c.in-Some.ensures.some c.in-Some.ensures.alone (at_most c.in-Some.entry.plies c.args.plies)
+returns-in-Some c = listed_by _ _ _ (λ (entry : Entry). entry.plies ≤ c.args.plies) _ _ c.in-Some.ensures.some c.in-Some.ensures.alone (at_most c.in-Some.entry.plies c.args.plies)
 
 pub returns-in-None : goal.returns-in-None
 returns-in-None c = said_no (λ listed. c.in-None.ensures.none listed.0 listed.1)

@@ -3,14 +3,10 @@ use Rattle.dob_certificate.proofs.Cases.{said_lost_caught, said_lost_open, said_
 use Rattle.dob_certificate.proofs.lost.is_said_lost.Goals as goal
 
 pub returns-in-Caught : goal.returns-in-Caught
-returns-in-Caught c =
-    said_lost_caught c.args.classes.now.family c.args.lost.now c.args.plies c.args.position.now.setup c.in-Caught.is c.status.ensures
+returns-in-Caught c = said_lost_caught _ _ _ _ c.in-Caught.is c.status.ensures
 
 pub returns-in-Tried : goal.returns-in-Tried
-returns-in-Tried c =
-    said_lost_over c.args.classes.now.family c.args.lost.now c.args.plies c.args.position.now.setup c.in-Tried.is c.status.ensures
+returns-in-Tried c = said_lost_over _ _ _ _ c.in-Tried.is c.status.ensures
 
 pub returns-in-Open : goal.returns-in-Open
-returns-in-Open c =
-    said_lost_open c.args.classes.now.family c.args.lost.now c.args.plies c.args.position.now.setup c.in-Open.is c.status.ensures c.is_listed_within.result
-    c.is_listed_within.ensures
+returns-in-Open c = said_lost_open _ _ _ _ c.in-Open.is c.status.ensures c.is_listed_within.result c.is_listed_within.ensures

@@ -4,8 +4,8 @@ use Rattle.dob_dbfile.proofs.Common.{NamesFamily, count_place, header_len, count
 use Rattle.dob_dbfile.proofs.Headers.{set_lifts, family_lifts, counts_falls, count_part, fault_lifts, header_long}
 use Rattle.dob_dbfile.proofs.HeldBytes.{refused, no_digest}
 use Rattle.dob_dbfile.proofs.Places.{only_digest, same_head, same_format, same_set}
-use Rattle.dob_dbfile.proofs.held.held_counted.Goals as goal
 use Rattle.dob_dbfile.proofs.held.held_counted.Goals.{After-header_len-2}
+use Rattle.dob_dbfile.proofs.held.held_counted.Goals as goal
 
 -- the bytes are as many as the header's
 there : (c : After-header_len-2) → header_len c.in-Ok.format ≤ length c.args.bytes.now

@@ -1,9 +1,9 @@
 -- What the header's bytes are refused for is a fault of the file.
 use Rattle.dob_dbfile.proofs.Common.{◌≤◌, arith, inr, length, refl, subst, take, ℕ, IfErr-weaker, err_from_is_err_and, whole, CountsClasses, HasHeaderFault}
 use Rattle.dob_dbfile.proofs.Common.{header_len}
-use Rattle.dob_dbfile.specs.declared.fault.Fault.TheVariants as fault
 use Rattle.dob_dbfile.proofs.Headers.{set_lifts, counts_lifts, fault_lifts, front_refused, header_long}
 use Rattle.dob_dbfile.proofs.HeldBytes.{front_refused_whole}
+use Rattle.dob_dbfile.specs.declared.fault.Fault.TheVariants as fault
 use Rattle.dob_dbfile.proofs.held.held_header.Goals as goal
 
 pub returns-in_err-format-clause-front : goal.returns-in_err-format-clause-front

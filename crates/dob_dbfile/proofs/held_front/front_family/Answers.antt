@@ -1,10 +1,9 @@
 -- What the first bytes and the length are refused for is a fault of the file.
 use Rattle.dob_dbfile.proofs.Common.{List, arith, ℕ, err_from_is_err_and, CountsClasses}
 use Rattle.dob_dbfile.specs.Fronts.{IsFrontOf}
-use Rattle.dob_dbfile.proofs.HeldBytes.{cut_off, goes_on}
-use Rattle.dob_dbfile.proofs.FrontBytes.{counts_by_front, fault_by_front}
-use Rattle.dob_dbfile.proofs.held_front.front_family.Goals as goal
+use Rattle.dob_dbfile.proofs.HeldBytes.{cut_off, goes_on, counts_by_front, fault_by_front}
 use Rattle.dob_dbfile.proofs.held_front.front_family.Goals.{In_ok-format}
+use Rattle.dob_dbfile.proofs.held_front.front_family.Goals as goal
 
 -- what the first bytes count the file counts
 counts : (c : In_ok-format) (file : List ℕ) → IsFrontOf c.args.front.now c.args.size file → CountsClasses c.in_ok-format.format c.in_ok-format.family file

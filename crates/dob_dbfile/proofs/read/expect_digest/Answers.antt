@@ -1,6 +1,6 @@
 -- The digest that was read is compared with that of the bytes before it.
 use Rattle.dob_dbfile.proofs.Common.{◌∙◌, ◌≡◌, false, length, subst, sym, true, ℕ, err_from_is_err_and, GivesFewer}
-use Rattle.dob_dbfile.proofs.Endings.{digest_cut, all_taken}
+use Rattle.dob_dbfile.proofs.Pieces.{digest_cut, all_taken}
 use Rattle.dob_dbfile.proofs.read.expect_digest.Goals as goal
 
 pub returns-in_err-fill-clause-fault : goal.returns-in_err-fill-clause-fault

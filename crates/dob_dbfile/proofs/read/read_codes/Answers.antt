@@ -1,6 +1,6 @@
 -- The codes are those of the records that the stream has.
 use Rattle.std.proofs.Common.{[]}
-use Rattle.dob_dbfile.proofs.Endings.{ends_with}
+use Rattle.dob_dbfile.proofs.Pieces.{ends_with}
 use Rattle.dob_dbfile.proofs.read.read_codes.Goals as goal
 
 pub returns-clause-read : goal.returns-clause-read

@@ -1,6 +1,6 @@
 -- The room filled grows by what a call gives.
 use Rattle.dob_dbfile.proofs.Common.{◌-◌, ◌∙◌, arith, length, rules, subst, or-false, common_steps}
-use Rattle.dob_dbfile.proofs.Filled.{filled_more, after-after}
+use Rattle.dob_dbfile.proofs.Pieces.{filled_more, after-after}
 use Rattle.dob_dbfile.proofs.transfer.read_full.Goals as goal
 
 pub loop-done-preserved : goal.loop-done-preserved

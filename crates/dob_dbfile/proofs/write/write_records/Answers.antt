@@ -1,9 +1,9 @@
 -- Piece after piece the records go in.
 use Rattle.dob_dbfile.proofs.Common.{◌*◌, ◌++◌, ◌∙◌, ◌≡◌, List, ap, arith, drop, subst, take, ℕ, err_from_is_err_and, records, Writes, change}
 use Rattle.dob_dbfile.proofs.Sinks.{stops_behind, writes_more, writes_none}
-use Rattle.dob_dbfile.proofs.Hashed.{records_len, records_part}
-use Rattle.dob_dbfile.proofs.write.write_records.Goals as goal
+use Rattle.dob_dbfile.proofs.CodeBytes.{records_len, records_part}
 use Rattle.dob_dbfile.proofs.write.write_records.Goals.{After-deref}
+use Rattle.dob_dbfile.proofs.write.write_records.Goals as goal
 
 -- the piece goes on from the records before it
 joined : (g : _) (c : After-deref g)

@@ -1,17 +1,16 @@
 -- The first class that is refused is the fault's, and where none is all follow.
-use Rattle.dob_probe.proofs.Common.{Err, arith, inl, inr, refl, subst, ◌≡◌, cases_lt, IsConsistent, consistent_is_right, ClassFollows}
+use Rattle.dob_probe.proofs.Common.{Err, arith, inl, inr, refl, IsConsistent, consistent_is_right}
 use Rattle.std.proofs.lemmas.Result.{err_from_is_err_and}
 use Rattle.dob_probe.proofs.Following.{consistent_of_all}
 use Rattle.dob_probe.proofs.Verdicts.{fault_holds}
 use Rattle.dob_probe.proofs.checks.check.Goals as goal
 use Rattle.dob_probe.proofs.checks.check.Goals.{After-loop-class}
+use Rattle.std.proofs.lemmas.Bool.{cases_eq}
 
 pub loop-class-preserved : goal.loop-class-preserved
-loop-class-preserved c = λ other below. elim (cases_lt other c.loop-class.class) [
-  | inl earlier ↦ c.loop-class.invariant other earlier
-  | inr here ↦
-      let same : c.loop-class.class ≡ other = omega (arith, below, here) in
-      subst (ClassFollows c.args.table.now) same c.in_ok-check_class.ensures
+loop-class-preserved c = λ other below. elim (cases_eq c.loop-class.class other) [
+  | inl same ↦ rw same at c.in_ok-check_class.ensures
+  | inr apart ↦ c.loop-class.invariant other (omega arith)
 ]
 
 pub returns-in_err-check_class-clause-fault : goal.returns-in_err-check_class-clause-fault

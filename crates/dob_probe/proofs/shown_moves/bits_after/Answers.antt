@@ -1,5 +1,5 @@
 -- Every outcome of the move is what it leaves, turned.
-use Rattle.dob_probe.proofs.Common.{subst, sym, Setup, HasOutcome-is, CanGo, HasOutcome, Move, AreBitboards}
+use Rattle.dob_probe.proofs.Common.{subst, HasOutcome-is, CanGo, Move}
 use Rattle.dob_moves.specs.declared.game_move.Move.TheVariants.{Step, Put}
 use Rattle.dob_pieces.specs.declared.profile.Profile.TheVariants.{A}
 use Rattle.dob_probe.proofs.shown_moves.bits_after.Goals as goal
@@ -8,11 +8,8 @@ pub after_drop-requires-clause-in_hand : goal.after_drop-requires-clause-in_hand
 after_drop-requires-clause-in_hand c = (subst (λ (m : Move). CanGo A c.args.position.now.setup m) c.in-Put.is c.requires.can_go).1.in_hand
 
 pub returns-in-Step : goal.returns-in-Step
-returns-in-Step c = λ q by. subst (λ (s : Setup). AreBitboards s c.after_step.result)
-    (sym (HasOutcome-is c.args.position.now.setup (Step c.in-Step.kind c.in-Step.from c.in-Step.to c.in-Step.catch c.in-Step.grows) q
-    (subst (λ (m : Move). HasOutcome c.args.position.now.setup m q) c.in-Step.is by))) c.after_step.ensures
+returns-in-Step c = λ q by. rw (HasOutcome-is c.args.position.now.setup (Step c.in-Step.kind c.in-Step.from c.in-Step.to c.in-Step.catch c.in-Step.grows) q
+    (rw c.in-Step.is at by)) c.after_step.ensures
 
 pub returns-in-Put : goal.returns-in-Put
-returns-in-Put c = λ q by. subst (λ (s : Setup). AreBitboards s c.after_drop.result)
-    (sym (HasOutcome-is c.args.position.now.setup (Put c.in-Put.kind c.in-Put.to) q
-    (subst (λ (m : Move). HasOutcome c.args.position.now.setup m q) c.in-Put.is by))) c.after_drop.ensures
+returns-in-Put c = λ q by. rw (HasOutcome-is c.args.position.now.setup (Put c.in-Put.kind c.in-Put.to) q (rw c.in-Put.is at by)) c.after_drop.ensures

@@ -6,13 +6,10 @@ use Rattle.dob_probe.proofs.successors.value_shown.Goals.{After-bits_after-bits,
 -- what the move leads to is shown
 shown : (c : After-bits_after-bits) (q : Setup) → Goes c.args.table.now.family.profile c.args.position.now.setup c.args.played q →
     IsShown c.args.table.now.family q c.bits_after-bits.result
-shown c q by =
-    let family = c.args.table.now.family in
-    let setup = c.args.position.now.setup in
-    record {
-      position = moves_keep_the_family family setup c.args.played q c.requires.member c.requires.played.0 by;
-      squares = c.bits_after-bits.ensures q (goes family.profile setup c.args.played q by);
-    }
+shown c q by = record {
+  position = moves_keep_the_family c.args.table.now.family c.args.position.now.setup c.args.played q c.requires.member c.requires.played.0 by;
+  squares = c.bits_after-bits.ensures q (goes c.args.table.now.family.profile c.args.position.now.setup c.args.played q by);
+}
 
 pub bits_after-bits-requires-clause-can_go : goal.bits_after-bits-requires-clause-can_go
 bits_after-bits-requires-clause-can_go c = can_go c.args.table.now.family.profile c.args.position.now.setup c.args.played c.requires.played.1

@@ -1,7 +1,7 @@
 -- A file that the shelf has isn't opened, and isn't read, only for lack of memory.
 use Rattle.dob_query.proofs.Common.{err_from_is_err_and}
 use Rattle.dob_query.proofs.Proven.{shelf_bytes}
-use Rattle.dob_query.proofs.TableFaults.{shelf_fails}
+use Rattle.dob_query.proofs.Kept.{shelf_fails}
 use Rattle.dob_query.proofs.certificates.bytes_named.Goals as goal
 
 pub returns-in_err-source : goal.returns-in_err-source
@@ -10,7 +10,7 @@ returns-in_err-source g c =
     rw (p.1, p.2) (
       (
         shelf_bytes ((g.S.Shelf.state c.args.shelf.now).has c.args.file.now) c.in_err-source.field-0.0 c.in_err-source.ensures.found,
-        shelf_fails _ _ c.in_err-source.field-0.0 c.in_err-source.ensures.failed,
+        shelf_fails c.find.result _ _ c.in_err-source.field-0.0 c.in_err-source.ensures.failed,
       ),
       c.find.ensures.kept,
     )

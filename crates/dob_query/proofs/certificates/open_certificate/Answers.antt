@@ -1,8 +1,5 @@
 -- The bytes that were read are the file's.
-use Rattle.dob_query.proofs.Common.{◌∙◌, List, subst, sym, ℕ, err_from_is_err_and, HasCertFault}
-use Rattle.std.specs.Prelude.{◌≡◌, ◌⊎◌}
-use Rattle.dob_certfile.specs.declared.defect.Defect.{Defect as AnyDefect}
-use Rattle.dob_certfile.specs.declared.defect.ReadFault.TheVariants as reading
+use Rattle.dob_query.proofs.Common.{◌∙◌, sym, err_from_is_err_and}
 use Rattle.dob_query.proofs.Proven.{bytes_read, defect_read, read_fails}
 use Rattle.dob_query.proofs.certificates.open_certificate.Goals as goal
 
@@ -16,13 +13,11 @@ pub returns-in_err-read_certificate : goal.returns-in_err-read_certificate
 returns-in_err-read_certificate g c =
     let p = err_from_is_err_and c.from_residual-in_err-read_certificate.result c.from_residual-in_err-read_certificate.ensures.1 in
     let opened = c.in_ok-bytes.ensures in
-    let given = c.in_err-read_certificate.field-0.0 in
     rw (p.1, p.2) (
       (
-        defect_read ((g.S.Shelf.state c.args.shelf.now).has c.args.file.now) c.in_ok-bytes.bytes.items opened.0.0 given
-            (subst (λ (b : List ℕ). (given ≡ reading.Memory) ⊎ ((defect : AnyDefect) × (given ≡ reading.Defect defect) × HasCertFault b defect))
-            c.deref.ensures.value c.in_err-read_certificate.ensures.fault),
-        read_fails _ _ given opened.0.1,
+        defect_read ((g.S.Shelf.state c.args.shelf.now).has c.args.file.now) c.in_ok-bytes.bytes.items opened.0.0 c.in_err-read_certificate.field-0.0
+            (rw c.deref.ensures.value at c.in_err-read_certificate.ensures.fault),
+        read_fails _ _ c.in_err-read_certificate.field-0.0 opened.0.1,
       ),
       opened.1,
     )

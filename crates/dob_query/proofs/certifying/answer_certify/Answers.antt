@@ -1,6 +1,5 @@
 -- What is kept under the other name is the file of a certificate of what the table says.
-use Rattle.dob_query.proofs.Common.{◌∙◌, Bool, subst, ℕ, err_from_is_err_and, IsTrue, others_kept, shelf_change}
-use Rattle.dob_query.specs.Certificates.{IsCertifyFault}
+use Rattle.dob_query.proofs.Common.{◌∙◌, err_from_is_err_and, others_kept, shelf_change}
 use Rattle.dob_query.proofs.Kept.{answered_later, fails_later, filled_answers, others_after, same_chain, shelf_fails, shelf_keeps}
 use Rattle.dob_query.proofs.MadeFaults.{certify_lines, keeping_certifies, opening_certifies, shelf_certifies}
 use Rattle.dob_query.proofs.certifying.answer_certify.Goals as goal
@@ -47,11 +46,10 @@ returns g c =
       answered_later old mid new _ _ _ _ c.keep_filled.result (fails_later _ _ _ _ opened.0.1 made.failed)
           (certify_lines (shelf_change old new) c.args.file.now c.args.out.now c.args.is_exact c.args.text.now position c.in_ok-position.ensures mid
           (made.told ∙ c.in_ok-table.ensures.told) table opened.0.0)
-          (λ fault holds. subst (λ (most : ℕ). IsCertifyFault (shelf_change old new) c.args.file.now c.args.is_exact most c.args.text.now fault)
-          c.most_entries-most.ensures
+          (λ fault holds. rw c.most_entries-most.ensures at
           (keeping_certifies (shelf_change old new) c.args.file.now c.args.is_exact c.most_entries-most.result c.args.text.now position c.in_ok-position.ensures mid
           table opened.0.0 same fault holds))
           (filled_answers (shelf_change mid new) c.args.out.now _ _ _ c.fill_certificate-filled.result c.keep_filled.result
-          (λ tells. made.empty (subst (λ (b : Bool). IsTrue b) made.told tells)) c.fill_certificate-filled.ensures c.keep_filled.ensures.0),
+          (λ tells. made.empty (rw made.told at tells)) c.fill_certificate-filled.ensures c.keep_filled.ensures.0),
       others_after c.args.out.now _ _ _ same c.keep_filled.ensures.1,
     )

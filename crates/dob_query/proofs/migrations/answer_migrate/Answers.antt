@@ -1,7 +1,7 @@
 -- The table is the file's, and what is kept under the other name is its file in the second format.
 use Rattle.dob_query.proofs.Common.{◌∙◌, Bool, inl, inr, subst, err_from_is_err_and, IsTrue, others_kept, shelf_change}
 use Rattle.dob_query.proofs.Kept.{answered_later, fails_later, filled_answers, others_after, same_chain, shelf_fails, shelf_keeps}
-use Rattle.dob_query.proofs.Migrating.{keeping_migrates, migrate_lines}
+use Rattle.dob_query.proofs.MadeFaults.{keeping_migrates, migrate_lines}
 use Rattle.dob_query.proofs.migrations.answer_migrate.Goals as goal
 
 pub returns-in_err-table : goal.returns-in_err-table

@@ -1,6 +1,5 @@
 -- The table is the file's, and the position one of its family.
-use Rattle.dob_query.proofs.Common.{subst, sym, err_from_is_err_and, IsPositionOf, class_number, IsRefusal}
-use Rattle.dob_reach.specs.Reached.{AreReachedFrom}
+use Rattle.dob_query.proofs.Common.{subst, err_from_is_err_and, IsPositionOf, class_number, IsRefusal}
 use Rattle.dob_query.proofs.TableFaults.{refusal_holds}
 use Rattle.dob_query.proofs.reaches.by_file.Goals as goal
 use Rattle.dob_query.proofs.reaches.by_file.Goals.{In_ok-check_member}
@@ -24,15 +23,11 @@ member g c = subst (λ f. IsPositionOf f c.in_ok-table.position.setup) c.family.
 
 pub reached_from-requires-clause-member : goal.reached_from-requires-clause-member
 reached_from-requires-clause-member g c = λ κs lives.
-    subst (λ f. IsPositionOf f c.in_ok-table.position.setup) (sym c.classes.ensures.family)
-    (member g (goal.at.reached_from-requires-clause-member g c).In_ok-check_member)
+    rw c.classes.ensures.family (member g (goal.at.reached_from-requires-clause-member g c).In_ok-check_member)
 
 pub by_value-counts-requires : goal.by_value-counts-requires
 by_value-counts-requires g c =
-    let setup = c.in_ok-table.position.setup in (
-      class_number c.in_ok-table.table.family setup,
-      subst (λ f. AreReachedFrom f (class_number f setup) c.in_ok-reached.reached) c.classes.ensures.family c.in_ok-reached.ensures,
-    )
+    (class_number c.in_ok-table.table.family c.in_ok-table.position.setup, rw c.classes.ensures.family at c.in_ok-reached.ensures)
 
 pub reach_lines-requires : goal.reach_lines-requires
 reach_lines-requires g c = c.in_ok-reached.ensures.some
@@ -42,8 +37,7 @@ returns g c =
     let asked = c.in_ok-table.ensures in
     let family = c.in_ok-table.table.family in
     let setup = c.in_ok-table.position.setup in
-    let found : AreReachedFrom family (class_number family setup) c.in_ok-reached.reached
-    = subst (λ f. AreReachedFrom f (class_number f setup) c.in_ok-reached.reached) c.classes.ensures.family c.in_ok-reached.ensures in (
+    let found = rw c.classes.ensures.family at c.in_ok-reached.ensures in (
       (
         record {
           table = c.in_ok-table.table;

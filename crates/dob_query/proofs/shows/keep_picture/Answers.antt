@@ -1,6 +1,5 @@
 -- The sink was empty and took the picture, which the shelf then keeps.
-use Rattle.dob_query.proofs.Common.{◌∙◌, ◌≡◌, Bool, List, subst, sym, ℕ, err_from_is_err_and, IsTrue, others_kept, HasJust, shelf_change}
-use Rattle.dob_text.specs.Pictures.{picture_of}
+use Rattle.dob_query.proofs.Common.{◌∙◌, err_from_is_err_and, others_kept, shelf_change}
 use Rattle.dob_query.proofs.Kept.{answered_later, filled_answers, others_after, shelf_fails, shelf_keeps, shelf_leaves}
 use Rattle.dob_query.proofs.shows.keep_picture.Goals as goal
 
@@ -19,15 +18,11 @@ returns g c =
     let old = g.S.Shelf.state c.args.shelf.now in
     let mid = g.S.Shelf.state c.make.new.self in
     let new = g.S.Shelf.state c.keep_filled.new.shelf in
-    let is_picture : c.as_bytes.result.now ≡ picture_of c.args.position.now.setup = c.as_bytes.ensures.value ∙ c.in_ok-picture.ensures in (
+    let is_picture = c.as_bytes.ensures.value ∙ c.in_ok-picture.ensures in (
       answered_later old mid new _ _ _ _ c.keep_filled.result made.failed
-          (λ text kept. (
-            kept.1.0,
-            λ tells. subst (λ (b : List ℕ). HasJust c.args.name.now b new.has) (kept.1.1 ∙ is_picture)
-                (kept.2 (subst (λ (b : Bool). IsTrue b) (sym made.told) tells)),
-          ))
+          (λ text kept. (kept.1.0, λ tells. rw (kept.1.1, is_picture) at (kept.2 (rw made.told tells))))
           (λ fault. shelf_leaves (shelf_change old new) mid made.kept fault)
           (filled_answers (shelf_change mid new) c.args.name.now _ _ _ c.fill-filled.result c.keep_filled.result
-          (λ tells. made.empty (subst (λ (b : Bool). IsTrue b) made.told tells)) c.fill-filled.ensures c.keep_filled.ensures.0),
+          (λ tells. made.empty (rw made.told at tells)) c.fill-filled.ensures c.keep_filled.ensures.0),
       others_after c.args.name.now _ _ _ made.kept c.keep_filled.ensures.1,
     )

@@ -1,6 +1,7 @@
 -- A file that the shelf has isn't opened only for lack of memory.
 use Rattle.std.proofs.lemmas.Result.{err_from_is_err_and}
-use Rattle.dob_query.proofs.TableFaults.{shelf_fails, shelf_fault_holds}
+use Rattle.dob_query.proofs.Kept.{shelf_fails}
+use Rattle.dob_query.proofs.TableFaults.{shelf_fault_holds}
 use Rattle.dob_query.proofs.tables.open.Goals as goal
 
 pub returns-in_err-source-clause-opened : goal.returns-in_err-source-clause-opened
@@ -9,7 +10,7 @@ returns-in_err-source-clause-opened g c =
     rw (p.1, p.2) (
       (
         shelf_fault_holds ((g.S.Shelf.state c.args.shelf.now).has c.args.file.now) c.in_err-source.field-0.0 c.in_err-source.ensures.found,
-        shelf_fails _ _ c.in_err-source.field-0.0 c.in_err-source.ensures.failed,
+        shelf_fails c.find.result _ _ c.in_err-source.field-0.0 c.in_err-source.ensures.failed,
       ),
       c.find.ensures.kept,
     )

@@ -1,6 +1,5 @@
 -- A line more is heard each time; what is held is told at the end, whatever that is.
-use Rattle.dob_query.proofs.Common.{◌||◌, ◌∙◌, Bool, ap, false, inl, inr, refl, string_bytes, subst, sym, or-false, err_from_is_err_and, change, unchanged}
-use Rattle.dob_query.proofs.Common.{is_io, AreAllLines, PutsText, TellsOf, TellsSome, told_of}
+use Rattle.dob_query.proofs.Common.{◌||◌, ◌∙◌, Bool, ap, false, inl, inr, refl, string_bytes, sym, or-false, err_from_is_err_and, unchanged, is_io, told_of}
 use Rattle.dob_query.proofs.EachLine.{AreHeard, ahead_told, all_told, ends_weaker, first_stopped, first_told, never_known, none_heard, one_heard}
 use Rattle.dob_query.proofs.EachLine.{put_or_stopped, same_heard, still_works}
 use Rattle.dob_query.proofs.Kept.{same_chain}
@@ -51,9 +50,7 @@ pub returns-in-Ok-false-clause-told : goal.returns-in-Ok-false-clause-told
 returns-in-Ok-false-clause-told g c =
     let none = rw c.in-Ok-false.field-0-test at c.in-Ok-false.ensures.heard in
     let heard = same_heard (told_of c.hear_next.new.held) none.1 (ahead g (goal.at.returns-in-Ok-false-clause-told g c).In_ok-tell_ahead) in (
-      subst (λ (b : Bool). TellsSome (AreAllLines (g.S.Shelf.state c.args.shelf.now).input) (TellsOf (g.T.Answerer.answers c.args.by.now)) b
-          (PutsText (change (g.O.Sink.state c.args.out.now) (g.O.Sink.state c.tell.new.out)))) (sym c.tell.ensures.refused)
-          (all_told heard (g.O.Sink.state c.tell.new.out) none.0 c.in_ok-tell-in-Ok-false.ensures.done),
+      rw c.tell.ensures.refused (all_told heard (g.O.Sink.state c.tell.new.out) none.0 c.in_ok-tell-in-Ok-false.ensures.done),
       c.in-Ok-false.ensures.failed ∙ ap (λ (b : Bool). b || false) c.loop.invariant.4,
     )
 

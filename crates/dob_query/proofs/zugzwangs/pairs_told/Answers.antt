@@ -1,6 +1,6 @@
 -- The pairs whose lines are written are of the table.
 use Rattle.dob_query.proofs.Common.{subst, sym, AreOfTable}
-use Rattle.dob_query.proofs.Paired.{deepest_of_table, first_of_table}
+use Rattle.dob_query.proofs.Puzzling.{deepest_of_table, first_of_table}
 use Rattle.dob_query.proofs.zugzwangs.pairs_told.Goals as goal
 
 pub zugzwang_lines-requires-clause-deepest : goal.zugzwang_lines-requires-clause-deepest

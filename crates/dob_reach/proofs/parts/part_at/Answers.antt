@@ -1,6 +1,6 @@
 -- The part ends where the next one begins, or with the classes.
-use Rattle.dob_reach.proofs.Common.{◌*◌, ◌+◌, ◌-◌, ◌≡◌, List, arith, length, min, subst, ℕ, IfOk-then, AreExpanded}
-use Rattle.dob_reach.proofs.Parting.{cut_in, part_is}
+use Rattle.dob_reach.proofs.Common.{◌*◌, ◌+◌, ◌-◌, ◌≡◌, IfOk-then, arith, length, min}
+use Rattle.dob_reach.proofs.Stepping.{cut_in, part_is}
 use Rattle.dob_reach.proofs.parts.part_at.Goals as goal
 
 pub overflow_mul-from : goal.overflow_mul-from
@@ -15,6 +15,4 @@ returns c =
     let place = c.args.place in
     let begins = c.requires.begins in
     let size : place * 4096 + c.min.result - place * 4096 ≡ min 4096 (length front - place * 4096) = omega (arith, begins, c.min.ensures) in
-    IfOk-then c.part_of.result _ _ c.part_of.ensures (λ found are. record {
-      expanded = subst (λ (xs : List ℕ). AreExpanded c.args.classes.now.family c.args.marks.now.words.items xs found.outcomes.items found.opens) (part_is front place _ size) are;
-    })
+    IfOk-then c.part_of.result _ _ c.part_of.ensures (λ found are. record { expanded = rw (part_is front place _ size) at are })

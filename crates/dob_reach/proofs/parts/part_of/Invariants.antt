@@ -1,5 +1,5 @@
 -- The classes so far are expanded.
-use Rattle.dob_reach.proofs.Common.{take, AreExpanded}
+use Rattle.dob_reach.proofs.Common.{AreExpanded, take}
 use Rattle.dob_reach.proofs.parts.part_of.Given as goal
 
 abbrev pub invariant-loop-class : goal.invariant-loop-class

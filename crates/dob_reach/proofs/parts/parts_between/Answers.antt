@@ -1,5 +1,5 @@
 -- The parts in their places, each looked at by itself.
-use Rattle.dob_reach.proofs.Common.{◌-◌, ◌∙◌, List, ap, arith, subst, ℕ, AllZip, range_with_len, IfOk, Result, AllZip-weaken, IsPartAt, IsPlace, Part}
+use Rattle.dob_reach.proofs.Common.{◌-◌, ◌∙◌, AllZip, AllZip-weaken, IfOk, IsPartAt, IsPlace, List, Part, Result, ap, arith, range_with_len, subst, ℕ}
 use Rattle.rayon.specs.Numbers.{nat_range}
 use Rattle.rayon.proofs.ToStd.{nat_range-All}
 use Rattle.dob_pieces.proofs.Zips.{made_all}

@@ -1,10 +1,10 @@
 -- Each move's class goes to the end of the list, where it isn't marked.
-use Rattle.dob_reach.proofs.Common.{◌++◌, ◌∙◌, ◌∷◌, List, [], ap, append-nil, append_assoc, arith, refl, subst, sym, ℕ, slice_get_read, AreMoves, HasStatus}
-use Rattle.dob_reach.proofs.Common.{Open, move_goes, successors_all, successors_more, successors_none}
+use Rattle.dob_reach.proofs.Common.{◌++◌, ◌∙◌, ◌∷◌, AreMoves, HasStatus, List, Open, [], ap, append-nil, append_assoc, arith, move_goes, refl, slice_get_read}
+use Rattle.dob_reach.proofs.Common.{subst, successors_all, successors_more, successors_none, sym, ℕ}
 use Rattle.dob_moves.proofs.Cases.{one_status}
 use Rattle.dob_reach.proofs.Stepping.{StandsFor, expanded_class, sifted_both, sifted_none}
-use Rattle.dob_reach.proofs.parts.push_outcomes.Goals as goal
 use Rattle.dob_reach.proofs.parts.push_outcomes.Goals.{After-deref-played-items}
+use Rattle.dob_reach.proofs.parts.push_outcomes.Goals as goal
 
 -- what is known of the list of moves
 legal_are : (c : After-deref-played-items) → AreMoves c.args.classes.now.family.profile c.class_at-position.result.setup c.deref-played-items.result.now
@@ -47,7 +47,7 @@ loop-played-preserved c =
       c.in_ok-push_unmarked.ensures.1 ∙ ap (λ xs. xs ++ more) c.loop-played.invariant.2 ∙ append_assoc c.args.outcomes.now.items numbers more,
       successors_more family.profile (StandsFor family setup) setup legal index all played number here goes.1
           (λ q by. (goes.0, c.class_after-outcome.ensures.class q by)) c.loop-played.invariant.3,
-      sifted_both c.args.marks.now.words.items all (number ∷ []) numbers more c.loop-played.invariant.4 c.in_ok-push_unmarked.ensures.2,
+      sifted_both c.loop-played.invariant.4 c.in_ok-push_unmarked.ensures.2,
     )
 
 pub returns : goal.returns

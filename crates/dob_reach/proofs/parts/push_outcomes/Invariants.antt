@@ -1,5 +1,5 @@
 -- The moves so far lead to a list of classes, and those that aren't marked are appended.
-use Rattle.dob_reach.proofs.Common.{◌++◌, ◌≡◌, List, ℕ, AreSuccessorsBelow, IsSifted}
+use Rattle.dob_reach.proofs.Common.{◌++◌, ◌≡◌, AreSuccessorsBelow, IsSifted, List, ℕ}
 use Rattle.dob_reach.proofs.Stepping.{StandsFor}
 use Rattle.dob_reach.proofs.parts.push_outcomes.Given as goal
 

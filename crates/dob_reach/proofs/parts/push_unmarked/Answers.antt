@@ -1,5 +1,5 @@
 -- The number is appended, or marked.
-use Rattle.std.proofs.Common.{[], sym, append-nil}
+use Rattle.std.proofs.Common.{[], append-nil, sym}
 use Rattle.dob_reach.proofs.Stepping.{sifted_out}
 use Rattle.dob_reach.proofs.parts.push_unmarked.Goals as goal
 

@@ -1,21 +1,16 @@
 -- The front's classes are counted, and the next ones are marked.
-use Rattle.dob_reach.proofs.Common.{◌+◌, arith, length, refl, Reached}
+use Rattle.dob_reach.proofs.Common.{◌+◌, Reached, arith, length, refl}
 use Rattle.dob_reach.proofs.Searched.{counted_few, front_low, opens_few, searched_next}
 use Rattle.dob_reach.proofs.search.advance.Goals as goal
 
 pub round-requires-clause-members : goal.round-requires-clause-members
-round-requires-clause-members g c = λ κs lives.
-    front_low c.args.classes.now.family c.requires.searched.0 c.args.reached.now c.args.front.now c.requires.searched.1
+round-requires-clause-members g c = λ κs lives. front_low _ _ c.requires.searched.1
 
 pub overflow_add-reached : goal.overflow_add-reached
-overflow_add-reached g c =
-    let few = counted_few c.args.classes.now.family c.requires.searched.0 c.args.reached.now c.args.front.now c.requires.searched.1 in
-    omega (arith, few, c.requires.searched.1.few)
+overflow_add-reached g c = omega (arith, counted_few _ _ c.requires.searched.1, c.requires.searched.1.few)
 
 pub overflow_add-reached-2 : goal.overflow_add-reached-2
-overflow_add-reached-2 g c =
-    let few = opens_few c.args.classes.now.family c.requires.searched.0 c.args.reached.now c.args.front.now c.requires.searched.1 c.in_ok-next.opens c.in_ok-next.ensures.opens in
-    omega (arith, few, c.requires.searched.1.few)
+overflow_add-reached-2 g c = omega (arith, opens_few _ _ c.requires.searched.1 c.in_ok-next.opens c.in_ok-next.ensures.opens, c.requires.searched.1.few)
 
 pub returns-clause-searched : goal.returns-clause-searched
 returns-clause-searched g c = λ from known.
@@ -27,5 +22,5 @@ returns-clause-searched g c = λ from known.
       levels = c.push.new.self;
       marks = c.round.new.marks;
     } in
-    searched_next c.args.classes.now.family from old front known new c.in_ok-next.next.items c.in_ok-next.opens c.requires.some c.in_ok-push.ensures.items refl refl
+    searched_next _ _ known new c.in_ok-next.next.items c.in_ok-next.opens c.requires.some c.in_ok-push.ensures.items refl refl
     c.in_ok-next.ensures.met c.in_ok-next.ensures.opens

@@ -1,29 +1,25 @@
 -- One number more each time, and then all of them.
-use Rattle.dob_reach.proofs.Common.{◌++◌, ◌∙◌, ◌∷◌, List, [], ap, append_assoc, arith, get_or, subst, sym, take, ℕ, take_all, take_more, AreMarked}
+use Rattle.dob_reach.proofs.Common.{◌++◌, ◌∷◌, [], append_assoc, arith, get_or, take, take_all, take_more, ℕ}
 use Rattle.std.proofs.lemmas.List.Elements.{Contains-get_or}
 use Rattle.dob_reach.proofs.Marking.{keeps_both}
 use Rattle.dob_reach.proofs.search.mark_new.Goals as goal
 
 pub mark_one-requires : goal.mark_one-requires
 mark_one-requires c =
-    let long = c.loop-outcome.invariant.keeps.long in
     let bits = c.requires _ (Contains-get_or c.args.outcomes.now c.loop-outcome.outcome-index 0 c.loop-outcome-test.true) in
-    omega (arith, long, bits)
+    omega (arith, c.loop-outcome.invariant.keeps.long, bits)
 
 pub loop-outcome-preserved : goal.loop-outcome-preserved
 loop-outcome-preserved c =
     let outcomes = c.args.outcomes.now in
     let index : ℕ = c.loop-outcome.outcome-index in
-    let words = c.mark_one.new.marks.words.items in
     record {
-      keeps = keeps_both c.args.marks.now.words.items c.loop-outcome.marks.words.items words c.loop-outcome.invariant.keeps c.in_ok-mark_one.ensures.keeps;
+      keeps = keeps_both c.loop-outcome.invariant.keeps c.in_ok-mark_one.ensures.keeps;
       marked = λ before done are.
-          subst (λ (xs : List ℕ). AreMarked before words xs c.mark_one.new.next.items)
-          (append_assoc done (take index outcomes) (get_or outcomes index 0 ∷ []) ∙ ap (λ (xs : List ℕ). done ++ xs) (sym (take_more outcomes index 0 c.loop-outcome-test.true)))
+          rw (take_more outcomes index 0 c.loop-outcome-test.true, ← append_assoc done (take index outcomes) (get_or outcomes index 0 ∷ []))
           (c.in_ok-mark_one.ensures.marked before (done ++ take index outcomes) (c.loop-outcome.invariant.marked before done are));
     }
 
 pub returns-clause-marked : goal.returns-clause-marked
 returns-clause-marked c = λ before done are.
-    subst (λ (xs : List ℕ). AreMarked before c.loop-outcome.marks.words.items (done ++ xs) c.loop-outcome.next.items)
-    (take_all c.loop-outcome.outcome-index c.args.outcomes.now c.loop-outcome-test.false) (c.loop-outcome.invariant.marked before done are)
+    rw (take_all c.loop-outcome.outcome-index c.args.outcomes.now c.loop-outcome-test.false) at (c.loop-outcome.invariant.marked before done are)

@@ -1,5 +1,5 @@
 -- The numbers so far are marked.
-use Rattle.dob_reach.proofs.Common.{◌++◌, List, take, ℕ, AreMarked, KeepsMarks}
+use Rattle.dob_reach.proofs.Common.{◌++◌, AreMarked, KeepsMarks, List, take, ℕ}
 use Rattle.dob_reach.proofs.search.mark_new.Given as goal
 
 abbrev pub invariant-loop-outcome : goal.invariant-loop-outcome

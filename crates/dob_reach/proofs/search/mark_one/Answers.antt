@@ -1,5 +1,5 @@
 -- The number is marked now, or it was before.
-use Rattle.dob_reach.proofs.Common.{◌++◌, ◌∙◌, ◌∷◌, [], subst, sym, false≢true, AreMarked}
+use Rattle.dob_reach.proofs.Common.{◌++◌, ◌∙◌, ◌∷◌, AreMarked, [], false≢true, subst, sym}
 use Rattle.dob_reach.proofs.Marking.{marked_more, marked_twice}
 use Rattle.dob_reach.proofs.search.mark_one.Goals as goal
 

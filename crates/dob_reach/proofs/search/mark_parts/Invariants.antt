@@ -1,5 +1,5 @@
 -- What the parts so far lead to is marked.
-use Rattle.dob_reach.proofs.Common.{◌++◌, List, take, ℕ, outcomes_of, AreMarked, KeepsMarks}
+use Rattle.dob_reach.proofs.Common.{◌++◌, AreMarked, KeepsMarks, List, outcomes_of, take, ℕ}
 use Rattle.dob_reach.proofs.search.mark_parts.Given as goal
 
 abbrev pub invariant-loop-part : goal.invariant-loop-part

@@ -1,13 +1,10 @@
 -- One round more each time, until no class is left to go on from.
-use Rattle.dob_reach.proofs.Common.{◌≡◌, [], ap, arith, length, subst, sym, vec_len, ℕ, nil_from_length, AreReachedFrom, IsSearched}
+use Rattle.dob_reach.proofs.Common.{◌≡◌, [], ap, arith, length, nil_from_length, subst, vec_len}
 use Rattle.dob_reach.proofs.Searched.{counted_few, none_left, reached_end, some_left, told_more}
 use Rattle.dob_reach.proofs.search.reach.Goals as goal
 
 pub overflow_cast-start : goal.overflow_cast-start
-overflow_cast-start g c =
-    let low = c.class_of-start.ensures.bound in
-    let few = c.class_count-few.ensures.bound in
-    omega (arith, low, few, c.class_count-few.ensures.number)
+overflow_cast-start g c = omega (arith, c.class_of-start.ensures.bound, c.class_count-few.ensures.bound, c.class_count-few.ensures.number)
 
 pub rounds-init : goal.rounds-init
 rounds-init g c = record {
@@ -17,12 +14,9 @@ rounds-init g c = record {
 
 pub rounds-smaller : goal.rounds-smaller
 rounds-smaller g c =
-    let few = counted_few c.args.classes.now.family c.class_of-start.result c.rounds.reached c.rounds.front.items c.rounds.invariant.searched in
-    let more = c.in_ok-front.ensures.more in
-    let same = ap length c.deref.ensures.value in
     let some = some_left (vec_len c.rounds.front) c.is_empty.result c.is_empty.ensures c.rounds-test.true in
     let long : vec_len c.rounds.front ≡ length c.rounds.front.items = omega arith in
-    omega (arith, few, more, same, some, long)
+    omega (arith, counted_few _ _ c.rounds.invariant.searched, c.in_ok-front.ensures.more, ap length c.deref.ensures.value, some, long)
 
 pub rounds-preserved : goal.rounds-preserved
 rounds-preserved g c =
@@ -34,18 +28,14 @@ rounds-preserved g c =
     let distance : c.len.result ≡ length old.levels.items = (let long : vec_len old.levels ≡ length old.levels.items = omega arith in omega (arith, long, c.len.ensures)) in
     let Told = g.W.Watch.told c.args.watch.now in
     record {
-      searched = c.in_ok-front.ensures.searched c.class_of-start.result
-          (subst (IsSearched c.args.classes.now.family c.class_of-start.result old) (sym all) c.rounds.invariant.searched);
+      searched = c.in_ok-front.ensures.searched c.class_of-start.result (rw all c.rounds.invariant.searched);
       told = told_more Told old.levels.items new.levels.items (length c.deref.result.now) c.in_ok-front.ensures.level c.rounds.invariant.told
           (subst (λ n. Told n (length c.deref.result.now)) distance (subst (Told c.len.result) count c.met.ensures));
     }
 
 pub returns-clause-reached : goal.returns-clause-reached
 returns-clause-reached g c =
-    let family = c.args.classes.now.family in
-    let start : ℕ = c.class_of-start.result in
     let left = none_left (vec_len c.rounds.front) c.is_empty.result c.is_empty.ensures c.rounds-test.false in
     let long : vec_len c.rounds.front ≡ length c.rounds.front.items = omega arith in
     let none : c.rounds.front.items ≡ [] = nil_from_length c.rounds.front.items (omega (arith, left, long)) in
-    subst (λ n. AreReachedFrom family n c.rounds.reached) c.class_of-start.ensures.number
-    (reached_end family start c.rounds.reached (subst (IsSearched family start c.rounds.reached) none c.rounds.invariant.searched))
+    rw (← c.class_of-start.ensures.number) (reached_end _ _ (rw none at c.rounds.invariant.searched))

@@ -1,5 +1,5 @@
 -- What is known before a round; the classes that aren't counted get fewer.
-use Rattle.dob_reach.proofs.Common.{◌-◌, ◌<◌, get_or, length, ℕ, classes_of, IsSearched}
+use Rattle.dob_reach.proofs.Common.{◌-◌, ◌<◌, IsSearched, classes_of, get_or, length, ℕ}
 use Rattle.dob_reach.proofs.search.reach.Given as goal
 
 abbrev pub invariant-rounds : goal.invariant-rounds

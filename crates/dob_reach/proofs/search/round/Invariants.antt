@@ -1,5 +1,5 @@
 -- The parts so far are expanded, and what they lead to is marked.
-use Rattle.dob_reach.proofs.Common.{◌-◌, List, ℕ, AreExpanded, parts_before, AreMarked}
+use Rattle.dob_reach.proofs.Common.{◌-◌, AreExpanded, AreMarked, List, parts_before, ℕ}
 use Rattle.dob_reach.proofs.search.round.Given as goal
 
 abbrev pub invariant-windows : goal.invariant-windows

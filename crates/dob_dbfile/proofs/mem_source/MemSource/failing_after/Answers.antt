@@ -1,6 +1,6 @@
 -- The stream ends or fails after so many bytes.
 use Rattle.std.proofs.Common.{arith}
-use Rattle.dob_dbfile.proofs.Cuts.{cut-front}
+use Rattle.dob_dbfile.proofs.Pieces.{cut-front}
 use Rattle.dob_dbfile.proofs.mem_source.MemSource.failing_after.Goals as goal
 
 pub returns-clause-stream : goal.returns-clause-stream

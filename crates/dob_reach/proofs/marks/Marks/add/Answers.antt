@@ -1,5 +1,5 @@
 -- One bit is set, and no other is changed.
-use Rattle.dob_reach.proofs.Common.{◌/◌, ◌<◌, ◌∙◌, arith, length, get_or_default}
+use Rattle.dob_reach.proofs.Common.{◌/◌, ◌<◌, ◌∙◌, arith, get_or_default, length}
 use Rattle.std.proofs.lemmas.List.{length-set}
 use Rattle.dob_reach.proofs.Marking.{added_marked, added_others}
 use Rattle.dob_reach.proofs.marks.Marks.add.Goals as goal

@@ -1,5 +1,5 @@
 -- One class more each time, and then all of them.
-use Rattle.dob_reach.proofs.Common.{◌∙◌, ap, arith, Family, classes_of, IsReached, Leads}
+use Rattle.dob_reach.proofs.Common.{◌∙◌, Family, IsReached, Leads, ap, arith, classes_of}
 use Rattle.dob_reach.proofs.Valued.{counted_all, counted_none}
 use Rattle.dob_reach.proofs.search.Reached.by_value.Goals as goal
 
