@@ -5,8 +5,14 @@ use Rattle.dob_run.proofs.Inboxes.{nodes_are}
 use Rattle.dob_run.proofs.crew_open.crew_of.Goals as goal
 
 pub runners_of-requires : goal.runners_of-requires
-runners_of-requires g c = (search rules, ((c.args.sizes.now.capacity, c.in_ok-board.ensures.new), λ k endpoint at.
-    nodes_are c.in_ok-board.board c.in_ok-board.endpoints.items c.in_ok-board.ensures.crew k endpoint at ∙ c.in_ok-board.ensures.nodes))
+runners_of-requires g c = (
+  search rules,
+  (
+    (c.args.sizes.now.capacity, c.in_ok-board.ensures.new),
+    λ k endpoint at.
+        nodes_are c.in_ok-board.board c.in_ok-board.endpoints.items c.in_ok-board.ensures.crew k endpoint at ∙ c.in_ok-board.ensures.nodes,
+  ),
+)
 
 pub returns : goal.returns
 returns g c =
