@@ -1,5 +1,5 @@
 -- What stands where in a list, also after one thing more, after one was exchanged, and in a function of all its things.
-use Rattle.dob_run.proofs.Common.{◌++◌, ◌+◌, ◌-◌, ◌<◌, ◌∙◌, ◌∷◌, ◌≡◌, ◌≢◌, ◌≤◌, ◌⊎◌, List, Option, Some, [], ap, append_assoc, arith, inl, inr, length}
+use Rattle.dob_run.proofs.Common.{◌++◌, ◌+◌, ◌-◌, ◌<◌, ◌∙◌, ◌∷◌, ◌≡◌, ◌≤◌, ◌⊎◌, List, Option, Some, [], ap, append_assoc, arith, inl, inr, length}
 use Rattle.dob_run.proofs.Common.{length-append, map, refl, subst, suc, sym, zero, ℕ, ⊎_elim, append-nil, same_Some, slice_get_within, AllZip, range_with_len}
 use Rattle.dob_run.proofs.Common.{slice_get, Vec, at_end, middle, as_many, each_is, BatchView, held_from, slot_row, AreRows, StandsAt, AreFrom}
 use Rattle.std.proofs.lemmas.List.FromFn.{map-range_with_len_more}
@@ -79,21 +79,9 @@ module _ {A : Type 0} {all left : List A} {done : ℕ} (on : HaveGone all left d
       nothing [] is = refl
       nothing (x ∷ l) is = absurd (omega (arith, is))
 
-  -- while a thing is left here, one is left in another list that is as long
-  pub thing_left : {B : Type 0} {others others_left : List B} {after : List A} {x : A} → HaveGone others others_left done → left ≡ x ∷ after →
-      length others ≡ length all → length others_left ≢ 0
-  thing_left {B} {others} {others_left} {after} {x} other is long none = omega (
-    arith,
-    ap length on.split,
-    length-append on.gone left,
-    on.many,
-    ap length is,
-    ap length other.split,
-    length-append other.gone others_left,
-    other.many,
-    none,
-    long,
-  )
+  -- while a thing is left, its place is one of all
+  pub place_left : {after : List A} {x : A} → left ≡ x ∷ after → done < length all
+  place_left is = omega (arith, ap length on.split, length-append on.gone left, on.many, ap length is)
 
 -- a function of all things is that of those that went, and then that of those that are left
 module _ {A B : Type 0} (f : A → B) where

@@ -156,19 +156,11 @@ fn workers_of(
     ensures { IfOk result (λ workers. AreWorkers (length nodes.items) nodes.items (map row_of sending.items) (map row_of taking.items) workers.items) }
 {
     let mut workers = Vec::with_capacity(alloc, nodes.len())?;
-    let mut sending_left = sending.into_iter();
-    let mut taking_left = taking.into_iter();
-    for node in nodes {
-        let Some(out) = sending_left.next() else {
-            unreachable!()
-        };
-        let Some(into) = taking_left.next() else {
-            unreachable!()
-        };
+    for ((node, sending), taking) in nodes.into_iter().zip(sending).zip(taking) {
         workers.push(Worker {
             node,
-            sending: out,
-            taking: into,
+            sending,
+            taking,
         })?;
     }
     Ok(workers)

@@ -148,15 +148,7 @@ fn seat_all(
     ensures { IfOk result (λ endpoints. AreSeated (vec_len seats) seats.items rows.items inlets.items endpoints.items) }
 {
     let mut endpoints = Vec::with_capacity(alloc, seats.len())?;
-    let mut rows_left = rows.into_iter();
-    let mut inlets_left = inlets.into_iter();
-    for seat in seats {
-        let Some(outlets) = rows_left.next() else {
-            unreachable!()
-        };
-        let Some(inlet) = inlets_left.next() else {
-            unreachable!()
-        };
+    for ((seat, outlets), inlet) in seats.into_iter().zip(rows).zip(inlets) {
         endpoints.push(Endpoint::new(seat, outlets, inlet))?;
     }
     Ok(endpoints)

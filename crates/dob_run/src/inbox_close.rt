@@ -87,11 +87,7 @@ pub(crate) fn rejoin_all<R: Wait>(
 {
     let nodes = takes.len();
     let mut rows = empty_rows(alloc, nodes)?;
-    let mut left = takes.into_iter();
-    for row in sends {
-        let Some(take) = left.next() else {
-            unreachable!()
-        };
+    for (row, take) in sends.into_iter().zip(takes) {
         let links = rejoin_one(rt, alloc, row, take)?;
         deal(links, &mut rows)?;
     }

@@ -29,11 +29,7 @@ pub(crate) fn deal<T: Drop>(things: Vec<T>, rows: &mut Vec<Vec<T>>) -> Result<()
     requires { vec_len things ≡ vec_len rows.old }
     ensures { OnOk result (AreDealt (vec_len things) things.items rows.old.items rows.new.items) }
 {
-    let mut left = things.into_iter();
-    for place in 0..rows.len() {
-        let Some(thing) = left.next() else {
-            unreachable!()
-        };
+    for (place, thing) in things.into_iter().enumerate() {
         rows[place].push(thing)?;
     }
     Ok(())

@@ -5,8 +5,8 @@ use Rattle.dob_run.proofs.bounded_run.workers_of.Given as goal
 
 abbrev pub invariant-loop-node : goal.invariant-loop-node
 invariant-loop-node l = record {
-  nodes_are : HaveGone l.fn.nodes.items (into_iter_items l.node-iterator) (length l.workers.items);
-  sending_are : HaveGone l.fn.sending.items (into_iter_items l.sending_left) (length l.workers.items);
-  taking_are : HaveGone l.fn.taking.items (into_iter_items l.taking_left) (length l.workers.items);
+  nodes_are : HaveGone l.fn.nodes.items (into_iter_items l.node-iterator.a.a) (length l.workers.items);
+  sending_are : HaveGone l.fn.sending.items (into_iter_items l.node-iterator.a.b) (length l.workers.items);
+  taking_are : HaveGone l.fn.taking.items (into_iter_items l.node-iterator.b) (length l.workers.items);
   so_far : AreWorkers (length l.workers.items) l.fn.nodes.items (map row_of l.fn.sending.items) (map row_of l.fn.taking.items) l.workers.items;
 }

@@ -5,8 +5,8 @@ use Rattle.dob_run.proofs.crew_open.seat_all.Given as goal
 
 abbrev pub invariant-loop-seat : goal.invariant-loop-seat
 invariant-loop-seat l = record {
-  seats_are : HaveGone l.fn.seats.items (into_iter_items l.seat-iterator) (length l.endpoints.items);
-  rows_are : HaveGone l.fn.rows.items (into_iter_items l.rows_left) (length l.endpoints.items);
-  inlets_are : HaveGone l.fn.inlets.items (into_iter_items l.inlets_left) (length l.endpoints.items);
+  seats_are : HaveGone l.fn.seats.items (into_iter_items l.seat-iterator.a.a) (length l.endpoints.items);
+  rows_are : HaveGone l.fn.rows.items (into_iter_items l.seat-iterator.a.b) (length l.endpoints.items);
+  inlets_are : HaveGone l.fn.inlets.items (into_iter_items l.seat-iterator.b) (length l.endpoints.items);
   so_far : AreSeated (length l.endpoints.items) l.fn.seats.items l.fn.rows.items l.fn.inlets.items l.endpoints.items;
 }

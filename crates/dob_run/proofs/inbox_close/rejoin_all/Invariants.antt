@@ -4,4 +4,4 @@ use Rattle.dob_run.proofs.Inboxes.{AreOn}
 use Rattle.dob_run.proofs.inbox_close.rejoin_all.Given as goal
 
 abbrev pub invariant-loop-row : goal.invariant-loop-row
-invariant-loop-row g l = AreOn (vec_len l.fn.takes) l.fn.sends.items l.fn.takes.items (into_iter_items l.row-iterator) (into_iter_items l.left) l.rows.items
+invariant-loop-row g l = AreOn (vec_len l.fn.takes) l.fn.sends.items l.fn.takes.items (into_iter_items l.row-iterator.a) (into_iter_items l.row-iterator.b) l.rows.items

@@ -5,6 +5,6 @@ use Rattle.dob_run.proofs.rows.deal.Given as goal
 
 abbrev pub invariant-loop-place : goal.invariant-loop-place
 invariant-loop-place g l = record {
-  rest : HaveGone l.fn.things.items (into_iter_items l.left) l.place;
-  dealt : AreDealt l.place l.fn.things.items l.fn.rows.items l.rows.items;
+  rest : HaveGone l.fn.things.items (into_iter_items l.place-iterator.iter) l.place-iterator.count;
+  dealt : AreDealt l.place-iterator.count l.fn.things.items l.fn.rows.items l.rows.items;
 }
