@@ -28,6 +28,17 @@ note "tools that lock or write for rt: $(head -1 "$work/out")" "$good"
 good=no
 if tools/unused >"$work/out"; then good=yes; fi
 note "tools/unused: $(head -1 "$work/out")" "$good"
+# Each source is as `rt fmt` writes it, which the gate asks for too.
+mkdir "$work/crates"
+for crate in crates/*/; do
+    copy="$work/$crate"
+    mkdir "$copy"
+    for part in src specs proofs; do if [ -d "$crate$part" ]; then cp -r "$crate$part" "$copy"; fi; done
+    (cd "$copy" && rt fmt) | sed "s|^|$crate |"
+done >"$work/out" 2>&1
+good=no
+if [ ! -s "$work/out" ]; then good=yes; fi
+note "rt fmt: $(head -1 "$work/out")" "$good"
 good=no
 if tools/results-page --check 2>"$work/out"; then good=yes; fi
 note "tools/results-page --check: $(head -1 "$work/out")" "$good"
