@@ -56,7 +56,8 @@ enum {
     DOBUTSU_ENTRY_NUMBER = 36, /* an entry doesn't begin with a number in its fewest bytes */
     DOBUTSU_ENTRY_ORDER = 37, /* an entry's class isn't above the one before it */
     DOBUTSU_ENTRY_CLASS = 38, /* the family has no class of an entry's number */
-    DOBUTSU_UNLISTED = 41     /* the certificate says nothing of the position */
+    DOBUTSU_UNLISTED = 41,    /* the certificate says nothing of the position */
+    DOBUTSU_ENTRY_PLIES = 42  /* a lost entry is told for ever, 255, which says nothing there */
 };
 
 enum { DOBUTSU_DRAW = 0, DOBUTSU_WIN = 1, DOBUTSU_LOSS = 2 };
@@ -168,7 +169,7 @@ uint32_t dobutsu_check(const uint8_t *file, size_t file_len, uint64_t *broken);
 
 /* Whether the bytes are a certificate's file whose lists prove what it claims, whoever made it: they need no database. Answers 0 where they are, and writes
    what is claimed, which then holds; 30 where an entry isn't supported, and writes the class of the first one; 31 where all are and don't show the claim; or
-   15 to 17, 19, 20, 27, 32 to 38 or 23, and writes nothing. It takes 8 bytes of memory an entry and some millions for two pieces of each kind. */
+   15 to 17, 19, 20, 27, 32 to 38, 42 or 23, and writes nothing. It takes 8 bytes of memory an entry and some millions for two pieces of each kind. */
 uint32_t dobutsu_verify(const uint8_t *file, size_t file_len, DobutsuClaim *claim, uint64_t *unsupported);
 
 /* The move that the bytes of a certificate's file give the position whose text that is: the first that catches the lion, or the first after which the other

@@ -9,8 +9,9 @@ use crate::timer::{Timer, tell_seconds};
 use crate::watch::Watch;
 use anyhow::Result;
 use dob_classes::Classes;
+use dob_lists::SegmentLength;
 use dob_pieces::{Family, Memory};
-use dob_run::{BATCH, Built, run_nodes};
+use dob_run::{BATCH, Built, run_nodes, scan};
 use dob_unmove::back_into;
 use dob_value::{Table, Value};
 use std::alloc::Global;
@@ -57,7 +58,7 @@ fn tell_costs<R: Print + Clock + AllocGlobal + Files>(rt: &R, built: &Built) -> 
 }
 
 // The parts of a build that gave the table in `seconds` seconds.
-fn measure_parts<R: Print + Clock + AllocGlobal>(
+fn measure_parts<R: Print + Clock + AllocGlobal + Threads + Sync>(
     rt: &R,
     family: Family,
     table: &Table,
@@ -65,8 +66,23 @@ fn measure_parts<R: Print + Clock + AllocGlobal>(
     seconds: f64,
 ) -> Result<()> {
     let classes = measure::open(rt, family, true)?;
+    list_openings(rt, &classes)?;
     tell_needed(rt, &classes, table, nodes)?;
     tell_ratio(rt, &classes, seconds)
+}
+
+// The openings of the classes in one list, by threads: each node of a build finds those of its own classes by itself.
+fn list_openings<R: Print + Clock + AllocGlobal + Threads + Sync>(
+    rt: &R,
+    classes: &Classes,
+) -> Result<()> {
+    let timer = Timer::start(rt, true)?;
+    let count = scan(rt, rt.alloc(), classes, SegmentLength::longest())?.len();
+    timer.tell(
+        rt,
+        format_args!("listed {count} openings by threads"),
+        &[(count, "class")],
+    )
 }
 
 // All predecessors, and how often their time goes into `seconds`.

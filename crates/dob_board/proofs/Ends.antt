@@ -7,7 +7,7 @@ use Rattle.dob_board.proofs.Names.{Ring, Stand, View, Halt, Ended, Failed, halt_
 use Rattle.dob_board.proofs.Names.{Closed, IsLaterLog, fresh, stand_of, witnessed_by, log_of, IsSeatOf, AreSeats, AreWords, IsBoardHistory, joined, nobody}
 use Rattle.dob_board.proofs.Names.{behind, closed_view, LeadsTo, IsWord, AreRead, AreAsWitnessed, Read, get_front, middle}
 use Rattle.dob_board.proofs.Places.{with_at, with_here, with_else, posted_within, taken_within}
-use Rattle.dob_board.proofs.Kept.{HasSeat, own_node, with_views}
+use Rattle.dob_board.proofs.Kept.{HasSeat, nodes_set, own_node, with_views}
 use Rattle.dob_board.proofs.Allowed.{Seated, seated, Held, set_same}
 use Rattle.dob_board.proofs.Halting.{same_halt}
 use Rattle.dob_board.proofs.Once.{run_once}
@@ -60,6 +60,11 @@ joins n i id other size words views stand behind witnessed observed own closed h
     elsewhere n i other id port halt held.owner ring held.log view mine.within mine.owned x.0 (held.views_are port view y.1))
     (at_set views id port both view x.1))
     (at_set (set views id both) other port nobody view e))
+    (omega (
+      arith,
+      nodes_set views id (rest_view size (suc i) behind witnessed own closed) both at,
+      nodes_set (set views id both) other (one n i stand observed) nobody there,
+    ))
   where
     both_nodes : (n i id : ℕ) (halt : Halt) (size : ℕ) (owner : ℕ → ℕ) (ring : Ring) (stand : Stand) (behind : List Stand) → i < n → IsStand n ring halt i stand →
         ((k : ℕ) (at : Stand) → get_elem? behind k ≡ some at → IsNode n owner ring halt id size (suc i + k) at) →
@@ -155,6 +160,7 @@ closes n id words views view held at from_is all_is =
     }))
     (λ (x : (port ≢ id) × (get_elem? views port ≡ some other)). held.views_are port other x.1)
     (at_set views id port after other e))
+    (omega (arith, nodes_set views id view after at))
 
 pub reads_call : (key n w id slots : ℕ) (me : Seated) → key ≡ n → me.0.size ≡ n → me.0.from ≡ 0 → length me.0.stands ≡ n →
     Allows (Held key) slots id me w (λ x. x) (Read (step slots w 0 0 none) me)

@@ -4,7 +4,7 @@ use Rattle.std.proofs.Common.{arith, append_assoc}
 use Rattle.dob_board.proofs.Names.{slice_index, slice_set, some, some-ne-none, some-injective, get_elem?, at_set, Token, RingEvent, BoardEvent, OfRing}
 use Rattle.dob_board.proofs.Names.{IsPacked, Ring, CountsStay, IsLawfulRing, Moved, HasFew, moved_kept, Stand, View, ring_of, one, KnowsHalt, IsStand, Runs}
 use Rattle.dob_board.proofs.Names.{IsLaterLog, IsInTime, MakesEvent, Observes, halt_told, token_moves_of, IsNode, IsView, IsHeld, Halt, Running, Ended, Failed}
-use Rattle.dob_board.proofs.Names.{halt_word}
+use Rattle.dob_board.proofs.Names.{halt_word, nodes_in, sum_by-cons}
 
 -- what a step of node i, from one halt to another, leaves to the others
 pub record LeavesHalt (i : ℕ) (halt now : Halt) : Type 0 where
@@ -116,6 +116,21 @@ there_is [] k within = absurd (omega arith)
 there_is (x ∷ xs) zero within = (x, refl)
 there_is (x ∷ xs) (suc k) within = there_is xs k (omega arith)
 
+-- a view in the place of another one adds its nodes, and takes away those of the other
+pub nodes_set : (views : List View) (id : ℕ) (old new : View) → get_elem? views id ≡ some old →
+    nodes_in (slice_set views id new) + length old.stands ≡ nodes_in views + length new.stands
+nodes_set [] id old new e = absurd (some-ne-none old (sym e))
+nodes_set (view ∷ views) zero old new e =
+    let same : length view.stands ≡ length old.stands = ap (λ (v : View). length v.stands) (some-injective view old e) in
+    omega (arith, same, sum_by-cons (λ (v : View). length v.stands) view views, sum_by-cons (λ (v : View). length v.stands) new views)
+nodes_set (view ∷ views) (suc id) old new e =
+    omega (
+      arith,
+      nodes_set views id old new e,
+      sum_by-cons (λ (v : View). length v.stands) view views,
+      sum_by-cons (λ (v : View). length v.stands) view (slice_set views id new),
+    )
+
 -- a view that is closed has node i too, so that no other seat has it
 pub has_all : (n i id port : ℕ) (halt : Halt) (owner : ℕ → ℕ) (ring : Ring) (log : List BoardEvent) (view : View) → i < n → owner i ≡ id →
     IsView n owner ring halt log port view → view.closed ≡ true → port ≡ id
@@ -208,6 +223,7 @@ module _ {n i id : ℕ} {words : List ℕ} {views : List View} {stand : Stand} {
         other_view n i id port seat.held.halt halt seat.held.owner ring_before (ring_of n after black token) seat.held.log more view own_node.within own_node.owned
         x.0 by leaves (seat.held.views_are port view x.1))
         (at_set views id port (one n i new (more ++ seat.held.log)) view e);
+    each_once = omega (arith, nodes_set views id (one n i stand witnessed) (one n i new (more ++ seat.held.log)) seat.at, seat.held.each_once);
   }
 
   -- a step that is an event keeps the rule, and makes the event
@@ -255,11 +271,11 @@ module _ {n i id : ℕ} {words : List ℕ} {views : List View} {stand : Stand} {
     },
   )
 
--- the rule holds of other views too where each of these is right
+-- the rule holds of other views too where each of these is right, and they have as many nodes
 pub with_views : (n : ℕ) (words : List ℕ) (views others : List View) (owner : ℕ → ℕ) (held : IsHeld n words views) →
     ((port : ℕ) (view : View) → get_elem? others port ≡ some view →
-    IsView n owner (ring_of n words held.black held.token) held.halt held.log port view) → IsHeld n words others
-with_views n words views others owner held are = record {
+    IsView n owner (ring_of n words held.black held.token) held.halt held.log port view) → nodes_in others ≡ nodes_in views → IsHeld n words others
+with_views n words views others owner held are same = record {
   size = held.size;
   wide = held.wide;
   nodes = held.nodes;
@@ -275,4 +291,5 @@ with_views n words views others owner held are = record {
   told = held.told;
   owner = owner;
   views_are = are;
+  each_once = same ∙ held.each_once;
 }

@@ -6,7 +6,7 @@ pub use Rattle.dob_board.specs.Boards.{AreAsWitnessed, AreRead, behind, closed_v
 pub use Rattle.dob_board.specs.Histories.{halt_told, HasHalt, HasPosted, HasToken, IsInTime, IsLaterLog, MakesEvent, Observes, Runs, token_moves_of}
 pub use Rattle.dob_board.specs.Plays.{Announced, Announcing, FailedRun, first_of, Halted, Looked, LooksAt, Met, others_of, own_stand, Passed}
 pub use Rattle.dob_board.specs.Plays.{Exchanged, Posted, Took}
-pub use Rattle.dob_board.specs.Rule.{fresh, IsHeld, IsNode, IsView, whole}
+pub use Rattle.dob_board.specs.Rule.{fresh, IsHeld, IsNode, IsView, nodes_in, whole}
 pub use Rattle.dob_board.specs.Seats.{AreSeats, AreWords, IsBoardHistory, IsSameSeat, IsSeatOf, log_of, MayEnd, stand_of}
 pub use Rattle.dob_board.specs.Seats.{TakesOne, witnessed_by}
 pub use Rattle.dob_board.specs.Views.{counter_of, finds, IsInBounds, IsStand, IsTokenInBounds, KnowsHalt, meets, one, passed_by, passes, posts_more, sees, Shows, takes_more}
@@ -35,7 +35,7 @@ pub use Rattle.std.proofs.lemmas.Bool.{cases_eq, false_from_ne_true}
 pub use Rattle.std.proofs.lemmas.Grind.{replicate_next}
 pub use Rattle.std.proofs.lemmas.Int.{ints, to_z-of_z, to_z_pos}
 pub use Rattle.std.proofs.lemmas.List.{length-map, length-replicate, map-append}
-pub use Rattle.std.proofs.lemmas.List.Sums.{sum_by-cons}
+pub use Rattle.std.proofs.lemmas.List.Sums.{sum_by-cons, sum_by_push}
 pub use Rattle.std.proofs.lemmas.Nat.{mul-add-lt, same_from_place}
 pub use Rattle.std.proofs.lemmas.Option.{same_Some, slice_get_within}
 pub use Rattle.std.specs.Prelude.{replicate, slice_get, slice_index, slice_set, sum, ◌≤ℤ◌}

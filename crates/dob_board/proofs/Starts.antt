@@ -1,12 +1,12 @@
 -- The start of a board, and how the view of all nodes is split.
 use Rattle.std.proofs.Common.{◌≡◌, ◌≢◌, ℕ, zero, suc, ◌+◌, ◌-◌, ◌<◌, ◌⊎◌, List, [], ◌∷◌, ◌++◌, length, set, get_or, Some, true, false, eqb, refl, sym, ap, ◌∙◌}
 use Rattle.std.proofs.Common.{subst, ⊎_elim, inl, inr, arith, rules, map, length-set, length-append, get_or-set_same, get_or-set_other}
-use Rattle.dob_board.proofs.Names.{replicate_next, length-replicate, slice_set, slice_get, replicate, map-append, some, some-ne-none}
+use Rattle.dob_board.proofs.Names.{replicate_next, sum_by-cons, sum_by_push, length-replicate, slice_set, slice_get, replicate, map-append, some, some-ne-none}
 use Rattle.dob_board.proofs.Names.{some-injective, get_elem?, Splits, at_set, BoardEvent, IsPacked, first_token, Ring, IsLawfulRing, IsStart, black_token}
 use Rattle.dob_board.proofs.Names.{IsSize, Stand, View, posted_word, taken_word, word_count, ring_of, one, Halt, Running, IsStand, token_moves_of, IsNode, IsView}
 use Rattle.dob_board.proofs.Names.{IsHeld, fresh, whole, others_of, first_of, first_words, behind, TableId, NodeSeat, stand_of, IsSeatOf, at_end}
 use Rattle.dob_board.proofs.Places.{with_at, with_here, with_else}
-use Rattle.dob_board.proofs.Kept.{has_all, one_is_view, knows_now, with_views}
+use Rattle.dob_board.proofs.Kept.{has_all, one_is_view, knows_now, nodes_set, with_views}
 use Rattle.dob_board.proofs.Allowed.{Seated, Held}
 
 -- ---- split
@@ -79,6 +79,11 @@ splits n i id words views stand rest witnessed held at =
     subst (λ (p : ℕ × View). IsView n owner ring halt held.log p.0 p.1) (λ q. (port_is q, last.1 q))
     (one_is_view n i port' halt owner ring held.log witnessed stand own.within (with_here i port' held.owner) was.was_witnessed still own.is_stand))
     (views_end (set views id (view_from n (suc i) rest witnessed)) (one n i stand witnessed) view port e))
+    (omega (
+      arith,
+      sum_by_push (λ (v : View). length v.stands) (slice_set views id (view_from n (suc i) rest witnessed)) (one n i stand witnessed),
+      nodes_set views id (view_from n i (stand ∷ rest) witnessed) (view_from n (suc i) rest witnessed) at,
+    ))
 
 abbrev stands_behind : ℕ → ℕ → List Stand
 stands_behind n m = replicate m (fresh n)
@@ -187,6 +192,7 @@ begins n word size packed = record {
   told = refl;
   owner = λ k. 0;
   views_are = view;
+  each_once = omega (arith, sum_by-cons (λ (v : View). length v.stands) (whole n) [], length-replicate {A = Stand} n (fresh n));
 }
   where
     view : (port : ℕ) (v : View) → get_elem? (whole n ∷ []) port ≡ some v → IsView n (λ k. 0) (first_ring n word) Running [] port v

@@ -1,5 +1,6 @@
 -- The rule of the board, which each step keeps.
 use Rattle.std.specs.Prelude.{◌≡◌, ℕ, ◌+◌, ◌<◌, Bool, List, [], slice_index, length, true, false, None, replicate}
+use Rattle.std.specs.List.{sum_by}
 use mathlib.Core.Option.{some}
 use lib.ListN.{get_elem?}
 use Rattle.dob_safra.specs.declared.token.Token.{Token}
@@ -38,9 +39,14 @@ pub record IsView (n : ℕ) (owner : ℕ → ℕ) (ring : Ring) (halt : Halt) (l
       token_moves_of (view.from + k) log ≡ token_moves_of (view.from + k) view.witnessed
   pub is_closed : view.closed ≡ true → IsClosed n log view
 
+-- how many nodes the views have, taken together
+abbrev pub nodes_in : List View → ℕ
+nodes_in views = sum_by (λ view. length view.stands) views
+
 -- The words and the views of a board of n nodes are right: word 0 is n; word 1 is the token's; the ring that the words
 -- show, with some colours, is lawful, and the events of some log led to it; word 2 is that of a halt, which these events give; and
--- each view is right.
+-- each view is right. No node is in two views, since it has one owner, and together they have n: so each is in exactly one. A view that
+-- is spent has none.
 pub record IsHeld (n : ℕ) (words : List ℕ) (views : List View) : Type 0 where
   pub size : IsSize n
   pub wide : length words ≡ word_count n
@@ -58,6 +64,7 @@ pub record IsHeld (n : ℕ) (words : List ℕ) (views : List View) : Type 0 wher
   pub owner : ℕ → ℕ
   pub views_are : (port : ℕ) (view : View) → get_elem? views port ≡ some view →
       IsView n owner (ring_of n words black token) halt log port view
+  pub each_once : nodes_in views ≡ n
 
 -- a node at the start
 abbrev pub fresh : ℕ → Stand

@@ -33,10 +33,25 @@ impl Board {
         ensures seats { IfOk result (λ opened. AreSeats opened.0.rest.table_id nodes opened.1.items) }
         ensures fresh { IfOk result (λ opened. map stand_of opened.1.items ≡ replicate nodes (fresh nodes)) }
     {
-        let Some(count) = NodeCount::new(nodes) else {
+        let Some(nodes) = NodeCount::new(nodes) else {
             return Err(Fault::Nodes);
         };
+        let opened = Board::open_for(alloc, nodes)?;
+        Ok(opened)
+    }
+
+    /// Opens a board as above, of so many nodes.
+    ///
+    /// # Errors
+    ///
+    /// That no memory is left.
+    pub fn open_for(alloc: Global, count: NodeCount) -> Result<(Board, Vec<NodeSeat>), AllocError>
+        ensures nodes { IfOk result (λ opened. opened.0.nodes ≡ count) }
+        ensures seats { IfOk result (λ opened. AreSeats opened.0.rest.table_id count opened.1.items) }
+        ensures fresh { IfOk result (λ opened. map stand_of opened.1.items ≡ replicate count (fresh count)) }
+    {
         let words = start_words(alloc, count)?;
+        let nodes = count.get();
         let (table, mut rest) = Table::of_words(alloc, &words, &nodes)?;
         let shared = Arc::new(alloc, table)?;
         let seats = all_seats(alloc, &shared, &mut rest, count)?;

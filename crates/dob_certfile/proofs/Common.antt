@@ -12,6 +12,8 @@ pub use Rattle.dob_rank.proofs.OfFamilies.ClassBounds.{classes_of-below}
 pub use Rattle.dob_rank.specs.Families.{classes_of, family_of}
 pub use Rattle.dob_certificate.specs.Ascending.{AreAscending, class_at}
 pub use Rattle.dob_certificate.specs.declared.entry.Entry.{Entry}
+pub use Rattle.dob_certificate.specs.declared.list_kind.ListKind.{ListKind}
+pub use Rattle.dob_certificate.specs.declared.list_kind.ListKind.TheVariants.{Lost, Held}
 pub use Rattle.dob_certfile.specs.Format.{Content, FitEntries, FitEntry, Fits, FitsClaim, FitsPlies, bytes_of, claim_bytes, content, entry_bytes, head_bytes}
 pub use Rattle.dob_certfile.specs.Format.{plies_byte, title}
 unfoldable pub use Rattle.dob_certfile.specs.Format.{contents_of, entries_bytes}

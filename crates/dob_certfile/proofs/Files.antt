@@ -1,5 +1,5 @@
 -- A file that is read is the one that was written, what was written is read again, and what a reader says of the bytes.
-use Rattle.dob_certfile.proofs.Common.{◌++◌, ◌-◌, ◌<◌, ◌∙◌, ◌≡◌, ◌≤◌, ◌⊎◌, Err, List, Ok, Result, ap, append_assoc, arith, drop, inl, inr, length, refl, subst}
+use Rattle.dob_certfile.proofs.Common.{ListKind, Lost, Held, ◌++◌, ◌-◌, ◌<◌, ◌∙◌, ◌≡◌, ◌≤◌, ◌⊎◌, Err, List, Ok, Result, ap, append_assoc, arith, drop, inl, inr, length, refl, subst}
 use Rattle.dob_certfile.proofs.Common.{sym, take, true, ℕ, le-leb, length-append, take_at, IfErr, IfOk, little_bytes, classes_of-below, classes_of}
 use Rattle.dob_certfile.proofs.Common.{AreAscending, Entry, Content, FitEntries, Fits, bytes_of, content, head_bytes, contents_of, entries_bytes, ◌>>=◌}
 use Rattle.dob_certfile.proofs.Common.{FrontContent, HasCertFault, MayGive, are_same, entries_at, file_at, front_at, seal_at, Defect, Digest}
@@ -56,8 +56,8 @@ joined c rest = grind arith
 
 -- ---- reading again
 
-pub few_entries : (classes : ℕ) (entries : List Entry) → FitEntries classes entries → length entries ≤ classes
-few_entries classes entries fits = omega (arith, rise_count classes 0 entries (fit_rises classes 0 entries fits (starts_anywhere entries)) (omega arith))
+pub few_entries : (kind : ListKind) (classes : ℕ) (entries : List Entry) → FitEntries kind classes entries → length entries ≤ classes
+few_entries kind classes entries fits = omega (arith, rise_count kind classes 0 entries (fit_rises kind classes 0 entries fits (starts_anywhere entries)) (omega arith))
 
 pub file_again : (c : Content) → Fits c → file_at (bytes_of c) ≡ Ok c
 unfolding file_at
@@ -68,14 +68,14 @@ file_again c fits =
     let f : FrontContent = record { family = c.family; root = c.root; claim = c.claim; lost_count = length c.lost; held_count = length c.held } in
     let digest : List ℕ = sha256 (contents_of c) in
     let rest : List ℕ = (entries_bytes 0 c.lost ++ entries_bytes 0 c.held) ++ digest in
-    let right : FitsFront f = record { root = fits.root; claim = fits.claim; lost = few_entries classes c.lost fits.lost; held = few_entries classes c.held fits.held } in
+    let right : FitsFront f = record { root = fits.root; claim = fits.claim; lost = few_entries Lost classes c.lost fits.lost; held = few_entries Held classes c.held fits.held } in
     let text : bytes_of c ≡ front_text f rest = joined c digest in
     let front = front_again f rest right in
     let regrouped : rest ≡ entries_bytes 0 c.lost ++ (entries_bytes 0 c.held ++ digest) = append_assoc (entries_bytes 0 c.lost) (entries_bytes 0 c.held) digest in
-    let lost : entries_at classes 0 (length c.lost) rest ≡ Ok (c.lost, entries_bytes 0 c.held ++ digest) =
-    ap (entries_at classes 0 (length c.lost)) regrouped ∙ entries_again classes 0 c.lost (entries_bytes 0 c.held ++ digest) small (fit_rises classes 0 c.lost fits.lost (starts_anywhere c.lost)) in
-    let held : entries_at classes 0 (length c.held) (entries_bytes 0 c.held ++ digest) ≡ Ok (c.held, digest) =
-    entries_again classes 0 c.held digest small (fit_rises classes 0 c.held fits.held (starts_anywhere c.held)) in
+    let lost : entries_at Lost classes 0 (length c.lost) rest ≡ Ok (c.lost, entries_bytes 0 c.held ++ digest) =
+    ap (entries_at Lost classes 0 (length c.lost)) regrouped ∙ entries_again Lost classes 0 c.lost (entries_bytes 0 c.held ++ digest) small (fit_rises Lost classes 0 c.lost fits.lost (starts_anywhere c.lost)) in
+    let held : entries_at Held classes 0 (length c.held) (entries_bytes 0 c.held ++ digest) ≡ Ok (c.held, digest) =
+    entries_again Held classes 0 c.held digest small (fit_rises Held classes 0 c.held fits.held (starts_anywhere c.held)) in
     let seal : seal_at (bytes_of c) digest ≡ Ok tt = seal_again (contents_of c) digest long refl in
     let front_is : front_at (bytes_of c) ≡ Ok f = ap front_at text ∙ front.0 in
     let rest_is : drop 28 (bytes_of c) ≡ rest = ap (drop 28) text ∙ front.1 in
@@ -84,15 +84,15 @@ file_again c fits =
 pub file_takes : (bytes : List ℕ) (c : Content) → IsBytes bytes → file_at bytes ≡ Ok c → Fits c × (bytes ≡ bytes_of c)
 unfolding file_at contents_of
 file_takes bytes c fits e =
-    let a = bind_ok (front_at bytes) (λ front. entries_at (classes_of front.family) 0 front.lost_count (drop 28 bytes) >>= λ lost. entries_at (classes_of front.family) 0 front.held_count lost.1 >>= λ held. seal_at bytes held.1 >>= λ sealed. Ok (filed front lost.0 held.0)) c e in
+    let a = bind_ok (front_at bytes) (λ front. entries_at Lost (classes_of front.family) 0 front.lost_count (drop 28 bytes) >>= λ lost. entries_at Held (classes_of front.family) 0 front.held_count lost.1 >>= λ held. seal_at bytes held.1 >>= λ sealed. Ok (filed front lost.0 held.0)) c e in
     let f : FrontContent = a.0 in
     let classes : ℕ = classes_of f.family in
-    let l = bind_ok (entries_at classes 0 f.lost_count (drop 28 bytes)) (λ lost. entries_at classes 0 f.held_count lost.1 >>= λ held. seal_at bytes held.1 >>= λ sealed. Ok (filed f lost.0 held.0)) c a.2 in
-    let h = bind_ok (entries_at classes 0 f.held_count l.0.1) (λ held. seal_at bytes held.1 >>= λ sealed. Ok (filed f l.0.0 held.0)) c l.2 in
+    let l = bind_ok (entries_at Lost classes 0 f.lost_count (drop 28 bytes)) (λ lost. entries_at Held classes 0 f.held_count lost.1 >>= λ held. seal_at bytes held.1 >>= λ sealed. Ok (filed f lost.0 held.0)) c a.2 in
+    let h = bind_ok (entries_at Held classes 0 f.held_count l.0.1) (λ held. seal_at bytes held.1 >>= λ sealed. Ok (filed f l.0.0 held.0)) c l.2 in
     let s = bind_ok (seal_at bytes h.0.1) (λ sealed. Ok (filed f l.0.0 h.0.0)) c h.2 in
     let front = front_takes bytes f fits a.1 in
-    let lost = entries_take classes 0 f.lost_count (drop 28 bytes) l.0 (IsBytes-drop 28 bytes fits) l.1 in
-    let held = entries_take classes 0 f.held_count l.0.1 h.0 lost.0.rest_fits h.1 in
+    let lost = entries_take Lost classes 0 f.lost_count (drop 28 bytes) l.0 (IsBytes-drop 28 bytes fits) l.1 in
+    let held = entries_take Held classes 0 f.held_count l.0.1 h.0 lost.0.rest_fits h.1 in
     let seal = seal_takes bytes h.0.1 s.0 s.1 in
     let made : Content = filed f l.0.0 h.0.0 in
     let entries : drop 28 bytes ≡ (entries_bytes 0 l.0.0 ++ entries_bytes 0 h.0.0) ++ h.0.1 =
@@ -110,8 +110,8 @@ file_takes bytes c fits e =
     let right : Fits made = record {
       root = front.1.root;
       claim = front.1.claim;
-      lost = (rise_ascends classes 0 l.0.0 lost.2, rise_fit classes 0 l.0.0 lost.2);
-      held = (rise_ascends classes 0 h.0.0 held.2, rise_fit classes 0 h.0.0 held.2);
+      lost = (rise_ascends Lost classes 0 l.0.0 lost.2, rise_fit Lost classes 0 l.0.0 lost.2);
+      held = (rise_ascends Held classes 0 h.0.0 held.2, rise_fit Held classes 0 h.0.0 held.2);
     } in
     subst (λ (d : Content). Fits d × (bytes ≡ bytes_of d)) (ok_is made c s.2) (right, whole)
 
@@ -144,5 +144,5 @@ is_fault bytes (Err faults.Memory) given = inl refl
 is_fault bytes (Err (faults.Defect defect)) given = inr (defect, refl, given)
 
 -- entries that were read ascend
-pub read_ascends : (classes count : ℕ) (bytes rest : List ℕ) (entries : List Entry) → IsBytes bytes → entries_at classes 0 count bytes ≡ Ok (entries, rest) → AreAscending entries
-read_ascends classes count bytes rest entries fits e = rise_ascends classes 0 entries (entries_take classes 0 count bytes (entries, rest) fits e).2
+pub read_ascends : (kind : ListKind) (classes count : ℕ) (bytes rest : List ℕ) (entries : List Entry) → IsBytes bytes → entries_at kind classes 0 count bytes ≡ Ok (entries, rest) → AreAscending entries
+read_ascends kind classes count bytes rest entries fits e = rise_ascends kind classes 0 entries (entries_take kind classes 0 count bytes (entries, rest) fits e).2

@@ -4,7 +4,7 @@ use Rattle.dob_pieces.specs.Faults.{memory_text}
 use Rattle.dob_dbfile.specs.FaultTexts as file
 use Rattle.dob_dbfile.specs.declared.fault.Fault.TheVariants as file_fault
 use Rattle.dob_certfile.specs.declared.defect.Defect.{Defect}
-use Rattle.dob_certfile.specs.declared.defect.Defect.TheVariants.{Truncated, Magic, Version, SetByte, ProfileByte, RootClass, ClaimByte, EntryCount, EntryNumber, EntryOrder, EntryClass, Trailing, Digest}
+use Rattle.dob_certfile.specs.declared.defect.Defect.TheVariants.{Truncated, Magic, Version, SetByte, ProfileByte, RootClass, ClaimByte, EntryCount, EntryNumber, EntryOrder, EntryClass, EntryPlies, Trailing, Digest}
 use Rattle.dob_certfile.specs.declared.defect.ReadFault.{ReadFault}
 use Rattle.dob_certfile.specs.declared.defect.ReadFault.TheVariants as faults
 use Rattle.dob_certfile.specs.declared.defect.WriteFault.{WriteFault}
@@ -23,6 +23,7 @@ defect_text EntryCount = codes "E35 EntryCount"
 defect_text EntryNumber = codes "E36 EntryNumber"
 defect_text EntryOrder = codes "E37 EntryOrder"
 defect_text EntryClass = codes "E38 EntryClass"
+defect_text EntryPlies = codes "E42 EntryPlies"
 defect_text Trailing = file.fault_text file_fault.Trailing
 defect_text Digest = file.fault_text file_fault.Digest
 

@@ -11,6 +11,8 @@ use Rattle.dob_certificate.specs.declared.claim.Claim.{Claim}
 use Rattle.dob_certificate.specs.declared.claim.Claim.TheVariants.{Exactly, LostWithin, WonWithin}
 use Rattle.dob_certificate.specs.declared.entry.Entry.{Entry}
 use Rattle.dob_certificate.specs.declared.entry.TheConstants.{EVER}
+use Rattle.dob_certificate.specs.declared.list_kind.ListKind.{ListKind}
+use Rattle.dob_certificate.specs.declared.list_kind.ListKind.TheVariants.{Lost, Held}
 use Rattle.dob_certfile.specs.declared.file.CertificateFile.{CertificateFile}
 use Rattle.dob_certfile.specs.Numbers.{number_bytes}
 
@@ -65,8 +67,10 @@ bytes_of c = contents_of c ++ sha256 (contents_of c)
 
 -- ---- what has a file
 
-abbrev pub FitsPlies : ℕ → Type 0
-FitsPlies plies = (plies < 255) ⊎ (plies ≡ EVER)
+-- only what isn't lost may be so for ever
+abbrev pub FitsPlies : ListKind → ℕ → Type 0
+FitsPlies Lost plies = plies < 255
+FitsPlies Held plies = (plies < 255) ⊎ (plies ≡ EVER)
 
 abbrev pub FitsClaim : Claim → Type 0
 FitsClaim (Exactly Draw) = Unit {0}
@@ -75,16 +79,16 @@ FitsClaim (Exactly (Loss plies)) = plies < 255
 FitsClaim (WonWithin plies) = plies < 255
 FitsClaim (LostWithin plies) = plies < 255
 
--- an entry of a class among so many
-pub record FitEntry (classes : ℕ) (entry : Entry) : Type 0 where
+-- an entry of such a list, of a class among so many
+pub record FitEntry (kind : ListKind) (classes : ℕ) (entry : Entry) : Type 0 where
   pub class : entry.class < classes
-  pub plies : FitsPlies entry.plies
+  pub plies : FitsPlies kind entry.plies
 
-abbrev pub FitEntries : ℕ → List Entry → Type 0
-FitEntries classes entries = AreAscending entries × All (FitEntry classes) entries
+abbrev pub FitEntries : ListKind → ℕ → List Entry → Type 0
+FitEntries kind classes entries = AreAscending entries × All (FitEntry kind classes) entries
 
 pub record Fits (c : Content) : Type 0 where
   pub root : c.root < classes_of c.family
   pub claim : FitsClaim c.claim
-  pub lost : FitEntries (classes_of c.family) c.lost
-  pub held : FitEntries (classes_of c.family) c.held
+  pub lost : FitEntries Lost (classes_of c.family) c.lost
+  pub held : FitEntries Held (classes_of c.family) c.held

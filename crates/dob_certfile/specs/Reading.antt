@@ -13,8 +13,10 @@ use Rattle.dob_certificate.specs.declared.claim.Claim.{Claim}
 use Rattle.dob_certificate.specs.declared.claim.Claim.TheVariants.{Exactly, LostWithin, WonWithin}
 use Rattle.dob_certificate.specs.declared.entry.Entry.{Entry}
 use Rattle.dob_certificate.specs.declared.entry.TheConstants.{EVER}
+use Rattle.dob_certificate.specs.declared.list_kind.ListKind.{ListKind}
+use Rattle.dob_certificate.specs.declared.list_kind.ListKind.TheVariants.{Lost, Held}
 use Rattle.dob_certfile.specs.declared.defect.Defect.{Defect}
-use Rattle.dob_certfile.specs.declared.defect.Defect.TheVariants.{Truncated, Magic, Version, SetByte, ProfileByte, RootClass, ClaimByte, EntryCount, EntryNumber, EntryOrder, EntryClass, Trailing, Digest}
+use Rattle.dob_certfile.specs.declared.defect.Defect.TheVariants.{Truncated, Magic, Version, SetByte, ProfileByte, RootClass, ClaimByte, EntryCount, EntryNumber, EntryOrder, EntryClass, EntryPlies, Trailing, Digest}
 use Rattle.dob_certfile.specs.declared.defect.ReadFault.{ReadFault}
 use Rattle.dob_certfile.specs.declared.defect.ReadFault.TheVariants as faults
 use Rattle.dob_certfile.specs.Format.{Content, title}
@@ -59,23 +61,26 @@ number_at (suc more) bytes = do
   low ← byte_at bytes
   if nat_lt low.0 128 then Ok low else (number_at more low.1 >>= λ high. if nat_eq high.0 0 then Err EntryNumber else Ok (low.0 - 128 + 128 * high.0, high.1))
 
-abbrev pub plies_of : ℕ → ℕ
-plies_of byte = if nat_lt byte 255 then byte else EVER
+-- 255 is ever, which says nothing of what is lost
+abbrev pub plies_of : ListKind → ℕ → Result ℕ Defect
+plies_of Lost byte = if nat_lt byte 255 then Ok byte else Err EntryPlies
+plies_of Held byte = Ok (if nat_lt byte 255 then byte else EVER)
 
 -- the number is how far the class is from the one below the least
-unfoldable pub entry_at : ℕ → ℕ → List ℕ → Result (Entry × List ℕ) Defect
-entry_at classes least bytes = do
+unfoldable pub entry_at : ListKind → ℕ → ℕ → List ℕ → Result (Entry × List ℕ) Defect
+entry_at kind classes least bytes = do
   number ← number_at 4 bytes
   above ← wants (nat_lt 0 number.0) EntryOrder
   known ← wants (nat_le (least + number.0) classes) EntryClass
-  plies ← byte_at number.1
-  Ok (record { class = least + number.0 - 1; plies = plies_of plies.0 }, plies.1)
+  byte ← byte_at number.1
+  plies ← plies_of kind byte.0
+  Ok (record { class = least + number.0 - 1; plies = plies }, byte.1)
 
-unfoldable pub entries_at : ℕ → ℕ → ℕ → List ℕ → Result (List Entry × List ℕ) Defect
-entries_at classes least zero bytes = Ok ([], bytes)
-entries_at classes least (suc count) bytes = do
-  first ← entry_at classes least bytes
-  others ← entries_at classes (first.0.class + 1) count first.1
+unfoldable pub entries_at : ListKind → ℕ → ℕ → ℕ → List ℕ → Result (List Entry × List ℕ) Defect
+entries_at kind classes least zero bytes = Ok ([], bytes)
+entries_at kind classes least (suc count) bytes = do
+  first ← entry_at kind classes least bytes
+  others ← entries_at kind classes (first.0.class + 1) count first.1
   Ok (first.0 ∷ others.0, others.1)
 
 -- ---- the front: 28 bytes
@@ -165,8 +170,8 @@ seal_at bytes rest = do
 unfoldable pub file_at : List ℕ → Result Content Defect
 file_at bytes = do
   front ← front_at bytes
-  lost ← entries_at (classes_of front.family) 0 front.lost_count (drop 28 bytes)
-  held ← entries_at (classes_of front.family) 0 front.held_count lost.1
+  lost ← entries_at Lost (classes_of front.family) 0 front.lost_count (drop 28 bytes)
+  held ← entries_at Held (classes_of front.family) 0 front.held_count lost.1
   sealed ← seal_at bytes held.1
   Ok (record { family = front.family; root = front.root; claim = front.claim; lost = lost.0; held = held.0 })
 

@@ -2,7 +2,7 @@
 ghost use Rattle.std.specs.Prelude.{◌≡◌, ◌⊎◌, ◌<◌, IfErr, IfOk};
 ghost use Rattle.dob_pieces.specs.declared.setup.Setup.{Setup};
 ghost use Rattle.dob_rank.specs.Families.{classes_of};
-ghost use Rattle.dob_certificate.specs.Claims.{Holds};
+ghost use Rattle.dob_certificate.specs.Claims.{Holds, Prove};
 ghost use Rattle.dob_certificate.specs.Refusals.{IsRefusal};
 ghost use Rattle.dob_certfile.specs.Roots.{IsRoot};
 
@@ -19,7 +19,8 @@ use std::alloc::Global;
 /// Those of [`verify`].
 pub fn verify_file(alloc: Global, file: &CertificateFile) -> Result<(), Refusal>
     requires { file.now.root < classes_of file.now.family }
-    ensures holds { IfOk result (λ _. (p : Setup) × IsRoot file.now.family file.now.root p × Holds file.now.family.profile p file.now.claim) }
+    ensures proof { IfOk result (λ _. (p : Setup) × IsRoot file.now.family file.now.root p
+        × Prove file.now.family file.now.certificate.lost file.now.certificate.held p file.now.claim × Holds file.now.family.profile p file.now.claim) }
     ensures refusal { IfErr result (λ refusal. (refusal ≡ Refusal.Memory)
         ⊎ ((p : Setup) × IsRoot file.now.family file.now.root p × IsRefusal file.now.family file.now.certificate.lost file.now.certificate.held p file.now.claim refusal)) }
 {

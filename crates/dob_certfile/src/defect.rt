@@ -33,6 +33,8 @@ pub enum Defect {
     EntryOrder,
     /// E38: the family has no class of an entry's number.
     EntryClass,
+    /// E42: an entry of the lost list has the plies of *ever*.
+    EntryPlies,
     /// E19: a byte stands after the digest.
     Trailing,
     /// E20: the digest isn't that of the bytes before it.
@@ -57,6 +59,7 @@ impl fmt::Display for Defect {
             Defect::EntryNumber => write!(f, "E36 EntryNumber"),
             Defect::EntryOrder => write!(f, "E37 EntryOrder"),
             Defect::EntryClass => write!(f, "E38 EntryClass"),
+            Defect::EntryPlies => write!(f, "E42 EntryPlies"),
             Defect::Trailing => write!(f, "{}", dob_dbfile::Fault::Trailing),
             Defect::Digest => write!(f, "{}", dob_dbfile::Fault::Digest),
         }
@@ -109,7 +112,8 @@ impl<T: Drop> From<AllocFailed<T>> for ReadFault {
 pub enum WriteFault {
     /// E23: a growth was refused, since no memory was left for it.
     Memory,
-    /// E40: the root or an entry is no class of the family, or the claim or an entry has more than 254 plies.
+    /// E40: the root or an entry is no class of the family, or the claim or an entry has more than 254 plies,
+    /// but for *ever* of the held list.
     Unfit,
     /// E24: what is written to failed after that many bytes.
     Io(u64),

@@ -11,7 +11,7 @@ use crate::defect::{Defect, ReadFault};
 use crate::entries::entries_of;
 use crate::file::CertificateFile;
 use crate::front::{FRONT_LEN, are_same, front_of};
-use dob_certificate::{Certificate, Entries};
+use dob_certificate::{Certificate, Entries, ListKind};
 use sha2::{Digest, Sha256};
 use std::alloc::Global;
 
@@ -23,8 +23,8 @@ pub(crate) const DIGEST_LEN: usize = 32;
 /// # Errors
 ///
 /// The first of these that holds: `Truncated`, fewer than 28 bytes; `Magic`; `Version`; `SetByte`; `ProfileByte`; `RootClass`;
-/// `ClaimByte`; `EntryCount`; of each entry in turn `Truncated`, `EntryNumber`, `EntryOrder`, `EntryClass` and, where its plies are
-/// missing, `Truncated`; `Truncated`, fewer than 32 bytes after the entries; `Trailing`, more; `Digest`. Or `Memory`.
+/// `ClaimByte`; `EntryCount`; of each entry in turn `Truncated`, `EntryNumber`, `EntryOrder`, `EntryClass`, where its plies are
+/// missing `Truncated`, and of the lost list `EntryPlies`; `Truncated`, fewer than 32 bytes after the entries; `Trailing`, more; `Digest`. Or `Memory`.
 pub fn read_certificate(alloc: Global, bytes: &[u8]) -> Result<CertificateFile, ReadFault>
     // What is read has exactly these bytes.
     ensures found { IfOk result (λ file. Fits (content file) × (bytes.now ≡ bytes_of (content file))) }
@@ -44,8 +44,8 @@ fn file_of(alloc: Global, bytes: &[u8]) -> Result<CertificateFile, ReadFault>
 {
     let (front, classes) = front_of(bytes)?;
     let (_, rest) = bytes.split_at(FRONT_LEN);
-    let (lost, rest) = list_of(alloc, rest, front.lost_count, classes)?;
-    let (held, rest) = list_of(alloc, rest, front.held_count, classes)?;
+    let (lost, rest) = list_of(alloc, ListKind::Lost, rest, front.lost_count, classes)?;
+    let (held, rest) = list_of(alloc, ListKind::Held, rest, front.held_count, classes)?;
     check_seal(bytes, rest)?;
     Ok(CertificateFile {
         family: front.family,
@@ -58,14 +58,15 @@ fn file_of(alloc: Global, bytes: &[u8]) -> Result<CertificateFile, ReadFault>
 // A list of `count` entries, and the bytes after it.
 fn list_of(
     alloc: Global,
+    kind: ListKind,
     bytes: &[u8],
     count: u32,
     classes: u64,
 ) -> Result<(Entries, &[u8]), ReadFault>
     requires { classes < 2 ^ 31 }
-    ensures { MayGive (λ x. (x.0, x.1.now)) result (entries_at classes 0 count bytes.now) }
+    ensures { MayGive (λ x. (x.0, x.1.now)) result (entries_at kind classes 0 count bytes.now) }
 {
-    let (entries, rest) = entries_of(alloc, bytes, count, classes)?;
+    let (entries, rest) = entries_of(alloc, kind, bytes, count, classes)?;
     let entries = Entries::from_ascending(entries);
     Ok((entries, rest))
 }

@@ -12,7 +12,7 @@ use crate::file::CertificateFile;
 use crate::front::VERSION;
 use crate::numbers::push_number;
 use byteorder::{ByteOrder, LittleEndian};
-use dob_certificate::{Claim, EVER, Entry};
+use dob_certificate::{Claim, EVER, Entry, ListKind};
 use dob_classes::count_classes;
 use dob_dbfile::{FailedAfter, Sink, put_all};
 use dob_pieces::Memory;
@@ -48,8 +48,8 @@ pub fn write_certificate<W: Sink>(
 ///
 /// # Errors
 ///
-/// `Unfit`, exactly if the root or an entry is no class of the family, or the claim or an entry has more than 254 plies, which no file
-/// says; `Memory`.
+/// `Unfit`, exactly if the root or an entry is no class of the family, or the claim or an entry has more than 254 plies, but for *ever* of
+/// the held list, which no file says; `Memory`.
 pub fn certificate_bytes(alloc: Global, file: &CertificateFile) -> Result<Vec<u8>, WriteFault>
     ensures bytes { IfOk result (λ bytes. bytes.items ≡ bytes_of (content file.now)) }
     ensures fits { OnOk result (Fits (content file.now)) }
@@ -72,10 +72,10 @@ fn fits(file: &CertificateFile) -> bool
     if !fits_claim(file.claim) {
         return false;
     }
-    if !fit_entries(file.certificate.lost.as_slice(), classes) {
+    if !fit_entries(ListKind::Lost, file.certificate.lost.as_slice(), classes) {
         return false;
     }
-    fit_entries(file.certificate.held.as_slice(), classes)
+    fit_entries(ListKind::Held, file.certificate.held.as_slice(), classes)
 }
 
 // Whether a file can say that claim.
@@ -91,18 +91,30 @@ fn fits_claim(claim: Claim) -> bool
     }
 }
 
-// Whether a file of `classes` classes can have each of the entries.
-fn fit_entries(entries: &[Entry], classes: u64) -> bool
-    ensures { IsTrue result ↔ All (FitEntry classes) entries.now }
+// Whether such a list of a file of `classes` classes can have each of the entries.
+fn fit_entries(kind: ListKind, entries: &[Entry], classes: u64) -> bool
+    ensures { IsTrue result ↔ All (FitEntry kind classes) entries.now }
 {
-    entries.iter().all(|entry| fits_entry(*entry, classes))
+    entries
+        .iter()
+        .all(|entry| fits_entry(kind, *entry, classes))
 }
 
-// Whether a file of `classes` classes can have the entry.
-fn fits_entry(entry: Entry, classes: u64) -> bool
-    ensures { IsTrue result ↔ FitEntry classes entry }
+// Whether such a list of a file of `classes` classes can have the entry.
+fn fits_entry(kind: ListKind, entry: Entry, classes: u64) -> bool
+    ensures { IsTrue result ↔ FitEntry kind classes entry }
 {
-    (entry.class as u64) < classes && (entry.plies < 255 || entry.plies == EVER)
+    (entry.class as u64) < classes && fit_plies(kind, entry.plies)
+}
+
+// Whether an entry of such a list can have these plies.
+fn fit_plies(kind: ListKind, plies: u16) -> bool
+    ensures { IsTrue result ↔ FitsPlies kind plies }
+{
+    match kind {
+        ListKind::Lost => plies < 255,
+        ListKind::Held => plies < 255 || plies == EVER,
+    }
 }
 
 // The bytes of a file that can say it.

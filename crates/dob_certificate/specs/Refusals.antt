@@ -20,6 +20,10 @@ fault_text Memory = memory_text
 fault_text (Unsupported class) = codes "E30 Unsupported class " ++ decimal class
 fault_text Claim = codes "E31 Claim"
 
+-- that a certificate would have more than so many entries
+abbrev pub too_many_text : ℕ → List ℕ
+too_many_text most = codes "E39 TooMany more than " ++ decimal most ++ codes " entries"
+
 -- the first of the entries that isn't supported is of that class
 pub record IsFirstUnsupported (Supported : Entry → Type 0) (entries : List Entry) (class : ℕ) : Type 0 where
   pub place : ℕ

@@ -20,6 +20,7 @@ mod lookup;
 mod lost;
 mod refusal;
 mod room;
+mod too_many;
 mod verifying;
 
 pub use certificate::Certificate;
@@ -31,4 +32,5 @@ pub use lists::{check_entry, check_list};
 pub use lookup::entry_for;
 pub use refusal::Refusal;
 pub use room::Room;
+pub use too_many::TooMany;
 pub use verifying::{check_claim, is_lost_within, is_won_within, verify};

@@ -1,8 +1,8 @@
 -- Why no certificate is made.
-use Rattle.std.specs.Prelude.{◌≡◌, ℕ, Bool, List, ◌++◌, codes}
-use Rattle.std.specs.Fmt.{decimal}
+use Rattle.std.specs.Prelude.{◌≡◌, ℕ, Bool, List}
 use Rattle.dob_pieces.specs.Faults.{memory_text}
 use Rattle.dob_pieces.specs.declared.setup.Setup.{Setup}
+use Rattle.dob_rank.specs.Families.{IsPositionOf}
 use Rattle.dob_value.specs.declared.value.Value.{Value}
 use Rattle.dob_value.specs.Follows.{ClassTable}
 use Rattle.dob_probe.specs.Lines.{GivenBy}
@@ -18,7 +18,7 @@ use Rattle.dob_certify.specs.Made.{claim_of}
 abbrev pub fault_text : Fault → List ℕ
 fault_text (Table fault) = by_table.fault_text fault
 fault_text (Unproved refusal) = lists.fault_text refusal
-fault_text (TooMany most) = codes "E39 TooMany more than " ++ decimal most ++ codes " entries"
+fault_text (TooMany most) = lists.too_many_text most
 fault_text Memory = memory_text
 
 -- some lists don't prove the claim for the value that the table gives the position
@@ -29,10 +29,10 @@ pub record IsUnproved (table : ClassTable) (is_exact : Bool) (p : Setup) (refusa
   pub held : List Entry
   pub refused : lists.IsRefusal table.family lost held p (claim_of value is_exact) refusal
 
--- Why nothing is made: the position isn't one of the table's; or lists that were found don't prove the claim; or one of them would have more
--- entries than it may; or memory ran out.
+-- Why nothing is made: the position isn't one of the table's; else lists that were found don't prove the claim, or they have more entries than they
+-- may; or memory ran out.
 abbrev pub IsFault : ClassTable → Bool → Setup → ℕ → Fault → Type 0
 IsFault table is_exact p most (Table fault) = by_table.IsRefusal table.family p fault
 IsFault table is_exact p most (Unproved refusal) = IsUnproved table is_exact p refusal
-IsFault table is_exact p most (TooMany number) = number ≡ most
+IsFault table is_exact p most (TooMany number) = IsPositionOf table.family p × (number ≡ most)
 IsFault table is_exact p most Memory = Unit {0}

@@ -1,5 +1,5 @@
 -- What is made of what a table says of a position.
-use Rattle.std.specs.Prelude.{◌≡◌, Bool, if◌then◌else◌}
+use Rattle.std.specs.Prelude.{◌≡◌, ◌≤◌, ◌+◌, ℕ, Bool, length, if◌then◌else◌}
 use Rattle.dob_pieces.specs.declared.setup.Setup.{Setup}
 use Rattle.dob_value.specs.declared.value.Value.{Value}
 use Rattle.dob_value.specs.declared.value.Value.TheVariants.{Win, Loss, Draw}
@@ -16,9 +16,10 @@ claim_of (Win plies) is_exact = if is_exact then Exactly (Win plies) else WonWit
 claim_of (Loss plies) is_exact = if is_exact then Exactly (Loss plies) else LostWithin plies
 claim_of Draw is_exact = Exactly Draw
 
--- the claim is that of the value which the table gives the position, and the lists prove it
-pub record IsMade (table : ClassTable) (is_exact : Bool) (p : Setup) (made : Certified) : Type 0 where
+-- the claim is that of the value which the table gives the position, and the lists prove it, by at most so many entries
+pub record IsMade (table : ClassTable) (is_exact : Bool) (most : ℕ) (p : Setup) (made : Certified) : Type 0 where
   pub value : Value
   pub given : GivenBy table p value
   pub claim_is : made.claim ≡ claim_of value is_exact
   pub proved : Prove table.family made.certificate.lost made.certificate.held p made.claim
+  pub few : length made.certificate.lost + length made.certificate.held ≤ most

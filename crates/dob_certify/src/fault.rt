@@ -2,7 +2,7 @@
 ghost use Rattle.std.specs.Prelude.{◌≡◌, Some};
 ghost use Rattle.dob_certify.specs.declared.fault.Fault.TheVariants as fault;
 
-use dob_certificate::Refusal;
+use dob_certificate::{Refusal, TooMany};
 use dob_pieces::Memory;
 use std::alloc::{AllocError, AllocFailed};
 use std::error::Error;
@@ -30,7 +30,7 @@ impl fmt::Display for Fault {
         match self {
             Fault::Table(fault) => write!(f, "{fault}"),
             Fault::Unproved(refusal) => write!(f, "{refusal}"),
-            Fault::TooMany(most) => write!(f, "E39 TooMany more than {most} entries"),
+            Fault::TooMany(most) => write!(f, "{}", TooMany { most: *most }),
             Fault::Memory => write!(f, "{Memory}"),
         }
     }

@@ -1,5 +1,5 @@
 // A certificate of what a table says of a position.
-ghost use Rattle.std.specs.Prelude.{◌≡◌, IfOk, IfErr, OnOk};
+ghost use Rattle.std.specs.Prelude.{◌≡◌, ◌≤◌, ◌+◌, length, IfOk, IfErr, IsTrue, OnOk};
 ghost use Rattle.dob_rank.specs.Families.{IsPositionOf};
 ghost use Rattle.dob_value.specs.declared.value.Value.{Value as Valued};
 ghost use Rattle.dob_probe.specs.Lines.{GivenBy};
@@ -58,8 +58,8 @@ pub fn rounds_of(value: Value, is_exact: bool) -> u64 {
 ///
 /// # Errors
 ///
-/// `Table` if the position isn't one of the table's (E7, E26); `TooMany` if a list would have more than `most` entries; `Unproved` if the
-/// lists that were found don't prove the claim, as where the table isn't right; `Memory`.
+/// `Table` if the position isn't one of the table's (E7, E26); else `TooMany` if the lists would have more than `most` entries, or `Unproved` if those
+/// that were found don't prove the claim, as where the table isn't right; `Memory`.
 pub fn certify<R: Threads + Sync, W: Watch>(
     rt: &R,
     alloc: Global,
@@ -69,7 +69,7 @@ pub fn certify<R: Threads + Sync, W: Watch>(
     most: u64,
     watch: &W,
 ) -> Result<Certified, Fault>
-    ensures made { IfOk result (IsMade table.now is_exact position.now.setup) }
+    ensures made { IfOk result (IsMade table.now is_exact most position.now.setup) }
     ensures holds { IfOk result (λ certified. Holds table.now.family.profile position.now.setup certified.claim) }
     ensures member { OnOk result (IsPositionOf table.now.family position.now.setup) }
     ensures fault { IfErr result (IsFault table.now is_exact position.now.setup most) }
@@ -85,7 +85,7 @@ pub fn certify<R: Threads + Sync, W: Watch>(
     Ok(Certified { claim, certificate })
 }
 
-// The lists for the claim.
+// The lists for the claim, of at most `most` entries.
 fn lists<W: Watch>(
     alloc: Global,
     table: &Table,
@@ -95,13 +95,28 @@ fn lists<W: Watch>(
     watch: &W,
 ) -> Result<Certificate, Stop>
     requires { IsPositionOf table.now.family position.now.setup }
+    ensures { IfOk result (λ found. length found.lost + length found.held ≤ most) }
 {
     let class = number_of(table.classes(), position);
     let mut outcomes = Outcomes::new(alloc, table);
     let lost = lost_list(alloc, &mut outcomes, class, claim, most, watch)?;
     let left = most.saturating_sub(lost.as_slice().len() as u64);
     let held = held_list(alloc, &mut outcomes, class, claim, left, watch)?;
-    Ok(Certificate { lost, held })
+    // Each search stops where it has more; what it found is counted here, whatever it did.
+    if are_few(&lost, &held, most) {
+        Ok(Certificate { lost, held })
+    } else {
+        Err(Stop::Full)
+    }
+}
+
+// Whether the lists have at most `most` entries.
+fn are_few(lost: &Entries, held: &Entries, most: u64) -> bool
+    ensures { IsTrue result → length lost.now + length held.now ≤ most }
+{
+    let lost = lost.as_slice().len() as u64;
+    let held = held.as_slice().len() as u64;
+    lost <= most && held <= most - lost
 }
 
 // The list of lost classes: the class, or one to which a move leads that is lost in time.

@@ -30,8 +30,8 @@ pub(crate) struct Lead {
 }
 
 /// What the list says of the position, or None if it says nothing: of the position itself, and of all to which its moves lead. Where the lion can be
-/// caught that is the first catch; else a move to a position that is lost within the fewest plies that the list says; else in how many plies the
-/// position itself is lost.
+/// caught that is the first catch; else the first of the moves to a position that is lost within the fewest plies that the list says; else in how many
+/// plies the position itself is lost.
 ///
 /// # Errors
 ///

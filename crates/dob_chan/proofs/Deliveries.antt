@@ -11,7 +11,7 @@ use lib.ListN.{get_elem?}
 use Rattle.crossbeam_queue.proofs.Lists.{at_set, at_snoc}
 use Rattle.dob_pieces.specs.Lists.{IsBeginning}
 use Rattle.dob_chan.specs.declared.rule.Told.{Told}
-use Rattle.dob_chan.specs.Inboxes.{most_batches, sending, resting, AreOf, AreHeldSince, AreNext, IsAfterTold, HasSent, HasReceived, FitsSender, FitsTaker}
+use Rattle.dob_chan.specs.Inboxes.{most_deliveries, sending, resting, AreOf, AreHeldSince, AreNext, IsAfterTold, HasSent, HasReceived, FitsSender, FitsTaker}
 use Rattle.dob_chan.specs.Inboxes.{IsDelivered}
 
 at_end : {V : Type 0} → (l : List V) (a b : V) (j : ℕ) → get_elem? l j ≢ some b → get_elem? (l ++ a ∷ []) j ≡ some b → j ≡ length l
@@ -130,7 +130,7 @@ begins = record {
 }
 
 -- a sender sends one more
-pub posts : (n port : ℕ) (v : Note) (x : BatchView) → v ≡ sending v.senders v.from v.sent v.told → x.from ≡ v.from → length v.sent < most_batches
+pub posts : (n port : ℕ) (v : Note) (x : BatchView) → v ≡ sending v.senders v.from v.sent v.told → x.from ≡ v.from → length v.sent < most_deliveries
     → Pushes IsDelivered n port v x (λ w. (w ≡ sending v.senders v.from (v.sent ++ x ∷ []) w.told) × HasSent v.from x w.sent v.told w.told)
 posts n port v x role own few held views _ h at =
     let mine = (h.each port v at).0 (ap (λ (y : Note). y.sends) role) in
@@ -148,7 +148,7 @@ posts n port v x role own few held views _ h at =
         taken = h.taken;
         lawful = ap (λ l. l ++ x ∷ []) h.lawful ∙ append_assoc h.taken held (x ∷ []);
         of_senders = All-push (λ (b : BatchView). b.from < h.senders) h.sent x h.of_senders (subst (λ (k : ℕ). k < h.senders) (sym own) mine.1);
-        few = few_more h.sent x most_batches (subst (λ (l : List BatchView). length l < most_batches) (mine.3 ∙ ap (λ k. batches_of k h.sent) (sym own)) few) h.few;
+        few = few_more h.sent x most_deliveries (subst (λ (l : List BatchView). length l < most_deliveries) (mine.3 ∙ ap (λ k. batches_of k h.sent) (sym own)) few) h.few;
         each = each_set (Fits h.senders h.taker h.seat sent h.taken) views port w
             ((λ _. (mine.0, mine.1, mine.2, own_sent, (begins_it sent, begins_it h.taken))), λ p. absurd (true≢false (sym p)))
             (λ j u other e. (
@@ -235,7 +235,7 @@ of_sender port v x items views may h at =
 
 pub takes : (port : ℕ) (v : Note) → v.takes ≡ true → Pops IsDelivered port v
     (λ x w. (w ≡ taking v.senders v.opened (v.taken ++ x ∷ []) v.ended w.told) × (x.from < v.senders)
-    × (length (batches_of x.from w.taken) ≤ most_batches) × HasReceived w.taken v.told w.told)
+    × (length (batches_of x.from w.taken) ≤ most_deliveries) × HasReceived w.taken v.told w.told)
 takes port v may x items views h at =
     let mine = (h.each port v at).1 may in
     let same = ap (λ (l : List BatchView). length (batches_of x.from (l ++ x ∷ []))) mine.2 in

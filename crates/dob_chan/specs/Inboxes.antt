@@ -8,8 +8,8 @@ use Rattle.dob_chan.specs.declared.rule.Note.{Note}
 use Rattle.dob_chan.specs.declared.rule.Told.{Told}
 
 -- how many batches of one sender an inbox takes in at the most
-abbrev pub most_batches : ℕ
-most_batches = 2 ^ 40
+abbrev pub most_deliveries : ℕ
+most_deliveries = 2 ^ 40
 
 -- the batches of one sender, in order
 abbrev pub batches_of : ℕ → List BatchView → List BatchView
@@ -94,5 +94,5 @@ pub record IsDelivered (held : List BatchView) (views : List Note) : Type 0 wher
   pub taken : List BatchView
   pub lawful : IsLawfulInbox sent taken held
   pub of_senders : AreOf senders sent
-  pub few : (from : ℕ) → length (batches_of from sent) ≤ most_batches
+  pub few : (from : ℕ) → length (batches_of from sent) ≤ most_deliveries
   pub each : (pass : ℕ) (v : Note) → get_elem? views pass ≡ some v → FitsSender senders seat sent taken pass v × FitsTaker senders taker seat sent taken pass v

@@ -2,7 +2,7 @@
 ghost use Rattle.std.specs.Prelude.{◌≡◌, ℕ, [], length, ◌≤◌, ◌<◌, vec_len, slice_index};
 ghost use Rattle.std.specs.Arc.{arc_value};
 ghost use Rattle.crossbeam_queue.specs.Passes.{view, IsPassOf};
-ghost use Rattle.dob_chan.specs.Inboxes.{sending, taking, most_batches, batches_of};
+ghost use Rattle.dob_chan.specs.Inboxes.{sending, taking, most_deliveries, batches_of};
 
 use crate::rule::{InOrder, Note};
 use crossbeam_queue::{Pass, RuledArrayQueue};
@@ -22,7 +22,7 @@ pub struct SendEnd {
     ghost seated: { IsPassOf (arc_value inbox) pass },
     ghost role: { view pass ≡ sending (view pass).senders from (view pass).sent (view pass).told },
     ghost counted: { sent ≡ length (view pass).sent },
-    ghost few: { sent ≤ most_batches },
+    ghost few: { sent ≤ most_deliveries },
 }
 
 /// The taking end of an inbox. It counts the batches that it has taken of each sender.
@@ -34,7 +34,7 @@ pub struct TakeEnd {
     ghost seated: { IsPassOf (arc_value inbox) pass },
     ghost role: { view pass ≡ taking (vec_len taken) (vec_len taken) (view pass).taken [] (view pass).told },
     ghost counted: { (k : ℕ) → k < vec_len taken → slice_index taken.items k ≡ length (batches_of k (view pass).taken) },
-    ghost few: { (k : ℕ) → k < vec_len taken → slice_index taken.items k ≤ most_batches },
+    ghost few: { (k : ℕ) → k < vec_len taken → slice_index taken.items k ≤ most_deliveries },
 }
 
 /// An inbox didn't take the batch, which comes back: it was full.

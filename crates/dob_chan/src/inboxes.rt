@@ -2,7 +2,7 @@
 ghost use Rattle.std.specs.Prelude.{◌≡◌, ℕ, suc, ◌<◌, ◌≤◌, ◌+◌, [], ◌∷◌, ◌++◌, length, vec_len, vec_capacity, slice_get, slice_index, Some, IfOk, OnOk, IfErr, MatchOption};
 ghost use Rattle.std.specs.Arc.{arc_value};
 ghost use Rattle.crossbeam_queue.specs.Passes.{view, IsPassOf, IsSamePass, ruled_capacity};
-ghost use Rattle.dob_chan.specs.Inboxes.{most_batches, batches_of, sending, taking, untold, HasSent, HasReceived};
+ghost use Rattle.dob_chan.specs.Inboxes.{most_deliveries, batches_of, sending, taking, untold, HasSent, HasReceived};
 ghost use Rattle.dob_chan.specs.Ends.{sent_by, place_of, senders_beside, taken_by, taken_of, senders_of, capacity_of, IsEndOpened, AreOpened, AreEndsOf, SendsToSame, TakesFromSame, WasFull, WasEmpty, send_told, take_told};
 
 use crate::ends::{Full, Inbox, SendEnd, TakeEnd};
@@ -110,7 +110,7 @@ impl SendEnd {
     /// capacity, of all senders together, at some moment of the call; then nothing is sent. The end learns what all had sent
     /// and what was taken when its batch went in, and the inbox was full after that. Its promises hold if it returns.
     pub fn offer<R: Wait>(&mut self, rt: &R, batch: Batch) -> Result<(), Full>
-        requires few { length (sent_by self.old) < most_batches }
+        requires few { length (sent_by self.old) < most_deliveries }
         requires own { batch.from ≡ place_of self.old }
         ensures same { SendsToSame self.old self.new }
         ensures sent { OnOk result (sent_by self.new ≡ sent_by self.old ++ batch ∷ []) }

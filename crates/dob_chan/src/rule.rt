@@ -95,10 +95,10 @@ pub(crate) struct Takes;
 
 impl Outcome<Batch, Note> for Takes {
     ghost use Rattle.std.specs.Prelude.{◌≡◌, [], ◌∷◌, ◌++◌, length, ◌<◌, ◌≤◌};
-    ghost use Rattle.dob_chan.specs.Inboxes.{most_batches, batches_of, taking, HasReceived};
+    ghost use Rattle.dob_chan.specs.Inboxes.{most_deliveries, batches_of, taking, HasReceived};
 
     ghost then = { λ v x w. (w ≡ taking v.senders v.opened (v.taken ++ x ∷ []) v.ended w.told) × (x.from < v.senders)
-        × (length (batches_of x.from w.taken) ≤ most_batches) × HasReceived w.taken v.told w.told };
+        × (length (batches_of x.from w.taken) ≤ most_deliveries) × HasReceived w.taken v.told w.told };
 }
 
 impl Lesson<Batch, Note> for Takes {

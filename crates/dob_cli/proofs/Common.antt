@@ -14,10 +14,11 @@ pub use Rattle.dob_words.specs.declared.command.orders.Order.{Order}
 pub use Rattle.dob_words.specs.declared.command.orders.Order.TheVariants.{EachLine, Lines}
 pub use Rattle.dob_shelf.proofs.Shelves.{others_kept, unchanged}
 pub use Rattle.dob_shelf.specs.Shelves.{HasJust, SameFiles, ShelfChange, ShelfState, shelf_change}
-pub use Rattle.dob_query.proofs.Endings.{answered, answered_by}
-pub use Rattle.dob_query.specs.Endings.{AnswersOver, Ending, TellsOneFault}
+pub use Rattle.dob_files.proofs.Endings.{answered, answered_by}
+pub use Rattle.dob_files.specs.Endings.{AnswersOver, Ending, TellsOneFault}
 pub use Rattle.dob_query.specs.Program.{AnswersValue}
-pub use Rattle.dob_query.specs.Tables.{AnswersProbe, AnswersProbeRight, HasValueFile}
-pub use Rattle.dob_query.specs.Telling.{AnswersLines, PutsAll, PutsText, StopsText, TellsOver}
-pub use Rattle.dob_query.specs.declared.fault.Fault.{Fault}
-pub use Rattle.dob_cli.specs.Builds.{AnswersBuild}
+pub use Rattle.dob_query.specs.Probes.{AnswersProbe, AnswersProbeRight}
+pub use Rattle.dob_files.specs.Tables.{HasValueFile}
+pub use Rattle.dob_files.specs.Telling.{AnswersLines, PutsAll, PutsText, StopsText, TellsOver}
+pub use Rattle.dob_files.specs.declared.fault.Fault.{Fault}
+pub use Rattle.dob_build.specs.Builds.{AnswersBuild}

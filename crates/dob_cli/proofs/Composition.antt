@@ -2,8 +2,8 @@
 use Rattle.dob_cli.proofs.Common.{◌≡◌, List, Option, arith, inl, inr, option_map, refl, subst, ℕ, IsTrue, Profile, bytes_of, Change, Text, IsOrder}
 use Rattle.dob_cli.proofs.Common.{IsReadingOf, asks, meaning_of, number_in, profile_named, Reading, Order, ShelfChange, ShelfState, shelf_change, AnswersOver}
 use Rattle.dob_cli.proofs.Common.{Ending, TellsOneFault, AnswersValue, AnswersProbe, AnswersProbeRight, HasValueFile, Fault, AnswersBuild}
-use Rattle.dob_query.specs.declared.fault.Fault.TheVariants.{Memory, Io}
-use Rattle.dob_query.specs.Faults.{status_of}
+use Rattle.dob_files.specs.declared.fault.Fault.TheVariants.{Memory, Io}
+use Rattle.dob_files.specs.Faults.{status_of}
 use Rattle.dob_words.specs.declared.command.Reading.TheVariants as reading
 use Rattle.dob_cli.specs.Laws.{BuildThenProbe, WordsAreAnswered}
 use Rattle.dob_cli.specs.Orders.{AnswersOrder, AnswersRight}

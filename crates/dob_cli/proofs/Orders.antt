@@ -9,12 +9,13 @@ use Rattle.dob_words.specs.Readings.{name_of_order, text_given}
 use Rattle.dob_words.specs.declared.command.orders.Asked.TheVariants as ask
 use Rattle.dob_words.specs.declared.command.orders.LinesOrder.{LinesOrder}
 use Rattle.dob_words.specs.declared.command.orders.LinesOrder.TheVariants.{Ask, Build, Puzzles, Reach, Show, Stats, Value, Zugzwangs}
-use Rattle.dob_query.proofs.EachLine.{each_right}
+use Rattle.dob_query.proofs.EachRight.{each_right}
 use Rattle.dob_query.proofs.Placed.{question_each_right}
 use Rattle.dob_query.specs.declared.questions.Question.{Question}
 use Rattle.dob_query.proofs.Asking.{question_right}
-use Rattle.dob_query.proofs.Rightly.{puzzles_right, reach_right, show_right, stats_right, zugzwangs_right}
-use Rattle.dob_query.proofs.TableFaults.{probe_right}
+use Rattle.dob_survey.proofs.Rightly.{puzzles_right, reach_right, stats_right, zugzwangs_right}
+use Rattle.dob_query.proofs.Shown.{show_right}
+use Rattle.dob_query.proofs.Valued.{probe_right}
 use Rattle.dob_cli.specs.Orders.{AnswersAskedRight, AnswersByLines, AnswersEachAskedRight, AnswersLinesRight, AnswersOrder, AnswersRight, AreAskedLines}
 use Rattle.dob_cli.specs.Orders.{AreEachAsked, ByValueFile, IsAskedFault, IsEachAskedFault, form_of, question_of, reach_of, search_of}
 

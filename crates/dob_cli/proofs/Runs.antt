@@ -2,9 +2,9 @@
 use Rattle.dob_cli.proofs.Common.{◌∙◌, ◌∷◌, ◌≡◌, Bool, List, [], ap, inl, inr, refl, subst, sym, ℕ, Err, Change, IsSame, IsUntouched, Says, SinkState, change}
 use Rattle.dob_cli.proofs.Common.{Text, IsReadingOf, meaning_of, Reading, Order, EachLine, Lines, unchanged, ShelfChange, ShelfState, shelf_change}
 use Rattle.dob_cli.proofs.Common.{AnswersOver, Ending, TellsOneFault, AnswersLines, PutsAll, PutsText, StopsText, TellsOver, Fault}
-use Rattle.dob_query.specs.declared.fault.Fault.TheVariants.{Io}
+use Rattle.dob_files.specs.declared.fault.Fault.TheVariants.{Io}
 use Rattle.dob_words.specs.declared.command.Reading.TheVariants as reading
-use Rattle.dob_query.specs.Endings.{AnswersHelp, AnswersUsage, AnswersVersion, Tells, TellsMemory, version_line}
+use Rattle.dob_files.specs.Endings.{AnswersHelp, AnswersUsage, AnswersVersion, Tells, TellsMemory, version_line}
 use Rattle.dob_cli.specs.Orders.{AnswersOrder, AreEachAsked, AreLinesFor, IsEachAskedFault, IsFaultFor, KeepsFiles, question_of}
 use Rattle.dob_cli.specs.Runs.{Does, LeavesShelf, Ran}
 use Rattle.std.proofs.Math.Bool.{or-false}

@@ -1,11 +1,11 @@
 -- What the program does by its words, said of some of them, and what it does in turn.
 use Rattle.std.specs.Prelude.{◌≡◌, IsTrue, List, Option, option_map}
 use Rattle.dob_words.specs.Words.{Text, build, meaning_of, number_in, probe, profile_named, value}
-use Rattle.dob_query.specs.Endings.{Ending}
+use Rattle.dob_files.specs.Endings.{Ending}
 use Rattle.dob_query.specs.Program.{AnswersValue}
 use Rattle.dob_shelf.specs.Shelves.{ShelfChange, ShelfState, shelf_change}
-use Rattle.dob_query.specs.Tables.{AnswersProbe, AnswersProbeRight}
-use Rattle.dob_cli.specs.Builds.{AnswersBuild}
+use Rattle.dob_query.specs.Probes.{AnswersProbe, AnswersProbeRight}
+use Rattle.dob_build.specs.Builds.{AnswersBuild}
 use Rattle.dob_cli.specs.Orders.{ByValueFile}
 use Rattle.dob_cli.specs.Runs.{Ran}
 

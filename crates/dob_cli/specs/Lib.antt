@@ -1,4 +1,3 @@
-pub mod Builds
 pub mod Orders
 pub mod Runs
 pub mod Laws

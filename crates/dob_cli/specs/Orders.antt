@@ -1,7 +1,7 @@
 -- What the program owes for an order: a case in each definition for each subcommand.
 use Rattle.std.specs.Prelude.{ℕ, Bool, false, true, List, None, Option, Result, Some, String}
 use Rattle.dob_pieces.specs.declared.profile.Profile.{Profile}
-use Rattle.dob_query.specs.declared.fault.Fault.{Fault}
+use Rattle.dob_files.specs.declared.fault.Fault.{Fault}
 use Rattle.dob_words.specs.declared.command.orders.Asked.{Asked}
 use Rattle.dob_words.specs.declared.command.orders.Asked.TheVariants as ask
 use Rattle.dob_words.specs.declared.command.orders.LinesOrder.{LinesOrder}
@@ -9,31 +9,33 @@ use Rattle.dob_words.specs.declared.command.orders.LinesOrder.TheVariants.{Ask, 
 use Rattle.dob_words.specs.declared.command.orders.Order.{Order}
 use Rattle.dob_words.specs.declared.command.orders.Order.TheVariants.{EachLine, Lines}
 use Rattle.dob_dbfile.specs.Sinks.{Change}
-use Rattle.dob_query.specs.Endings.{AnswersOver, Ending, GivesLines}
+use Rattle.dob_files.specs.Endings.{AnswersOver, Ending, GivesLines}
 use Rattle.dob_shelf.specs.Shelves.{Files, SameFiles, SameOthers, ShelfChange}
 use Rattle.dob_query.specs.Program.{IsFaultOf, IsValueLineOf}
 use Rattle.dob_query.specs.Sizes.{AreCountLinesOf, IsCountFaultOf}
-use Rattle.dob_cli.specs.Builds.{AreBuildLines, IsBuildFault}
-use Rattle.dob_query.specs.declared.stats.StatsForm.{StatsForm}
-use Rattle.dob_query.specs.declared.stats.StatsForm.TheVariants as forms
+use Rattle.dob_build.specs.Builds.{AreBuildLines, IsBuildFault}
+use Rattle.dob_survey.specs.declared.stats.StatsForm.{StatsForm}
+use Rattle.dob_survey.specs.declared.stats.StatsForm.TheVariants as forms
 use Rattle.dob_query.specs.declared.questions.Question.{Question}
 use Rattle.dob_query.specs.declared.questions.Question.TheVariants as question
 use Rattle.dob_query.specs.Questions.{AnswersQuestionRight, AreAnswerLines, GivesWhole, IsAskFault}
-use Rattle.dob_query.specs.Telling.{AnswersLines, TellsOver}
+use Rattle.dob_files.specs.Telling.{AnswersLines, TellsOver}
 use Rattle.dob_query.specs.Each.{AnswersEachRight, AreEachLines, IsEachFault, IsGivenTo}
 use Rattle.dob_query.specs.QuestionsEach.{AnswersLine, AnswersQuestionEachRight, ArePlaceLines, IsPlacesFault}
-use Rattle.dob_query.specs.Migrations.{AreMigrateLines, IsMigrateFault}
-use Rattle.dob_query.specs.Reaches.{AnswersReachRight, AreReachLinesFor, IsReachFaultFor}
-use Rattle.dob_query.specs.declared.reaches.ReachSearch.{ReachSearch}
-use Rattle.dob_query.specs.Certificates.{AreCertifyLines, IsCertifyFault, IsVerifyFault, IsVerifyLine, most_entries}
-use Rattle.dob_query.specs.Replying.{IsReplyFaultOf, IsReplyLine}
-use Rattle.dob_query.specs.Puzzles.{AnswersPuzzlesRight, ArePuzzleLines, IsPuzzlesFault}
-use Rattle.dob_query.specs.declared.puzzles.PuzzleSearch.{PuzzleSearch}
+use Rattle.dob_survey.specs.Migrations.{AreMigrateLines, IsMigrateFault}
+use Rattle.dob_survey.specs.Reaches.{AnswersReachRight, AreReachLinesFor, IsReachFaultFor}
+use Rattle.dob_survey.specs.declared.reaches.ReachSearch.{ReachSearch}
+use Rattle.dob_verdict.specs.Certificates.{AreCertifyLines, IsCertifyFault, IsVerifyFault, IsVerifyLine, most_entries}
+use Rattle.dob_verdict.specs.Replying.{IsReplyFaultOf, IsReplyLine}
+use Rattle.dob_survey.specs.Puzzles.{AnswersPuzzlesRight, ArePuzzleLines, IsPuzzlesFault}
+use Rattle.dob_survey.specs.declared.puzzles.PuzzleSearch.{PuzzleSearch}
 use Rattle.dob_words.specs.Readings.{text_given}
 use Rattle.dob_query.specs.Shows.{AnswersShowRight, AreShowLines, IsShowFault, KeepsButPicture}
-use Rattle.dob_query.specs.Stats.{AnswersStatsRight, AreStatsLines, IsStatsFault}
-use Rattle.dob_query.specs.Tables.{AnswersProbeRight, HasValueFile, IsCheckFault, IsCheckLine, IsFileOf, IsOpeningFault, IsPositionFault, IsProbeLine}
-use Rattle.dob_query.specs.Zugzwangs.{AnswersZugzwangsRight, AreZugzwangLines}
+use Rattle.dob_survey.specs.Stats.{AnswersStatsRight, AreStatsLines, IsStatsFault}
+use Rattle.dob_query.specs.Probes.{AnswersProbeRight, IsProbeLine}
+use Rattle.dob_files.specs.Tables.{HasValueFile, IsFileOf, IsOpeningFault, IsPositionFault}
+use Rattle.dob_survey.specs.Checks.{IsCheckFault, IsCheckLine}
+use Rattle.dob_survey.specs.Zugzwangs.{AnswersZugzwangsRight, AreZugzwangLines}
 
 -- which puzzles are looked for: so many, won in so many plies, behind a class and in the order of a seed where these are given
 abbrev pub search_of : ℕ → ℕ → Option ℕ → Option ℕ → Bool → PuzzleSearch
@@ -123,7 +125,7 @@ AreLinesFor c (Zugzwangs file listed) = AreZugzwangLines (IsFileOf (c.before.has
 AreLinesFor c (Puzzles file plies count from seed is_numbered) =
     ArePuzzleLines (IsFileOf (c.before.has file.now)) (search_of plies count from seed is_numbered)
 AreLinesFor c (Migrate file out) = AreMigrateLines c file.now out.now
-AreLinesFor c (Certify file out most is_exact is_watched position) = AreCertifyLines c file.now out.now is_exact position.now
+AreLinesFor c (Certify order) = AreCertifyLines c order.file.now order.out.now order.is_exact (most_entries order.most) order.position.now
 AreLinesFor c (Verify file is_watched) = IsVerifyLine (c.before.has file.now)
 AreLinesFor c (Reply file position) = IsReplyLine (c.before.has file.now) position.now
 
@@ -140,7 +142,7 @@ IsFaultFor c (Stats file is_csv is_json) = IsStatsFault (c.before.has file.now)
 IsFaultFor c (Zugzwangs file listed) = IsOpeningFault (c.before.has file.now)
 IsFaultFor c (Puzzles file plies count from seed is_numbered) = IsPuzzlesFault (c.before.has file.now) plies
 IsFaultFor c (Migrate file out) = IsMigrateFault c file.now
-IsFaultFor c (Certify file out most is_exact is_watched position) = IsCertifyFault c file.now is_exact (most_entries most) position.now
+IsFaultFor c (Certify order) = IsCertifyFault c order.file.now order.is_exact (most_entries order.most) order.position.now
 IsFaultFor c (Verify file is_watched) = IsVerifyFault (c.before.has file.now)
 IsFaultFor c (Reply file position) = IsReplyFaultOf (c.before.has file.now) position.now
 
@@ -148,7 +150,7 @@ IsFaultFor c (Reply file position) = IsReplyFaultOf (c.before.has file.now) posi
 abbrev pub KeepsFilesFor : LinesOrder → Files → Files → Type 0
 KeepsFilesFor (Build order) = SameOthers order.file.now
 KeepsFilesFor (Migrate file out) = SameOthers out.now
-KeepsFilesFor (Certify file out most is_exact is_watched position) = SameOthers out.now
+KeepsFilesFor (Certify order) = SameOthers order.out.now
 KeepsFilesFor (Show file picture position) = KeepsButPicture (text_given picture)
 KeepsFilesFor _ = SameFiles
 

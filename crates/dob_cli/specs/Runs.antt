@@ -7,7 +7,7 @@ use Rattle.dob_words.specs.declared.command.Reading.{Reading}
 use Rattle.dob_words.specs.declared.command.Reading.TheVariants as reading
 use Rattle.dob_words.specs.Readings.{IsReadingOf}
 use Rattle.dob_pieces.specs.Bytes.{line_feed}
-use Rattle.dob_query.specs.Endings.{AnswersHelp, AnswersUsage, AnswersVersion, Ending, TellsMemory, ended}
+use Rattle.dob_files.specs.Endings.{AnswersHelp, AnswersUsage, AnswersVersion, Ending, TellsMemory, ended}
 use Rattle.dob_shelf.specs.Shelves.{FailsWhere, SameFiles, ShelfChange}
 use Rattle.dob_cli.specs.Orders.{AnswersOrder, AnswersRight, KeepsFiles}
 

@@ -1,7 +1,7 @@
 // Laws of what the program does, each the contract of a function that does nothing.
 ghost use Rattle.dob_cli.specs.Laws.{BuildThenProbe, WordsAreAnswered};
 
-use dob_query::Shelf;
+use dob_shelf::Shelf;
 
 /// Words that ask for a value, a build or a probe get exactly that.
 pub fn words_are_answered<S: Shelf>(before: &S, after: &S)

@@ -3,21 +3,16 @@
 // Choices:
 // - What is owed for words is said of what is read of them: there is a reading that they ask for, and it is done (`Ran`). So a subcommand is a case in
 //   `specs/Orders.antt`, and no field of `Ran`.
-// - A build's number of nodes is tested first, then its file is made, which changes none, so nothing is built in vain. Its lines are made before the file is
-//   written and printed after it: without memory for them there is no file. Without `--nodes` the words promise some number from 1 to 16.
 // - If a fault's line finds no memory to be formatted, E23 comes in its place, with its status.
 // - The program's streams are sinks, as a file is (`run_over`, `run_given`): one trait says what came in, where it was flushed, whether a call failed.
 //   `run_words` takes any writers of the standard library, hands each behind `Lent` to `run_over`, and says the same of the bytes that they received;
 //   `Write` can't say whether a writer was flushed or failed.
-// - A build takes batches of at most 256 items and inboxes of 64 batches: all inboxes of 16 nodes have some 6 MB.
 #![tactic(auto)]
 
-mod builds;
 pub mod laws;
 mod program;
 
-pub use dob_query::{
-    Claim, Console, DiskFile, DiskShelf, Fault, Heard, MemShelf, Note, Place, Progress, Shelf,
-    ShelfFault,
-};
+pub use dob_files::Fault;
+pub use dob_lines::{Console, Progress};
+pub use dob_shelf::{Claim, DiskFile, DiskShelf, Heard, MemShelf, Note, Place, Shelf, ShelfFault};
 pub use program::{run_given, run_over, run_words, tell_memory};

@@ -7,21 +7,27 @@ ghost use Rattle.dob_dbfile.specs.Sinks.{Says, change};
 ghost use Rattle.dob_cli.specs.Runs.{LeavesShelf, Ran, RanOver, TellsNoText, contents};
 ghost use Rattle.dob_cli.specs.Orders.{AnswersByLines, AnswersEachLine, AnswersOrder, GivesAsked, GivesEachLine, GivesLinesFor, KeepsFiles, KeepsFilesFor, form_of, question_of, reach_of, search_of};
 ghost use Rattle.dob_shelf.specs.Shelves.{Changes, Leaving, SameFiles};
-ghost use Rattle.dob_query.specs.Endings.{TellsAs, TellsFaultAs, TellsMemory, TellsOneFault, ended};
-ghost use Rattle.dob_query.specs.Faults.{IsFaultLine};
-ghost use Rattle.dob_query.specs.Telling.{status_of_lines};
-ghost use Rattle.dob_query.specs.declared.fault.Fault.TheVariants.{Memory};
+ghost use Rattle.dob_files.specs.Endings.{TellsAs, TellsFaultAs, TellsMemory, TellsOneFault, ended};
+ghost use Rattle.dob_files.specs.Faults.{IsFaultLine};
+ghost use Rattle.dob_files.specs.Telling.{status_of_lines};
+ghost use Rattle.dob_files.specs.declared.fault.Fault.TheVariants.{Memory};
 
-use crate::builds::answer_build;
+use dob_build::answer_build;
 use dob_dbfile::{Lent, Sink, put_all, write_all};
+use dob_files::{Fault, Lines};
+use dob_lines::Console;
 use dob_pieces::Profile;
 use dob_probe::Walk;
 use dob_query::{
-    Console, Fault, Lines, PuzzleSearch, Question, ReachSearch, Shelf, StatsForm, answer_certify,
-    answer_check, answer_count, answer_each, answer_migrate, answer_probe, answer_puzzles,
-    answer_question, answer_question_each, answer_reach, answer_reply, answer_show, answer_stats,
-    answer_value, answer_verify, answer_zugzwangs,
+    Question, answer_count, answer_each, answer_probe, answer_question, answer_question_each,
+    answer_show, answer_value,
 };
+use dob_shelf::Shelf;
+use dob_survey::{
+    PuzzleSearch, ReachSearch, StatsForm, answer_check, answer_migrate, answer_puzzles,
+    answer_reach, answer_stats, answer_zugzwangs,
+};
+use dob_verdict::{answer_certify, answer_reply, answer_verify};
 use dob_words::command::{Asked, LinesOrder, Order, Reading, read_words};
 use std::alloc::{AllocError, Global};
 use std::env::Args;
@@ -222,16 +228,7 @@ fn answer<S: Shelf>(
             answer_puzzles(alloc, shelf, file, search)
         }
         LinesOrder::Migrate { file, out } => answer_migrate(alloc, shelf, file, out),
-        LinesOrder::Certify {
-            file,
-            out,
-            most,
-            is_exact,
-            is_watched,
-            position,
-        } => answer_certify(
-            rt, alloc, shelf, file, out, most, is_exact, is_watched, position,
-        ),
+        LinesOrder::Certify(order) => answer_certify(rt, alloc, shelf, order),
         LinesOrder::Verify { file, is_watched } => answer_verify(
             rt, alloc, shelf, file, is_watched,
         ),

@@ -20,8 +20,5 @@ pub fn outcome_number(value: Value) -> u32
 pub fn plies_of(value: Value) -> u32
     ensures { result ≡ plies_of value }
 {
-    match value {
-        Value::Draw => 0,
-        Value::Win(plies) | Value::Loss(plies) => u32::from(plies),
-    }
+    u32::from(value.plies())
 }

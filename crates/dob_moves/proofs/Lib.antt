@@ -23,3 +23,4 @@ pub mod PlainLists  -- the same in the plain program
 pub mod ProfileMoves  -- what moves by a profile lead to, and their mirror images
 pub mod MoveLists  -- the list has just the moves
 pub mod MoveCounts  -- moves counted without a list
+pub mod FewMoves  -- a position has at most 63 moves

@@ -1,5 +1,5 @@
 -- Laws of the rules, of which `src/laws.rt` has one function each.
-use Rattle.std.specs.Prelude.{◌≡◌, ◌↔◌, ℕ, Bool}
+use Rattle.std.specs.Prelude.{◌≡◌, ◌↔◌, ◌≤◌, ℕ, Bool, length}
 use Rattle.dob_pieces.specs.declared.profile.Profile.TheVariants.{A}
 use Rattle.dob_pieces.specs.declared.kind.Kind.{Kind}
 use Rattle.dob_pieces.specs.declared.kind.HandKind.{HandKind}
@@ -63,3 +63,10 @@ LionsAreNotTaken = (profile : Profile) (p : Setup) (move : Move) → CatchesLion
 -- the list that computes has just the moves
 abbrev pub ListsHaveMoves : Type 0
 ListsHaveMoves = (profile : Profile) (p : Setup) → IsLegal p → AreMoves profile p (moves_of profile p)
+
+-- a position has at most that many moves
+abbrev pub most_moves : ℕ
+most_moves = 63
+
+abbrev pub MovesAreFew : Type 0
+MovesAreFew = (profile : Profile) (p : Setup) → IsLegal p → length (moves_of profile p) ≤ most_moves

@@ -23,9 +23,12 @@ const END: usize = FIRST_DROP + 3 * Square::COUNT;
 pub fn move_at(profile: Profile, position: &Position, place: usize) -> Option<Move>
     ensures { MatchOption result ((m : AnyMove) → ¬ IsMoveAt profile position.now.setup place m) (IsMoveAt profile position.now.setup place) }
 {
-    match status(profile, position) {
-        Status::Open => move_of_open(profile, position, place),
-        _ => None,
+    match move_of_open(profile, position, place) {
+        None => None,
+        Some(found) => match status(profile, position) {
+            Status::Open => Some(found),
+            _ => None,
+        },
     }
 }
 

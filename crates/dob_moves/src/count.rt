@@ -7,6 +7,7 @@ ghost use Rattle.dob_pieces.specs.declared.setup.Setup.{Setup};
 ghost use Rattle.dob_moves.specs.Moves.{CanGo};
 ghost use Rattle.dob_moves.specs.Walks.{steps_by, steps_from, all_steps, drops_of, all_drops};
 ghost use Rattle.dob_moves.specs.MoveLists.{moves_of};
+ghost use Rattle.dob_moves.specs.Laws.{most_moves};
 ghost use Rattle.dob_moves.specs.Statuses.{HasStatus};
 ghost use Rattle.dob_moves.specs.declared.first_moves.Aim.TheVariants.{Elsewhere};
 ghost use Rattle.dob_moves.specs.declared.game_move.Move.{Move as Moved};
@@ -103,10 +104,11 @@ fn count_at(profile: Profile, position: &Position, masks: &Masks, hand: Hand, st
 }
 
 /// The status of the position, and the number of its moves by the rules of the profile, as many as `moves` lists: 0 where
-/// it isn't open.
+/// it isn't open, and 63 at most.
 pub fn status_and_count(profile: Profile, position: &Position) -> (Status, u8)
     ensures status { HasStatus profile position.now.setup result.0 }
     ensures count { result.1 ≡ length (moves_of profile position.now.setup) }
+    ensures few { result.1 ≤ most_moves }
 {
     let masks = Masks::of(&position.setup);
     status_and_count_shown(profile, position, &masks, position.setup.hands.mover)
@@ -114,7 +116,7 @@ pub fn status_and_count(profile: Profile, position: &Position) -> (Status, u8)
 
 /// Status and number of moves by the position's masks and the mover's hand. The position only says of what they are: a caller that makes it for
 /// this call alone doesn't make it when the program runs.
-#[tactic(auto, using(crate::proofs::Shared::share_status))]
+#[tactic(auto, using(crate::proofs::Shared::share_status, crate::proofs::FewMoves::moves_few))]
 #[inline(always)]
 pub fn status_and_count_shown(
     profile: Profile,
@@ -126,6 +128,7 @@ pub fn status_and_count_shown(
     requires hand { hand ≡ position.now.setup.hands.mover }
     ensures status { HasStatus profile position.now.setup result.0 }
     ensures count { result.1 ≡ length (moves_of profile position.now.setup) }
+    ensures few { result.1 ≤ most_moves }
 {
     let status = status_by(position, masks, hand);
     (status, count_at(profile, position, masks, hand, status))

@@ -2,7 +2,7 @@
 // the function may use the law. They do nothing when they run.
 ghost use Rattle.dob_moves.specs.Laws.{OutcomesAreLegal, OutcomesKeepPieces, MovesHaveOneOutcome, StatusesExclude, StatusesMirror};
 ghost use Rattle.dob_moves.specs.Laws.{OutcomesMirror, StepsExclude, LionsAreNotTaken, ListsHaveMoves};
-ghost use Rattle.dob_moves.specs.Laws.{OutcomesAreAllowed, ProfilesShareStatuses};
+ghost use Rattle.dob_moves.specs.Laws.{OutcomesAreAllowed, ProfilesShareStatuses, MovesAreFew};
 
 /// Every outcome of a move of an open position is a position.
 #[tactic(auto, using(crate::proofs::Outcomes::outcomes))]
@@ -69,4 +69,9 @@ pub fn lions_are_not_taken()
 /// move order, and none of any other position.
 pub fn lists_have_moves()
     ensures { ListsHaveMoves }
+{}
+
+/// A position has at most 63 moves by the rules of each profile.
+pub fn moves_are_few()
+    ensures { MovesAreFew }
 {}

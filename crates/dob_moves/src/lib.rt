@@ -30,4 +30,4 @@ pub use count::{count_moves, status_and_count, status_and_count_shown};
 pub use game_move::Move;
 pub use listing::{moves, moves_into};
 pub use position_status::Status;
-pub use status_of::{first_catch, status};
+pub use status_of::{enemy_lion, first_catch, own_lion, status};

@@ -13,16 +13,16 @@ use crate::game_move::Move;
 use crate::position_status::Status;
 use dob_pieces::{Hand, Kind, Masks, Position, Profile, Side, Square, lowest_square};
 
-// The enemy lion's square.
-fn enemy_lion(position: &Position, masks: &Masks) -> Square
+/// The enemy lion's square.
+pub fn enemy_lion(position: &Position, masks: &Masks) -> Square
     requires { AreMasks position.now.setup masks.now }
     ensures { at position.now.setup result ≡ Some (piece_of Side.Enemy Kind.Lion) }
 {
     lowest_square(masks.enemy_lion)
 }
 
-// The mover's lion's square.
-fn own_lion(position: &Position, masks: &Masks) -> Square
+/// The mover's lion's square.
+pub fn own_lion(position: &Position, masks: &Masks) -> Square
     requires { AreMasks position.now.setup masks.now }
     ensures { at position.now.setup result ≡ Some (piece_of Side.Mover Kind.Lion) }
 {

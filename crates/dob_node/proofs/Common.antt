@@ -78,7 +78,7 @@ pub use Rattle.dob_node.specs.Openings.{AreOpenings, AreOpeningsBelow, AreOwnOpe
 pub use Rattle.dob_node.specs.Outboxes.{AreAdded, HaveOneMore, IsCutFrom, IsOutboxTo, outbox_in}
 pub use Rattle.dob_node.specs.Quiet.{AreGathered, FollowsAtStatus, FollowsFromKnown, IsQuiet, QuietIsRight}
 unfoldable pub use Rattle.dob_node.specs.SeenItems.{AreSeen}
-pub use Rattle.dob_node.specs.Stores.{HistoryView, settlement_of, settlements_from, settlements_of, start_status, starts_count, starts_of}
+pub use Rattle.dob_node.specs.Stores.{HistoryView, settlement_stored, settlements_from, settlements_of, start_status, starts_count, starts_of}
 pub use Rattle.dob_node.specs.TakenItems.{AreKept, AreTaken, AreTakenBefore, HasItemEntries, HasParities, IsHistory, IsReason, IsTaken, StayKept, StopsAt}
 pub use Rattle.dob_node.specs.TakenItems.{StopsFirst, TakesFirst, listed}
 pub use Rattle.dob_node.specs.declared.history.Stored.{Stored}

@@ -5,8 +5,12 @@ use Rattle.dob_node.proofs.Common.{AreOwnOpenings, AreOwnSoFar, Bool, CanCatch, 
 use Rattle.dob_node.proofs.Common.{MatchOption, Move, None, Open, Opening, Option, Profile, Setup, Some, Status, Stuck, Tried, [], ap, arith, at_end}
 use Rattle.dob_node.proofs.Common.{class_of_place, class_setup, classes_of, false, has_tried, head_in, inl, inr, length, length-append, moves_of}
 use Rattle.dob_node.proofs.Common.{none_in_empty, not_tried_at, one_status, opening_of, refl, slice_get_within, subst, suc, sym, tried_at, true, zero, ℕ}
+use Rattle.dob_moves.proofs.FewMoves.{moves_few}
 use Rattle.dob_moves.proofs.Verdicts.{catch_answer}
-use Rattle.dob_node.proofs.Opens.{opening_listed, twelve_squares}
+use Rattle.dob_moves.specs.Laws.{most_moves}
+use Rattle.dob_pieces.specs.Setups.{IsLegal}
+use Rattle.dob_node.proofs.Opens.{legal_class, opening_listed, twelve_squares}
+use Rattle.std.proofs.Math.Bridge.{le_prop}
 
 -- ---- the status of a position
 
@@ -47,15 +51,18 @@ openings_none family = record {
   each = λ class given there. let none : class < 0 = slice_get_within [] class given there in absurd (omega arith);
 }
 
+abbrev opening_with : (status : Status) (moves : ℕ) → moves ≤ most_moves → Opening
+opening_with status moves few = record { status = status; moves = moves; few = few }
+
 -- a class has a status and moves
-an_opening : (profile : Profile) (p : Setup) → (s : Status) × HasStatus profile p s → (given : Opening) × IsOpening profile p given
-an_opening profile p has = (record { status = has.0; moves = length (moves_of profile p) }, record { status = has.1; moves = refl })
+an_opening : (profile : Profile) (p : Setup) → IsLegal p → (s : Status) × HasStatus profile p s → (given : Opening) × IsOpening profile p given
+an_opening profile p legal has = (opening_with has.0 (length (moves_of profile p)) (moves_few profile p legal), record { status = has.1; moves = refl })
 
 openings_below : (family : Family) (upto : ℕ) → upto ≤ classes_of family → (openings : List Opening) × AreOpeningsBelow family upto openings
 openings_below family zero within = ([], record { whole = refl; each = λ k given at. absurd (cc) })
 openings_below family (suc class) within =
     let before = openings_below family class (omega (arith, within)) in
-    let more = an_opening family.profile (class_setup family class) (has_status family.profile (class_setup family class) (twelve_squares family class (omega (arith, within)))) in
+    let more = an_opening family.profile (class_setup family class) (legal_class family class (omega (arith, within))) (has_status family.profile (class_setup family class) (twelve_squares family class (omega (arith, within)))) in
     let one_more : class + 1 ≡ suc class = omega arith in
     (before.0 ++ more.0 ∷ [], subst (λ (k : ℕ). AreOpeningsBelow family k (before.0 ++ more.0 ∷ [])) one_more (openings_more family class before.0 more.0 before.1 more.1))
 
@@ -66,10 +73,10 @@ some_openings family = openings_below family (classes_of family) (omega arith)
 
 -- a position has one
 one_opening : (profile : Profile) (p : Setup) (one other : Opening) → IsOpening profile p one → IsOpening profile p other → one ≡ other
-one_opening profile p one other is is_other = λ i. record {
-  status = (one_status profile p one.status other.status is.status is_other.status) i;
-  moves = (is.moves ∙ sym is_other.moves) i;
-}
+one_opening profile p one other is is_other =
+    ap (λ (status : Status). opening_with status one.moves one.few) (one_status profile p one.status other.status is.status is_other.status)
+    ∙ subst (λ (moves : ℕ). (few : moves ≤ most_moves) → opening_with other.status one.moves one.few ≡ opening_with other.status moves few) (is.moves ∙ sym is_other.moves)
+    (λ few. ap (opening_with other.status one.moves) (le_prop one.few few)) other.few
 
 pub own_are : (family : Family) (openings own : List Opening) (n id : ℕ) → AreOpenings family openings → AreOwnOpenings family n id own → AreOwn openings n id own
 own_are family openings own n id all are = record {

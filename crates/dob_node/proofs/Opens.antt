@@ -3,16 +3,19 @@
 use Rattle.dob_node.proofs.Common.{◌*◌, ◌++◌, ◌+◌, ◌/◌, ◌<◌, ◌↔◌, ◌∙◌, ◌∷◌, ◌≡◌, ◌≤◌, All, All-append, All-cons, All-nil, AreKept, AreOpenings, Cell}
 use Rattle.dob_node.proofs.Common.{CellValue, Draw, Family, HasClasses-classes_of, HasParities, HasStatus, HasValueNow, HistoryView, IsEntry, IsNewShare}
 use Rattle.dob_node.proofs.Common.{IsOpening, IsOwn, IsValue, List, Loss, None, Open, Opening, Option, Profile, SameCell, Settlement, Setup, Share, Some}
-use Rattle.dob_node.proofs.Common.{Status, StatusesView, Stuck, Value, Win, [], ap, arith, cases_eq, cell_at, cell_short, changed, class_of_place}
+use Rattle.dob_node.proofs.Common.{Status, StatusesView, Value, Win, [], ap, arith, cases_eq, cell_at, cell_short, changed, class_of_place}
 use Rattle.dob_node.proofs.Common.{class_setup, class_setup_is, classes_of, div-mul-add, fresh, get_front, get_or, get_or_append_left, get_or_from_slice_get}
 use Rattle.dob_node.proofs.Common.{inl, inr, length, length-append, max, middle, mod-mul-add, moves_of, moves_where, nat_tests, opening_of}
 use Rattle.dob_node.proofs.Common.{opening_settlement, opening_settlements, opening_status, opening_value, places_of, refl, settled_among, settles, slice_get}
 use Rattle.dob_node.proofs.Common.{slice_get-get_or, start_settlements, start_status, starts_count, starts_of, status_at, subst, suc, sym, zero, ℕ}
+use Rattle.dob_pieces.specs.Setups.{IsLegal}
+use Rattle.dob_share.specs.Openings.{stuck}
 use Rattle.dob_share.specs.Slots.{IsShortCell}
 use Rattle.dob_moves.proofs.MoveCounts.{other_count}
 use Rattle.dob_rank.proofs.OfFamilies.ClassBounds.{classes_of-below}
 use Rattle.dob_share.proofs.Opened.{settles_most}
-use Rattle.dob_node.specs.Levels.{plies_of, level_of}
+use Rattle.dob_value.specs.Bounds.{plies_of}
+use Rattle.dob_node.specs.Levels.{level_of}
 
 -- ---- parity
 
@@ -71,8 +74,11 @@ all_started P status n id (suc k) each =
 
 -- ---- positions
 
+pub legal_class : (family : Family) (class : ℕ) → class < classes_of family → IsLegal (class_setup family class)
+legal_class family class low = (class_setup_is family class (classes_of family) (HasClasses-classes_of family) low).0.0.of_set.legal
+
 pub twelve_squares : (family : Family) (class : ℕ) → class < classes_of family → length (class_setup family class).board ≡ 12
-twelve_squares family class low = (class_setup_is family class (classes_of family) (HasClasses-classes_of family) low).0.0.of_set.legal.squares
+twelve_squares family class low = (legal_class family class low).squares
 
 -- a class that isn't open has no move
 moves_open : (profile : Profile) (p : Setup) (status : Status) (moves : ℕ) → length p.board ≡ 12 → HasStatus profile p status →
@@ -155,7 +161,7 @@ start_level n id number starts others s low there =
 
 -- what is listed of a class is its opening
 pub opening_listed : (openings : List Opening) (place : ℕ) → place < length openings → slice_get openings place ≡ Some (opening_of openings place)
-opening_listed openings place low = slice_get-get_or openings place (record { status = Stuck; moves = 0 }) low
+opening_listed openings place low = slice_get-get_or openings place stuck low
 
 pub listed_opening : (family : Family) (openings : List Opening) (class : ℕ) → AreOpenings family openings → class < classes_of family →
     IsOpening family.profile (class_setup family class) (opening_of openings class)

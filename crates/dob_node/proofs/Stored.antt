@@ -1,7 +1,7 @@
 -- What is stored and read again.
 use Rattle.dob_node.proofs.Common.{◌%◌, ◌*◌, ◌++◌, ◌+◌, ◌-◌, ◌/◌, ◌<◌, ◌∙◌, ◌∷◌, ◌≡◌, ◌≤◌, Draw, HistoryView, IsEntry, List, Settlement, Some, StatusesView}
 use Rattle.dob_node.proofs.Common.{Stored, Value, [], ap, arith, class_of_place, div-add-mod, get_or, get_or_from_slice_get, length, length-append, mul_comm}
-use Rattle.dob_node.proofs.Common.{opening_value, refl, set, settled_among, settlement_of, settlements_from, settlements_of, slice_get, slice_get-get_or}
+use Rattle.dob_node.proofs.Common.{opening_value, refl, set, settled_among, settlement_stored, settlements_from, settlements_of, slice_get, slice_get-get_or}
 use Rattle.dob_node.proofs.Common.{slice_get_within, start_status, starts_count, starts_of, subst, suc, sym, take, value_of_code, zero, ℕ}
 use Rattle.std.proofs.lemmas.List.{append_assoc, get_or-append-add, length-take-le, get_or-take, take_more_set}
 use Rattle.dob_node.proofs.Opens.{starts_length, start_found, start_entry}
@@ -11,33 +11,33 @@ length-settlements_from n id number [] = refl
 length-settlements_from n id number (s ∷ stored) = ap suc (length-settlements_from n id (suc number) stored)
 
 pub settlements_from-push : (n id number : ℕ) (stored : List Stored) (s : Stored) →
-    settlements_from n id number (stored ++ s ∷ []) ≡ settlements_from n id number stored ++ settlement_of n id (number + length stored) s ∷ []
-settlements_from-push n id number [] s = ap (λ k. settlement_of n id k s ∷ []) (let e : number ≡ number + 0 = omega arith in e)
+    settlements_from n id number (stored ++ s ∷ []) ≡ settlements_from n id number stored ++ settlement_stored n id (number + length stored) s ∷ []
+settlements_from-push n id number [] s = ap (λ k. settlement_stored n id k s ∷ []) (let e : number ≡ number + 0 = omega arith in e)
 settlements_from-push n id number (t ∷ stored) s =
-    ap (λ rest. settlement_of n id number t ∷ rest)
+    ap (λ rest. settlement_stored n id number t ∷ rest)
     (settlements_from-push n id (suc number) stored s
-    ∙ ap (λ k. settlements_from n id (suc number) stored ++ settlement_of n id k s ∷ [])
+    ∙ ap (λ k. settlements_from n id (suc number) stored ++ settlement_stored n id k s ∷ [])
     (let e : suc number + length stored ≡ number + length (t ∷ stored) = omega arith in e))
 
 get_or-settlements_from : (n id number k : ℕ) (stored : List Stored) (d : Settlement) (e : Stored) → k < length stored →
-    get_or (settlements_from n id number stored) k d ≡ settlement_of n id (number + k) (get_or stored k e)
+    get_or (settlements_from n id number stored) k d ≡ settlement_stored n id (number + k) (get_or stored k e)
 get_or-settlements_from n id number k [] d e below = absurd (omega arith)
 get_or-settlements_from n id number zero (t ∷ stored) d e below =
-    ap (λ m. settlement_of n id m t) (let same : number ≡ number + 0 = omega arith in same)
+    ap (λ m. settlement_stored n id m t) (let same : number ≡ number + 0 = omega arith in same)
 get_or-settlements_from n id number (suc k) (t ∷ stored) d e below =
     get_or-settlements_from n id (suc number) k stored d e (omega arith)
-    ∙ ap (λ m. settlement_of n id m (get_or stored k e)) (let same : suc number + k ≡ number + suc k = omega arith in same)
+    ∙ ap (λ m. settlement_stored n id m (get_or stored k e)) (let same : suc number + k ≡ number + suc k = omega arith in same)
 
 -- the settlement at a place
 pub settlements_from-at : (n id first k : ℕ) (stored : List Stored) (s : Stored) → slice_get stored k ≡ Some s →
-    slice_get (settlements_from n id first stored) k ≡ Some (settlement_of n id (first + k) s)
+    slice_get (settlements_from n id first stored) k ≡ Some (settlement_stored n id (first + k) s)
 settlements_from-at n id first k stored s there =
     let within : k < length stored = slice_get_within stored k s there in
-    let d : Settlement = settlement_of n id 0 s in
+    let d : Settlement = settlement_stored n id 0 s in
     let longer : length (settlements_from n id first stored) ≡ length stored = length-settlements_from n id first stored in
     slice_get-get_or (settlements_from n id first stored) k d (omega arith)
     ∙ ap Some (get_or-settlements_from n id first k stored d s within
-    ∙ ap (settlement_of n id (first + k)) (get_or_from_slice_get stored k s s there))
+    ∙ ap (settlement_stored n id (first + k)) (get_or_from_slice_get stored k s s there))
 
 -- and behind others
 get_behind : (xs ys : List Settlement) (k : ℕ) (s : Settlement) → slice_get ys k ≡ Some s → slice_get (xs ++ ys) (length xs + k) ≡ Some s
@@ -66,7 +66,7 @@ same_settlement a b c d u v w x number class was now = cc
 -- what is stored of a settlement is that settlement again
 pub stored_again : (n id number : ℕ) (given : Settlement) (was now : ℕ) → 0 < n → given.class % n ≡ id → number ≡ given.number →
     value_of_code was ≡ given.was → value_of_code now ≡ given.now →
-    settlement_of n id number (record { place = given.class / n; was = was; now = now }) ≡ given
+    settlement_stored n id number (record { place = given.class / n; was = was; now = now }) ≡ given
 stored_again n id number given was now some own number_is is_was is_now =
     same_settlement number given.number (given.class / n * n + id) given.class (value_of_code was) given.was (value_of_code now) given.now
     number_is (class_again given.class n id some own) is_was is_now
@@ -125,7 +125,7 @@ module _ (n id room count : ℕ) (starts : StatusesView) (stored : List Stored) 
     pub stored_there : number - first < length stored
     stored_there = omega (arith, counted)
 
-    pub got_stored : (s : Stored) (given : Settlement) → slice_get stored (number - first) ≡ Some s → settlement_of n id number s ≡ given →
+    pub got_stored : (s : Stored) (given : Settlement) → slice_get stored (number - first) ≡ Some s → settlement_stored n id number s ≡ given →
         slice_get view.settlements number ≡ Some given
     got_stored s given there same =
         let k : ℕ = number - first in
@@ -133,8 +133,8 @@ module _ (n id room count : ℕ) (starts : StatusesView) (stored : List Stored) 
         ∙ ap Some (get_or-take count stored k s counted ∙ get_or_from_slice_get stored k s s there) in
         let place : length first_ones + k ≡ number = omega (arith, starts_length n id starts) in
         ap (λ (v : HistoryView). slice_get v.settlements number) (sym is)
-        ∙ subst (λ (m : ℕ). slice_get (settlements_of n id starts list) m ≡ Some (settlement_of n id m s)) place
-        (get_behind first_ones (settlements_from n id (length first_ones) list) k (settlement_of n id (length first_ones + k) s)
+        ∙ subst (λ (m : ℕ). slice_get (settlements_of n id starts list) m ≡ Some (settlement_stored n id m s)) place
+        (get_behind first_ones (settlements_from n id (length first_ones) list) k (settlement_stored n id (length first_ones + k) s)
         (settlements_from-at n id (length first_ones) k list s inside))
         ∙ ap Some same
 
@@ -163,7 +163,7 @@ module _ (n id room count : ℕ) (starts : StatusesView) (stored : List Stored) 
 
 -- what is written behind them is the next
 pub stored_more : (n id first count : ℕ) (stored : List Stored) (s : Stored) (given : Settlement) → count < length stored →
-    settlement_of n id (first + count) s ≡ given →
+    settlement_stored n id (first + count) s ≡ given →
     settlements_from n id first (take (count + 1) (set stored count s)) ≡ settlements_from n id first (take count stored) ++ given ∷ []
 stored_more n id first count stored s given low is =
     let all : count ≤ length stored = omega arith in
@@ -171,7 +171,7 @@ stored_more n id first count stored s given low is =
     let place : first + length (take count stored) ≡ first + count = omega arith in
     ap (settlements_from n id first) (take_more_set stored count s low)
     ∙ settlements_from-push n id first (take count stored) s
-    ∙ ap (λ m. settlements_from n id first (take count stored) ++ settlement_of n id m s ∷ []) place
+    ∙ ap (λ m. settlements_from n id first (take count stored) ++ settlement_stored n id m s ∷ []) place
     ∙ ap (λ t. settlements_from n id first (take count stored) ++ t ∷ []) is
 
 -- a place within has a settlement

@@ -1,15 +1,8 @@
 -- How far what a node has to expand next is from the end of a game.
 use Rattle.std.specs.Prelude.{◌≡◌, ℕ, max, Some, slice_get}
-use Rattle.dob_value.specs.declared.value.Value.{Value}
-use Rattle.dob_value.specs.declared.value.Value.TheVariants.{Win, Loss, Draw}
+use Rattle.dob_value.specs.Bounds.{plies_of}
 use Rattle.dob_share.specs.declared.news.Settlement.{Settlement}
 use Rattle.dob_node.specs.NodeViews.{NodeView}
-
--- the distance of a value, where it has one
-abbrev pub plies_of : Value → ℕ
-plies_of (Win plies) = plies
-plies_of (Loss plies) = plies
-plies_of Draw = 0
 
 -- The level of a settlement is the distance of its value now. All settlements of the start are on level 1, though some are losses in 0.
 abbrev pub level_of : Settlement → ℕ

@@ -18,8 +18,8 @@ pub record HistoryView : Type 0 where
   pub room : ℕ
 
 -- what is stored, as the settlement of that number
-abbrev pub settlement_of : ℕ → ℕ → ℕ → Stored → Settlement
-settlement_of n id number stored = record {
+abbrev pub settlement_stored : ℕ → ℕ → ℕ → Stored → Settlement
+settlement_stored n id number stored = record {
   number = number;
   class = class_of_place n id stored.place;
   was = value_of_code stored.was;
@@ -29,7 +29,7 @@ settlement_of n id number stored = record {
 -- the settlements stored, numbered in order from a number on
 abbrev pub settlements_from : ℕ → ℕ → ℕ → List Stored → List Settlement
 settlements_from n id number [] = []
-settlements_from n id number (stored ∷ rest) = settlement_of n id number stored ∷ settlements_from n id (suc number) rest
+settlements_from n id number (stored ∷ rest) = settlement_stored n id number stored ∷ settlements_from n id (suc number) rest
 
 -- the status of the class at a place at the start
 abbrev pub start_status : StatusesView → ℕ → Status

@@ -9,8 +9,8 @@ ghost use Rattle.dob_share.specs.declared.news.Settlement.{Settlement as Settled
 ghost use Rattle.dob_share.specs.declared.share.Seen.{Seen};
 ghost use Rattle.dob_share.specs.Shares.{Fits, GoesTooDeep, IsSeen};
 ghost use Rattle.dob_stops.specs.declared.cause.Cause.TheVariants as cause;
-ghost use Rattle.dob_node.specs.Stores.{settlement_of, settlements_from, starts_of};
-ghost use Rattle.dob_node.specs.Levels.{plies_of, level_of};
+ghost use Rattle.dob_node.specs.Stores.{settlement_stored, settlements_from, starts_of};
+ghost use Rattle.dob_node.specs.Levels.{level_of};
 ghost use Rattle.dob_node.specs.TakenItems.{HasItemEntries, AreKept, StayKept, IsHistory, IsTaken, IsReason};
 
 use crate::start_statuses::{StartStatuses, StartValue};
@@ -129,7 +129,7 @@ impl History {
             return 1;
         }
         let stored = self.stored.get(number - first);
-        plies_of(value_of_code(stored.now)).max(1)
+        value_of_code(stored.now).plies().max(1)
     }
 
     /// Makes room for that many settlements. `Memory`, which comes only if there was less, leaves the history as it was.
@@ -185,16 +185,6 @@ impl History {
     }
 }
 
-// The distance of a value, if it has one.
-fn plies_of(value: Value) -> u16
-    ensures { result ≡ plies_of value }
-{
-    match value {
-        Value::Win(plies) | Value::Loss(plies) => plies,
-        Value::Draw => 0,
-    }
-}
-
 // The settlement of that number and of a class that is settled at the start, of owner `id` among `nodes`.
 fn start_settlement(number: u64, start: StartValue, nodes: NodeCount, id: usize) -> Settlement
     requires place { start.place < 2 ^ 32 }
@@ -212,7 +202,7 @@ fn start_settlement(number: u64, start: StartValue, nodes: NodeCount, id: usize)
 // The settlement of that number that is stored so, of owner `id` among `nodes`.
 fn stored_settlement(number: u64, stored: Stored, nodes: NodeCount, id: usize) -> Settlement
     requires id { id < nodes }
-    ensures settlement { result ≡ settlement_of nodes id number stored }
+    ensures settlement { result ≡ settlement_stored nodes id number stored }
     ensures was { IsEntry result.was }
     ensures now { IsEntry result.now }
 {

@@ -43,13 +43,13 @@ pub use Rattle.dob_probe.specs.Checks.{ClassBreaks, ClassFollows, HasEntry}
 pub use Rattle.dob_probe.specs.Faults.{IsFaultOfLine, IsGap}
 pub use Rattle.dob_probe.specs.Lines.{Begins, BreaksAt, Continues, EndsAt, GivenBy, GoesOnTo, IsFirstTo, IsLine, LacksMove, LeadsTo, value_wanted}
 pub use Rattle.dob_probe.specs.Outlines.{AreAlike, AreLike, AreOutlines, IsOutline, IsOutlineOf, same_outline}
-pub use Rattle.dob_probe.specs.Puzzles.{ArePuzzles, IsListedNext, IsPassed, IsPuzzle, IsSpread, puzzle_of, walk_place}
+pub use Rattle.dob_probe.specs.Puzzles.{ArePuzzles, IsListedNext, IsPassed, IsPuzzle, IsSpread, puzzle_of}
 pub use Rattle.dob_probe.specs.ShownMoves.{HasArrived}
 pub use Rattle.dob_probe.specs.SingleMoves.{IsPuzzleOf, IsSingleMove}
 pub use Rattle.dob_probe.specs.Slots.{AreSlots, part_of}
 pub use Rattle.dob_probe.specs.Sums.{AreSummed, HasNext, IsGreatestWin, TellsDraw, value_after}
 pub use Rattle.dob_probe.specs.ValuedMoves.{ComesBefore, IsBetter}
-pub use Rattle.dob_probe.specs.Walks.{IsBehind, begin_at, class_on, first_class, place_from}
+pub use Rattle.dob_probe.specs.Walks.{IsBehind, IsOrder, begin_at, class_on, place_in, places_in}
 pub use Rattle.dob_probe.specs.declared.by_value.ValuedMove.{ValuedMove}
 pub use Rattle.dob_probe.specs.declared.fault.Fault.{Fault}
 pub use Rattle.dob_probe.specs.declared.fault.Fault.TheVariants.{Inconsistent, Memory}

@@ -3,12 +3,13 @@ use Rattle.dob_probe.proofs.Common.{◌++◌, ◌+◌, ◌-◌, ◌<◌, ◌∙�
 use Rattle.dob_probe.proofs.Common.{get_or, inl, inr, length, slice_get, subst, sym, true, ℕ, cases_lt, Contains-append_left, Contains-get_or, Contains-push}
 use Rattle.dob_probe.proofs.Common.{Contains-push_cases, all_pairs_push, slice_get_within, before_or_here, standing, Profile, Setup, place, AreMoves, Move}
 use Rattle.dob_probe.proofs.Common.{ClassTable, IsEntry, IsTable, Value, Loss, Win, HasEntry, GivenBy, LeadsTo, AreLike, ArePuzzles, IsListedNext, IsPassed}
-use Rattle.dob_probe.proofs.Common.{IsPuzzle, IsSpread, walk_place, IsPuzzleOf, IsSingleMove, begin_at, class_on, first_class, Puzzle}
+use Rattle.dob_probe.proofs.Common.{IsPuzzle, IsSpread, IsPuzzleOf, IsSingleMove, IsOrder, begin_at, class_on, place_in, places_in, Puzzle}
 use Rattle.std.proofs.Common.{length-append, is_some}
 use Rattle.dob_classes.proofs.OfFamilies.FamilyRepresentatives.{one_of_class}
 use Rattle.dob_probe.specs.declared.walks.Walk.{Walk}
 use Rattle.dob_probe.proofs.Entries.{all_at}
-use Rattle.dob_probe.proofs.Walked.{begin_behind, behind_begin, class_only, first_below, place_below, place_class}
+use Rattle.dob_probe.proofs.Walked.{begin_behind, behind_begin, class_only, order_covers, place_below, place_class}
+use Rattle.dob_shuffle.specs.declared.shuffle.Shuffle.{Shuffle}
 use Rattle.dob_probe.proofs.InOrder.{in_order}
 use Rattle.dob_probe.proofs.Ways.{NoneBelow, none_below_more, none_leads}
 
@@ -110,19 +111,23 @@ module _ (table : ClassTable) (plies : ℕ) where
       let solved = rw same at of_b.solved in
       λ i. record { class = is i; played = of_a.solved.only b.played solved.outcome solved.leads i }
 
-module _ (table : ClassTable) (plies : ℕ) (walk : Walk) where
+module _ (table : ClassTable) (plies : ℕ) (walk : Walk) (order : Option Shuffle) where
   -- the first place of the walk
   abbrev pub begin : ℕ
-  begin = begin_at walk.behind (first_class walk.seed (length table.values)) (length table.values)
+  begin = begin_at walk.behind order (length table.values)
+
+  -- the order has a place for each class
+  abbrev pub IsCovered : Type 0
+  IsCovered = length table.values ≤ places_in order (length table.values)
 
   -- the puzzles of the walk's places below one
   pub record ArePuzzlesBelow (upto : ℕ) (list : List Puzzle) : Type 0 where
     pub sound : (puzzle : Puzzle) → Contains list puzzle
-        → (begin ≤ walk_place table walk puzzle.class) × (walk_place table walk puzzle.class < upto) × IsPuzzle table plies puzzle
-    pub whole : (puzzle : Puzzle) → IsPuzzle table plies puzzle → begin ≤ walk_place table walk puzzle.class → walk_place table walk puzzle.class < upto
-        → Contains list puzzle ⊎ IsPassed table walk list puzzle
+        → (begin ≤ place_in order puzzle.class) × (place_in order puzzle.class < upto) × IsPuzzle table plies puzzle
+    pub whole : (puzzle : Puzzle) → IsPuzzle table plies puzzle → begin ≤ place_in order puzzle.class → place_in order puzzle.class < upto
+        → Contains list puzzle ⊎ IsPassed table walk order list puzzle
     pub unlike : IsSpread walk → AllPairs (λ a b. ¬ AreLike table a b) list
-    pub ordered : AllPairs (λ a b. walk_place table walk a.class < walk_place table walk b.class) list
+    pub ordered : AllPairs (λ a b. place_in order a.class < place_in order b.class) list
 
   pub puzzles_none : ArePuzzlesBelow begin []
   puzzles_none = grind arith
@@ -131,20 +136,21 @@ module _ (table : ClassTable) (plies : ℕ) (walk : Walk) where
   class_of : (puzzle : Puzzle) → IsPuzzle table plies puzzle → puzzle.class < length table.values
   class_of puzzle is = slice_get_within table.values puzzle.class (Win plies) is.won.entry
 
-  module _ (upto class : ℕ) (here : upto < length table.values) (on : class ≡ class_on (first_class walk.seed (length table.values)) (length table.values) upto) where
+  module _ (upto class : ℕ) (here : upto < places_in order (length table.values)) (on : class ≡ class_on order upto)
+      (covered : IsCovered) where
     -- a puzzle of the place is of its class
-    of_place : (puzzle : Puzzle) → IsPuzzle table plies puzzle → walk_place table walk puzzle.class < upto + 1 → upto ≤ walk_place table walk puzzle.class
+    of_place : (puzzle : Puzzle) → IsPuzzle table plies puzzle → place_in order puzzle.class < upto + 1 → upto ≤ place_in order puzzle.class
         → puzzle.class ≡ class
     of_place puzzle is below later =
-        let same : walk_place table walk puzzle.class ≡ upto = omega (arith, below, later) in
-        class_only _ (length table.values) upto puzzle.class (first_below walk.seed (length table.values) (omega (arith, here))) (class_of puzzle is) same ∙ sym on
+        let same : place_in order puzzle.class ≡ upto = omega (arith, below, later) in
+        class_only (length table.values) order upto puzzle.class covered (class_of puzzle is) same ∙ sym on
 
     -- where the place has no puzzle that isn't listed or passed the list stays
-    kept : (list : List Puzzle) → ((puzzle : Puzzle) → IsPuzzle table plies puzzle → puzzle.class ≡ class → upto ≤ walk_place table walk puzzle.class
-        → Contains list puzzle ⊎ IsPassed table walk list puzzle) → ArePuzzlesBelow upto list → ArePuzzlesBelow (upto + 1) list
+    kept : (list : List Puzzle) → ((puzzle : Puzzle) → IsPuzzle table plies puzzle → puzzle.class ≡ class → upto ≤ place_in order puzzle.class
+        → Contains list puzzle ⊎ IsPassed table walk order list puzzle) → ArePuzzlesBelow upto list → ArePuzzlesBelow (upto + 1) list
     kept list here_is are = record {
       sound = λ puzzle there. let found = are.sound puzzle there in (found.0, omega (arith, found.1), found.2);
-      whole = λ puzzle is from below. elim (cases_lt (walk_place table walk puzzle.class) upto) [
+      whole = λ puzzle is from below. elim (cases_lt (place_in order puzzle.class) upto) [
         | inl earlier ↦ are.whole puzzle is from earlier
         | inr later ↦ here_is puzzle is (of_place puzzle is below later) later
       ];
@@ -156,8 +162,8 @@ module _ (table : ClassTable) (plies : ℕ) (walk : Walk) where
     puzzles_same list none are = kept list (λ puzzle is at later. absurd (none puzzle at is)) are
 
     -- what was listed or passed is so of a longer list
-    longer : (list : List Puzzle) (more puzzle : Puzzle) → Contains list puzzle ⊎ IsPassed table walk list puzzle
-        → Contains (list ++ more ∷ []) puzzle ⊎ IsPassed table walk (list ++ more ∷ []) puzzle
+    longer : (list : List Puzzle) (more puzzle : Puzzle) → Contains list puzzle ⊎ IsPassed table walk order list puzzle
+        → Contains (list ++ more ∷ []) puzzle ⊎ IsPassed table walk order (list ++ more ∷ []) puzzle
     longer list more puzzle either = grind (arith, Contains-append_left list (more ∷ []))
 
     -- a puzzle is passed
@@ -171,14 +177,14 @@ module _ (table : ClassTable) (plies : ℕ) (walk : Walk) where
         → (IsSpread walk → (listed : Puzzle) → Contains list listed → ¬ AreLike table listed more) → ArePuzzlesBelow upto list
         → ArePuzzlesBelow (upto + 1) (list ++ more ∷ [])
     puzzles_more list more from found fresh are =
-        let here_is : walk_place table walk more.class ≡ upto =
-        ap (walk_place table walk) (found.0 ∙ on) ∙ place_class _ (length table.values) upto (first_below walk.seed (length table.values) (omega (arith, here))) here in record {
+        let here_is : place_in order more.class ≡ upto =
+        ap (place_in order) (found.0 ∙ on) ∙ place_class (length table.values) order upto here in record {
           sound = λ puzzle there. elim (Contains-push_cases list more puzzle there) [
             | inl earlier ↦ let known = are.sound puzzle earlier in (known.0, omega (arith, known.1), known.2)
-            | inr same ↦ subst (λ x. (begin ≤ walk_place table walk x.class) × (walk_place table walk x.class < upto + 1) × IsPuzzle table plies x) same
+            | inr same ↦ subst (λ x. (begin ≤ place_in order x.class) × (place_in order x.class < upto + 1) × IsPuzzle table plies x) same
                 (omega (arith, here_is, from), omega (arith, here_is), found.1)
           ];
-          whole = λ puzzle is first below. elim (cases_lt (walk_place table walk puzzle.class) upto) [
+          whole = λ puzzle is first below. elim (cases_lt (place_in order puzzle.class) upto) [
             | inl earlier ↦ longer list more puzzle (are.whole puzzle is first earlier)
             | inr later ↦
                 let class_is : more.class ≡ puzzle.class = found.0 ∙ sym (of_place puzzle is below later) in
@@ -186,7 +192,7 @@ module _ (table : ClassTable) (plies : ℕ) (walk : Walk) where
           ];
           unlike = λ spread. all_pairs_push (λ a b. ¬ AreLike table a b) list more (are.unlike spread)
               (λ k d within. fresh spread (get_or list k d) (Contains-get_or list k d within));
-          ordered = all_pairs_push (λ a b. walk_place table walk a.class < walk_place table walk b.class) list more are.ordered
+          ordered = all_pairs_push (λ a b. place_in order a.class < place_in order b.class) list more are.ordered
               (λ k d within. omega (arith, (are.sound (get_or list k d) (Contains-get_or list k d within)).1, here_is));
         }
 
@@ -202,33 +208,35 @@ module _ (table : ClassTable) (plies : ℕ) (walk : Walk) where
   next_few is_spread list new more either = grind (arith, length-append list (more ∷ []))
 
   -- what is listed or passed is what a puzzle may be
-  settled : (list : List Puzzle) (puzzle : Puzzle) {Full : Type 0} → Contains list puzzle ⊎ IsPassed table walk list puzzle
-      → Contains list puzzle ⊎ IsPassed table walk list puzzle ⊎ Full
+  settled : (list : List Puzzle) (puzzle : Puzzle) {Full : Type 0} → Contains list puzzle ⊎ IsPassed table walk order list puzzle
+      → Contains list puzzle ⊎ IsPassed table walk order list puzzle ⊎ Full
   settled list puzzle {Full} either = grind arith
 
   -- a list that is as long as was asked for, or has the puzzles of all places
-  pub ended : (upto count : ℕ) (list : List Puzzle) → length list ≤ count → (length list ≡ count) ⊎ (length table.values ≤ upto) → ArePuzzlesBelow upto list
+  pub ended : IsOrder walk.seed (length table.values) order → (upto count : ℕ) (list : List Puzzle) → length list ≤ count → (length list ≡ count) ⊎ (places_in order (length table.values) ≤ upto) → ArePuzzlesBelow upto list
       → ArePuzzles table walk plies count list
-  ended upto count list few end are = record {
+  ended is_order upto count list few end are = let covered = order_covers (length table.values) walk.seed order is_order in record {
+    order = order;
+    is = is_order;
     sound = λ puzzle there.
         let found = are.sound puzzle there in
         let within = class_of puzzle found.2 in (
           found.2,
-          begin_behind walk.behind _ (length table.values) puzzle.class (first_below walk.seed (length table.values) (omega (arith, within))) within found.0,
+          begin_behind order (length table.values) walk.behind puzzle.class (place_below (length table.values) order puzzle.class covered within) found.0,
         );
     ordered = are.ordered;
     few = few;
     whole = λ puzzle is walked.
         let within = class_of puzzle is in
-        elim (cases_lt (walk_place table walk puzzle.class) upto) [
-          | inl earlier ↦ settled list puzzle (are.whole puzzle is (behind_begin walk.behind _ (length table.values) puzzle.class within walked) earlier)
+        elim (cases_lt (place_in order puzzle.class) upto) [
+          | inl earlier ↦ settled list puzzle (are.whole puzzle is (behind_begin order (length table.values) walk.behind puzzle.class walked) earlier)
           | inr later ↦ elim end [
             | inl full ↦ inr (inr (full, λ listed there. omega (arith, (are.sound listed there).1, later)))
             | inr all ↦ absurd (omega (
               arith,
               all,
               later,
-              place_below _ (length table.values) puzzle.class (first_below walk.seed (length table.values) (omega (arith, within))) within,
+              place_below (length table.values) order puzzle.class covered within,
             ))
           ]
         ];
@@ -236,8 +244,10 @@ module _ (table : ClassTable) (plies : ℕ) (walk : Walk) where
   }
 
   -- no table has so long a distance
-  pub puzzles_too_long : (count : ℕ) → IsTable table.family table.values → 65535 < plies → ArePuzzles table walk plies count []
-  puzzles_too_long count is long = record {
+  pub puzzles_too_long : IsOrder walk.seed (length table.values) order → (count : ℕ) → IsTable table.family table.values → 65535 < plies → ArePuzzles table walk plies count []
+  puzzles_too_long is_order count is long = record {
+    order = order;
+    is = is_order;
     sound = λ puzzle there. absurd (omega (arith, there.1));
     ordered = λ i j d before within. absurd (omega (arith, within));
     few = omega arith;

@@ -1,26 +1,55 @@
 -- Places in the order of a walk, and their classes.
-use Rattle.dob_probe.proofs.Common.{◌<◌, ◌≡◌, ◌≤◌, None, Option, Some, arith, ℕ, IsBehind, begin_at, class_on, first_class, place_from}
+use Rattle.dob_probe.proofs.Common.{◌<◌, ◌∙◌, ◌≡◌, ◌≤◌, None, Option, Some, ap, arith, refl, sym, ℕ, IsBehind, IsOrder, begin_at, class_on, place_in, places_in}
+use Rattle.dob_probe.proofs.Common.{◌+◌, ◌^◌, Family, classes_of}
+use Rattle.std.specs.Prelude.{if◌then◌else◌, nat_lt}
+use Rattle.dob_classes.proofs.OfFamilies.Counted.{one_count}
+use Rattle.dob_rank.proofs.OfFamilies.ClassBounds.{classes_of-below}
+use Rattle.dob_rank.proofs.OfFamilies.Present.{HasClasses-classes_of}
+use Rattle.dob_rank.specs.Families.{HasClasses, IsRepresentative}
+use Rattle.dob_shuffle.proofs.Turning.{number_at-place_of, place_again, place_of-below}
+use Rattle.dob_shuffle.specs.declared.shuffle.Shuffle.{Shuffle}
 use Rattle.std.proofs.lemmas.Bool.Decides.{nat_tests}
 
--- the first class is one of them
-pub first_below : (seed : Option ℕ) (classes : ℕ) → 0 < classes → first_class seed classes < classes
-first_below None classes some = some
-first_below (Some seed) classes some = grind (arith)
+module _ (classes : ℕ) where
+  -- an order has a place for each class
+  pub order_covers : (seed : Option ℕ) (order : Option Shuffle) → IsOrder seed classes order → classes ≤ places_in order classes
+  order_covers None None is = omega arith
+  order_covers (Some seed) (Some shuffle) is = omega (arith, is.greater)
+  order_covers None (Some shuffle) is = absurd is
+  order_covers (Some seed) None is = absurd is
 
-module _ (first classes : ℕ) where
-  pub place_below : (class : ℕ) → first < classes → class < classes → place_from first classes class < classes
-  place_below class low within = grind (arith, nat_tests)
+  pub place_below : (order : Option Shuffle) (class : ℕ) → classes ≤ places_in order classes → class < classes → place_in order class < places_in order classes
+  place_below None class all within = within
+  place_below (Some shuffle) class all within = place_of-below shuffle class (omega (arith, all, within))
 
-  pub place_class : (place : ℕ) → first < classes → place < classes → place_from first classes (class_on first classes place) ≡ place
-  place_class place low within = grind (arith, nat_tests)
+  pub place_class : (order : Option Shuffle) (place : ℕ) → place < places_in order classes → place_in order (class_on order place) ≡ place
+  place_class None place within = refl
+  place_class (Some shuffle) place within = place_again shuffle place within
 
-  pub class_only : (place class : ℕ) → first < classes → class < classes → place_from first classes class ≡ place → class ≡ class_on first classes place
-  class_only place class low within at = grind (arith, nat_tests)
+  pub class_only : (order : Option Shuffle) (place class : ℕ) → classes ≤ places_in order classes → class < classes → place_in order class ≡ place
+      → class ≡ class_on order place
+  class_only None place class all within at = at
+  class_only (Some shuffle) place class all within at =
+      sym (number_at-place_of shuffle class (omega (arith, all, within))) ∙ ap (class_on (Some shuffle)) at
 
-pub behind_begin : (behind : Option ℕ) (first classes class : ℕ) → class < classes → IsBehind behind first classes class
-    → begin_at behind first classes ≤ place_from first classes class
-behind_begin behind first classes class within is = grind (arith, nat_tests)
+-- the first place is one behind that of the class that is named, where there is such a class
+begins : (other classes first place end : ℕ) → other < classes → first < place → (if nat_lt other classes then first + 1 else end) ≤ place
+begins other classes first place end named behind = grind (arith, nat_tests)
 
-pub begin_behind : (behind : Option ℕ) (first classes class : ℕ) → first < classes → class < classes → begin_at behind first classes ≤ place_from first classes class
-    → IsBehind behind first classes class
-begin_behind behind first classes class low within from = grind (arith, nat_tests)
+begun : (other classes first place end : ℕ) → place < end → (if nat_lt other classes then first + 1 else end) ≤ place → (other < classes) × (first < place)
+begun other classes first place end within from = grind (arith, nat_tests)
+
+module _ (order : Option Shuffle) (classes : ℕ) where
+  pub behind_begin : (behind : Option ℕ) (class : ℕ) → IsBehind behind order classes class → begin_at behind order classes ≤ place_in order class
+  behind_begin None class is = omega arith
+  behind_begin (Some other) class is = begins other classes (place_in order other) (place_in order class) (places_in order classes) is.0 is.1
+
+  pub begin_behind : (behind : Option ℕ) (class : ℕ) → place_in order class < places_in order classes → begin_at behind order classes ≤ place_in order class
+      → IsBehind behind order classes class
+  begin_behind None class within from = tt
+  begin_behind (Some other) class within from = begun other classes (place_in order other) (place_in order class) (places_in order classes) within from
+
+-- a family has fewer classes than a shuffle takes
+pub few_classes : (family : Family) (classes : ℕ) → HasClasses family classes → classes < 2 ^ 63
+few_classes family classes is =
+    omega (arith, one_count (IsRepresentative family) classes (classes_of family) is (HasClasses-classes_of family), classes_of-below family)

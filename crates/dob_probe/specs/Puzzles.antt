@@ -1,5 +1,5 @@
 -- Puzzles of a table: classes that are won in so many plies, by one move alone.
-use Rattle.std.specs.Prelude.{◌≡◌, ◌⊎◌, ℕ, ◌-◌, ◌<◌, ◌≤◌, Bool, List, [], ◌∷◌, ◌++◌, length, is_some, true, Contains, AllPairs}
+use Rattle.std.specs.Prelude.{◌≡◌, ◌⊎◌, ℕ, ◌-◌, ◌<◌, ◌≤◌, Bool, List, [], ◌∷◌, ◌++◌, length, is_some, true, Contains, AllPairs, Option}
 use Rattle.dob_pieces.specs.declared.profile.Profile.{Profile}
 use Rattle.dob_pieces.specs.declared.setup.Setup.{Setup}
 use Rattle.dob_moves.specs.declared.game_move.Move.{Move}
@@ -11,7 +11,8 @@ use Rattle.dob_probe.specs.Checks.{HasEntry}
 use Rattle.dob_probe.specs.Lines.{GivenBy, LeadsTo}
 use Rattle.dob_probe.specs.Outlines.{AreLike}
 use Rattle.dob_probe.specs.declared.walks.Walk.{Walk}
-use Rattle.dob_probe.specs.Walks.{IsBehind, first_class, place_from}
+use Rattle.dob_probe.specs.Walks.{IsBehind, IsOrder, place_in}
+use Rattle.dob_shuffle.specs.declared.shuffle.Shuffle.{Shuffle}
 
 -- the move leads to a position with that value, and it is the only one that does
 pub record IsOnlyTo (profile : Profile) (Has : Setup → Value → Type 0) (p : Setup) (wanted : Value) (move : Move) : Type 0 where
@@ -26,22 +27,18 @@ pub record IsPuzzle (table : ClassTable) (plies : ℕ) (puzzle : Puzzle) : Type 
   pub won : HasEntry table puzzle.class representative (Win plies)
   pub solved : IsOnlyTo table.family.profile (GivenBy table) representative (Loss (plies - 1)) puzzle.played
 
--- the place of a class in the walk's order
-abbrev pub walk_place : ClassTable → Walk → ℕ → ℕ
-walk_place table walk class = place_from (first_class walk.seed (length table.values)) (length table.values) class
-
 -- the walk goes over the class
-abbrev pub IsWalked : ClassTable → Walk → ℕ → Type 0
-IsWalked table walk class = IsBehind walk.behind (first_class walk.seed (length table.values)) (length table.values) class
+abbrev pub IsWalked : ClassTable → Walk → Option Shuffle → ℕ → Type 0
+IsWalked table walk order class = IsBehind walk.behind order (length table.values) class
 
--- a walk that a seed begins lists no two puzzles that are alike
+-- a walk in the order of a seed lists no two puzzles that are alike
 abbrev pub IsSpread : Walk → Type 0
 IsSpread walk = is_some walk.seed ≡ true
 
 -- by such a walk the puzzle is passed, since one that is alike is listed, and stands before it
-abbrev pub IsPassed : ClassTable → Walk → List Puzzle → Puzzle → Type 0
-IsPassed table walk list puzzle = IsSpread walk
-    × ((listed : Puzzle) × Contains list listed × AreLike table listed puzzle × (walk_place table walk listed.class < walk_place table walk puzzle.class))
+abbrev pub IsPassed : ClassTable → Walk → Option Shuffle → List Puzzle → Puzzle → Type 0
+IsPassed table walk order list puzzle = IsSpread walk
+    × ((listed : Puzzle) × Contains list listed × AreLike table listed puzzle × (place_in order listed.class < place_in order puzzle.class))
 
 abbrev pub puzzle_of : ℕ → Move → Puzzle
 puzzle_of class played = record { class = class; played = played }
@@ -52,13 +49,15 @@ IsListedNext table is_spread puzzle old new =
     ((new ≡ old ++ puzzle ∷ []) × (is_spread ≡ true → (listed : Puzzle) → Contains old listed → ¬ AreLike table listed puzzle))
     ⊎ ((new ≡ old) × (is_spread ≡ true) × ((listed : Puzzle) × Contains old listed × AreLike table listed puzzle))
 
--- The first puzzles of a walk, at most so many, each once, and no two alike where a seed begins it: each one that isn't listed is passed, or
--- stands behind as many as were asked for.
+-- The first puzzles of a walk in its order, at most so many, each once, and no two alike where a seed makes the order: each one that isn't listed
+-- is passed, or stands behind as many as were asked for.
 pub record ArePuzzles (table : ClassTable) (walk : Walk) (plies count : ℕ) (list : List Puzzle) : Type 0 where
-  pub sound : (puzzle : Puzzle) → Contains list puzzle → IsPuzzle table plies puzzle × IsWalked table walk puzzle.class
-  pub ordered : AllPairs (λ a b. walk_place table walk a.class < walk_place table walk b.class) list
+  pub order : Option Shuffle
+  pub is : IsOrder walk.seed (length table.values) order
+  pub sound : (puzzle : Puzzle) → Contains list puzzle → IsPuzzle table plies puzzle × IsWalked table walk order puzzle.class
+  pub ordered : AllPairs (λ a b. place_in order a.class < place_in order b.class) list
   pub unlike : IsSpread walk → AllPairs (λ a b. ¬ AreLike table a b) list
   pub few : length list ≤ count
-  pub whole : (puzzle : Puzzle) → IsPuzzle table plies puzzle → IsWalked table walk puzzle.class
-      → Contains list puzzle ⊎ IsPassed table walk list puzzle
-      ⊎ ((length list ≡ count) × ((listed : Puzzle) → Contains list listed → walk_place table walk listed.class < walk_place table walk puzzle.class))
+  pub whole : (puzzle : Puzzle) → IsPuzzle table plies puzzle → IsWalked table walk order puzzle.class
+      → Contains list puzzle ⊎ IsPassed table walk order list puzzle
+      ⊎ ((length list ≡ count) × ((listed : Puzzle) → Contains list listed → place_in order listed.class < place_in order puzzle.class))

@@ -1,11 +1,12 @@
 // The moves of a position with their values by a table, best first.
-ghost use Rattle.std.specs.Prelude.{◌≡◌, ◌⊎◌, ◌↔◌, ◌<◌, ◌≤◌, ℕ, length, get_or, Contains, AllPairs, IsTrue, IfOk, IfErr, OnOk, Err};
+ghost use Rattle.std.specs.Prelude.{◌≡◌, ◌⊎◌, [], ◌∷◌, ◌↔◌, ◌<◌, ◌≤◌, ℕ, length, get_or, Contains, AllPairs, IsTrue, IfOk, IfErr, OnOk, Err};
 ghost use Rattle.dob_pieces.specs.declared.setup.Setup.{Setup};
 ghost use Rattle.dob_pieces.specs.Profiles.{IsAllowed};
 ghost use Rattle.dob_moves.specs.Moves.{place};
 ghost use Rattle.dob_moves.specs.Statuses.{AreMoves, CanCatch};
 ghost use Rattle.dob_rank.specs.Families.{IsPositionOf};
 ghost use Rattle.dob_rank.specs.Order.{IsPositionOfSet};
+ghost use Rattle.dob_value.specs.declared.value.Value.TheVariants.{Win};
 ghost use Rattle.dob_value.specs.Values.{HasValue};
 ghost use Rattle.dob_value.specs.Follows.{IsConsistent, IsEntry, IsTable};
 ghost use Rattle.dob_probe.specs.ValuedMoves.{AreValuedMoves, ComesBefore, IsBetter, seen_from_before};
@@ -67,13 +68,24 @@ fn moves_of_set(
     ensures { IfOk result (λ list. AreValuedMoves table.now.family.profile (GivenBy table.now) position.now.setup list.items) }
 {
     if let Some(played) = first_catch(position) {
-        let mut list = Vec::new(alloc);
-        let value = Value::Win(1);
-        list.push(ValuedMove { played, value })?;
-        return Ok(list);
+        return one_catch(alloc, played);
     }
     let legal = moves(alloc, table.family().profile, position)?;
     moves_by_value(alloc, table, position, &legal)
+}
+
+/// The catch of the lion alone, which wins in 1 ply.
+///
+/// # Errors
+///
+/// `Memory`.
+pub fn one_catch(alloc: Global, played: Move) -> Result<Vec<ValuedMove>, Memory>
+    ensures { IfOk result (λ list. list.items ≡ record { played = played; value = Win 1 } ∷ []) }
+{
+    let mut list = Vec::new(alloc);
+    let value = Value::Win(1);
+    list.push(ValuedMove { played, value })?;
+    Ok(list)
 }
 
 // Those moves of the position with their values, best first.

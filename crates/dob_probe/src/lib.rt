@@ -5,9 +5,9 @@
 // - `check` answers the first fault of any kind in class order, so E23 at a lower class hides a broken class above.
 // - A move's value fits 16 bits by any table, since a table's distances are at most 65,534 by its type.
 // - E26 comes before E7, also if both hold (`check_member`): it names what the profile doesn't allow, whatever the pieces.
-// - `first_puzzles` ends with the last one that was asked for. `--random` multiplies the seed by an odd constant and cuts it to 64 bits and by the number of
-//   classes, and goes round, so each class comes once; of positions that are alike (one block, the lions on the same squares) the first alone is listed
-//   (`IsSpread`). `--from` leaves its own class out.
+// - `first_puzzles` ends with the last one that was asked for. With a seed the classes come in the order of a `Shuffle`, each once, so no list of all
+//   puzzles is made; of positions that are alike (one block, the lions on the same squares) the first alone is listed (`IsSpread`). `--from` leaves
+//   its own class out.
 // - `statistics` gives the first class of each value, sorted by distance. It has a slot for each code up to the greatest that occurs.
 // - `line` answers the line of any table; a capture ends it whatever the record.
 #![tactic(auto)]
@@ -26,7 +26,7 @@ mod shown_moves;
 mod successors;
 mod walks;
 
-pub use by_value::{ValuedMove, insert_by_value, value_seen, valued_moves};
+pub use by_value::{ValuedMove, insert_by_value, one_catch, value_seen, valued_moves};
 pub use checks::{check, check_class};
 pub use fault::Fault;
 pub use groups::{Group, add_slots, groups_of, slots_between};

@@ -1,11 +1,11 @@
 // What positions have in common that are alike: how many pieces of each kind stand on the board, and where the lions stand.
 ghost use Rattle.std.specs.Prelude.{◌≡◌, count_by};
 ghost use Rattle.std.specs.List.{list_any};
-ghost use Rattle.dob_pieces.specs.Masks.{AreMasks};
-ghost use Rattle.dob_pieces.specs.Setups.{at, held, holds_kind, piece_of, total};
+ghost use Rattle.dob_pieces.specs.Setups.{held, holds_kind, total};
 ghost use Rattle.dob_probe.specs.Outlines.{IsOutline, same_outline};
 
-use dob_pieces::{HandKind, Kind, Masks, Position, Side, Square, lowest_square};
+use dob_moves::{enemy_lion, own_lion};
+use dob_pieces::{HandKind, Masks, Position};
 
 /// How many pieces of each kind stand on the board, hens counted with the chicks, and where the lions stand.
 #[derive(Clone, Copy)]
@@ -40,22 +40,6 @@ fn on_board(position: &Position, kind: HandKind) -> usize
     position.setup.total(kind)
         - usize::from(hands.mover.count(kind))
         - usize::from(hands.enemy.count(kind))
-}
-
-// The mover's lion's square.
-fn own_lion(position: &Position, masks: &Masks) -> Square
-    requires { AreMasks position.now.setup masks.now }
-    ensures { at position.now.setup result ≡ Some (piece_of Side.Mover Kind.Lion) }
-{
-    lowest_square(masks.lion)
-}
-
-// The enemy lion's square.
-fn enemy_lion(position: &Position, masks: &Masks) -> Square
-    requires { AreMasks position.now.setup masks.now }
-    ensures { at position.now.setup result ≡ Some (piece_of Side.Enemy Kind.Lion) }
-{
-    lowest_square(masks.enemy_lion)
 }
 
 /// Whether the outline is one of these.

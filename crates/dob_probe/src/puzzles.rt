@@ -13,7 +13,7 @@ ghost use Rattle.dob_probe.specs.SingleMoves.{IsPuzzleOf, IsSingleMove};
 
 use crate::outlines::{Outline, has_outline, outline_of};
 use crate::successors::{list_moves, value_to};
-use crate::walks::{Walk, begin_at, class_on, first_class};
+use crate::walks::{Walk, begin_at, class_on, order_of, places_in};
 use dob_moves::Move;
 use dob_pieces::{Memory, Position};
 use dob_value::{Table, Value};
@@ -27,7 +27,7 @@ pub struct Puzzle {
 }
 
 /// The first classes of the walk, at most `count`, that the table says are won in `plies` plies and of whose representative just one
-/// move leads to a position lost in one ply less, each with that move, in the walk's order. If a seed begins the walk, no two of them are of
+/// move leads to a position lost in one ply less, each with that move, in the walk's order. If a seed makes the order, no two of them are of
 /// one block with the lions on the same squares: the first of such classes is listed. The classes are looked at up to the last one listed, and
 /// all of the walk if there are fewer; one room is kept for lists of moves.
 ///
@@ -44,19 +44,20 @@ pub fn first_puzzles(
     requires { 0 < plies }
     ensures { IfOk result (λ list. ArePuzzles table.now walk plies count list.items) }
 {
+    let classes = table.class_count();
+    let order = order_of(walk.seed, classes);
     // That a table has no longer distance bounds the plies.
     let _family = table.family();
     if plies > u16::MAX as u64 {
         return Ok(Vec::new(alloc));
     }
     let is_spread = walk.seed.is_some();
-    let classes = table.class_count();
-    let first = first_class(walk.seed, classes);
-    let begin = begin_at(walk.behind, first, classes);
+    let begin = begin_at(walk.behind, &order, classes);
+    let end = places_in(&order, classes);
     let mut list = Vec::new(alloc);
     let mut outlines = Vec::new(alloc);
     let mut room = Vec::new(alloc);
-    for place in begin..classes {
+    for place in begin..end {
         if list.len() as u64 >= count {
             return Ok(list);
         }
@@ -64,7 +65,7 @@ pub fn first_puzzles(
             &mut room,
             table,
             plies as u16,
-            class_on(first, classes, place),
+            class_on(&order, classes, place),
         )? {
             let Puzzle { class, played } = puzzle;
             list_puzzle(table, &mut list, &mut outlines, is_spread, class, played)?;
@@ -117,7 +118,7 @@ fn is_passed(outlines: &[Outline], is_spread: bool, outline: Outline) -> bool
     }
 }
 
-// The class as a puzzle, if it is one. Moves are listed in the room, whatever is in it.
+// The class as a puzzle, if the table has it and it is one. Moves are listed in the room, whatever is in it.
 //
 // Error: `Memory`.
 fn puzzle_of(
@@ -126,10 +127,12 @@ fn puzzle_of(
     plies: u16,
     class: u64,
 ) -> Result<Option<Puzzle>, Memory>
-    requires positive { 0 < plies }
-    requires within { class < length table.now.values }
+    requires { 0 < plies }
     ensures { IfOk result (IsPuzzleOf table.now plies class) }
 {
+    if class >= table.class_count() {
+        return Ok(None);
+    }
     if table.value(class) != Value::Win(plies) {
         return Ok(None);
     }

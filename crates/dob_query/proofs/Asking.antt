@@ -13,7 +13,7 @@ use Rattle.dob_probe.specs.declared.fault.Fault.TheVariants as table_fault
 use Rattle.dob_probe.proofs.Best.{lines_are_best}
 use Rattle.dob_probe.proofs.ByValue.{valued_rightly}
 use Rattle.dob_records.proofs.Tabled.{given_by_record, line_by, listed_by, record_of_given}
-use Rattle.dob_query.proofs.TableFaults.{over_weaker}
+use Rattle.dob_files.proofs.TableFaults.{over_weaker}
 use Rattle.std.proofs.Common.{arith}
 
 -- what each of the bytes that a file may have gives of an Ok value, all of them give of it

@@ -10,7 +10,7 @@ use Rattle.dob_probe.specs.declared.fault.Fault.TheVariants as table_fault
 use Rattle.dob_query.specs.QuestionsEach.{AnswersLine, AnswersLineRight, AnswersQuestionEachRight, ArePlaceLines, EndsRecords, GivesRecordAnswer}
 use Rattle.dob_query.specs.QuestionsEach.{IsPlaceAnswer, IsPlacesFault, IsRecordAnswer, IsRecordEnd, TellsRecords, end_of, ended_lines, ends_all}
 use Rattle.dob_query.proofs.Asking.{answer_right}
-use Rattle.dob_query.proofs.EachLine.{lines_weaker, tells_are}
+use Rattle.dob_files.proofs.EachLine.{lines_weaker, tells_are}
 use Rattle.std.proofs.Common.{arith}
 
 module _ (question : Question) (Has : List ℕ → Type 0) (Gives Shows : Stream → Type 0) (gives : (bytes : List ℕ) → Has bytes → Gives (whole bytes))

@@ -10,14 +10,15 @@ use Rattle.dob_value.specs.Follows.{ClassTable}
 use Rattle.dob_dbfile.specs.Sinks.{Change}
 use Rattle.dob_probe.specs.Lines.{GivenBy}
 use Rattle.dob_probe.specs.Faults.{IsRefusal}
-use Rattle.dob_query.specs.declared.fault.Fault.{Fault}
-use Rattle.dob_query.specs.declared.fault.Fault.TheVariants.{Text, File, Table, Memory, Io}
-use Rattle.dob_query.specs.Faults.{fault_text}
-use Rattle.dob_query.specs.Endings.{Ending}
-use Rattle.dob_query.specs.Program.{IsValueOf, value_line}
-use Rattle.dob_query.specs.Telling.{AnswersLines, TellsLinesOf, TellsOne, TellsOver, Told}
+use Rattle.dob_files.specs.declared.fault.Fault.{Fault}
+use Rattle.dob_files.specs.declared.fault.Fault.TheVariants.{Text, File, Table, Memory, Io}
+use Rattle.dob_files.specs.Faults.{fault_text}
+use Rattle.dob_files.specs.Endings.{Ending}
+use Rattle.dob_query.specs.Program.{IsValueOf}
+use Rattle.dob_lines.specs.Values.{value_line}
+use Rattle.dob_files.specs.Telling.{AnswersLines, TellsLinesOf, TellsOne, TellsOver, Told}
 use Rattle.dob_shelf.specs.Shelves.{ShelfChange}
-use Rattle.dob_query.specs.Tables.{HasFileFault, IsFileOf, IsShut, IsTextOf}
+use Rattle.dob_files.specs.Tables.{HasFileFault, IsFileOf, IsShut, IsTextOf}
 
 -- ---- a line
 

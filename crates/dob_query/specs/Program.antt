@@ -1,6 +1,5 @@
 -- What the program owes where it is asked for the value of a position.
-use Rattle.std.specs.Prelude.{◌≡◌, ℕ, List, [], ◌∷◌, ◌++◌, codes}
-use Rattle.std.specs.Fmt.{decimal}
+use Rattle.std.specs.Prelude.{◌≡◌, ℕ, List}
 use Rattle.dob_pieces.specs.declared.profile.Profile.{Profile}
 use Rattle.dob_pieces.specs.declared.setup.Setup.{Setup}
 use Rattle.dob_pieces.specs.Profiles.{IsAllowed}
@@ -8,20 +7,13 @@ use Rattle.dob_pieces.specs.Setups.{IsLegal}
 use Rattle.dob_text.specs.PositionText.{Spells}
 use Rattle.dob_text.specs.Faults.{HasTextFault}
 use Rattle.dob_value.specs.declared.value.Value.{Value}
-use Rattle.dob_value.specs.declared.value.Value.TheVariants.{Win, Loss, Draw}
 use Rattle.dob_value.specs.Values.{HasValue}
 use Rattle.dob_value.specs.Rosters.{SomeTooDeep, HasSamePieces}
-use Rattle.dob_query.specs.declared.fault.Fault.{Fault}
-use Rattle.dob_query.specs.declared.fault.Fault.TheVariants.{Text, TooDeep, Memory}
-use Rattle.dob_pieces.specs.Bytes.{line_feed}
-use Rattle.dob_query.specs.Endings.{AnswersOver, Ending}
+use Rattle.dob_lines.specs.Values.{value_line}
+use Rattle.dob_files.specs.declared.fault.Fault.{Fault}
+use Rattle.dob_files.specs.declared.fault.Fault.TheVariants.{Text, TooDeep, Memory}
+use Rattle.dob_files.specs.Endings.{AnswersOver, Ending}
 use Rattle.dob_shelf.specs.Shelves.{ShelfChange}
-
--- the line that gives a value, with its line feed
-abbrev pub value_line : Value → List ℕ
-value_line (Win plies) = codes "win " ++ decimal plies ++ line_feed ∷ []
-value_line (Loss plies) = codes "loss " ++ decimal plies ++ line_feed ∷ []
-value_line Draw = codes "draw" ++ line_feed ∷ []
 
 -- the text is that of a position of the profile, whose value this is by definition
 pub record IsValueOf (profile : Profile) (text : List ℕ) (value : Value) : Type 0 where

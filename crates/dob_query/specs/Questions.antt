@@ -23,17 +23,17 @@ use Rattle.dob_probe.specs.Lines.{IsLine}
 use Rattle.dob_probe.specs.ValuedMoves.{AreValuedMoves}
 use Rattle.dob_records.specs.Faults.{BreaksBy}
 use Rattle.dob_records.specs.Records.{IsRecorded, LacksAlong, LacksNext, LacksRecord}
-use Rattle.dob_query.specs.declared.fault.Fault.{Fault}
-use Rattle.dob_query.specs.declared.fault.Fault.TheVariants.{Text, File, Table, Memory, Io}
+use Rattle.dob_files.specs.declared.fault.Fault.{Fault}
+use Rattle.dob_files.specs.declared.fault.Fault.TheVariants.{Text, File, Table, Memory, Io}
 use Rattle.dob_query.specs.declared.questions.Question.{Question}
 use Rattle.dob_query.specs.declared.questions.Question.TheVariants.{Look, Moves, Best, Line, Draw, ValueObject, MovesObject, LineObject}
-use Rattle.dob_query.specs.Endings.{AnswersOver, Ending, GivesLines}
-use Rattle.dob_query.specs.Faults.{is_io_error}
-use Rattle.dob_query.specs.Objects.{line_object, moves_object, value_object}
-use Rattle.dob_query.specs.Program.{value_line}
-use Rattle.dob_query.specs.Played.{moves_lines, played_drawing}
-use Rattle.dob_query.specs.Tables.{IsShut, IsTextOf}
-use Rattle.dob_query.specs.ValuedMoves.{best_move_line, move_lines}
+use Rattle.dob_files.specs.Endings.{AnswersOver, Ending, GivesLines}
+use Rattle.dob_files.specs.Faults.{is_io_error}
+use Rattle.dob_lines.specs.Objects.{line_object, moves_object, value_object}
+use Rattle.dob_lines.specs.Values.{value_line}
+use Rattle.dob_lines.specs.Played.{moves_lines, played_drawing}
+use Rattle.dob_files.specs.Tables.{IsShut, IsTextOf}
+use Rattle.dob_lines.specs.ValuedMoves.{best_move_line, move_lines}
 use Rattle.dob_shelf.specs.Shelves.{ShelfChange}
 
 -- ---- the answer, where Has says which value a position has

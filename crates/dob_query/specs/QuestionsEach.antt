@@ -1,5 +1,5 @@
 -- What the program owes where it is asked about the position of each line of standard input.
-use Rattle.std.specs.Prelude.{◌≡◌, ◌⊎◌, true, false, ℕ, Bool, List, [], ◌∷◌, ◌++◌, None, Option, Result, Ok, Err, String, is_err, string_bytes}
+use Rattle.std.specs.Prelude.{◌≡◌, ◌⊎◌, true, false, ℕ, Bool, List, [], ◌∷◌, ◌++◌, None, Option, Result, Ok, Err, String, codes, is_err, string_bytes}
 use Rattle.dob_pieces.specs.declared.profile.Family.{Family}
 use Rattle.dob_pieces.specs.declared.profile.Profile.{Profile}
 use Rattle.dob_pieces.specs.declared.profile.Profile.TheVariants.{A}
@@ -17,16 +17,15 @@ use Rattle.dob_dbfile.specs.Looking.{HasFrontFault}
 use Rattle.dob_probe.specs.declared.fault.Fault.TheVariants as table_fault
 use Rattle.dob_probe.specs.Faults.{IsRefusal}
 use Rattle.dob_records.specs.Records.{IsRecorded}
-use Rattle.dob_query.specs.declared.fault.Fault.{Fault}
-use Rattle.dob_query.specs.declared.fault.Fault.TheVariants.{Text, File, Table, Memory, Io}
+use Rattle.dob_files.specs.declared.fault.Fault.{Fault}
+use Rattle.dob_files.specs.declared.fault.Fault.TheVariants.{Text, File, Table, Memory, Io}
 use Rattle.dob_query.specs.declared.questions.Question.{Question}
 use Rattle.dob_query.specs.declared.questions.Question.TheVariants.{Moves, Line, ValueObject, MovesObject, LineObject}
-use Rattle.dob_query.specs.Telling.{AnswersLines, TellsLinesOf, TellsOne, TellsOver, Told}
-use Rattle.dob_query.specs.Endings.{Ending}
-use Rattle.dob_query.specs.Faults.{fault_text, is_io}
-use Rattle.dob_query.specs.Objects.{fault_object}
+use Rattle.dob_files.specs.Telling.{AnswersLines, TellsLinesOf, TellsOne, TellsOver, Told}
+use Rattle.dob_files.specs.Endings.{Ending}
+use Rattle.dob_files.specs.Faults.{fault_text, is_io}
 use Rattle.dob_query.specs.Questions.{GivesWhole, IsAnswerOf, IsFaultOfAsking, IsOfNamed, IsRecordsFault, IsToldBy, LacksFor}
-use Rattle.dob_query.specs.Tables.{IsShut, IsTextOf}
+use Rattle.dob_files.specs.Tables.{IsShut, IsTextOf}
 use Rattle.dob_shelf.specs.Shelves.{ShelfChange}
 
 -- ---- what is printed
@@ -34,6 +33,10 @@ use Rattle.dob_shelf.specs.Shelves.{ShelfChange}
 -- what stands behind an answer, and how a fault is told in its place
 abbrev pub End : Type 0
 End = List ℕ × (Fault → List ℕ)
+
+-- a fault as a JSON object, on a line
+abbrev pub fault_object : Fault → List ℕ
+fault_object fault = codes "{\"fault\":\"" ++ (fault_text fault ++ (codes "\"}" ++ line_feed ∷ []))
 
 -- such an end, and a fault without `dobutsu: ` before it
 abbrev pub plain_end : List ℕ → End

@@ -7,12 +7,12 @@ use Rattle.dob_text.specs.Pictures.{picture_of}
 use Rattle.dob_text.specs.Faults.{HasTextFault}
 use Rattle.dob_pieces.specs.declared.profile.Profile.{Profile}
 use Rattle.dob_value.specs.Values.{HasValue}
-use Rattle.dob_query.specs.declared.fault.Fault.{Fault}
-use Rattle.dob_query.specs.declared.fault.Fault.TheVariants.{Text, Memory, Io}
-use Rattle.dob_query.specs.Endings.{AnswersOver, Ending, GivesLines}
+use Rattle.dob_files.specs.declared.fault.Fault.{Fault}
+use Rattle.dob_files.specs.declared.fault.Fault.TheVariants.{Text, Memory, Io}
+use Rattle.dob_files.specs.Endings.{AnswersOver, Ending, GivesLines}
 use Rattle.dob_shelf.specs.Shelves.{Files, HasJust, SameFiles, SameOthers, ShelfChange}
-use Rattle.dob_query.specs.Keeping.{IsShelfFault}
-use Rattle.dob_query.specs.Tables.{IsTextOf}
+use Rattle.dob_files.specs.Keeping.{IsShelfFault}
+use Rattle.dob_files.specs.Tables.{IsTextOf}
 use Rattle.dob_query.specs.declared.questions.Question.TheVariants.{Draw}
 use Rattle.dob_query.specs.Questions.{IsAnswerBy, IsAskingFault, IsToldBy}
 

@@ -1,15 +1,14 @@
 -- What the program owes where it is asked for the sizes of a piece set.
-use Rattle.std.specs.Prelude.{◌≡◌, ◌≢◌, ℕ, List, [], ◌∷◌, ◌++◌, codes}
-use Rattle.std.specs.Fmt.{decimal}
+use Rattle.std.specs.Prelude.{◌≡◌, ◌≢◌, ℕ, List, ◌++◌, codes}
 use Rattle.dob_pieces.specs.declared.piece_set.PieceSet.{PieceSet}
 use Rattle.dob_pieces.specs.declared.profile.Family.{Family}
 use Rattle.dob_pieces.specs.declared.profile.Profile.{Profile}
 use Rattle.dob_pieces.specs.Sets.{set_text}
 use Rattle.dob_rank.specs.Families.{HasClasses, HasSize, family_of}
 use Rattle.dob_query.specs.declared.counts.Counts.{Counts}
-use Rattle.dob_query.specs.declared.fault.Fault.{Fault}
-use Rattle.dob_query.specs.declared.fault.Fault.TheVariants.{SetText, Memory}
-use Rattle.dob_pieces.specs.Bytes.{line_feed}
+use Rattle.dob_lines.specs.Tallies.{count_line}
+use Rattle.dob_files.specs.declared.fault.Fault.{Fault}
+use Rattle.dob_files.specs.declared.fault.Fault.TheVariants.{SetText, Memory}
 
 -- these are the family's numbers of positions and classes
 pub record HasCounts (family : Family) (counts : Counts) : Type 0 where
@@ -19,10 +18,6 @@ pub record HasCounts (family : Family) (counts : Counts) : Type 0 where
 -- the text is that of a piece set with these numbers by the rules of the profile
 abbrev pub AreCountsOf : Profile → List ℕ → Counts → Type 0
 AreCountsOf profile text counts = (set : PieceSet) × (text ≡ set_text set) × HasCounts (family_of set profile) counts
-
--- a line with a name and a number, and its line feed
-abbrev pub count_line : List ℕ → ℕ → List ℕ
-count_line name number = name ++ decimal number ++ line_feed ∷ []
 
 -- the two lines that give the numbers
 abbrev pub count_lines : Counts → List ℕ

@@ -2,8 +2,8 @@
 ghost use Rattle.std.specs.Prelude.{◌≡◌, IfOk, IfErr, string_bytes};
 ghost use Rattle.dob_query.specs.Sizes.{AreCountLinesOf, HasCounts, IsCountFaultOf, count_lines};
 
-use crate::fault::Lines;
 use dob_classes::count_classes;
+use dob_files::Lines;
 use dob_pieces::{Family, Memory, PieceSet, Profile};
 use dob_rank::size;
 use std::alloc::Global;

@@ -2,15 +2,12 @@
 ghost use Rattle.std.specs.Prelude.{◌≡◌, false, IfOk, string_bytes};
 ghost use Rattle.dob_dbfile.specs.Sinks.{change};
 ghost use Rattle.dob_query.specs.Each.{GivesEach, IsAnswer, IsGivenTo, IsToldValue, answer_line};
-ghost use Rattle.dob_query.specs.declared.fault.Fault.TheVariants.{Memory as OutOfMemory};
+ghost use Rattle.dob_files.specs.declared.fault.Fault.TheVariants.{Memory as OutOfMemory};
 ghost use Rattle.dob_shelf.specs.Shelves.{Leaving, SameFiles};
 
-use crate::fault::Fault;
-use crate::positions::position_on;
-use crate::tables::open;
-use crate::talk::{Answerer, LineAnswers, tell_each};
-use crate::values::line_of;
 use dob_dbfile::Sink;
+use dob_files::{Answerer, Fault, LineAnswers, open, position_on, tell_each};
+use dob_lines::line_of;
 use dob_pieces::Memory;
 use dob_probe::probe;
 use dob_shelf::Shelf;

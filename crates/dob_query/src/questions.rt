@@ -3,19 +3,18 @@ ghost use Rattle.std.specs.Prelude.{◌≡◌, false, IfErr, IfOk, string_bytes}
 ghost use Rattle.dob_rank.specs.Families.{IsPositionOf};
 ghost use Rattle.dob_dbfile.specs.Devices.{Stream};
 ghost use Rattle.dob_shelf.specs.Shelves.{Leaving, SameFiles};
-ghost use Rattle.dob_query.specs.Endings.{GivesLines};
-ghost use Rattle.dob_query.specs.Faults.{is_io_error};
+ghost use Rattle.dob_files.specs.Endings.{GivesLines};
+ghost use Rattle.dob_files.specs.Faults.{is_io_error};
 ghost use Rattle.dob_query.specs.declared.questions.Question.TheVariants.{Look, Moves, Best, Line, Draw, ValueObject, MovesObject, LineObject};
 ghost use Rattle.dob_query.specs.Questions.{GivesAnswer, GivesTold, IsAnswerBy, IsAnswerOf, IsAskingFault, IsFaultOfAsking, IsRecordsFault};
 
-use crate::fault::Lines;
-use crate::objects::{line_object, moves_object, value_object};
-use crate::played::{moves_lines, played_drawing};
-use crate::positions::position_named;
-use crate::valued_moves::{best_move_line, move_lines};
-use crate::values::line_of;
 use dob_classes::Classes;
 use dob_dbfile::{Format, PlacedSource, read_classes};
+use dob_files::{Lines, position_named};
+use dob_lines::{
+    best_move_line, line_object, line_of, move_lines, moves_lines, moves_object, played_drawing,
+    value_object,
+};
 use dob_pieces::Position;
 use dob_probe::check_member;
 use dob_records::{line_by_records, moves_by_records, value_at};

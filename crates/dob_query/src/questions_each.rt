@@ -1,20 +1,17 @@
 // The answers to the lines of standard input, each by the records of a database file that it needs, whatever the file's size.
-ghost use Rattle.std.specs.Prelude.{◌≡◌, ◌||◌, Ok, Some, false, true, IfOk, MatchResult, string_bytes};
+ghost use Rattle.std.specs.Prelude.{◌≡◌, ◌||◌, Ok, false, true, IfOk, MatchResult, string_bytes};
 ghost use Rattle.dob_dbfile.specs.Devices.{Stream};
 ghost use Rattle.dob_dbfile.specs.Sinks.{change};
-ghost use Rattle.dob_query.specs.Faults.{is_io, is_io_error};
+ghost use Rattle.dob_files.specs.Faults.{is_io, is_io_error};
 ghost use Rattle.dob_query.specs.QuestionsEach.{EndsRecords, GivesQuestionEach, GivesRecordAnswer, IsRecordEnd, IsToldOf, TellsRecords};
-ghost use Rattle.dob_query.specs.QuestionsEach.{bytes_of, end_of, ended_lines, ends_all, ends_all_in};
-ghost use Rattle.dob_query.specs.Telling.{TellsEach};
+ghost use Rattle.dob_query.specs.QuestionsEach.{bytes_of, end_of, ended_lines, ends_all, ends_all_in, fault_object};
+ghost use Rattle.dob_files.specs.Telling.{TellsEach};
 ghost use Rattle.dob_shelf.specs.Shelves.{Leaving, SameFiles};
 
-use crate::fault::{Fault, Lines};
-use crate::objects::fault_object;
-use crate::positions::position_on;
 use crate::questions::{Question, answer_by_records};
-use crate::talk::{Answerer, LineAnswers, tell_each};
 use dob_classes::Classes;
 use dob_dbfile::{Format, PlacedSource, Sink, read_classes};
+use dob_files::{Answerer, Fault, LineAnswers, Lines, position_on, tell_each};
 use dob_pieces::Memory;
 use dob_probe::check_member;
 use dob_shelf::Shelf;
@@ -185,4 +182,11 @@ fn fault_lines(alloc: Global, fault: Fault, question: Question) -> Result<String
         }
         _ => Ok(format!(in alloc; "{fault}\n")?),
     }
+}
+
+// The object of a fault.
+fn fault_object(alloc: Global, fault: Fault) -> Result<String, Memory>
+    ensures { IfOk result (λ line. string_bytes line ≡ fault_object fault) }
+{
+    Ok(format!(in alloc; "{{\"fault\":\"{fault}\"}}\n")?)
 }

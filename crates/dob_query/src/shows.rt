@@ -1,14 +1,12 @@
 // A position drawn for a reader who is new to the game, by a database file with its value and its line, and as a picture.
 ghost use Rattle.std.specs.Prelude.{◌≡◌, string_bytes};
-ghost use Rattle.dob_query.specs.Endings.{IsAnswered};
+ghost use Rattle.dob_files.specs.Endings.{IsAnswered};
 ghost use Rattle.dob_words.specs.Readings.{text_given};
 ghost use Rattle.dob_shelf.specs.Shelves.{Leaving, SameFiles, SameOthers};
 ghost use Rattle.dob_query.specs.Shows.{AreDrawn, IsDrawingFault, KeepsButPicture, GivesShow, KeepsPicture};
 
-use crate::fault::Lines;
-use crate::keeping::{fill, keep_filled};
-use crate::positions::position_named;
 use crate::questions::{Question, answer_of};
+use dob_files::{Lines, fill, keep_filled, position_named};
 use dob_pieces::Position;
 use dob_shelf::Shelf;
 use dob_text::{draw_position, picture_position};

@@ -1,15 +1,15 @@
 -- What a round makes of what was marked, of any steps among numbers; and what is marked where nothing is left to go on from.
-use Rattle.dob_reach.proofs.Common.{◌+◌, ◌∷◌, ◌≡◌, ◌≤◌, AreMet, Contains, HasDistance, IsMarked, IsMarkedWithin, IsNearer, IsReached, List, Met, [], arith}
+use Rattle.dob_reach.proofs.Common.{◌+◌, ◌∷◌, ◌≡◌, ◌≤◌, AreMet, Contains, IsAway, IsMarked, IsMarkedWithin, IsNearer, IsReached, List, Met, [], arith}
 use Rattle.dob_reach.proofs.Common.{cases_lt, head_in, inl, inr, none_in_empty, refl, stands_or, subst, suc, sym, zero, ℕ}
 use Rattle.dob_reach.proofs.Counts.{apart_first, only_one}
 
 -- a number has one distance
-pub one_distance : (Steps : ℕ → ℕ → Type 0) (from m n number : ℕ) → HasDistance Steps from m number → HasDistance Steps from n number → m ≡ n
+pub one_distance : (Steps : ℕ → ℕ → Type 0) (from m n number : ℕ) → IsAway Steps from m number → IsAway Steps from n number → m ≡ n
 one_distance Steps from m n number a b = let up = a.1 n b.0 in let down = b.1 m a.0 in omega (arith, up, down)
 
 -- before the first round
 module _ (Steps : ℕ → ℕ → Type 0) (from : ℕ) where
-  itself : HasDistance Steps from 0 from
+  itself : IsAway Steps from 0 from
   itself = (refl, λ n met. omega arith)
 
   met_at_once : (n number : ℕ) → n ≤ 0 → Met Steps n from number → from ≡ number
@@ -20,7 +20,7 @@ module _ (Steps : ℕ → ℕ → Type 0) (from : ℕ) where
   begun {words = words} alone marked = record {
     sound = λ number is. (0, omega arith, rw (alone number is) itself);
     whole = λ n number low met. subst (IsMarked words) (met_at_once n number low met) marked;
-    front_sound = λ number there. subst (HasDistance Steps from 0) (only_one from number there) itself;
+    front_sound = λ number there. subst (IsAway Steps from 0) (only_one from number there) itself;
     front_whole = λ number has. subst (Contains (from ∷ [])) has.0 (head_in from []);
     front_once = apart_first from [] (λ number there. absurd (none_in_empty number there)) (λ i j d lt within. absurd (omega (arith, within)));
     closed = λ number other is absent step. absurd (absent (subst (Contains (from ∷ [])) (sym (alone number is)) (head_in from [])));
@@ -29,7 +29,7 @@ module _ (Steps : ℕ → ℕ → Type 0) (from : ℕ) where
 -- a round
 module _ {Steps : ℕ → ℕ → Type 0} {from d : ℕ} {before words front next : List ℕ} (known : IsMarkedWithin Steps from d before front)
     (met : AreMet Steps before words front next) where
-  next_far : (number : ℕ) → Contains next number → HasDistance Steps from (d + 1) number
+  next_far : (number : ℕ) → Contains next number → IsAway Steps from (d + 1) number
   next_far number there =
       let step = (met.listed number there).1 in
       let one_more : suc d ≡ d + 1 = omega arith in
@@ -41,11 +41,11 @@ module _ {Steps : ℕ → ℕ → Type 0} {from d : ℕ} {before words front nex
         ],
       )
 
-  far_next : (number : ℕ) → HasDistance Steps from (d + 1) number → Contains next number
+  far_next : (number : ℕ) → IsAway Steps from (d + 1) number → Contains next number
   far_next number far =
       let one_more : d + 1 ≡ suc d = omega arith in
       let here : Met Steps (suc d) from number = subst (λ k. Met Steps k from number) one_more far.0 in
-      let at : HasDistance Steps from d here.0 = (here.1, λ n sooner. let least = far.1 (suc n) (here.0, sooner, here.2) in omega (arith, least)) in
+      let at : IsAway Steps from d here.0 = (here.1, λ n sooner. let least = far.1 (suc n) (here.0, sooner, here.2) in omega (arith, least)) in
       let is : IsMarked words number = met.whole number (here.0, known.front_whole here.0 at, here.2) in
       elim (met.marked number is) [
         | inl old ↦
@@ -104,7 +104,7 @@ module _ {Steps : ℕ → ℕ → Type 0} {from d : ℕ} {words : List ℕ} (kno
         | inl less ↦ (near.0, less, near.2)
         | inr last ↦
             let same : near.0 ≡ d = omega (arith, near.1, last) in
-            absurd (none_in_empty number (known.front_whole number (subst (λ k. HasDistance Steps from k number) same near.2)))
+            absurd (none_in_empty number (known.front_whole number (subst (λ k. IsAway Steps from k number) same near.2)))
       ]
 
   pub reached_nearer : (number : ℕ) → IsReached Steps from number → IsNearer Steps from d number

@@ -1,6 +1,6 @@
 -- The search of a family's classes: before its first round, after a round, and at its end.
 use Rattle.dob_reach.proofs.Common.{◌++◌, ◌+◌, ◌<◌, ◌==◌, ◌^◌, ◌∙◌, ◌∷◌, ◌≡◌, ◌≤◌, ◌⊎◌, Among, AreMet, AreReachedFrom, Bool, Contains, Family, HasBits}
-use Rattle.dob_reach.proofs.Common.{HasDistance, HasJust, IsMarked, IsNearer, IsOpen, IsSearched, Leads, List, Met, Reached, [], ap, arith, cases_lt}
+use Rattle.dob_reach.proofs.Common.{IsAway, HasJust, IsMarked, IsNearer, IsOpen, IsSearched, Leads, List, Met, Reached, [], ap, arith, cases_lt}
 use Rattle.dob_reach.proofs.Common.{classes_of, eqb-true, false, get_or, get_or-append_seam, get_or_append_left, get_or_past, inl, inr, length, length_push}
 use Rattle.dob_reach.proofs.Common.{subst, suc, sym, true, true≢false, zero, ℕ}
 use Rattle.dob_reach.proofs.Counts.{among_just, just_both, just_few, just_list, just_none, just_same}
@@ -21,7 +21,7 @@ told_more Told old new count is before last distance below =
 
 module _ (family : Family) (from : ℕ) where
   abbrev At : ℕ → ℕ → Type 0
-  At = HasDistance (Leads family) from
+  At = IsAway (Leads family) from
 
   abbrev Near : ℕ → ℕ → Type 0
   Near = IsNearer (Leads family) from

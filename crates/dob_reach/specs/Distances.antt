@@ -11,8 +11,8 @@ abbrev pub IsReached : (ℕ → ℕ → Type 0) → ℕ → ℕ → Type 0
 IsReached Steps from number = (n : ℕ) × Met Steps n from number
 
 -- and this is the least one that does
-abbrev pub HasDistance : (ℕ → ℕ → Type 0) → ℕ → ℕ → ℕ → Type 0
-HasDistance Steps from distance number = Met Steps distance from number × ((n : ℕ) → Met Steps n from number → distance ≤ n)
+abbrev pub IsAway : (ℕ → ℕ → Type 0) → ℕ → ℕ → ℕ → Type 0
+IsAway Steps from distance number = Met Steps distance from number × ((n : ℕ) → Met Steps n from number → distance ≤ n)
 
 -- one of the numbers leads to the other by a step
 abbrev pub StepFrom : (ℕ → ℕ → Type 0) → List ℕ → ℕ → Type 0

@@ -1,8 +1,7 @@
 // The moves of a position with their values by the records of the positions that they lead to, best first.
-ghost use Rattle.std.specs.Prelude.{◌≡◌, ◌||◌, [], ◌∷◌, IfErr, IfOk};
+ghost use Rattle.std.specs.Prelude.{◌≡◌, ◌||◌, IfErr, IfOk};
 ghost use Rattle.dob_moves.specs.Statuses.{AreMoves, CanCatch};
 ghost use Rattle.dob_rank.specs.Families.{IsPositionOf};
-ghost use Rattle.dob_value.specs.declared.value.Value.TheVariants.{Win};
 ghost use Rattle.dob_dbfile.specs.Devices.{Stream};
 ghost use Rattle.dob_probe.specs.ValuedMoves.{AreValuedMoves};
 ghost use Rattle.dob_records.specs.Faults.{IsFaultOfMoves, is_io_error};
@@ -13,9 +12,8 @@ use crate::values::value_after;
 use dob_classes::Classes;
 use dob_dbfile::{Format, PlacedSource};
 use dob_moves::{Move, first_catch, moves};
-use dob_pieces::{Memory, Position};
-use dob_probe::{ValuedMove, insert_by_value, value_seen};
-use dob_value::Value;
+use dob_pieces::Position;
+use dob_probe::{ValuedMove, insert_by_value, one_catch, value_seen};
 use std::alloc::Global;
 
 /// The moves of the position, each with its value for the side that makes it, as `valued_moves` of `dob_probe` lists them by a table. Of the file just the
@@ -43,16 +41,6 @@ pub fn moves_by_records<R: PlacedSource>(
     }
     let legal = moves(alloc, classes.family.profile, position)?;
     moves_in_order(alloc, source, format, classes, position, &legal)
-}
-
-// The catch of the lion alone.
-fn one_catch(alloc: Global, played: Move) -> Result<Vec<ValuedMove>, Memory>
-    ensures { IfOk result (λ list. list.items ≡ record { played = played; value = Win 1 } ∷ []) }
-{
-    let mut list = Vec::new(alloc);
-    let value = Value::Win(1);
-    list.push(ValuedMove { played, value })?;
-    Ok(list)
 }
 
 // Those moves of the position with their values, best first.

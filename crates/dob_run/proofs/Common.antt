@@ -67,7 +67,7 @@ pub use Rattle.dob_run.specs.BuildEnd.{IsShownByOwner, share_in}
 pub use Rattle.dob_run.specs.Built.{IsBuilt, IsLinkDone, edges_to, needed}
 pub use Rattle.dob_run.specs.CrewClose.{AreClosed, AreLinked, ArePartsOf, HasAdded, HasRowMore, IsCrew, end_in, ends_out, row_of, seat_in, slots_in, slots_out}
 pub use Rattle.dob_run.specs.CrewOpen.{AreNewEndpoints, IsNewEndpoint}
-pub use Rattle.dob_run.specs.CrewRunners.{AreRunnersFor, IsNewCrew, IsRunnerOf, endpoint_of, node_of}
+pub use Rattle.dob_run.specs.CrewRunners.{AreRunnersFor, IsNewCrew, IsRunnerOf, KeepsPace, endpoint_of, node_of}
 pub use Rattle.dob_run.specs.CrewTurns.{AllSuit, AreLetOn, HasRun}
 pub use Rattle.dob_run.specs.Faults.{AreWithin, HasBuildFault, HasCrewFault, HasSizeFault}
 pub use Rattle.dob_run.specs.Finished.{AreFinished, AreShown, IsLawfulAt}

@@ -1,17 +1,18 @@
 -- The runners of a crew: before and after their turns, what they leave when they are closed, and the faults of a crew.
 use Rattle.dob_run.proofs.Common.{◌*◌, ◌++◌, ◌+◌, ◌-◌, ◌<◌, ◌∙◌, ◌∷◌, ◌≡◌, ◌≢◌, ◌≤◌, Bool, Global, List, None, Option, Result, Some, [], ap, arith, inl}
 use Rattle.dob_run.proofs.Common.{length, length-append, map, refl, subst, sym, take, true, ℕ, length-map, take-append-drop, same_Some, slice_get_within}
-use Rattle.dob_run.proofs.Common.{AllZip, Err, Ok, OnOk, slice_get, Vec, some_at, zip_at, zip_long, Family, Item, BatchView, items_of_batches, Cause, Fault}
+use Rattle.dob_run.proofs.Common.{AllZip, Err, IfOk, Ok, OnOk, slice_get, Vec, some_at, zip_at, zip_long, Family, Item, BatchView, items_of_batches, Cause, Fault}
 use Rattle.dob_run.proofs.Common.{Memory, Nodes, Sizes, Stopped, outbox_to, Node, AreWords, IsSeatOf, Board, Closed, IsRejoined, place_of, sent_by, taken_by}
 use Rattle.dob_run.proofs.Common.{taken_of, IsLawfulInbox, batches_of, Rejoined, SendEnd, applied_else, applied_here, few_of, front, parts, KnowsRight}
 use Rattle.dob_run.proofs.Common.{AreLast, IsLawfulRunner, SendsRight, applied_from, planned, KeepsInlet, offered, worked, worked_from, IsNew, IsReasonFor}
 use Rattle.dob_run.proofs.Common.{KeepsRunner, held_from, in_slot, worked_of, Ends, EndsBy, Endpoint, Runner, Inlet, Outlet, Until, AreUnfailed, AreWorkers}
 use Rattle.dob_run.proofs.Common.{CarriesFew, HasLeft, IsFirstFailed, IsLink, IsTurned, IsUnheld, IsWorker, StopsSo, HaveStopped, IsFailureOf, IsBuilt}
 use Rattle.dob_run.proofs.Common.{AreClosed, AreLinked, IsCrew, row_of, seat_in, slots_in, slots_out, AreNewEndpoints, IsNewEndpoint, AreRunnersFor, IsNewCrew}
-use Rattle.dob_run.proofs.Common.{IsRunnerOf, endpoint_of, node_of, AllSuit, AreLetOn, HasRun, AreWithin, HasBuildFault, HasCrewFault, HasSizeFault}
+use Rattle.dob_run.proofs.Common.{IsRunnerOf, KeepsPace, endpoint_of, node_of, AllSuit, AreLetOn, HasRun, AreWithin, HasBuildFault, HasCrewFault, HasSizeFault}
 use Rattle.dob_run.proofs.Common.{outlet_slot, Turned, Built, ClosedCrew, AllZip-weaken}
 use Rattle.dob_chan.specs.Ends.{IsEndOf}
 use Rattle.dob_run.specs.declared.limits.CrewSizes.{CrewSizes}
+use Rattle.dob_run.specs.Builds.{Builds, IsLeftByCrew}
 use Rattle.dob_run.specs.CrewSizes.{AreThese}
 use Rattle.dob_run.proofs.Places.{get_map, map_got, at_row}
 use Rattle.dob_run.proofs.Inboxes.{count_is}
@@ -61,6 +62,10 @@ pub runners_new : (family : Family) (size capacity : ℕ) (endpoints : List Endp
 runners_new family size capacity endpoints runners are new k runner at =
     let of = zip_at (IsRunnerOf family size) endpoints runners k runner are at in
     (of.2.2, subst (λ (m : Endpoint). IsNewEndpoint capacity m) (sym of.2.0) (new k of.0 of.1))
+
+pub runners_pace : (family : Family) (size : ℕ) (endpoints : List Endpoint) (runners : List Runner) → AllZip (IsRunnerOf family size) endpoints runners →
+    (k : ℕ) (runner : Runner) → slice_get runners k ≡ Some runner → KeepsPace runner
+runners_pace family size endpoints runners are k runner at = (zip_at (IsRunnerOf family size) endpoints runners k runner are at).2.3
 
 pub all_suit : (family : Family) (size : ℕ) (runners : List Runner) → AreRunnersFor family size runners → AllSuit family runners
 all_suit family size runners are k runner at = let is = are k runner at in record { family_is = sym is.family_is; unfailed = is.unfailed }
@@ -452,3 +457,26 @@ module _ {No : ℕ → Type 0} {family : Family} {n size capacity : ℕ} {board 
   fault_for (Stopped node why) failure = fault_by ran node why failure.runner failure.at
   fault_for Memory failure = ran.within
   fault_for _ failure = absurd failure
+
+  -- the crew that leaves what its seats counted
+  pub by_crew : (result : Result Built Fault) →
+      IfOk result (λ built. AreWords board.nodes (map seat_in (map endpoint_of ended)) built.closed.words.items) →
+      IfOk result (IsLeftByCrew No family n size capacity)
+  by_crew (Ok built) words = record {
+    board = board;
+    ended = ended;
+    ran = ran;
+    words = subst (λ (k : ℕ). AreWords k (map seat_in (map endpoint_of ended)) built.closed.words.items) ran.opened.nodes words;
+  }
+  by_crew (Err why) words = tt
+
+-- what is built where memory is refused before a crew has run
+pub without_crew : (Says : ℕ → Bool → Type 0) (family : Family) (n size capacity : ℕ) → AreWithin n size capacity → Builds Says family n size capacity (Err Memory)
+without_crew Says family n size capacity within = record {
+  built = tt;
+  crew = tt;
+  let_on = tt;
+  unheld = λ never. tt;
+  fault = within;
+  stopped = tt;
+}

@@ -15,3 +15,4 @@ pub mod Scans
 pub mod Seating
 pub mod Started
 pub mod BoundedRun
+pub mod Builds

@@ -1,11 +1,8 @@
 // A build by threads, from a family to its table.
-ghost use Rattle.std.specs.Prelude.{ℕ, ◌<◌, true, false, IfOk, IfErr, OnOk};
-ghost use Rattle.dob_run.specs.Built.{IsBuilt};
-ghost use Rattle.dob_run.specs.BuildEnd.{IsFailureOf};
-ghost use Rattle.dob_run.specs.Faults.{AreWithin, HasBuildFault};
-ghost use Rattle.dob_runner.specs.Runners.{says_no};
-ghost use Rattle.dob_runner.specs.TurnLoop.{until_halted};
-ghost use Rattle.dob_run.specs.BoundedRun.{StopsSo, IsUnheld};
+ghost use Rattle.std.specs.Prelude.{ℕ, OnOk};
+ghost use Rattle.dob_run.specs.Builds.{Builds};
+ghost use Rattle.dob_run.specs.CrewSizes.{AreThese};
+ghost use Rattle.dob_run.specs.Faults.{AreWithin};
 
 use crate::build_end::finish;
 use crate::built_table::Built;
@@ -25,8 +22,7 @@ use std::thread::Threads;
 /// # Errors
 ///
 /// Tested in this order: `Nodes` if `nodes` isn't 1 to 16; `Sizes` if `batch_size` isn't 1 to 4096 or `capacity` not
-/// 1 to 1024; `Stopped` with the node that failed first and its cause, which is `Held` only if the gate said no to it, and
-/// `Memory` if no thread could be made for it; `Memory`.
+/// 1 to 1024; then those of `build_by`.
 pub fn run_nodes<R: Threads + Wait + Sync, G: Gate + Sync>(
     rt: &R,
     alloc: Global,
@@ -36,18 +32,32 @@ pub fn run_nodes<R: Threads + Wait + Sync, G: Gate + Sync>(
     capacity: usize,
     gate: &G,
 ) -> Result<Built, Fault>
-    ensures built { IfOk result (IsBuilt family nodes batch_size) }
-    ensures let_on { OnOk result ((node : ℕ) → node < nodes → G.says gate.now node true) }
-    ensures unheld { ((node : ℕ) → ¬ G.says gate.now node false) → IfErr result IsUnheld }
+    ensures builds { Builds (G.says gate.now) family nodes batch_size capacity result }
     ensures within { OnOk result (AreWithin nodes batch_size capacity) }
-    ensures fault { IfErr result (HasBuildFault nodes batch_size capacity) }
-    ensures stopped { IfErr result (StopsSo IsFailureOf (says_no (G.says gate.now)) until_halted family nodes batch_size capacity) }
 {
     let sizes = CrewSizes::new(nodes, batch_size, capacity)?;
+    build_by(rt, alloc, family, &sizes, gate)
+}
+
+/// Builds as above, by a crew of these sizes.
+///
+/// # Errors
+///
+/// `Stopped` with the node that failed first and its cause, which is `Held` only if the gate said no to it, and `Memory` if no
+/// thread could be made for it; `Memory`.
+pub fn build_by<R: Threads + Wait + Sync, G: Gate + Sync>(
+    rt: &R,
+    alloc: Global,
+    family: Family,
+    sizes: &CrewSizes,
+    gate: &G,
+) -> Result<Built, Fault>
+    ensures { (nodes batch_size capacity : ℕ) → AreThese nodes batch_size capacity sizes.now → Builds (G.says gate.now) family nodes batch_size capacity result }
+{
     let EndedCrew {
         classes,
         board,
         runners,
-    } = run_crew(rt, alloc, family, &sizes, gate, &Until::Halted)?;
+    } = run_crew(rt, alloc, family, sizes, gate, &Until::Halted)?;
     finish(rt, alloc, classes, board, runners)
 }

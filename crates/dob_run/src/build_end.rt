@@ -3,7 +3,8 @@ ghost use Rattle.std.specs.Prelude.{◌≡◌, ◌↔◌, ℕ, IsTrue, IfOk, IfE
 ghost use Rattle.dob_stops.specs.declared.cause.Cause.{Cause};
 ghost use Rattle.dob_runner.specs.declared.runner.Runner.{Runner};
 ghost use Rattle.dob_run.specs.CrewRunners.{endpoint_of, node_of};
-ghost use Rattle.dob_run.specs.CrewClose.{IsCrew, AreClosed};
+ghost use Rattle.dob_board.specs.Seats.{AreWords};
+ghost use Rattle.dob_run.specs.CrewClose.{IsCrew, AreClosed, seat_in};
 ghost use Rattle.dob_run.specs.Built.{IsBuilt};
 ghost use Rattle.dob_run.specs.BoundedRun.{AreUnfailed};
 ghost use Rattle.dob_run.specs.BuildEnd.{HaveStopped, AllKnow, IsFailure, IsFailureOf, AreFailureless, share_in};
@@ -42,6 +43,7 @@ pub fn finish<R: Threads + Wait + Sync>(
     requires stopped { (size : ℕ) × HaveStopped classes.family size runners.items }
     ensures built { IfOk result (λ built. (size : ℕ) → HaveStopped classes.family size runners.items →
         IsBuilt classes.family board.nodes size built) }
+    ensures words { IfOk result (λ built. AreWords board.nodes (map seat_in (map endpoint_of runners.items)) built.closed.words.items) }
     ensures unfailed { OnOk result (AreUnfailed runners.items) }
     ensures failed { IfErr result (IsFailureOf runners.items) }
 {

@@ -80,7 +80,7 @@ fn runners_of(
     requires nodes { (k : ℕ) (endpoint : _) → slice_get endpoints.items k ≡ Some endpoint → endpoint.seat.nodes ≡ nodes }
     ensures { IfOk result (λ runners. AllZip (IsRunnerOf classes.now.family batch_size) endpoints.items runners.items) }
 {
-    let pace = Pace::open(alloc, endpoints.len())?;
+    let pace = Pace::open(alloc, nodes.get())?;
     let pace = &pace;
     endpoints
         .into_par_iter()
@@ -107,7 +107,7 @@ fn open_runner(
     requires nodes { endpoint.seat.nodes ≡ nodes }
     ensures { IfOk result (IsRunnerOf classes.now.family batch_size endpoint) }
 {
-    let pace = pace.of(endpoint.seat.node)?;
+    let pace = pace.of(alloc, endpoint.seat.node, nodes.get())?;
     let node = Node::open_own(alloc, classes, endpoint.seat.node, nodes)?;
     let mut runner = Runner::new(node, endpoint, classes.family, batch_size);
     runner.keep_pace(pace);
@@ -129,9 +129,7 @@ pub(crate) fn open_endpoints(
     ensures crew { IfOk result (λ opened. IsCrew opened.0 opened.1.items) }
     ensures new { IfOk result (λ opened. AreNewEndpoints capacity opened.1.items) }
 {
-    let Ok((board, seats)) = Board::open(alloc, nodes.get()) else {
-        return Err(Memory);
-    };
+    let (board, seats) = Board::open_for(alloc, nodes)?;
     let (rows, inlets) = lay(alloc, nodes, capacity)?;
     let endpoints = seat_all(alloc, seats, rows, inlets)?;
     Ok((board, endpoints))

@@ -23,7 +23,7 @@ use std::thread::Threads;
 
 // How many classes are gone over before their values join the table: enough that the threads have work, and so few that what
 // stands beside the table is small.
-const AT_A_TIME: u64 = 1 << 20;
+pub(crate) const AT_A_TIME: u64 = 1 << 20;
 
 /// A table with the digest of its file.
 #[derive(Drop)]

@@ -33,14 +33,16 @@ mod inbox_open;
 mod laws;
 mod limits;
 mod rows;
+mod scans;
 mod threads;
 
 pub use bounded_run::{Turned, Worker, run_turns};
-pub use build::run_nodes;
+pub use build::{build_by, run_nodes};
 pub use build_end::finish;
 pub use built_table::Built;
 pub use crew_open::crew;
 pub use dob_runner::{Free, Gate, Runner};
 pub use dob_stops::Fault;
 pub use laws::finished_is_right;
-pub use limits::{BATCH, CAPACITY};
+pub use limits::{BATCH, CAPACITY, CrewSizes};
+pub use scans::scan;

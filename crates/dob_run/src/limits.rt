@@ -16,7 +16,7 @@ pub const CAPACITY: usize = 64;
 
 /// How many nodes a crew has, the most items of a batch that they cut, and the most batches that an inbox of theirs holds.
 #[derive(Clone, Copy)]
-pub(crate) struct CrewSizes {
+pub struct CrewSizes {
     pub(crate) nodes: NodeCount,
     pub(crate) batch_size: BatchSize,
     pub(crate) capacity: Capacity,
@@ -32,7 +32,7 @@ impl CrewSizes {
     ///
     /// Tested in this order: `Nodes` if `nodes` isn't 1 to 16; `Sizes` if `batch_size` isn't 1 to 4096 or `capacity`
     /// not 1 to 1024.
-    pub(crate) fn new(nodes: usize, batch_size: usize, capacity: usize) -> Result<CrewSizes, Fault>
+    pub fn new(nodes: usize, batch_size: usize, capacity: usize) -> Result<CrewSizes, Fault>
         ensures sizes { IfOk result (AreThese nodes batch_size capacity) }
         ensures within { OnOk result (AreWithin nodes batch_size capacity) }
         ensures fault { IfErr result (HasSizeFault nodes batch_size capacity) }

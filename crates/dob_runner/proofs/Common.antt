@@ -58,7 +58,7 @@ pub use Rattle.dob_runner.specs.Runners.{GateIsAsked, GoesOn, GoesRound, HasBrok
 pub use Rattle.dob_runner.specs.Runners.{KeepsRunner, StepsBy, no_gate, says_no}
 pub use Rattle.dob_runner.specs.Slots.{held_from, in_slot}
 pub use Rattle.dob_runner.specs.TurnRounds.{AddsFew, CutsFor, CutsLeft, ExpandsOne, ExpandsSome, FillsFor, HasSentOne, HasToSend, HoldsUp, IsAbove, IsHeldUp}
-pub use Rattle.dob_runner.specs.TurnRounds.{IsLevel, IsMoreOut, IsReceived, IsSent, IsToFill, IsUnwanted, IsWithin, IsWorkedIn, RunnerTakesBatch, SendsAll}
+pub use Rattle.dob_runner.specs.TurnRounds.{IsLevel, IsMoreOut, IsReceived, IsSent, IsToFill, IsUnwanted, ExpandsUpTo, IsWorkedIn, RunnerTakesBatch, SendsAll}
 pub use Rattle.dob_runner.specs.TurnRounds.{SendsBelow, SendsSmall, SendsTo, Works}
 pub use Rattle.dob_runner.specs.Turns.{EndsTurn, GateIsTold, HasSameWork, HasSeen, HasTurned, SeeksToken}
 pub use Rattle.dob_runner.specs.declared.endpoint.Endpoint.{Endpoint}

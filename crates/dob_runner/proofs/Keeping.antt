@@ -12,6 +12,7 @@ use Rattle.dob_pieces.specs.Lists.{IsBeginning}
 use Rattle.dob_safra.specs.declared.token.Token.{Token}
 use Rattle.dob_board.specs.Views.{passes}
 use Rattle.dob_node.specs.Outboxes.{outbox_in}
+use Rattle.dob_runner.specs.Paces.{kept_member}
 use Rattle.dob_runner.proofs.Links.{each_after}
 
 -- ---- lists of batches
@@ -146,10 +147,11 @@ agrees_going of_node failed going why is = absurd (let both = sym going ∙ is i
 
 -- a runner whose node has failed, which its seat has said, after a step of its endpoint
 pub broken_by : (old new : Runner) (mid : Endpoint) (why : Cause) → KeepsEndpoint old.endpoint mid → MovesNothing old.endpoint.seat mid.seat →
-    FailsFor mid new.endpoint new.failed why → new.family ≡ old.family → new.batch_size ≡ old.batch_size → IsReasonFor no_gate new why → HasBroken old new why
-broken_by old new mid why kept still fails family size reason = record {
+    FailsFor mid new.endpoint new.failed why → new.family ≡ old.family → new.batch_size ≡ old.batch_size → kept_member new.pace ≡ kept_member old.pace →
+    IsReasonFor no_gate new why → HasBroken old new why
+broken_by old new mid why kept still fails family size pace reason = record {
   failed = record {
-    keeps = record { endpoint = endpoint_trans old.endpoint mid new.endpoint kept (links_kept mid new.endpoint fails.keeps.links); family = family; batch_size = size };
+    keeps = record { endpoint = endpoint_trans old.endpoint mid new.endpoint kept (links_kept mid new.endpoint fails.keeps.links); family = family; batch_size = size; pace = pace };
     cause = fails.cause;
     stopped = fails.stopped;
   };
@@ -158,7 +160,7 @@ broken_by old new mid why kept still fails family size reason = record {
 }
 
 pub broken_for : (old new : Runner) (why : Cause) → FailsFor old.endpoint new.endpoint new.failed why → new.family ≡ old.family → new.batch_size ≡ old.batch_size →
-    IsReasonFor no_gate new why → HasBroken old new why
+    kept_member new.pace ≡ kept_member old.pace → IsReasonFor no_gate new why → HasBroken old new why
 broken_for old new why = broken_by old new old.endpoint why (endpoint_same old.endpoint) refl
 
 -- ---- reasons
@@ -208,18 +210,23 @@ outbox_still old new to same = λ q. outbox_in (same.same.0 q) (same.same.2 q) (
 -- ---- runners
 
 pub runner_same : (r : Runner) → KeepsRunner r r
-runner_same r = record { endpoint = endpoint_same r.endpoint; family = refl; batch_size = refl }
+runner_same r = record { endpoint = endpoint_same r.endpoint; family = refl; batch_size = refl; pace = refl }
 
 pub runner_trans : (a b c : Runner) → KeepsRunner a b → KeepsRunner b c → KeepsRunner a c
-runner_trans a b c one two = record { endpoint = endpoint_trans a.endpoint b.endpoint c.endpoint one.endpoint two.endpoint; family = two.family ∙ one.family; batch_size = two.batch_size ∙ one.batch_size }
+runner_trans a b c one two = record {
+  endpoint = endpoint_trans a.endpoint b.endpoint c.endpoint one.endpoint two.endpoint;
+  family = two.family ∙ one.family;
+  batch_size = two.batch_size ∙ one.batch_size;
+  pace = two.pace ∙ one.pace;
+}
 
-pub goes_by : {a b : Runner} → KeepsEndpoint a.endpoint b.endpoint → b.family ≡ a.family → b.batch_size ≡ a.batch_size → b.failed ≡ None →
+pub goes_by : {a b : Runner} → KeepsEndpoint a.endpoint b.endpoint → b.family ≡ a.family → b.batch_size ≡ a.batch_size → kept_member b.pace ≡ kept_member a.pace → b.failed ≡ None →
     b.endpoint.seat.stand.halt ≡ a.endpoint.seat.stand.halt → MovesNothing a.endpoint.seat b.endpoint.seat → GoesOn a b
-goes_by endpoint family size unfailed halt still = grind arith
+goes_by endpoint family size pace unfailed halt still = grind arith
 
 -- one of which nothing has changed goes on
 pub goes_same : (r : Runner) → r.failed ≡ None → GoesOn r r
-goes_same r unfailed = goes_by (endpoint_same r.endpoint) refl refl unfailed refl refl
+goes_same r unfailed = goes_by (endpoint_same r.endpoint) refl refl refl unfailed refl refl
 
 pub goes_trans : (a b c : Runner) → GoesOn a b → GoesOn b c → GoesOn a c
 goes_trans a b c one two = record {

@@ -2,6 +2,7 @@
 
 mod Common  -- names of other crates and of this one's definitions, for the proofs
 pub mod Links  -- the counts of links, after one link changed, and what taking from an inbox does
+pub mod Pacing  -- the least level of the others, node by node
 pub mod Knowing  -- what a node has applied and knows, when it is opened and after each step
 pub mod Keeping  -- what links, endpoints and runners keep, through each step
 pub mod Lawfuls  -- each step of a runner leaves it lawful

@@ -5,6 +5,7 @@ use Rattle.dob_runner.proofs.Common.{append_cancel_right, same_Some, slice_get_w
 use Rattle.dob_runner.proofs.Common.{outbox_to, sent_by, SendEnd, HasChangedOne, KeepsEndpoint, IsOffered, offered, GoesOn, KeepsRunner, StepsBy, in_slot}
 use Rattle.dob_runner.proofs.Common.{CutsFor, CutsLeft, FillsFor, HasSentOne, HasToSend, IsMoreOut, IsSent, IsToFill, SendsBelow, SendsTo, Endpoint, Runner}
 use Rattle.dob_runner.proofs.Common.{Outlet}
+use Rattle.dob_runner.specs.Paces.{kept_member}
 use Rattle.dob_runner.proofs.Keeping.{endpoint_same, goes_by, goes_same, goes_trans, still_same}
 use Rattle.dob_runner.proofs.Links.{changed_there, changed_at, changed_else}
 
@@ -99,9 +100,9 @@ module _ (endpoint : Endpoint) (to : ℕ) (x : Outlet) (low : to < endpoint.seat
 
 -- nothing is cut
 pub uncut : (to : ℕ) (old new : Runner) → new.failed ≡ None → new.node ≡ old.node → new.endpoint ≡ old.endpoint → new.family ≡ old.family →
-    new.batch_size ≡ old.batch_size → CutsFor to old new false
-uncut to old new unfailed node endpoint family size = record {
-  goes = goes_by (subst (KeepsEndpoint old.endpoint) (sym endpoint) (endpoint_same old.endpoint)) family size unfailed
+    new.batch_size ≡ old.batch_size → kept_member new.pace ≡ kept_member old.pace → CutsFor to old new false
+uncut to old new unfailed node endpoint family size pace = record {
+  goes = goes_by (subst (KeepsEndpoint old.endpoint) (sym endpoint) (endpoint_same old.endpoint)) family size pace unfailed
       (ap (λ (m : Endpoint). m.seat.stand.halt) endpoint) (still_same old.endpoint.seat new.endpoint.seat (ap (λ (m : Endpoint). m.seat) endpoint));
   one = λ never. absurd (cc);
   nothing = λ is. (node, endpoint);

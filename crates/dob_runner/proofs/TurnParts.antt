@@ -3,8 +3,8 @@ use Rattle.dob_runner.proofs.Common.{◌+◌, ◌-◌, ◌<◌, ◌↔◌, ◌�
 use Rattle.dob_runner.proofs.Common.{arith, false, inl, inr, length, not, refl, subst, sym, true, ℕ, both_ways, cases_Bool, cases_eq, cases_lt, same_Some}
 use Rattle.dob_runner.proofs.Common.{slice_get_within, IfErr, MatchResult, slice_get, some_at, Cause, Memory, NodeView, IsExpanded, HistoryView, Halt}
 use Rattle.dob_runner.proofs.Common.{NodeSeat, taken_by, KeepsEndpoint, offered, GateIsAsked, GoesOn, HasFailed, IsReasonFor, IsReasoned, KeepsRunner, StepsBy}
-use Rattle.dob_runner.proofs.Common.{says_no, AddsFew, ExpandsOne, ExpandsSome, IsAbove, IsHeldUp, IsLevel, IsWithin, RunnerTakesBatch, SendsAll, SendsSmall}
-use Rattle.dob_runner.proofs.Common.{Works, EndsTurn, GateIsTold, HasSameWork, HasTurned, SeeksToken, Endpoint, Runner, Inlet, Outlet}
+use Rattle.dob_runner.proofs.Common.{says_no, AddsFew, ExpandsOne, ExpandsSome, IsAbove, IsHeldUp, IsLevel, ExpandsUpTo, RunnerTakesBatch, SendsAll, SendsSmall}
+use Rattle.dob_runner.proofs.Common.{Works, GateIsTold, HasSameWork, HasTurned, Endpoint, Runner, Inlet, Outlet}
 use Rattle.dob_node.specs.Levels.{level_of, HasLevel}
 use Rattle.dob_runner.specs.TurnToken.{HasLooked, HandsOn, MovesToken}
 use Rattle.dob_runner.proofs.Keeping.{goes_trans, reasoned_failed, reasoned_unfailed}
@@ -30,10 +30,6 @@ token_by old found new did is_there is looked known moved stayed = record {
   stayed = stayed;
 }
 
--- a turn that did nothing ends with the look for it
-pub ends_idle : (did : Bool) (old new : Runner) (found : Bool) → did ≡ false → SeeksToken old new found → EndsTurn did old new
-ends_idle did old new found idle seeks = grind arith
-
 -- ---- settlements
 
 -- no fewer are expanded than before
@@ -41,11 +37,11 @@ more_expanded : (old new : Runner) (did : Bool) (first : ℕ) → ExpandsOne old
 more_expanded old new did first one low = grind arith
 
 -- none is above the level where none is expanded
-pub within_none : (limit : ℕ) (node : NodeView) → IsWithin limit node node
+pub within_none : (limit : ℕ) (node : NodeView) → ExpandsUpTo limit node node
 within_none limit node = λ number s from below there. absurd (omega (arith, from, below))
 
 -- nor where the next isn't
-within_more : (limit : ℕ) (old mid new : NodeView) → IsWithin limit old mid → (IsAbove limit mid → ⊥) → IsExpanded mid new → IsWithin limit old new
+within_more : (limit : ℕ) (old mid new : NodeView) → ExpandsUpTo limit old mid → (IsAbove limit mid → ⊥) → IsExpanded mid new → ExpandsUpTo limit old new
 within_more limit old mid new so_far low step = λ number s from below there.
     let here : slice_get mid.history.settlements number ≡ Some s = ap (λ (h : HistoryView). slice_get h.settlements number) (sym step.same.4) ∙ there in
     elim (cases_eq number mid.expanded) [
@@ -56,11 +52,11 @@ within_more limit old mid new so_far low step = λ number s from below there.
       | inr other ↦ so_far number s from (omega (arith, below, step.expanded, other)) here
     ]
 
-pub within_one : (limit : ℕ) (old : NodeView) (mid new : Runner) (did above : Bool) → IsWithin limit old mid.node → above ≡ false →
-    (IsAbove limit mid.node → above ≡ true) → ExpandsOne mid new did → IsWithin limit old new.node
+pub within_one : (limit : ℕ) (old : NodeView) (mid new : Runner) (did above : Bool) → ExpandsUpTo limit old mid.node → above ≡ false →
+    (IsAbove limit mid.node → above ≡ true) → ExpandsOne mid new did → ExpandsUpTo limit old new.node
 within_one limit old mid new did above so_far low is_above one = elim (cases_Bool did) [
   | inl is ↦ within_more limit old mid.node new.node so_far (λ it. both_ways above low (is_above it)) (one.expanded is)
-  | inr none ↦ subst (λ (n : NodeView). IsWithin limit old n) (sym (one.nothing none)) so_far
+  | inr none ↦ subst (λ (n : NodeView). ExpandsUpTo limit old n) (sym (one.nothing none)) so_far
 ]
 
 -- none is expanded, for some reason
@@ -70,7 +66,7 @@ none_expanded limit old new goes endpoint same why = grind (arith, within_none)
 
 -- some are, where nothing held the runner up, the next wasn't above the level and there was one
 pub some_expanded : (limit : ℕ) (old new : Runner) (held above any : Bool) → GoesOn old new → new.endpoint ≡ old.endpoint → old.node.expanded < new.node.expanded →
-    IsWithin limit old.node new.node → held ≡ false → (IsHeldUp old → held ≡ true) → above ≡ false → (IsAbove limit old.node → above ≡ true) →
+    ExpandsUpTo limit old.node new.node → held ≡ false → (IsHeldUp old → held ≡ true) → above ≡ false → (IsAbove limit old.node → above ≡ true) →
     any ≡ true → (old.node.expanded ≡ length old.node.history.settlements → any ≡ false) → ExpandsSome limit old new true
 some_expanded limit old new held above any goes endpoint more within free up low is_above is none_left = record {
   goes = goes;

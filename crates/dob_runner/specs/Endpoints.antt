@@ -27,6 +27,6 @@ HasChangedOne {L} Changed k old new =
 abbrev pub KeepsEach : {L : Type 0} → (L → L → Type 0) → List L → List L → Type 0
 KeepsEach {L} Keeps old new = (j : ℕ) (before after : L) → slice_get old j ≡ Some before → slice_get new j ≡ Some after → Keeps before after
 
--- each slot is empty
+-- each sending slot is empty
 abbrev pub AreOut : List Outlet → Type 0
 AreOut outlets = (to : ℕ) (outlet : Outlet) → slice_get outlets to ≡ Some outlet → outlet.slot ≡ None

@@ -1,11 +1,11 @@
 -- What the endpoint of a runner keeps, whatever it does: its seat and its inboxes.
-use Rattle.std.specs.Prelude.{◌≡◌, ◌≢◌, true, Option, Some}
+use Rattle.std.specs.Prelude.{◌≡◌, ◌≢◌, true, Option, None, Some}
 use Rattle.dob_board.specs.declared.halt.Halt.TheVariants.{Running, Ended}
 use Rattle.dob_board.specs.Seats.{IsSameSeat, MovesNothing}
 use Rattle.dob_stops.specs.declared.cause.Cause.{Cause}
 use Rattle.dob_runner.specs.declared.endpoint.Endpoint.{Endpoint}
 use Rattle.dob_runner.specs.Links.{KeepsOutlet, KeepsInlet}
-use Rattle.dob_runner.specs.Endpoints.{KeepsEach}
+use Rattle.dob_runner.specs.Endpoints.{AreOut, KeepsEach}
 
 -- The endpoint is of the same seat, and each of its ends of the same inbox; nothing is taken back.
 pub record KeepsEndpoint (old new : Endpoint) : Type 0 where
@@ -32,3 +32,7 @@ pub record FailsFor (old new : Endpoint) (failed : Option Cause) (why : Cause) :
   pub keeps : HasSameLinksAndColour old new
   pub stopped : new.seat.stand.halt ≢ Running
   pub black : old.seat.stand.black ≡ true → new.seat.stand.halt ≢ Ended
+
+-- no batch lies in a slot of it
+abbrev pub HasEmptySlots : Endpoint → Type 0
+HasEmptySlots endpoint = AreOut endpoint.outlets.items × (endpoint.inlet.slot ≡ None)

@@ -4,6 +4,7 @@ pub mod Keeps
 pub mod Knows
 pub mod Links
 pub mod Endpoints
+pub mod Paces
 pub mod Props
 pub mod TurnRounds
 pub mod Runners

@@ -17,13 +17,15 @@ use Rattle.dob_runner.specs.Links.{offered, worked}
 use Rattle.dob_runner.specs.LawfulRunners.{items_worked}
 use Rattle.dob_runner.specs.declared.runner.Runner.{Runner}
 use Rattle.dob_runner.specs.Endpoints.{AreOut}
+use Rattle.dob_runner.specs.Paces.{kept_member}
 use Rattle.dob_runner.specs.Keeps.{KeepsEndpoint, HasSameLinksAndColour}
 
--- The runner keeps its place in its crew, and nothing that went over its links is taken back.
+-- The runner keeps its place in its crew and in the crew's pace, and nothing that went over its links is taken back.
 pub record KeepsRunner (old new : Runner) : Type 0 where
   pub endpoint : KeepsEndpoint old.endpoint new.endpoint
   pub family : new.family ≡ old.family
   pub batch_size : new.batch_size ≡ old.batch_size
+  pub pace : kept_member new.pace ≡ kept_member old.pace
 
 -- it has done something and goes on, and didn't move the token or announce the end
 pub record GoesOn (old new : Runner) : Type 0 where

@@ -14,6 +14,7 @@ use Rattle.dob_runner.specs.declared.runner.Runner.{Runner}
 use Rattle.dob_runner.specs.Links.{offered, worked, HoldsFor, IsFull}
 use Rattle.dob_runner.specs.Endpoints.{HasChangedOne}
 use Rattle.dob_runner.specs.Runners.{GoesOn}
+use Rattle.dob_runner.specs.Paces.{IsLimitFor}
 
 -- a batch for that node couldn't be sent, and another whole one is left for it
 pub record HoldsUp (runner : Runner) (to : ℕ) : Type 0 where
@@ -43,9 +44,16 @@ abbrev pub IsAbove : ℕ → NodeView → Type 0
 IsAbove limit node = (level : ℕ) × HasLevel node level × (limit < level)
 
 -- those that the node has expanded in between aren't
-abbrev pub IsWithin : ℕ → NodeView → NodeView → Type 0
-IsWithin limit old new = (number : ℕ) (s : Settlement) → old.expanded ≤ number → number < new.expanded →
+abbrev pub ExpandsUpTo : ℕ → NodeView → NodeView → Type 0
+ExpandsUpTo limit old new = (number : ℕ) (s : Settlement) → old.expanded ≤ number → number < new.expanded →
     slice_get new.history.settlements number ≡ Some s → level_of s ≤ limit
+
+-- It has said on which level it is, and learned which is the highest that it may expand, as it was told of the others.
+pub record HearsLimit (old new : Runner) (limit : ℕ) : Type 0 where
+  pub goes : GoesOn old new
+  pub node : new.node ≡ old.node
+  pub endpoint : new.endpoint ≡ old.endpoint
+  pub limit_is : IsLimitFor new.pace limit
 
 -- It has expanded settlements, none above that level, just where it isn't held up and the next one isn't above it.
 pub record ExpandsSome (limit : ℕ) (old new : Runner) (did : Bool) : Type 0 where
@@ -53,7 +61,7 @@ pub record ExpandsSome (limit : ℕ) (old new : Runner) (did : Bool) : Type 0 wh
   pub endpoint : new.endpoint ≡ old.endpoint
   pub done : (did ≡ false) ↔ (IsHeldUp old ⊎ IsAbove limit old.node ⊎ (old.node.expanded ≡ length old.node.history.settlements))
   pub expanded : did ≡ true → old.node.expanded < new.node.expanded
-  pub within : IsWithin limit old.node new.node
+  pub within : ExpandsUpTo limit old.node new.node
   pub nothing : did ≡ false → new.node ≡ old.node
 
 -- It has applied all its own items, and none is left; whether there was any.
@@ -191,7 +199,7 @@ SendsSmall took limit before node =
     ((took ≡ false) × (node.expanded ≡ length node.history.settlements)) ⊎ IsAbove limit node
     ⊎ ((level : ℕ) × HasLevel before level × IsAbove level node)
 
--- It has done a turn's work: it took from its inbox, expanded settlements up to some level, applied all its own items and sent, and
+-- It has done a turn's work: it took from its inbox, expanded settlements up to the level that its pace allows, applied all its own items and sent, and
 -- also batches that aren't whole just where these are due; and it did something just where one of these did.
 -- So none of its own items is left, and over each link at most one batch more went.
 pub record Works (old new : Runner) (did : Bool) : Type 0 where
@@ -205,10 +213,12 @@ pub record Works (old new : Runner) (did : Bool) : Type 0 where
   pub small : Bool
   pub limit : ℕ
   pub taker : Runner
+  pub hearer : Runner
   pub expander : Runner
   pub sender : Runner
   pub takes : RunnerTakesBatch old taker took
-  pub expands : ExpandsSome limit taker expander expanded
+  pub hears : HearsLimit taker hearer limit
+  pub expands : ExpandsSome limit hearer expander expanded
   pub applies : AppliesAllOwn expander sender applied
   pub sends : SendsAll small sender new sent
   pub is_small : IsTrue small ↔ SendsSmall took limit taker.node sender.node

@@ -14,8 +14,9 @@
 // - What a runner knows is said by all histories that can have led to what it applied, not by a log of arrivals. So it refuses an item that doesn't fit as
 //   E13, and only all runners together show that none comes.
 // - How much a turn expands has no contract, except that it is something if nothing holds the runner up and its level isn't above the limit.
-// - Runners keep pace (`Pace`): each says on which level its node is, in a word that only hints, and expands none more than one level above the least of the
-//   others. The runner on the least level is never above its limit, so no two wait for each other. When its level rises it sends small batches too.
+// - Runners keep pace (`Pace`): each says on which level its node is, in a word that only hints, and expands none more than one level above the least that it
+//   was told of the others (`HearsLimit`). What a word holds when it is read no contract knows. The runner on the least level is never above its limit, so no
+//   two wait for each other. When its level rises it sends small batches too.
 // - A runner that has nothing to do sleeps after some yields, 50 microseconds at first and 1 ms at most. Nobody wakes a sleeper, and one with a batch in a
 //   slot doesn't sleep.
 // - A failure is an event of the board's log (`BoardEvent`), so the halt word follows from the log (`halt_told`). Each seat's log has all moves of its own

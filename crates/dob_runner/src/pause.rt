@@ -1,5 +1,7 @@
 // How a runner that has nothing to do pauses: it spins and yields at first, and then sleeps, longer each time.
+ghost use Rattle.dob_runner.specs.Keeps.{HasEmptySlots};
 
+use crate::endpoint::Endpoint;
 use crossbeam_utils::Backoff;
 use std::sync::Wait;
 use std::sync::atomic::{AtomicU64, Ordering};
@@ -33,22 +35,25 @@ impl Pause {
         self.sleep.store(SHORTEST, Ordering::SeqCst);
     }
 
-    // Follows a turn that had no work: where that found the token the next pause is as short as the first one, and else this is one,
-    // without sleep while a batch lies in a slot.
-    pub(crate) fn follow<R: Wait>(&self, rt: &R, found: bool, empty: bool) {
+    // Follows a turn of that endpoint's runner that had no work: where that found the token the next pause is as short as the first one,
+    // and else this is one, without sleep while a batch lies in a slot.
+    pub(crate) fn follow<R: Wait>(&self, rt: &R, found: bool, endpoint: &Endpoint) {
         if found {
             self.reset();
             return;
         }
-        if empty {
-            self.rest(rt);
+        if endpoint.has_empty_slots() {
+            self.rest(rt, endpoint);
             return;
         }
         self.backoff.snooze();
     }
 
-    // Pauses for a moment, and sleeps where the pauses before it were too short.
-    fn rest<R: Wait>(&self, rt: &R) {
+    // Pauses for a moment, and sleeps where the pauses before it were too short. No batch lies in a slot of the endpoint: else who waits
+    // for it would wait for the sleeper.
+    fn rest<R: Wait>(&self, rt: &R, _endpoint: &Endpoint)
+        requires { HasEmptySlots _endpoint.now }
+    {
         if !self.backoff.is_completed() {
             self.backoff.snooze();
             return;

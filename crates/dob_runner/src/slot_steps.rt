@@ -1,6 +1,6 @@
 // What a runner does with its slots: it holds and offers batches, and receives and releases them.
 ghost use Rattle.std.specs.Prelude.{◌≡◌, ◌≢◌, ◌≤◌, ℕ, true, false, None, Some, ◌∷◌, [], ◌++◌, length, MatchOption};
-ghost use Rattle.dob_chan.specs.Inboxes.{most_batches};
+ghost use Rattle.dob_chan.specs.Inboxes.{most_deliveries};
 ghost use Rattle.dob_update.specs.Batches.{BatchView};
 ghost use Rattle.dob_chan.specs.Ends.{place_of};
 ghost use Rattle.dob_runner.specs.Slots.{in_slot};
@@ -43,7 +43,7 @@ impl Outlet {
     // Offers the batch in the slot to the inbox; tries once. A batch that isn't taken stays in the slot, which is only where
     // the inbox was full. Its promises hold if it returns.
     pub(crate) fn offer<R: Wait>(&mut self, rt: &R)
-        requires { length (offered self.old) ≤ most_batches }
+        requires { length (offered self.old) ≤ most_deliveries }
         ensures { IsOffered self.old self.new }
     {
         let Some(batch) = self.slot.take() else {

@@ -1,11 +1,11 @@
 // A turn of a runner.
-ghost use Rattle.std.specs.Prelude.{◌≡◌, ◌≢◌, ◌↔◌, ◌-◌, ◌<◌, IsTrue, Err, None, IfErr, MatchOption, MatchResult, length, true, false};
+ghost use Rattle.std.specs.Prelude.{◌≡◌, ◌≢◌, ◌↔◌, ◌-◌, ◌<◌, IsTrue, Err, None, Some, IfErr, MatchOption, MatchResult, length, true, false};
 ghost use Rattle.dob_board.specs.declared.halt.Halt.TheVariants.{Running};
 ghost use Rattle.dob_board.specs.Seats.{MovesNothing};
 ghost use Rattle.dob_stops.specs.declared.cause.Cause.TheVariants.{Held};
 ghost use Rattle.dob_runner.specs.Runners.{StepsBy, GoesRound, HasFailed, IsHeldBack, IsTurnedAway, IsNew, GateIsAsked, IsReasonFor, says_no};
 ghost use Rattle.dob_node.specs.NodeViews.{NodeView};
-ghost use Rattle.dob_runner.specs.TurnRounds.{IsLevel, IsAbove, SendsSmall, Works};
+ghost use Rattle.dob_runner.specs.TurnRounds.{IsLevel, IsAbove, HearsLimit, SendsSmall, Works};
 ghost use Rattle.dob_runner.specs.Turns.{HasTurned, HasSeen, EndsTurn, GateIsTold};
 
 use crate::endpoint::Endpoint;
@@ -31,6 +31,7 @@ impl Runner {
         ensures family { result.family ≡ family }
         ensures batch_size { result.batch_size ≡ batch_size }
         ensures unfailed { result.failed ≡ None }
+        ensures pace { result.pace ≡ None }
     {
         Runner {
             node,
@@ -50,6 +51,7 @@ impl Runner {
         ensures family { self.new.family ≡ self.old.family }
         ensures batch_size { self.new.batch_size ≡ self.old.batch_size }
         ensures failed { self.new.failed ≡ self.old.failed }
+        ensures pace { self.new.pace ≡ Some pace }
     {
         self.pace = Some(pace);
     }
@@ -150,8 +152,7 @@ impl Runner {
             return;
         }
         let found = self.seeks_token();
-        let empty = self.endpoint.has_empty_slots();
-        self.pause.follow(rt, found, empty);
+        self.pause.follow(rt, found, &self.endpoint);
     }
 
     // A turn's work; then the gate learns how many settlements it has expanded, also if it has failed.
@@ -183,7 +184,7 @@ impl Runner {
     {
         let took = self.take_one(rt)?;
         let level = self.level();
-        let limit = self.limit(level);
+        let limit = self.hear(level);
         let expanded = self.expand_all(classes, limit)?;
         let applied = self.apply_all()?;
         let small = self.sends_small(took, level, limit);
@@ -199,10 +200,13 @@ impl Runner {
         self.node.level()
     }
 
-    // The highest level that it may expand now, where its own is that one.
-    fn limit(&self, level: Option<u16>) -> u16 {
-        match &self.pace {
-            Some(pace) => pace.limit(level),
+    // Says that its own level is that one, and gives the highest one that it may expand now.
+    fn hear(&mut self, level: Option<u16>) -> u16
+        requires { self.old.failed ≡ None }
+        ensures { HearsLimit self.old self.new result }
+    {
+        match &mut self.pace {
+            Some(pace) => pace.hear(level),
             None => u16::MAX,
         }
     }

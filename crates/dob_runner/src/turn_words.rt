@@ -3,7 +3,7 @@ ghost use Rattle.std.specs.Prelude.{◌≡◌, ◌≢◌, ◌↔◌, IsTrue, Non
 ghost use Rattle.dob_board.specs.declared.halt.Halt.TheVariants.{Running, Ended};
 ghost use Rattle.dob_board.specs.Seats.{KnewOwnFailure, ObservesHalt, TellsHalt, MovesNothing};
 ghost use Rattle.dob_runner.specs.Endpoints.{AreOut};
-ghost use Rattle.dob_runner.specs.Keeps.{HasSameLinks, HasSameLinksAndColour};
+ghost use Rattle.dob_runner.specs.Keeps.{HasEmptySlots, HasSameLinks, HasSameLinksAndColour};
 ghost use Rattle.dob_runner.specs.TurnToken.{HasLooked, MovesToken};
 
 use crate::endpoint::Endpoint;
@@ -67,7 +67,7 @@ impl Endpoint {
 
     // Whether no batch lies in a slot.
     pub(crate) fn has_empty_slots(&self) -> bool
-        ensures { IsTrue result ↔ (AreOut self.now.outlets.items × (self.now.inlet.slot ≡ None)) }
+        ensures { IsTrue result ↔ HasEmptySlots self.now }
     {
         are_out(&self.outlets) && !self.inlet.is_full()
     }

@@ -1,4 +1,5 @@
 -- A share as it is opened: slots one after the other, and a pool of whose entries none is in use.
+use Prim.Native.Nat.{zero-le}
 use Rattle.std.specs.Prelude.{◌≡◌, ◌↔◌, ℕ, zero, suc, ◌+◌, ◌<◌, List, [], ◌∷◌, length, slice_index_or}
 use Rattle.dob_moves.specs.declared.position_status.Status.{Status}
 use Rattle.dob_moves.specs.declared.position_status.Status.TheVariants.{Stuck, Open}
@@ -7,9 +8,13 @@ use Rattle.dob_share.specs.declared.opening.Opening.{Opening}
 use Rattle.dob_share.specs.Owners.{class_of_place}
 use Rattle.dob_share.specs.Slots.{slot_at, start_at}
 
--- what is listed of the class, or a class with no move that is stuck
+-- what is known of a class with no move that is stuck
+abbrev pub stuck : Opening
+stuck = record { status = Stuck; moves = 0; few = zero-le }
+
+-- what is listed of the class, or that
 abbrev pub opening_of : List Opening → ℕ → Opening
-opening_of openings class = slice_index_or openings class (record { status = Stuck; moves = 0 })
+opening_of openings class = slice_index_or openings class stuck
 
 -- the second list has, in their order, what the first one has of the classes of owner `id` among n
 pub record AreOwn (openings : List Opening) (n id : ℕ) (own : List Opening) : Type 0 where

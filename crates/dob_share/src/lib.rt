@@ -6,7 +6,7 @@
 // - Only open classes have cells, 19 in 100 of those of `222`. Statuses are three bits a class, 64 classes in a word with the number of open ones before
 //   them, so one look-up says whether a class is open and which cell it has (`opens_below`). Any other class reads as a cell without moves.
 // - A run has an entry for each counted win, its distance, and its slot says how many are in use, so first news of a win is written without reading the next
-//   slot or the pool. A class with more than 63 moves (none was seen to have more than 38) is out of memory at the opening.
+//   slot or the pool. It has fewer than 64 entries, since a class has at most 63 moves (none was seen to have more than 38).
 // - An owner is found without a division: `rest` and `quotient` match the number of nodes. Four divisions an edge were some 17 % of an expansion.
 // - The cells of sixteen items are read before the first of these is applied, so that their memory is fetched at once. No item changes what is read
 //   (`IsSeen`), and it is used later, so the compiler can't drop the read.
@@ -18,6 +18,7 @@
 mod cells;
 mod fault;
 pub mod laws;
+mod listed;
 mod news;
 mod opening;
 mod owners;
@@ -26,8 +27,9 @@ mod statuses;
 mod steps;
 
 pub use fault::Fault;
+pub use listed::opening_at;
 pub use news::{Item, Settlement};
-pub use opening::{Opening, opening_at};
+pub use opening::Opening;
 pub use owners::{owner, quotient};
 pub use share::{Seen, Share, places_among};
 pub use statuses::Statuses;

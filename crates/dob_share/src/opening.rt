@@ -1,21 +1,13 @@
 // What is known of a class before anything is settled.
-ghost use Rattle.std.specs.Prelude.{◌≡◌, ◌<◌, length};
-ghost use Rattle.dob_share.specs.Openings.{opening_of};
+ghost use Rattle.std.specs.Prelude.{◌≤◌};
+ghost use Rattle.dob_moves.specs.Laws.{most_moves};
 
-use dob_lists::Segments;
 use dob_moves::Status;
 
-/// A class's status and its number of moves.
+/// A class's status and its number of moves, 63 at most, as each position's.
 #[derive(Clone, Copy, Debug, PartialEq, Eq)]
 pub struct Opening {
     pub status: Status,
     pub moves: u8,
-}
-
-/// What is listed of the class: the one way to what the openings of all classes say of one of them.
-pub fn opening_at(openings: &Segments<Opening>, class: u64) -> Opening
-    requires { class < length openings.now }
-    ensures { result ≡ opening_of openings.now class }
-{
-    openings.get(class)
+    pub ghost few: { moves ≤ most_moves },
 }

@@ -11,8 +11,9 @@ ghost use Rattle.dob_share.specs.Statuses.{open_at, opens_below};
 
 use crate::cells::Slot;
 use crate::fault::Fault;
+use crate::listed::opening_at;
 use crate::news::{Item, Settlement};
-use crate::opening::{Opening, opening_at};
+use crate::opening::Opening;
 use crate::owners::{quotient, rest};
 use crate::statuses::Statuses;
 use crate::steps::{apply_at, value_in};
@@ -22,9 +23,6 @@ use dob_pieces::Memory;
 use dob_safra::NodeCount;
 use dob_value::Value;
 use std::alloc::Global;
-
-// How many moves a class has at most: a slot counts fewer than 64 entries in use.
-const MOST_MOVES: u8 = 63;
 
 /// What is seen of an own class that is open: the number of its cell, and where the cell's run begins.
 #[derive(Clone, Copy)]
@@ -58,8 +56,7 @@ impl Share {
     ///
     /// # Errors
     ///
-    /// `Memory`, also where 2 to the power of 32 classes or more are listed, where its open classes have as many moves, or one
-    /// of them more than 63.
+    /// `Memory`, also where 2 to the power of 32 classes or more are listed, or where its open classes have as many moves.
     pub fn open(
         alloc: Global,
         openings: &Segments<Opening>,
@@ -309,11 +306,11 @@ fn push_slot(slots: &mut Segments<Slot>, start: u64, opening: Opening) -> Result
 
 // Appends the fresh slot of an open class with that many moves, whose run begins at `start`.
 fn push_open(slots: &mut Segments<Slot>, start: u64, moves: u8) -> Result<(), Memory>
+    requires { moves < 64 }
     ensures small { OnOk result (start < 2 ^ 32) }
-    ensures few { OnOk result (moves < 64) }
     ensures slots { OnOk result (slots.new ≡ slots.old ++ new_slot start moves ∷ []) }
 {
-    if start > u64::from(u32::MAX) || moves > MOST_MOVES {
+    if start > u64::from(u32::MAX) {
         return Err(Memory);
     }
     slots.push(Slot {

@@ -5,7 +5,8 @@ ghost use Rattle.dob_share.specs.Openings.{opening_of};
 ghost use Rattle.dob_share.specs.Owners.{class_of_place};
 ghost use Rattle.dob_share.specs.Statuses.{bit, bits_below, opens, catches, tries, status_of_bits, IsStatusOf, status_listed, word_of, open_at, status_in, opens_below, AreCounted};
 
-use crate::opening::{Opening, opening_at};
+use crate::listed::opening_at;
+use crate::opening::Opening;
 use dob_lists::Segments;
 use dob_moves::Status;
 use dob_pieces::Memory;

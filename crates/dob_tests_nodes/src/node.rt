@@ -5,15 +5,16 @@ ghost use Rattle.dob_node.specs.Nodes.{IsSound};
 mod segments;
 
 use crate::openings::listed;
+use crate::outboxes::{add, won};
 use crate::sets::{classes_of, family_of, is_same_table};
 use dob_classes::Classes;
 use dob_lists::SegmentLength;
 use dob_moves::{Status, status_and_count};
-use dob_node::{Node, Opening, alone, opening};
-use dob_pieces::{Family, Hand, Hands, Kind, Piece, Position, Profile, Side};
+use dob_node::{Node, Opening, alone, have_entries, opening};
+use dob_pieces::{Family, Hand, Hands, Kind, Memory, Piece, Position, Profile, Side};
 use dob_safra::NodeCount;
 use dob_share::{Fault, Item, Share};
-use dob_update::{Batch, BatchSize};
+use dob_update::{Batch, BatchSize, Outbox};
 use dob_value::{Value, sweep_table};
 use std::alloc::Global;
 use std::process::Abort;
@@ -311,6 +312,77 @@ fn items_of_one_settlement_go_in_batches(rt: HostRuntime) {
     run(&rt, &classes, &mut first, &mut second, 2, true, &mut log);
     assert!(rt; log.has(&[17, 17, 27, 35, 35], &[0, 2, 4]));
     assert!(rt; first.is_idle() && second.is_idle() && !improves(&first) && !improves(&second));
+}
+
+// Hands the next batch of at most `size` items to the node: how many settlements it has then.
+fn hands_over<A: Abort>(rt: &A, outbox: &mut Outbox, node: &mut Node, size: usize) -> u64
+    requires sound { IsSound node.old }
+    requires going { node.old.failed ≡ None }
+    requires family { outbox.old.family ≡ node.old.family }
+    requires n { (outbox.old.n ≡ 2) × (node.old.n ≡ 2) }
+    ensures sound { IsSound node.new }
+    ensures going { node.new.failed ≡ None }
+    ensures family { (outbox.new.family ≡ outbox.old.family) × (node.new.family ≡ node.old.family) }
+    ensures n { (outbox.new.n ≡ 2) × (node.new.n ≡ 2) }
+{
+    assert!(rt; outbox.cut_count() < 100);
+    let size = BatchSize::new(size).expect(rt, "a size");
+    let batch = outbox.cut(size).expect(rt, "memory").expect(rt, "a batch");
+    assert!(rt; have_entries(batch.items()));
+    node.apply_batch(&batch).expect(rt, "items that fit");
+    node.settled()
+}
+
+// Class 17 of lions alone has five moves: two into class 16, two into 14, one into 15. After the first batch three are left, after the last
+// none, and the class is lost.
+#[test]
+fn a_batch_leaves_three_of_five_moves(rt: HostRuntime) -> Result<(), Memory> {
+    let alloc = rt.alloc();
+    let classes = classes_of(&rt, alloc, "000");
+    let mut node = one_of_two(&rt, alloc, &classes, 1);
+    let mut outbox = Outbox::new(alloc, classes.family, 2, 0, 1);
+    add(&rt, alloc, &classes, &mut outbox, won(0, 16))?;
+    add(&rt, alloc, &classes, &mut outbox, won(1, 14))?;
+    add(&rt, alloc, &classes, &mut outbox, won(2, 15))?;
+    assert!(rt; hands_over(&rt, &mut outbox, &mut node, 2) == 17);
+    assert!(rt; hands_over(&rt, &mut outbox, &mut node, 3) == 17);
+    assert!(rt; hands_over(&rt, &mut outbox, &mut node, 5) == 17);
+    assert!(rt; hands_over(&rt, &mut outbox, &mut node, 3) == 18);
+    assert!(rt; node.settled() == 18);
+    let last = node.settlement(17);
+    assert!(rt; last.class == 17 && last.was == Value::Draw && last.now == Value::Loss(8));
+    Ok(())
+}
+
+// A first value of what one move of class 46 leads to: a win of the enemy in one ply.
+const NEWS: Item = Item {
+    number: 0,
+    to: 46,
+    was: Value::Draw,
+    now: Value::Win(1),
+};
+
+// Of the five moves of class 46 four are left after the first own item of the first of two nodes: four more items are taken, one more isn't.
+#[test]
+fn an_own_item_leaves_four_of_five_moves(rt: HostRuntime) {
+    let classes = classes_of(&rt, rt.alloc(), "000");
+    let mut node = one_of_two(&rt, rt.alloc(), &classes, 0);
+    assert!(rt; node.expand(&classes).expect(&rt, "room"));
+    assert!(rt; node.apply_own().expect(&rt, "an item that fits"));
+    let mut share = node.into_share();
+    for left in [3, 2, 1] {
+        assert!(rt; share.settled() < 1000);
+        let settled = share.apply(NEWS).expect(&rt, "an item that fits");
+        assert!(rt; settled.is_none(), "{left}");
+    }
+    assert!(rt; share.settled() < 1000);
+    let last = share
+        .apply(NEWS)
+        .expect(&rt, "the last item")
+        .expect(&rt, "a settlement");
+    assert!(rt; last.class == 46 && last.now == Value::Loss(2));
+    assert!(rt; share.settled() < 1000);
+    assert!(rt; share.apply(NEWS).err() == Some(Fault::Contradiction(46)));
 }
 
 // The two nodes of a set of 2124 classes have the values of its sweep.

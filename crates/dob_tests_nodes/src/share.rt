@@ -2,8 +2,10 @@
 ghost use Rattle.std.specs.Prelude.{◌<◌};
 
 use crate::openings::listed;
+use crate::sets::classes_of;
 use dob_lists::{SegmentLength, Segments};
 use dob_moves::Status;
+use dob_node::opening;
 use dob_pieces::Memory;
 use dob_safra::NodeCount;
 use dob_share::{Fault, Item, Opening, Share, owner};
@@ -101,6 +103,19 @@ fn shares_have_their_places(rt: HostRuntime) {
     assert!(rt; owner(17, 16) == 1);
 }
 
+// Of the 2124 classes of one chick each of two owners has half.
+#[test]
+fn two_owners_share_one_chick(rt: HostRuntime) -> Result<(), Memory> {
+    let classes = classes_of(&rt, rt.alloc(), "100");
+    let openings = opening(rt.alloc(), &classes, SegmentLength::longest())?;
+    let two = NodeCount::new(2).expect(&rt, "two nodes");
+    for id in 0..2 {
+        let share = Share::open(rt.alloc(), &openings, id, two)?;
+        assert!(rt; share.places() == 1062, "of {id}");
+    }
+    Ok(())
+}
+
 const UNFIT: &[Change] = &[
     (
         OPEN,
@@ -158,6 +173,26 @@ fn all_moves_lose(rt: HostRuntime) {
 
 // A distance past the limit is refused where it counts.
 const DEEP: Change = (OPEN, Value::Draw, Value::Loss(65534), Err(Fault::TooDeep));
+
+// Two of the five moves lead to a win in 7: each gets better news once, and no third one does.
+const TWO_IN_SEVEN: &[Change] = &[
+    (OPEN, Value::Draw, Value::Win(7), Ok(None)),
+    (OPEN, Value::Draw, Value::Win(7), Ok(None)),
+    (OPEN, Value::Win(7), Value::Win(5), Ok(None)),
+    (OPEN, Value::Win(7), Value::Win(5), Ok(None)),
+    (
+        OPEN,
+        Value::Win(7),
+        Value::Win(5),
+        Err(Fault::Contradiction(OPEN)),
+    ),
+];
+
+#[test]
+fn two_wins_are_counted(rt: HostRuntime) {
+    let mut share = share_of(&rt, rt.alloc(), 0, 1);
+    answers(&rt, &mut share, TWO_IN_SEVEN);
+}
 
 const AT_THE_LIMIT: &[Change] = &[
     DEEP,

@@ -145,14 +145,6 @@ fn sizes_have_limits(rt: HostRuntime) {
     assert!(rt; refused(&rt, rt.alloc(), 16, 1, 1).is_none());
 }
 
-// The distance of a value, 0 for a draw.
-fn plies_of(value: Value) -> u16 {
-    match value {
-        Value::Win(plies) | Value::Loss(plies) => plies,
-        Value::Draw => 0,
-    }
-}
-
 // No distance in the history of a node is above that one.
 fn settles_within(rt: &impl Abort, world: &World, node: usize, most: u16)
     requires standing { IsStanding world.now }
@@ -160,7 +152,7 @@ fn settles_within(rt: &impl Abort, world: &World, node: usize, most: u16)
 {
     let history = world.history(node);
     for number in 0..history.count() {
-        assert!(rt; plies_of(history.get(number).now) <= most);
+        assert!(rt; history.get(number).now.plies() <= most);
     }
 }
 

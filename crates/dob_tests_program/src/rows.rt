@@ -112,6 +112,20 @@ const VALUES: &[(&str, &str)] = &[
     (".../.l./.../.L. - -", "loss 4\n"),
     (DRAW, "draw\n"),
     (".l./.C./.../L.. - -", "win 1\n"),
+    (".../.../.L./l.. - -", "win 1\n"),
+    (".../.../.../L.l - g", "loss 0\n"),
+];
+
+// Sets, and how many positions and classes they have.
+const COUNTS: &[(&str, &str)] = &[
+    ("000", "positions 99\nclasses 54\n"),
+    ("001", "positions 2178\nclasses 1116\n"),
+    ("100", "positions 4158\nclasses 2124\n"),
+    ("200", "positions 79497\nclasses 39978\n"),
+    ("110", "positions 83556\nclasses 41976\n"),
+    ("111", "positions 1529352\nclasses 765360\n"),
+    ("211", "positions 23828508\nclasses 11917800\n"),
+    ("222", "positions 1175944473\nclasses 588021930\n"),
 ];
 
 // Texts that are no position, and their faults.
@@ -119,6 +133,7 @@ const FAULTS: &[(&str, &str)] = &[
     ("", "E1 Shape"),
     ("..l/.../.../L.x - -", "E2 Letter"),
     ("..l/.../.../L.. GC -", "E3 Hand"),
+    ("..l/.../.../L.. CC EG", "E3 Hand"),
     (".../.../.../L.. - -", "E4 Lions"),
     ("..l/.../.../L.. CCC -", "E5 Count"),
     (FAR_LION, "E6 FarLion"),
@@ -190,7 +205,11 @@ const UNCHECKED: &[(&str, u8, &str)] = &[
 ];
 
 // Sets, numbers of nodes and files of builds that are asked, ..
-const BUILDS: &[(&str, &str, &str)] = &[("000", "1", "built.db"), ("000", "3", "cut.db")];
+const BUILDS: &[(&str, &str, &str)] = &[
+    ("000", "1", "built.db"),
+    ("000", "3", "cut.db"),
+    ("000", "16", "sixteen.db"),
+];
 
 // .. and of builds that are refused, which make no file.
 const UNBUILT: &[(&str, &str, &str)] = &[
@@ -342,24 +361,15 @@ fn tells_values(
     for (text, told) in VALUES {
         answers(rt, alloc, shelf, &["value", *text], *told);
     }
-    answers(
-        rt,
-        alloc,
-        shelf,
-        &["count", "--set", "000"],
-        "positions 99\nclasses 54\n",
-    );
+    for (set, told) in COUNTS {
+        answers(rt, alloc, shelf, &["count", "--set", *set], *told);
+    }
     for (text, fault) in FAULTS {
         refuses(rt, alloc, shelf, &["value", *text], 1, *fault);
     }
-    refuses(
-        rt,
-        alloc,
-        shelf,
-        &["count", "--set", "300"],
-        1,
-        "E25 SetText",
-    );
+    for set in ["3", "300"] {
+        refuses(rt, alloc, shelf, &["count", "--set", set], 1, "E25 SetText");
+    }
 }
 
 // What the files of the shelf say.

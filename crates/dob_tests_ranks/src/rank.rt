@@ -1,6 +1,7 @@
 // Ranks and classes against values from outside (sizes, the classes of lions alone), and
 // against a plain program that walks whole sets.
-ghost use Rattle.std.specs.Prelude.{◌<◌};
+ghost use Rattle.std.specs.Prelude.{◌≡◌, ◌<◌};
+ghost use Rattle.dob_pieces.specs.declared.profile.Profile.TheVariants.{A};
 
 mod families;
 mod family_classes;
@@ -58,6 +59,42 @@ fn sets_have_their_sizes_and_classes(rt: HostRuntime) {
         assert!(rt; count_classes(in_a) == *classes, "classes of {text}");
         let in_b = family(&rt, text, Profile::B);
         assert!(rt; size(in_b) == *far, "positions of {text} in B");
+    }
+}
+
+// Sets, and how many of their positions are their own mirror images.
+const OWN_IMAGES: [(&str, u64); 5] = [
+    ("000", 9),
+    ("001", 54),
+    ("100", 90),
+    ("200", 459),
+    ("111", 1_368),
+];
+
+// How many positions of the family are their own mirror images.
+fn own_images(family: Family) -> u64
+    requires { family.profile ≡ A }
+{
+    let mut own = 0u64;
+    for number in 0..size(family) {
+        let position = unrank(family, number);
+        if position.mirrored() == position {
+            own = own.saturating_add(1);
+        }
+    }
+    own
+}
+
+// Each of them is a class of its own, and two of the others are one. Those of the smaller sets are counted too.
+#[test]
+fn positions_that_are_their_own_mirror_images(rt: HostRuntime) {
+    for (text, want) in &OWN_IMAGES {
+        let family = family_of(&rt, text);
+        if size(family) < 100_000 {
+            assert!(rt; own_images(family) == *want, "of {text}");
+        }
+        let twice = size(family).saturating_add(*want);
+        assert!(rt; twice / 2 == count_classes(family), "of {text}");
     }
 }
 

@@ -3,11 +3,12 @@ use crate::positions::position;
 use crate::text::writes;
 use dob_moves::{Status, apply, first_catch, moves, status, status_and_count};
 use dob_pieces::{Memory, Position, Profile};
+use dob_text::{write_move, write_position};
 use std::alloc::Global;
 use std::process::Abort;
 
 // Positions, their statuses and the texts of their moves.
-const MOVES: [(&str, Status, &[&str]); 9] = [
+const MOVES: [(&str, Status, &[&str]); 13] = [
     // drops follow steps
     (
         "..l/.../.../L.. C -",
@@ -34,6 +35,39 @@ const MOVES: [(&str, Status, &[&str]); 9] = [
         "C.l/.../.../L.. - -",
         Status::Open,
         &["La1-b1", "La1-a2", "La1-b2"],
+    ),
+    // a chick is dropped beside an own one of the same column, which stands on each row
+    (
+        "..l/.../.../CL. C -",
+        Status::Open,
+        &[
+            "Ca1-a2", "Lb1-c1", "Lb1-a2", "Lb1-b2", "Lb1-c2", "C*c1", "C*a2", "C*b2", "C*c2",
+            "C*a3", "C*b3", "C*c3", "C*a4", "C*b4",
+        ],
+    ),
+    (
+        "..l/.../C../.L. C -",
+        Status::Open,
+        &[
+            "Lb1-a1", "Lb1-c1", "Lb1-b2", "Lb1-c2", "Ca2-a3", "C*a1", "C*c1", "C*b2", "C*c2",
+            "C*a3", "C*b3", "C*c3", "C*a4", "C*b4",
+        ],
+    ),
+    (
+        "..l/C../.../.L. C -",
+        Status::Open,
+        &[
+            "Lb1-a1", "Lb1-c1", "Lb1-a2", "Lb1-b2", "Lb1-c2", "Ca3-a4+", "C*a1", "C*c1", "C*a2",
+            "C*b2", "C*c2", "C*b3", "C*c3", "C*a4", "C*b4",
+        ],
+    ),
+    (
+        "C.l/.../.../.L. C -",
+        Status::Open,
+        &[
+            "Lb1-a1", "Lb1-c1", "Lb1-a2", "Lb1-b2", "Lb1-c2", "C*a1", "C*c1", "C*a2", "C*b2",
+            "C*c2", "C*a3", "C*b3", "C*c3", "C*b4",
+        ],
     ),
     ("GEl/LGE/CC./... - -", Status::Stuck, &[]),
     ("GE./LGE/CCl/... - -", Status::Stuck, &[]),
@@ -69,39 +103,49 @@ const MOVES_OF_B: [(&str, Status, &[&str]); 3] = [
     ),
 ];
 
-// The position has exactly those moves by the rules of the profile, in their order.
-fn lists(rt: &impl Abort, alloc: Global, profile: Profile, position: &Position, texts: &[&str]) {
-    let legal = moves(alloc, profile, position).expect(rt, "memory");
-    let (_, count) = status_and_count(profile, position);
-    assert!(rt; usize::from(count) == legal.len());
-    assert!(rt; legal.len() == texts.len());
-    for place in 0..texts.len() {
-        writes(rt, alloc, legal[place], false, texts[place]);
-    }
-}
-
-// The position has that status and those moves.
-fn has_moves(
+// Whether the position has exactly those moves by the rules of the profile, in their order.
+fn lists(
     rt: &impl Abort,
     alloc: Global,
     profile: Profile,
-    text: &str,
-    found: Status,
+    position: &Position,
     texts: &[&str],
-) {
-    let position = position(rt, text);
-    assert!(rt; status(Profile::A, &position) == found, "{text}");
-    lists(rt, alloc, profile, &position, texts);
+) -> bool {
+    let legal = moves(alloc, profile, position).expect(rt, "memory");
+    let (_, count) = status_and_count(profile, position);
+    let mut same = usize::from(count) == legal.len() && legal.len() == texts.len();
+    for (played, text) in legal.iter().zip(texts) {
+        let written = write_move(alloc, *played, false).expect(rt, "memory");
+        same = same && written.as_str() == *text;
+    }
+    same
+}
+
+// How many of the rows are wrong: the position has another status or other moves by the rules of the profile. Each is printed.
+fn wrong_rows(
+    rt: &(impl Abort + Print + AllocGlobal),
+    profile: Profile,
+    rows: &[(&str, Status, &[&str])],
+) -> usize {
+    let mut wrong = 0usize;
+    for (text, found, texts) in rows {
+        let position = position(rt, *text);
+        let has_status = status(profile, &position) == *found;
+        if !has_status || !lists(rt, rt.alloc(), profile, &position, *texts) {
+            let _ = println!(rt; "wrong: {text}");
+            wrong = wrong.saturating_add(1);
+        }
+    }
+    wrong
 }
 
 #[test]
 fn moves_of_positions(rt: HostRuntime) {
-    for (text, found, texts) in &MOVES {
-        has_moves(&rt, rt.alloc(), Profile::A, *text, *found, *texts);
-    }
-    for (text, found, texts) in &MOVES_OF_B {
-        has_moves(&rt, rt.alloc(), Profile::B, *text, *found, *texts);
-    }
+    let wrong = wrong_rows(&rt, Profile::A, &MOVES);
+    assert!(rt;
+        wrong_rows(&rt, Profile::B, &MOVES_OF_B) == 0 && wrong == 0,
+        "rows are wrong"
+    );
 }
 
 #[test]
@@ -121,11 +165,13 @@ fn outcome(alloc: Global, number: usize, position: &Position) -> Result<Option<P
     Ok(Some(after))
 }
 
-// The move of that number leads from the one position to the other.
+// The move of that number leads from the one position to the other, which is written so.
 fn leads_to(rt: &impl Abort, alloc: Global, before: &str, number: usize, after: &str) {
     let led = outcome(alloc, number, &position(rt, before)).expect(rt, "memory");
     let led = led.expect(rt, "a move of that number");
     assert!(rt; led == position(rt, after), "{before}");
+    let written = write_position(alloc, &led).expect(rt, "memory");
+    assert!(rt; written.as_str() == after, "{before}");
 }
 
 // Positions, numbers of their moves, and the positions that they lead to.

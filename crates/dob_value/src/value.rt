@@ -1,5 +1,6 @@
 // Values, and what an entry says up to some depth.
 ghost use Rattle.std.specs.Prelude.{◌≡◌};
+ghost use Rattle.dob_value.specs.Bounds.{plies_of};
 ghost use Rattle.dob_value.specs.Entries.{is_win_within, is_loss_within, is_draw};
 
 /// The value of a position for the side to move, with the least number of plies in which the end can be forced.
@@ -11,6 +12,17 @@ pub enum Value {
 }
 
 impl Value {
+    /// Its distance, 0 of a draw.
+    pub fn plies(self) -> u16
+        ensures { result ≡ plies_of self }
+    {
+        match self {
+            Value::Win(plies) => plies,
+            Value::Loss(plies) => plies,
+            Value::Draw => 0,
+        }
+    }
+
     /// Whether this is a win in at most that many plies.
     pub(crate) fn is_win_within(self, depth: u16) -> bool
         ensures { result ≡ is_win_within depth self }

@@ -69,7 +69,7 @@ subcommand_of (lines.Stats _ _ _) = subcommand.Stats
 subcommand_of (lines.Zugzwangs _ _) = subcommand.Zugzwangs
 subcommand_of (lines.Puzzles _ _ _ _ _ _) = subcommand.Puzzles
 subcommand_of (lines.Migrate _ _) = subcommand.Migrate
-subcommand_of (lines.Certify _ _ _ _ _ _) = subcommand.Certify
+subcommand_of (lines.Certify _) = subcommand.Certify
 subcommand_of (lines.Verify _ _) = subcommand.Verify
 subcommand_of (lines.Reply _ _) = subcommand.Reply
 
@@ -120,9 +120,9 @@ HasLinesTexts texts (lines.Puzzles file plies count from seed is_numbered) =
     × (plies ≡ number_in d) × (is_number n ≡ true) × (count ≡ number_in n) × (from ≡ option_map number_in f) × (seed ≡ option_map number_in s)
     × (is_numbered ≡ is_some flag)
 HasLinesTexts texts (lines.Migrate file out) = Some file.now ∷ Some out.now ∷ [] ≡ texts
-HasLinesTexts texts (lines.Certify file out most is_exact is_watched position) =
-    (n exact flag : Option Text) × (Some file.now ∷ Some out.now ∷ n ∷ exact ∷ flag ∷ Some position.now ∷ [] ≡ texts) × IfSome n (λ t. is_number t ≡ true)
-    × (most ≡ option_map number_in n) × (is_exact ≡ is_some exact) × (is_watched ≡ is_some flag)
+HasLinesTexts texts (lines.Certify made) =
+    (n exact flag : Option Text) × (Some made.file.now ∷ Some made.out.now ∷ n ∷ exact ∷ flag ∷ Some made.position.now ∷ [] ≡ texts)
+    × IfSome n (λ t. is_number t ≡ true) × (made.most ≡ option_map number_in n) × (made.is_exact ≡ is_some exact) × (made.is_watched ≡ is_some flag)
 HasLinesTexts texts (lines.Verify file is_watched) = (flag : Option Text) × (Some file.now ∷ flag ∷ [] ≡ texts) × (is_watched ≡ is_some flag)
 HasLinesTexts texts (lines.Reply file position) = Some file.now ∷ Some position.now ∷ [] ≡ texts
 

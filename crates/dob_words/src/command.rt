@@ -3,8 +3,8 @@
 // A further subcommand, as `stats --db FILE`, has
 // - here a variant of `Subcommand`, a row, a text for its help and an arm of `help_of` in rows.rt; a variant of `LinesOrder` and an arm of `order_for` in
 //   command/orders.rt; and its name, its order and its texts in specs/Readings.antt;
-// - in dob_query what it owes in a file of specs/, and its answer in a file of src/, each named in the Lib.antt or lib.rt there; and what the answer's
-//   proof needs in proofs/FILE/answer_NAME/Answers.antt;
+// - in dob_query (a position), dob_survey (a table) or dob_verdict (a certificate) what it owes in a file of specs/, and its answer in a file of src/, each
+//   named in the Lib.antt or lib.rt there; and what the answer's proof needs in proofs/FILE/answer_NAME/Answers.antt;
 // - in dob_cli a case in the definitions of specs/Orders.antt and an arm of `answer` in program.rt, with a line in its Answers.antt where the prover doesn't
 //   find what the arm owes, as it finds that of `verify`; where the answer speaks of values and a value table's file makes it right, that in
 //   `AnswersLinesRight` and `rightly` of proofs/Orders.antt.
@@ -27,7 +27,7 @@ use crate::table::{Choice, Flag, Kind, Need, PROFILES, Place, Row};
 use clap::error::ErrorKind;
 use clap::{Arg, ArgAction, ArgMatches, Command, Error, value_parser};
 use misplaced::Misplaced;
-pub use orders::{Asked, BuildOrder, LinesOrder, Order};
+pub use orders::{Asked, BuildOrder, CertifyOrder, LinesOrder, Order};
 use std::alloc::{AllocError, Global};
 
 /// What the words come to.

@@ -214,7 +214,7 @@ pub const ROWS: &[Row] = &[
     (
         Subcommand::Puzzles,
         "puzzles",
-        "Prints positions of a database file that just one move wins soonest",
+        "Prints positions of a database file with exactly one fastest winning move",
         &[
             DB,
             (
@@ -245,7 +245,7 @@ pub const ROWS: &[Row] = &[
                     "SEED",
                     Kind::Number,
                     Need::May,
-                    "Begins at a class made from this number, and goes on with the first behind the last",
+                    "In an order that this number makes, each as likely as any other, and no two alike",
                 ),
             ),
         ],
@@ -421,7 +421,7 @@ Example: dobutsu count --set 100 prints `positions 4158` and `classes 2124`, and
 
 const REACH: &str =
     "What a game that begins with POSITION can come to. A class is a position with its mirror image, seen by the side to move; it goes
-on from open classes alone, and counts those that have ended too: where the lion can be caught, has arrived, or no move is left.
+on from open classes alone, and counts those that have ended too: where the lion can be captured, has arrived, or no move is left.
 That each of the two positions of a class is reached isn't said.
 
 Answers: `classes N`, how many classes are reached, that of POSITION among them; `open N`, how many of them are open; `depth D`,
@@ -429,8 +429,8 @@ in how many plies the furthest is reached. With `--db FILE` also `win N`, `loss 
 the side to move: the rules are those of the file, and POSITION has to be of its piece set (E7). With `--levels` then a line
 `PLY N` for each distance from POSITION, how many classes are reached in so many plies and in no fewer.
 
-It takes a bit of memory for each class of the piece set, and some 8 bytes for each of the classes of two distances that follow
-each other: 0.5 GB for the whole game, where it runs for minutes.
+It takes a bit of memory for each class of the piece set, and 4 bytes for each of the classes of two distances that follow
+each other: 0.4 GB for the whole game, where it runs for minutes.
 
 With `--progress` it says on standard error, before each distance, how many classes it has, as `ply 2: 17 classes`.
 
@@ -444,7 +444,7 @@ Without `--nodes` there are as many as processors, 16 at most. The file is the s
 
 The file has 2 bytes a class and 53 more, and its build takes some 9 bytes of memory a class.
 `dobutsu count --set 111` gives the classes of a set: 765360 of three pieces, which take a second or two.
-The whole game, `222`, has 588021930, which take a quarter of an hour, 5 to 8 GB of memory and 1.2 GB of disk.
+The whole game, `222`, has 588021930, which take some minutes, 5 GB of memory and 1.2 GB of disk.
 
 The table is written to FILE with `.part` behind it, and takes the place of FILE when it is whole and on
 the disk: until then FILE is as it was, whatever happens. Another run that is to write FILE meanwhile is refused.
@@ -464,8 +464,8 @@ Example: dobutsu build --set 000 --out 000.db prints `classes 54`, `win 38`, `lo
 `draw 4`. `dobutsu check --db 000.db` then says that the file is right.";
 
 const PROBE: &str =
-    "A file: what `dobutsu check --db FILE` calls consistent holds the values by definition; of any other
-file the answer is just what the file says.
+    "If `dobutsu check --db FILE` passes the file, its answers are correct; otherwise they are only what
+it contains.
 
 With `--each` in place of POSITION the positions come from standard input, one on each line, and each line is
 answered by a line, in the same order. One that is refused is answered by its fault, as `E2 Letter`, and the
@@ -483,7 +483,7 @@ prints `win 3` and `E3 Hand`, with status 1.";
 
 const LINE: &str =
     "The moves of both sides, where the winner takes the shortest way and the loser the longest, each the
-first such move: a piece's letter, its square, `-` or `x` for a catch, the square where it goes, and
+first such move: a piece's letter, its square, `-` or `x` for a capture, the square where it goes, and
 `+` where a chick becomes a hen; or the letter of a piece in hand, `*` and a square. The moves of the
 side that isn't to move first are in lower case.
 
@@ -515,8 +515,8 @@ Answers: `consistent`; or `E21 Inconsistent class N` with the first class whose 
 Example: dobutsu check --db 000.db prints `consistent`.";
 
 const LOOK: &str =
-    "Of the file only its first 21 bytes and the 2 bytes of the position are read, each by its place, so that
-a file of any size is asked at once. Its digest isn't read: damage isn't found, nor whether the file is
+    "Of the file only its first 21 bytes and the 2 bytes of the position are read, each by its place: any file
+size, immediately. Its digest isn't read: damage isn't found, nor whether the file is
 too long or too short. `dobutsu probe` reads and tests it all.
 
 With `--each` in place of POSITION the positions come from standard input, one on each line, and each line is answered by a
@@ -535,7 +535,7 @@ const SHOW: &str =
     "The board as the side to move sees it: rows 4 to 1 from top to bottom, columns a to c from left to right,
 so that `b2` names the square where column b meets row 2. Capital letters are the pieces of the side to
 move, which go up; small letters are those of the other side, which go down. A hand holds the pieces
-that were caught and can be dropped again.
+that were captured and can be dropped again.
 
 With `--db FILE` an empty line follows, then the position's value and its best play, as `dobutsu look` and
 `dobutsu line --numbered` print them; the digest of the file isn't read. With `--svg OUT` the board is drawn as a picture
@@ -549,14 +549,14 @@ const MOVES: &str =
 here, a loss, or a draw. Wins come first, the soonest first; then draws; then losses, the latest first;
 equal ones by the squares that they leave and reach. `dobutsu line --help` says how a move is written.
 
-Of the file only its first 21 bytes are read, and 2 bytes for each move, so that a file of any size is asked at once. Its digest
+Of the file only its first 21 bytes are read, and 2 bytes for each move, for any file size, immediately. Its digest
 isn't read, and damage isn't found: `dobutsu check` tests it all.
 
 With `--each` in place of POSITION the positions come from standard input, one on each line, and each line is answered in the
 same order by its moves, or by its fault as `E2 Letter`, with an empty line behind them. The file is opened once.
 
-Answers: `MOVE win D`, `MOVE loss D` or `MOVE draw`; where the other side's lion can be caught, just that
-catch, `MOVE win 1`; and `end` where the side to move has lost already. With `--each` the status is 0 where all lines were
+Answers: `MOVE win D`, `MOVE loss D` or `MOVE draw`; where the other side's lion can be captured, just that
+capture, `MOVE win 1`; and `end` where the side to move has lost already. With `--each` the status is 0 where all lines were
 answered, and 1 where one was refused.
 
 With `--json`: an object on a line, with `position` and `moves`, a list of objects with `move`, `kind` (`chick`, `hen`, `elephant`, `giraffe` or
@@ -567,7 +567,7 @@ Example: dobutsu moves --db 000.db \"..l/.../L../... - -\" prints `La2-a3 win 3`
 
 const BEST: &str =
     "The first of the lines that `dobutsu moves` prints: a move that the best play begins with, and what it comes to for the side
-to move. Of the file the same bytes are read.
+to move. It reads the same bytes as `dobutsu moves`.
 
 With `--each` in place of POSITION the positions come from standard input, one on each line, and each line is answered by a
 line, in the same order, as `dobutsu look --help` says.
@@ -578,8 +578,8 @@ is 0 where all lines were answered, and 1 where one was refused.
 Example: dobutsu best --db 000.db \"..l/.../L../... - -\" prints `La2-a3 win 3`.";
 
 const STATS: &str =
-    "How hard a piece set is: so many of its classes are won and lost at each distance. A class is a position with its mirror
-image; a file that `dobutsu check` calls consistent holds the values by definition.
+    "How hard a piece set is: how many of its classes are won and lost at each distance. A class is a position with its mirror
+image; if `dobutsu check` passes the file, its answers are correct.
 
 Answers: the lines of `dobutsu build`, `classes N`, `win N`, `loss N` and `draw N`; then `win D N` or `loss D N`
 for each distance D in plies that occurs, the least first; then `longest win D POSITION` and `longest loss D POSITION`,
@@ -596,8 +596,8 @@ Example: dobutsu stats --db 000.db prints `classes 54` first, and with `--csv` `
 const ZUGZWANGS: &str =
     "Positions in which neither side wants to move. The turn of a position is the same board with the other side to move. A win is worth 1,
 a draw 0 and a loss -1: where both can go on, and together are worth less than 0, whoever has to move would rather not. So they come
-in pairs, a position and its turn, each with its mirror images counted once. A file that `dobutsu check` calls consistent holds the
-values by definition.
+in pairs, a position and its turn, each with its mirror images counted once. If `dobutsu check` passes the file, its
+answers are correct.
 
 Answers: `lost by both N`, the pairs in which whoever has to move loses; `loss and draw N`, those in which one side loses where it has to
 move, and the other draws; and `deepest POSITION  loss D  loss D`, where there are pairs lost by both: the one whose shorter loss is
@@ -609,9 +609,9 @@ Example: dobutsu zugzwangs --db 010.db, of one elephant, prints `lost by both 1`
 `deepest .../.l./.../LE. - -  loss 4  loss 8`.";
 
 const PUZZLES: &str =
-    "Exercises for a class: positions in which the side to move wins, and just one move wins soonest. All other moves are
-slower, or don't win. D counts the plies of both sides up to the catch of the lion or the lion's safe arrival, so `3` is: move,
-answer, win. A file that `dobutsu check` calls consistent holds the values by definition.
+    "Exercises for a class: positions in which the side to move wins, with exactly one fastest winning move. All other moves are
+slower, or don't win. D counts the plies of both sides up to the capture of the lion or the lion's safe arrival, so `3` is: move,
+answer, win. If `dobutsu check` passes the file, its answers are correct.
 
 Answers: a line for each position, `POSITION  MOVE`, its text, two spaces and that move, in the order of the file, the first N of
 them; or `none`. Of a position and its mirror image only the one that stands first is printed. `dobutsu show POSITION` draws it,
@@ -621,10 +621,10 @@ With `--numbered` the number of its class and two spaces stand before each. With
 number are printed, never its own: with the number of the last one it goes on where the last call ended, so that no position comes
 twice. Behind a number that no class has there is none.
 
-With `--random SEED` the order begins at a class that the number SEED makes, the same on each machine, and goes on with the first
-class of the file behind the last one. No two of the positions that one call prints then have as many pieces of each kind on the board
-and the lions on the same squares: of such ones the first is printed, and fewer than N where there are no more. `--from` goes on in this
-order too, where both are given.
+With `--random SEED` the classes are shuffled by the number SEED, in the same way on each machine, so that each such position is as
+likely as any other to come next. No two of the positions that one call prints then have as many pieces of each kind on the board and the
+lions on the same squares: of such ones the first is printed, and fewer than N where there are no more. `--from` goes on in this order
+too, where both are given.
 
 Example: dobutsu puzzles --db 000.db --plies 3 --count 1 prints `.../..l/L../... - -  La2-a3`.";
 
@@ -672,11 +672,12 @@ A file that proves nothing is refused, with status 1, by the first fault that it
   E31 Claim                 the entries don't show what is claimed of the position
   E32 Version               the file is of another version
   E33 RootClass             its piece set has no class of the position's number
-  E34 ClaimByte             its claim is none
+  E34 ClaimByte             unknown kind of claim
   E35 EntryCount            it counts more entries than there are classes
   E36 EntryNumber           an entry's number isn't in its fewest bytes
   E37 EntryOrder            an entry's class isn't above the one before it
   E38 EntryClass            its piece set has no class of an entry's number
+  E42 EntryPlies            an entry says of what is lost that it never is
 
 `dobutsu certify` may end with E39 TooMany, where there would be more entries than `--most` allows, or E40 Unfit, where a distance is above 254
 plies; and `dobutsu reply` with E41 Unlisted, where the certificate says nothing of the position.
@@ -688,7 +689,7 @@ const REPLY: &str =
 list of CERT is checked first, as `dobutsu verify` checks it; so the move is a winning one, whoever made the file.
 
 Answers: `MOVE win within D`, the move and in how many plies it wins at most; `loss within D` where the side to move is the one that is lost. Where
-the other side's lion can be caught that catch, `MOVE win within 1`. Of a position of which the certificate says nothing it says E41 Unlisted, with
+the other side's lion can be captured that capture, `MOVE win within 1`. Of a position of which the certificate says nothing it says E41 Unlisted, with
 status 1. `dobutsu line --help` says how a move is written.
 
 Example: dobutsu reply --cert 000.cert \"..l/.../L../... - -\" prints `La2-a3 win within 3`.";

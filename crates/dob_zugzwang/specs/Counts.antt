@@ -1,5 +1,6 @@
 -- How many pairs there are, and the deepest one.
 use Rattle.std.specs.Prelude.{◌≡◌, ◌⊎◌, ℕ, ◌<◌, Bool, true, false, List, Option, None, Some, Contains, count_by, max, min}
+use Rattle.dob_value.specs.Bounds.{plies_of}
 use Rattle.dob_value.specs.declared.value.Value.{Value}
 use Rattle.dob_value.specs.declared.value.Value.TheVariants.{Win, Loss, Draw}
 use Rattle.dob_zugzwang.specs.declared.counts.PairCounts.{PairCounts}
@@ -21,12 +22,6 @@ is_lost_by_both pair = are_losses pair.value pair.turn_value
 
 abbrev pub is_loss_and_draw : Zugzwang → Bool
 is_loss_and_draw pair = are_loss_and_draw pair.value pair.turn_value
-
--- a value's distance, 0 of a draw
-abbrev pub plies_of : Value → ℕ
-plies_of (Win plies) = plies
-plies_of (Loss plies) = plies
-plies_of Draw = 0
 
 -- the lesser of a pair's two distances, and the greater
 abbrev pub shorter : Zugzwang → ℕ

@@ -1,6 +1,6 @@
 // How many pairs there are, and the deepest one.
 ghost use Rattle.std.specs.Prelude.{◌≡◌, ◌↔◌, [], ◌∷◌, ◌++◌, List, Some, count_by, max, min, true};
-ghost use Rattle.dob_zugzwang.specs.Counts.{AreCounts, IsDeeper, IsDeepest, is_loss_and_draw, is_lost_by_both, longer, plies_of, shorter};
+ghost use Rattle.dob_zugzwang.specs.Counts.{AreCounts, IsDeeper, IsDeepest, is_loss_and_draw, is_lost_by_both, longer, shorter};
 ghost use Rattle.dob_zugzwang.specs.declared.pairs.Zugzwang.{Zugzwang as Pair};
 
 use crate::pairs::Zugzwang;
@@ -106,23 +106,12 @@ fn is_deeper(pair: &Zugzwang, other: &Zugzwang) -> bool
 fn shorter(pair: &Zugzwang) -> u16
     ensures { result ≡ shorter pair.now }
 {
-    plies_of(pair.value).min(plies_of(pair.turn_value))
+    pair.value.plies().min(pair.turn_value.plies())
 }
 
 // The greater of the pair's two distances.
 fn longer(pair: &Zugzwang) -> u16
     ensures { result ≡ longer pair.now }
 {
-    plies_of(pair.value).max(plies_of(pair.turn_value))
-}
-
-// The value's distance, 0 of a draw.
-fn plies_of(value: Value) -> u16
-    ensures { result ≡ plies_of value }
-{
-    match value {
-        Value::Win(plies) => plies,
-        Value::Loss(plies) => plies,
-        Value::Draw => 0,
-    }
+    pair.value.plies().max(pair.turn_value.plies())
 }

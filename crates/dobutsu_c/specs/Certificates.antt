@@ -7,10 +7,10 @@ use Rattle.dob_foreign.specs.Profiles.{profile_number}
 use Rattle.dob_certificate.specs.declared.claim.Claim.{Claim}
 use Rattle.dob_certificate.specs.declared.claim.Claim.TheVariants.{Exactly, LostWithin, WonWithin}
 use Rattle.dob_certificate.specs.declared.refusal.Refusal.TheVariants as refusal
-use Rattle.dob_certificate.specs.Claims.{Holds}
+use Rattle.dob_certificate.specs.Claims.{Holds, Prove}
 use Rattle.dob_certificate.specs.Refusals.{IsRefusal}
 use Rattle.dob_certfile.specs.declared.defect.Defect.{Defect}
-use Rattle.dob_certfile.specs.declared.defect.Defect.TheVariants.{Truncated, Magic, Version, SetByte, ProfileByte, RootClass, ClaimByte, EntryCount, EntryNumber, EntryOrder, EntryClass, Trailing, Digest}
+use Rattle.dob_certfile.specs.declared.defect.Defect.TheVariants.{Truncated, Magic, Version, SetByte, ProfileByte, RootClass, ClaimByte, EntryCount, EntryNumber, EntryOrder, EntryClass, EntryPlies, Trailing, Digest}
 use Rattle.dob_certfile.specs.Format.{Content, bytes_of}
 use Rattle.dob_certfile.specs.Reading.{HasCertFault}
 use Rattle.dob_certfile.specs.Roots.{IsRoot}
@@ -29,6 +29,7 @@ defect_number EntryCount = 35
 defect_number EntryNumber = 36
 defect_number EntryOrder = 37
 defect_number EntryClass = 38
+defect_number EntryPlies = 42
 defect_number Trailing = 19
 defect_number Digest = 20
 
@@ -56,12 +57,13 @@ pub record IsToldOf (c : Content) (claim : DobutsuClaim) : Type 0 where
   pub plies : claim.plies ≡ (told_claim c.claim).plies
   pub within : claim.within ≡ (told_claim c.claim).within
 
--- the bytes are a certificate's file, and what it claims holds of its root
+-- the bytes are a certificate's file, whose lists prove what it claims of its root, and so that holds
 pub record IsProvedBy (bytes : List ℕ) (claim : DobutsuClaim) : Type 0 where
   pub content : Content
   pub file : bytes ≡ bytes_of content
   pub root : Setup
   pub is_root : IsRoot content.family content.root root
+  pub proved : Prove content.family content.lost content.held root content.claim
   pub holds : Holds content.family.profile root content.claim
   pub told : IsToldOf content claim
 

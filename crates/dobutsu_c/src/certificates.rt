@@ -29,7 +29,7 @@ pub struct DobutsuClaim {
 
 /// Whether the bytes are a certificate's file whose lists prove what it claims. It answers 0 if they are, and writes what is claimed, which then holds;
 /// 30 if an entry isn't supported, and writes the class of the first one; 31 if all are and the lists don't show the claim; else the number of the
-/// first fault of the bytes, 15 to 17, 19, 20, 27 or 32 to 38, or 23 if memory runs out, and writes nothing. It takes 8 bytes of memory an entry and some
+/// first fault of the bytes, 15 to 17, 19, 20, 27, 32 to 38 or 42, or 23 if memory runs out, and writes nothing. It takes 8 bytes of memory an entry and some
 /// millions for two pieces of each kind, gives all back, and looks at each entry in one thread.
 #[unsafe(no_mangle)]
 pub extern "C" fn dobutsu_verify(
@@ -81,6 +81,7 @@ pub(crate) fn defect_number(defect: Defect) -> u32
         Defect::EntryNumber => 36,
         Defect::EntryOrder => 37,
         Defect::EntryClass => 38,
+        Defect::EntryPlies => 42,
         Defect::Trailing => 19,
         Defect::Digest => 20,
     }

@@ -49,8 +49,8 @@ fn name_of(fault: u32) -> &'static str
     match fault {
         0..=14 => first_name_of(fault),
         15..=29 => next_name_of(fault),
-        30..=38 => last_name_of(fault),
-        39.. => "",
+        30..=42 => last_name_of(fault),
+        43.. => "",
     }
 }
 
@@ -101,7 +101,7 @@ fn next_name_of(fault: u32) -> &'static str
 // Of those of a certificate.
 fn last_name_of(fault: u32) -> &'static str
     requires low { 30 ≤ fault }
-    requires high { fault < 39 }
+    requires high { fault < 43 }
     ensures name { result.now ≡ name_of fault }
     ensures few { length result.now ≤ 32 }
 {
@@ -114,6 +114,10 @@ fn last_name_of(fault: u32) -> &'static str
         35 => "E35 EntryCount",
         36 => "E36 EntryNumber",
         37 => "E37 EntryOrder",
-        _ => "E38 EntryClass",
+        38 => "E38 EntryClass",
+        39 => "",
+        40 => "",
+        41 => "",
+        _ => "E42 EntryPlies",
     }
 }

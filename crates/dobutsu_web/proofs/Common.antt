@@ -21,6 +21,6 @@ pub use Rattle.dob_certificate.specs.Lost.{IsAnswered, IsSaidLost}
 pub use Rattle.dob_certificate.specs.declared.claim.Claim.{Claim}
 pub use Rattle.dob_certificate.specs.declared.entry.Entry.{Entry}
 pub use Rattle.dobutsu_web.specs.Certified.{AreProof, SupportsAll}
-pub use Rattle.dobutsu_web.specs.Places.{EachAt, NoneStands, SomeAt, leads_from}
+pub use Rattle.dobutsu_web.specs.Places.{EachAt, SomeAt}
 pub use Rattle.dobutsu_web.specs.Ranked.{AreRanks, IsRankAt, entries_by, entries_in, entry_by, entry_in}
 unfoldable pub use Rattle.dobutsu_web.specs.Ranked.{ranked_setup}

@@ -1,7 +1,7 @@
 -- Moves by their places: none stands where the square's piece or the hand has none, and each place has one at most.
 use Rattle.dobutsu_web.proofs.Common.{◌&&◌, ◌*◌, ◌+◌, ◌<◌, ◌↔◌, ◌∙◌, ◌≡◌, ◌≤◌, Bool, IsTrue, None, Some, ap, arith, false, inl, inr, length, nat_lt, refl}
 use Rattle.dobutsu_web.proofs.Common.{subst, sym, true, ℕ, cases_lt, lt-ltb, Setup, can_go, goes, CanGo, Goes, HasOutcome, first_drop, hand_place, place, Open}
-use Rattle.dobutsu_web.proofs.Common.{EachAt, NoneStands, SomeAt, leads_from}
+use Rattle.dobutsu_web.proofs.Common.{EachAt, SomeAt}
 use Rattle.std.specs.Option.{is_none}
 use Rattle.dob_pieces.specs.declared.kind.Kind.{Kind}
 use Rattle.dob_pieces.specs.declared.kind.HandKind.{HandKind}
@@ -27,36 +27,6 @@ made p kind from to false false q is = record { own = is.2.own; lead = is.2.lead
 made p kind from to true false q is = record { own = is.3.own; lead = is.3.leads }
 made p kind from to false true q is = record { own = is.2.own; lead = is.2.leads }
 made p kind from to true true q is = record { own = is.3.own; lead = is.3.leads }
-
-pub no_step : (p : Setup) (from to : ℕ) → length p.board ≡ 12 → from < 12 → to < 12 → leads_from (at p from) from to ≡ false → NoneStands p (12 * from + to)
-no_step p from to len low high none profile (Step kind f t catch grows) can there =
-    let is = made p kind f t catch grows can.0 (goes profile p (Step kind f t catch grows) can.0 can.1) in
-    let near = leads-to_board kind f t is.lead in
-    let one : f ≡ from = omega (arith, near, high, there) in
-    let two : t ≡ to = omega (arith, one, there) in
-    let own : at p from ≡ Some (piece_of Mover kind) = subst (λ k. at p k ≡ Some (piece_of Mover kind)) one is.own in
-    let lead : leads kind from to ≡ true = subst (λ k. leads kind k to ≡ true) one (subst (λ k. leads kind f k ≡ true) two is.lead) in
-    let yes : leads_from (at p from) from to ≡ true = rw own lead in
-    absurd (cc)
-no_step p from to len low high none profile (Put kind t) can there = absurd (omega (arith, low, high, there))
-
-pub no_drop : (p : Setup) (kind : HandKind) (to : ℕ) → length p.board ≡ 12 → to < 12 → nat_lt 0 (held p.hands.mover kind) && is_none (at p to) ≡ false →
-    NoneStands p (first_drop + 12 * hand_place kind + to)
-no_drop p kind to len high none profile (Step k f t catch grows) can there =
-    let is = made p k f t catch grows can.0 (goes profile p (Step k f t catch grows) can.0 can.1) in
-    let near = leads-to_board k f t is.lead in
-    let within = within-from_piece p f (piece_of Mover k) is.own in
-    absurd (omega (arith, near, within, len, there))
-no_drop p kind to len high none profile (Put k t) can there =
-    let is = goes profile p (Put k t) can.0 can.1 in
-    let near = is.on_board in
-    let number : hand_place k ≡ hand_place kind = omega (arith, near, high, there) in
-    let same : k ≡ kind = one_kind k kind number in
-    let two : t ≡ to = omega (arith, number, there) in
-    let some : nat_lt 0 (held p.hands.mover kind) ≡ true = subst (λ h. nat_lt 0 (held p.hands.mover h) ≡ true) same (lt-ltb 0 (held p.hands.mover k) is.in_hand) in
-    let free : at p to ≡ None = subst (λ n. at p n ≡ None) two is.free in
-    let yes : nat_lt 0 (held p.hands.mover kind) && is_none (at p to) ≡ true = rw (some, free) refl in
-    absurd (cc)
 
 -- ---- the one move of a place
 

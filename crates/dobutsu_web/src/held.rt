@@ -8,10 +8,10 @@ ghost use Rattle.dob_rank.specs.Families.{IsPositionOf};
 ghost use Rattle.dobutsu_web.specs.Places.{EachAt, SomeAt};
 ghost use Rattle.dobutsu_web.specs.Ranked.{AreRanksIn, entries_in, entry_in};
 
-use crate::open_moves::{PLACES, found_at};
+use crate::lists::PLACES;
 use crate::ranked::{Listed, plies_of, position_at};
 use dob_certificate::EVER;
-use dob_moves::{Status, status};
+use dob_moves::{Status, move_at, status};
 use dob_pieces::Position;
 use dob_value::outcome_of;
 
@@ -48,7 +48,7 @@ fn is_held_at(listed: &Listed, plies: u16, position: &Position, place: usize) ->
     requires place { place < 180 }
     ensures { IsTrue result ↔ EachAt listed.now.family.profile position.now.setup place (IsSaidHeld listed.now.family (entries_in listed.now) plies) }
 {
-    match found_at(listed.family.profile, position, place) {
+    match move_at(listed.family.profile, position, place) {
         Some(reply) => is_said_held(listed, plies, &outcome_of(listed.family, position, reply)),
         None => true,
     }
@@ -90,7 +90,7 @@ fn is_escape_at(listed: &Listed, plies: u16, position: &Position, place: usize) 
     requires place { place < 180 }
     ensures { IsTrue result ↔ SomeAt listed.now.family.profile position.now.setup place (IsSafe listed.now.family (entries_in listed.now) plies) }
 {
-    match found_at(listed.family.profile, position, place) {
+    match move_at(listed.family.profile, position, place) {
         Some(played) => is_safe(listed, plies, &outcome_of(listed.family, position, played)),
         None => false,
     }

@@ -16,7 +16,6 @@ mod headers;
 mod held;
 mod lists;
 mod numbers;
-mod open_moves;
 mod ranked;
 mod rows;
 mod statuses;

@@ -9,6 +9,9 @@ use crate::ranked::Listed;
 use crate::within::is_loss_supported_at;
 use dob_certificate::ListKind;
 
+/// How many places of moves there are: each square and each kind in hand has one for every square.
+pub(crate) const PLACES: usize = 180;
+
 // Whether a list of that kind supports the entry at that place.
 fn is_supported_at(kind: ListKind, listed: &Listed, place: usize) -> bool
     requires ranks { AreRanksIn listed.now }

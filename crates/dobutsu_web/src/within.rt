@@ -9,9 +9,9 @@ ghost use Rattle.dob_rank.specs.Families.{IsPositionOf};
 ghost use Rattle.dobutsu_web.specs.Ranked.{AreRanksIn, entries_in, entry_in};
 ghost use Rattle.dobutsu_web.specs.Places.{EachAt, SomeAt};
 
-use crate::open_moves::{PLACES, found_at};
+use crate::lists::PLACES;
 use crate::ranked::{Listed, plies_of, position_at};
-use dob_moves::{Status, status};
+use dob_moves::{Status, move_at, status};
 use dob_pieces::Position;
 use dob_value::outcome_of;
 
@@ -48,7 +48,7 @@ fn is_reply_at(listed: &Listed, plies: u16, position: &Position, place: usize) -
     requires place { place < 180 }
     ensures { IsTrue result ↔ SomeAt listed.now.family.profile position.now.setup place (IsSaidLost listed.now.family (entries_in listed.now) plies) }
 {
-    match found_at(listed.family.profile, position, place) {
+    match move_at(listed.family.profile, position, place) {
         Some(reply) => is_said_lost(listed, plies, &outcome_of(listed.family, position, reply)),
         None => false,
     }
@@ -90,7 +90,7 @@ fn is_answered_at(listed: &Listed, plies: u16, position: &Position, place: usize
     requires place { place < 180 }
     ensures { IsTrue result ↔ EachAt listed.now.family.profile position.now.setup place (IsAnswered listed.now.family (entries_in listed.now) plies) }
 {
-    match found_at(listed.family.profile, position, place) {
+    match move_at(listed.family.profile, position, place) {
         Some(played) => is_answered(listed, plies, &outcome_of(listed.family, position, played)),
         None => true,
     }

@@ -54,6 +54,18 @@ pub entry_is : (profile : ℕ) (size : ℕ → ℕ → ℕ → ℕ → ℕ) → 
 entry_is profile size all set block upto =
     same_number (start_at profile set block) (sum_below (size set.chicks set.elephants set.giraffes) block) (at_block (agrees profile size) all set block upto)
 
+-- ---- where the entries stand
+
+abbrev is_within : ℕ → ℕ → ℕ → ℕ → Bool
+is_within c e g block = nat_lt (place_in c e g block) 243
+
+all_within : on_all is_within ≡ true
+all_within = refl
+
+pub place_within : (set : PieceSet) (block : ℕ) → block ≤ product (block_bases set)
+    → slice_index_or FIRST (9 * set.chicks + 3 * set.elephants + set.giraffes) 0 + block < 243
+place_within set block upto = ltb-true (place_in set.chicks set.elephants set.giraffes block) 243 (at_block is_within all_within set block upto)
+
 -- ---- in profile A
 
 abbrev bases_in : ℕ → ℕ → ℕ → List ℕ → List ℕ

@@ -52,6 +52,85 @@ fn busy_nodes_keep_the_token(rt: HostRuntime) {
     assert!(rt; world.steps() == 0);
 }
 
+// All that two nodes can do beside passing the token, except that node 0 takes no batch.
+fn work_once(rt: &impl Abort, world: &mut World)
+    requires { StandsOrStopped world.old }
+    ensures standing { IsStanding world.new }
+    ensures kept { StandsOrStopped world.new }
+    ensures going { world.new.failed ≡ None }
+{
+    make(rt, world, Event::Expand(0));
+    make(rt, world, Event::Own(0));
+    make(rt, world, Event::Post { from: 0, to: 1 });
+    make(rt, world, Event::Take { from: 0, to: 1 });
+    make(rt, world, Event::Expand(1));
+    make(rt, world, Event::Own(1));
+    make(rt, world, Event::Post { from: 1, to: 0 });
+}
+
+// The two nodes work until nothing is left but batches for node 0.
+fn work(rt: &impl Abort, world: &mut World)
+    requires { StandsOrStopped world.old }
+    ensures standing { IsStanding world.new }
+    ensures kept { StandsOrStopped world.new }
+    ensures going { world.new.failed ≡ None }
+{
+    work_once(rt, world);
+    for _round in 1..200 {
+        work_once(rt, world);
+    }
+}
+
+// The token goes round once.
+fn probe(rt: &impl Abort, world: &mut World)
+    requires { StandsOrStopped world.old }
+    ensures standing { IsStanding world.new }
+    ensures kept { StandsOrStopped world.new }
+{
+    does(rt, world, Event::Pass(0));
+    does(rt, world, Event::Pass(1));
+}
+
+// A batch to node 0 is on its way while both nodes are idle and white, and the token is back: that isn't the end, nor is it when node 0 has taken
+// the batch. Whether the end is announced after one probe more.
+fn ends_behind_a_batch(rt: &impl Abort, world: &mut World) -> bool
+    requires { StandsOrStopped world.old }
+    ensures standing { IsStanding world.new }
+    ensures kept { StandsOrStopped world.new }
+    ensures going { world.new.failed ≡ None }
+{
+    work(rt, world);
+    probe(rt, world);
+    probe(rt, world);
+    skips(rt, world, Event::Announce);
+    does(rt, world, Event::Take { from: 1, to: 0 });
+    work(rt, world);
+    skips(rt, world, Event::Announce);
+    probe(rt, world);
+    make(rt, world, Event::Announce)
+}
+
+// Whether the end is announced behind one of so many batches.
+fn ends_within(rt: &impl Abort, world: &mut World, batches: u32) -> bool
+    requires standing { IsStanding world.old }
+    requires kept { StandsOrStopped world.old }
+    requires going { world.old.failed ≡ None }
+{
+    for _batch in 0..batches {
+        if ends_behind_a_batch(rt, world) {
+            return true;
+        }
+    }
+    false
+}
+
+#[test]
+fn a_batch_on_its_way_is_no_end(rt: HostRuntime) {
+    let mut world = world_of(&rt, rt.alloc(), family_of(&rt, "000"), 2, 256, 64);
+    assert!(rt; ends_within(&rt, &mut world, 100));
+    assert!(rt; world.announced());
+}
+
 // That the end is announced after one pass says that the token is at the node again, white and with the sum 0.
 #[test]
 fn one_node_passes_the_token_to_itself(rt: HostRuntime) {

@@ -1,5 +1,5 @@
-// A world that stops, and what it has left. `rt try --test --fail-alloc N -- stopped_world` refuses the growth of that number; with none
-// refused each world comes to its end.
+// A world that stops, and what it has left. `tests/growths.sh` runs the last test with each growth refused in turn, as
+// `rt try --test --fail-alloc N -- as_before` does with the one of that number; with none refused each world comes to its end.
 ghost use Rattle.std.specs.Prelude.{◌≡◌, ◌<◌};
 ghost use Rattle.dob_world.specs.Standing.{StandsOrStopped};
 

@@ -9,10 +9,12 @@ use dob_lists::{SegmentLength, Segments};
 use dob_moves::status_and_count;
 use dob_node::{Node, Opening, opening};
 use dob_pieces::Profile;
+use dob_run::scan;
 use dob_safra::NodeCount;
 use dob_share::Share;
 use std::alloc::Global;
 use std::process::Abort;
+use std::thread::Threads;
 
 // The classes of two elephants and two giraffes, as testdata/counts.txt has them: with no chick both profiles are one.
 const CLASSES: u64 = 1_707_030;
@@ -90,6 +92,44 @@ fn nodes_find_their_own_openings(rt: HostRuntime) {
     for (asked, items) in [(1, 1), (7, 4), (1 << 20, 1 << 20)] {
         let length = SegmentLength::of(asked).expect(&rt, "a length");
         open_by_segments(&rt, rt.alloc(), &classes, length, items);
+    }
+}
+
+// Whether the lists have the same openings.
+fn are_listed_alike(scanned: &Segments<Opening>, listed: &Segments<Opening>) -> bool {
+    if scanned.len() != listed.len() {
+        return false;
+    }
+    for place in 0..scanned.len() {
+        let (one, other) = (scanned.get(place), listed.get(place));
+        if one.status != other.status || one.moves != other.moves {
+            return false;
+        }
+    }
+    true
+}
+
+// Threads and one thread find the openings in segments of that length.
+fn finds_in_segments(
+    rt: &(impl Abort + Threads + Sync),
+    alloc: Global,
+    classes: &Classes,
+    length: SegmentLength,
+    items: u32,
+) {
+    let scanned = scan(rt, alloc, classes, length).expect(rt, "openings");
+    let listed = opening(alloc, classes, length).expect(rt, "openings");
+    assert!(rt; scanned.len() == 1116 && are_listed_alike(&scanned, &listed));
+    assert!(rt; scanned.segment_length().items() == items);
+    assert!(rt; listed.segment_length().items() == items);
+}
+
+#[test]
+fn many_threads_find_what_one_does(rt: HostRuntime) {
+    let classes = classes_of(&rt, rt.alloc(), "001");
+    for (asked, items) in [(1, 1), (7, 4), (1 << 20, 1 << 20)] {
+        let length = SegmentLength::of(asked).expect(&rt, "a length");
+        finds_in_segments(&rt, rt.alloc(), &classes, length, items);
     }
 }
 

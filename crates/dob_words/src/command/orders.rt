@@ -103,16 +103,8 @@ pub enum LinesOrder<'a> {
         file: &'a str,
         out: &'a str,
     },
-    /// To make a certificate of the position by the table of the file, exact if that is asked for and of at most `most` entries if a
-    /// number is given, and to keep it under the other name; and to say how far that is if it is watched.
-    Certify {
-        file: &'a str,
-        out: &'a str,
-        most: Option<u64>,
-        is_exact: bool,
-        is_watched: bool,
-        position: &'a str,
-    },
+    /// To make a certificate.
+    Certify(CertifyOrder<'a>),
     /// To say what the certificate of the file proves, and how far that is if it is watched.
     Verify {
         file: &'a str,
@@ -134,6 +126,18 @@ pub struct BuildOrder<'a> {
     pub nodes: Option<u64>,
     pub file: &'a str,
     pub is_watched: bool,
+}
+
+/// To make a certificate of the position by the table of the file, exact if that is asked for and of at most `most` entries if a
+/// number is given, and to keep it under the other name; and to say how far that is if it is watched.
+#[derive(Clone, Copy)]
+pub struct CertifyOrder<'a> {
+    pub file: &'a str,
+    pub out: &'a str,
+    pub most: Option<u64>,
+    pub is_exact: bool,
+    pub is_watched: bool,
+    pub position: &'a str,
 }
 
 // What the matches of the subcommand ask for; nothing if that isn't clear, as of `probe` with both a position and `--each`.
@@ -264,14 +268,14 @@ fn certify_order<'a>(inner: &ArgMatches<'a>) -> LinesOrder<'a>
     requires { HasFit (form_for Certify) inner.now }
     ensures { IsLinesOrder Certify (texts_in (form_for Certify) inner.now) result }
 {
-    LinesOrder::Certify {
+    LinesOrder::Certify(CertifyOrder {
         file: text(inner, "FILE"),
         out: text(inner, "CERT"),
         most: number_given(inner.get_str("N")),
         is_exact: inner.get_str("exact").is_some(),
         is_watched: inner.get_str("progress").is_some(),
         position: text(inner, "POSITION"),
-    }
+    })
 }
 
 // What the matches ask for by one position or by `--each`, if it is clear.

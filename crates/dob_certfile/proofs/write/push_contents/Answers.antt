@@ -1,18 +1,18 @@
 -- Each list has few entries, and the pieces are the contents.
-use Rattle.dob_certfile.proofs.Common.{ap, arith, length, classes_of-below, classes_of, content}
+use Rattle.dob_certfile.proofs.Common.{Lost, Held, ap, arith, length, classes_of-below, classes_of, content}
 use Rattle.dob_certfile.proofs.Files.{few_entries, pieces}
 use Rattle.dob_certfile.proofs.write.push_contents.Goals as goal
 
 pub overflow_cast-lost : goal.overflow_cast-lost
 overflow_cast-lost c =
     let family = c.args.file.now.family in
-    let few = few_entries (classes_of family) c.args.file.now.certificate.lost c.requires.lost in
+    let few = few_entries Lost (classes_of family) c.args.file.now.certificate.lost c.requires.lost in
     omega (arith, few, classes_of-below family, ap length c.as_slice-lost.ensures.entries)
 
 pub overflow_cast-held : goal.overflow_cast-held
 overflow_cast-held c =
     let family = c.args.file.now.family in
-    let few = few_entries (classes_of family) c.args.file.now.certificate.held c.requires.held in
+    let few = few_entries Held (classes_of family) c.args.file.now.certificate.held c.requires.held in
     omega (arith, few, classes_of-below family, ap length c.as_slice-held.ensures.entries)
 
 pub returns : goal.returns

@@ -1,4 +1,6 @@
 -- What is so of the node is so of its family.
+use Rattle.std.proofs.lemmas.Grind.{common_steps}
+use Rattle.std.proofs.Common.{arith}
 use Rattle.dob_node.proofs.Common.{◌∙◌, Family, IsTooDeepWithin, IsUnderWay, Ok, ap, err_from_is_err_and, subst}
 use Rattle.dob_node.proofs.AloneSteps.{never_too_deep}
 use Rattle.dob_node.proofs.one_owner.alone.Goals as goal
@@ -31,3 +33,117 @@ returns-clause-done c =
       made = done.2;
       done = done.3;
     }
+
+pub returns-in_err-classes-clause-too_deep : goal.returns-in_err-classes-clause-too_deep
+returns-in_err-classes-clause-too_deep c = grind (arith, common_steps)
+
+pub returns-in_err-classes-clause-few : goal.returns-in_err-classes-clause-few
+returns-in_err-classes-clause-few c = grind (arith, common_steps)
+
+pub returns-in_err-classes-clause-fits : goal.returns-in_err-classes-clause-fits
+returns-in_err-classes-clause-fits c = grind (arith, common_steps)
+
+pub returns-in_err-classes-clause-family : goal.returns-in_err-classes-clause-family
+returns-in_err-classes-clause-family c = grind (arith, common_steps)
+
+pub returns-in_err-classes-clause-table : goal.returns-in_err-classes-clause-table
+returns-in_err-classes-clause-table c = grind (arith, common_steps)
+
+pub returns-in_err-classes-clause-none : goal.returns-in_err-classes-clause-none
+returns-in_err-classes-clause-none c = grind (arith, common_steps)
+
+pub returns-in_err-classes-clause-done : goal.returns-in_err-classes-clause-done
+returns-in_err-classes-clause-done c = grind (arith, common_steps)
+
+pub returns-in_err-node-clause-too_deep : goal.returns-in_err-node-clause-too_deep
+returns-in_err-node-clause-too_deep c = grind (arith, common_steps)
+
+pub returns-in_err-node-clause-few : goal.returns-in_err-node-clause-few
+returns-in_err-node-clause-few c = grind (arith, common_steps)
+
+pub returns-in_err-node-clause-fits : goal.returns-in_err-node-clause-fits
+returns-in_err-node-clause-fits c = grind (arith, common_steps)
+
+pub returns-in_err-node-clause-family : goal.returns-in_err-node-clause-family
+returns-in_err-node-clause-family c = grind (arith, common_steps)
+
+pub returns-in_err-node-clause-table : goal.returns-in_err-node-clause-table
+returns-in_err-node-clause-table c = grind (arith, common_steps)
+
+pub returns-in_err-node-clause-none : goal.returns-in_err-node-clause-none
+returns-in_err-node-clause-none c = grind (arith, common_steps)
+
+pub returns-in_err-node-clause-done : goal.returns-in_err-node-clause-done
+returns-in_err-node-clause-done c = grind (arith, common_steps)
+
+pub returns-in_err-ended-clause-fits : goal.returns-in_err-ended-clause-fits
+returns-in_err-ended-clause-fits c = grind (arith, common_steps)
+
+pub returns-in_err-ended-clause-family : goal.returns-in_err-ended-clause-family
+returns-in_err-ended-clause-family c = grind (arith, common_steps)
+
+pub returns-in_err-ended-clause-table : goal.returns-in_err-ended-clause-table
+returns-in_err-ended-clause-table c = grind (arith, common_steps)
+
+pub returns-in_err-ended-clause-none : goal.returns-in_err-ended-clause-none
+returns-in_err-ended-clause-none c = grind (arith, common_steps)
+
+pub returns-in_err-ended-clause-done : goal.returns-in_err-ended-clause-done
+returns-in_err-ended-clause-done c = grind (arith, common_steps)
+
+pub returns-in_default-clause-too_deep : goal.returns-in_default-clause-too_deep
+returns-in_default-clause-too_deep c = grind (arith, common_steps)
+
+pub returns-in_default-clause-few : goal.returns-in_default-clause-few
+returns-in_default-clause-few c = grind (arith, common_steps)
+
+pub returns-in_default-clause-fits : goal.returns-in_default-clause-fits
+returns-in_default-clause-fits c = grind (arith, common_steps)
+
+pub returns-in_default-clause-family : goal.returns-in_default-clause-family
+returns-in_default-clause-family c = grind (arith, common_steps)
+
+pub returns-in_default-clause-table : goal.returns-in_default-clause-table
+returns-in_default-clause-table c = grind (arith, common_steps)
+
+pub returns-in_default-clause-done : goal.returns-in_default-clause-done
+returns-in_default-clause-done c = grind (arith, common_steps)
+
+pub returns-in_err-table-clause-too_deep : goal.returns-in_err-table-clause-too_deep
+returns-in_err-table-clause-too_deep c = grind (arith, common_steps)
+
+pub returns-in_err-table-clause-few : goal.returns-in_err-table-clause-few
+returns-in_err-table-clause-few c = grind (arith, common_steps)
+
+pub returns-in_err-table-clause-fits : goal.returns-in_err-table-clause-fits
+returns-in_err-table-clause-fits c = grind (arith, common_steps)
+
+pub returns-in_err-table-clause-family : goal.returns-in_err-table-clause-family
+returns-in_err-table-clause-family c = grind (arith, common_steps)
+
+pub returns-in_err-table-clause-table : goal.returns-in_err-table-clause-table
+returns-in_err-table-clause-table c = grind (arith, common_steps)
+
+pub returns-in_err-table-clause-none : goal.returns-in_err-table-clause-none
+returns-in_err-table-clause-none c = grind (arith, common_steps)
+
+pub returns-in_err-table-clause-done : goal.returns-in_err-table-clause-done
+returns-in_err-table-clause-done c = grind (arith, common_steps)
+
+pub returns-clause-too_deep : goal.returns-clause-too_deep
+returns-clause-too_deep c = grind (arith, common_steps)
+
+pub returns-clause-few : goal.returns-clause-few
+returns-clause-few c = grind (arith, common_steps)
+
+pub returns-clause-fits : goal.returns-clause-fits
+returns-clause-fits c = grind (arith, common_steps)
+
+pub returns-clause-family : goal.returns-clause-family
+returns-clause-family c = grind (arith, common_steps)
+
+pub returns-clause-table : goal.returns-clause-table
+returns-clause-table c = grind (arith, common_steps)
+
+pub returns-clause-none : goal.returns-clause-none
+returns-clause-none c = grind (arith, common_steps)

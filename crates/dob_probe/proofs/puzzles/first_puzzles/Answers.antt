@@ -1,42 +1,50 @@
 -- The puzzles of one place more, until there are as many as were asked for.
-use Rattle.dob_probe.proofs.Common.{◌<◌, ◌≡◌, [], arith, inl, inr, length, refl, rules, ℕ, class_on, first_class, Puzzle}
-use Rattle.dob_probe.proofs.OnlyMoves.{begin, ended, next_few, puzzles_next, puzzles_none, puzzles_same, puzzles_too_long}
-use Rattle.dob_probe.proofs.Walked.{first_below}
+use Rattle.dob_probe.proofs.Common.{◌<◌, ◌≡◌, [], arith, inl, inr, length, refl, rules, slice_get_within, ℕ, IsOrder, begin_at, class_on, places_in, Puzzle, Win}
+use Rattle.dob_probe.proofs.OnlyMoves.{ended, next_few, puzzles_next, puzzles_none, puzzles_same, puzzles_too_long}
+use Rattle.dob_probe.proofs.Walked.{few_classes, order_covers}
 use Rattle.dob_probe.proofs.puzzles.first_puzzles.Goals as goal
-use Rattle.dob_probe.proofs.puzzles.first_puzzles.Goals.{After-begin_at-begin, in-Some+in_ok-list_puzzle, in_default}
+use Rattle.dob_probe.proofs.puzzles.first_puzzles.Goals.{After-order_of-order, After-begin_at-begin, After-places_in-end, in-Some+in_ok-list_puzzle, in_default}
 
--- the class that comes first, and the first place, by the table's classes
-first_is : (c : After-begin_at-begin) → c.first_class-first.result ≡ first_class c.args.walk.seed (length c.args.table.now.values)
-first_is c = rw (c.first_class-first.ensures, c.class_count-classes.ensures.length) refl
+pub order_of-order-requires : goal.order_of-order-requires
+order_of-order-requires c = few_classes c.args.table.now.family c.class_count-classes.result c.class_count-classes.ensures.count
 
-begin_is : (c : After-begin_at-begin) → c.begin_at-begin.result ≡ begin c.args.table.now c.args.plies c.args.walk
-begin_is c = rw (c.begin_at-begin.ensures, c.class_count-classes.ensures.length, first_is c) refl
+-- the order is one of the table's classes
+is_order : (c : After-order_of-order) → IsOrder c.args.walk.seed (length c.args.table.now.values) c.order_of-order.result
+is_order c = rw (c.class_count-classes.ensures.length) at c.order_of-order.ensures
+
+begin_is : (c : After-begin_at-begin) → c.begin_at-begin.result ≡ begin_at c.args.walk.behind c.order_of-order.result (length c.args.table.now.values)
+begin_is c = rw (c.begin_at-begin.ensures, c.class_count-classes.ensures.length) refl
+
+end_is : (c : After-places_in-end) → c.places_in-end.result ≡ places_in c.order_of-order.result (length c.args.table.now.values)
+end_is c = rw (c.places_in-end.ensures, c.class_count-classes.ensures.length) refl
 
 pub returns-then-plies : goal.returns-then-plies
 returns-then-plies c =
+    let is = is_order (goal.at.returns-then-plies c).After-order_of-order in
     rw c.new.ensures.items
-    (puzzles_too_long c.args.table.now c.args.plies c.args.walk c.args.count c.family-family.ensures.table c.if-plies.true)
+    (puzzles_too_long c.args.table.now c.args.plies c.args.walk c.order_of-order.result is c.args.count c.family-family.ensures.table c.if-plies.true)
 
 pub begin_at-begin-requires : goal.begin_at-begin-requires
-begin_at-begin-requires c = λ some. rw c.first_class-first.ensures (first_below c.args.walk.seed c.class_count-classes.result some)
+begin_at-begin-requires c = order_covers c.class_count-classes.result c.args.walk.seed c.order_of-order.result c.order_of-order.ensures
 
-pub class_on-requires-clause-first : goal.class_on-requires-clause-first
-class_on-requires-clause-first c =
-    let here : c.loop-place.place < c.class_count-classes.result = c.loop-place-test.true in
-    rw c.first_class-first.ensures (first_below c.args.walk.seed c.class_count-classes.result (omega (arith, here)))
+pub class_on-requires : goal.class_on-requires
+class_on-requires c = rw c.places_in-end.ensures at c.loop-place-test.true
 
 pub loop-place-init : goal.loop-place-init
 loop-place-init c =
     let at = begin_is (goal.at.loop-place-init c).After-begin_at-begin in
     let empty : c.new-list.result.items ≡ [] = c.new-list.ensures.items in
-    rw (empty, c.new-outlines.ensures.items, at) (omega arith, omega arith, puzzles_none c.args.table.now c.args.plies c.args.walk, tt)
+    rw (empty, c.new-outlines.ensures.items, at)
+    (omega arith, omega arith, puzzles_none c.args.table.now c.args.plies c.args.walk c.order_of-order.result, tt)
 
 pub returns-then-len-count : goal.returns-then-len-count
 returns-then-len-count c =
     let list = c.loop-place.list.items in
+    let is = is_order (goal.at.returns-then-len-count c).After-order_of-order in
     let full : length list ≡ c.args.count =
     omega (arith, c.loop-place.list.ok.0, c.loop-place.invariant.1, c.if-len-count.true, c.len.ensures) in
-    ended c.args.table.now c.args.plies c.args.walk c.loop-place.place c.args.count list (omega (arith, full)) (inl full) c.loop-place.invariant.2
+    ended c.args.table.now c.args.plies c.args.walk c.order_of-order.result is c.loop-place.place c.args.count list (omega (arith, full)) (inl full)
+    c.loop-place.invariant.2
 
 pub loop-place-preserved : goal.loop-place-preserved
 loop-place-preserved c =
@@ -46,20 +54,21 @@ loop-place-preserved c =
     let place : ℕ = c.loop-place.place in
     let list = c.loop-place.list.items in
     let invariant = c.loop-place.invariant in
-    let count : c.class_count-classes.result ≡ length table.values = c.class_count-classes.ensures.length in
-    let here : place < length table.values = omega (arith, c.loop-place-test.true, count) in
-    let on : c.class_on.result ≡ class_on (first_class walk.seed (length table.values)) (length table.values) place =
-    rw (c.class_on.ensures.class, count, first_is (goal.at.loop-place-preserved c).After-begin_at-begin) refl in
+    let order = c.order_of-order.result in
+    let known = goal.at.loop-place-preserved c in
+    let here : place < places_in order (length table.values) = rw (end_is known.After-places_in-end) at c.loop-place-test.true in
+    let on : c.class_on.result ≡ class_on order place = c.class_on.ensures in
+    let covered = order_covers (length table.values) walk.seed order (is_order known.After-order_of-order) in
     elim c.match-branch-2.branch [
       | in-Some+in_ok-list_puzzle w ↦
           let puzzle : Puzzle = w.in-Some.puzzle in
           let found = rw w.in-Some.is at c.in_ok-puzzle.ensures in
           let next = w.in_ok-list_puzzle.ensures.listed in
-          let more = next_few table plies walk c.is_some-is_spread.result list w.list_puzzle.new.list.items puzzle next in
+          let more = next_few table plies walk order c.is_some-is_spread.result list w.list_puzzle.new.list.items puzzle next in
           rw (w.list-is, w.outlines-is) (
             omega (arith, invariant.0),
             omega (arith, more, c.loop-place.list.ok.0, c.if-len-count.false, c.len.ensures),
-            puzzles_next table plies walk place c.class_on.result here on c.is_some-is_spread.result list w.list_puzzle.new.list.items puzzle
+            puzzles_next table plies walk order place c.class_on.result here on covered c.is_some-is_spread.result list w.list_puzzle.new.list.items puzzle
                 c.is_some-is_spread.ensures invariant.0 found next invariant.2,
             w.in_ok-list_puzzle.ensures.outlines,
           )
@@ -70,12 +79,23 @@ loop-place-preserved c =
           rw (same, same_outlines) (
             omega (arith, invariant.0),
             invariant.1,
-            puzzles_same table plies walk place c.class_on.result here on list missing invariant.2,
+            puzzles_same table plies walk order place c.class_on.result here on covered list missing invariant.2,
             invariant.3,
           )
     ]
 
 pub returns : goal.returns
 returns c =
-    ended c.args.table.now c.args.plies c.args.walk c.loop-place.place c.args.count c.loop-place.list.items c.loop-place.invariant.1
-    (inr (omega (arith, c.loop-place-test.false, c.class_count-classes.ensures.length))) c.loop-place.invariant.2
+    let known = goal.at.returns c in
+    let all = rw (end_is known.After-places_in-end) at c.loop-place-test.false in
+    ended c.args.table.now c.args.plies c.args.walk c.order_of-order.result (is_order known.After-order_of-order) c.loop-place.place c.args.count
+    c.loop-place.list.items c.loop-place.invariant.1 (inr all) c.loop-place.invariant.2
+
+-- the puzzle that was found is of a class of the table
+pub list_puzzle-requires-clause-within : goal.list_puzzle-requires-clause-within
+list_puzzle-requires-clause-within c =
+    let found = rw c.in-Some.is at c.in_ok-puzzle.ensures in
+    slice_get_within c.args.table.now.values c.in-Some.puzzle.class (Win c.args.plies) found.1.won.entry
+
+pub list_puzzle-requires-clause-outlines : goal.list_puzzle-requires-clause-outlines
+list_puzzle-requires-clause-outlines c = c.loop-place.invariant.3

@@ -1,6 +1,6 @@
 -- The two lines, one after the other.
 use Rattle.dob_query.proofs.Common.{◌∙◌, codes, decimal, count_line}
-use Rattle.dob_query.proofs.Kept.{two_lines}
+use Rattle.dob_lines.proofs.CountLines.{two_lines}
 use Rattle.dob_query.proofs.counts.lines_with.Goals as goal
 
 pub returns : goal.returns

@@ -2,7 +2,7 @@
 use Rattle.dob_query.proofs.Common.{List, rules, ℕ, Stream, whole, shelf_change, IsAnswerBy, IsAnswerOf, IsAskingFault, IsFaultOfAsking}
 use Rattle.std.specs.Prelude.{string_bytes}
 use Rattle.dob_query.proofs.Asking.{ok_each, source_asks}
-use Rattle.dob_query.proofs.Endings.{answered_by}
+use Rattle.dob_files.proofs.Endings.{answered_by}
 use Rattle.dob_query.proofs.Placed.{err_weaker}
 use Rattle.dob_query.proofs.questions.answer_of.Goals as goal
 

@@ -2,9 +2,9 @@
 use Rattle.dob_query.proofs.Common.{◌||◌, ◌∙◌, Bool, ap, false, sym, or-false, FailsWhere, shelf_change, is_io, GivesWhole}
 use Rattle.dob_dbfile.specs.Sinks.{change as sink_change}
 use Rattle.dob_query.specs.QuestionsEach.{AnswersLine, ArePlaceLines, IsPlacesFault, TellsRecords}
-use Rattle.dob_query.proofs.EachLine.{each_weaker}
+use Rattle.dob_files.proofs.EachLine.{each_weaker}
 use Rattle.dob_query.proofs.Placed.{places_ended, places_told}
-use Rattle.dob_query.proofs.Kept.{same_chain}
+use Rattle.dob_files.proofs.Kept.{same_chain}
 use Rattle.dob_query.proofs.questions_each.answer_question_each.Goals as goal
 
 pub returns : goal.returns

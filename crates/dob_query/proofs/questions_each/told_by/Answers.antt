@@ -1,7 +1,7 @@
 -- What is told of each line is by the family that the header names.
 use Rattle.dob_query.proofs.Common.{List, refl, ℕ, Result, is_err, change, TellsOf, Fault}
 use Rattle.dob_query.specs.QuestionsEach.{IsRecordAnswer, IsToldOf, TellsRecords, end_of, ended_lines}
-use Rattle.dob_query.proofs.EachLine.{each_weaker, tells_are, tells_by}
+use Rattle.dob_files.proofs.EachLine.{each_weaker, tells_are, tells_by}
 use Rattle.dob_query.proofs.Placed.{lines_end_records, record_weaker}
 use Rattle.dob_query.proofs.questions_each.told_by.Goals as goal
 

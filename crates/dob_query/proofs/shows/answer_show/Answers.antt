@@ -1,8 +1,8 @@
 -- The position that was read is the text's, and where a picture is asked for it is kept.
 use Rattle.dob_query.proofs.Common.{Bool, List, subst, sym, ℕ, IsTrue, shelf_change, AreDrawn}
 use Rattle.dob_words.specs.Readings.{text_given}
-use Rattle.dob_query.proofs.Kept.{answered_later, others_after}
-use Rattle.dob_query.proofs.MadeFaults.{picture_shows}
+use Rattle.dob_files.proofs.Kept.{answered_later, others_after}
+use Rattle.dob_query.proofs.Shown.{picture_shows}
 use Rattle.dob_query.proofs.shows.answer_show.Goals as goal
 
 pub returns-in-Some : goal.returns-in-Some

@@ -2,7 +2,7 @@
 use Rattle.dob_query.proofs.Common.{shelf_change, IsAnswerBy, IsAskingFault, AreDrawn, IsDrawingFault, Draw}
 use Rattle.std.specs.Prelude.{Some, string_bytes}
 use Rattle.dob_query.proofs.Asking.{answered_weaker}
-use Rattle.dob_query.proofs.MadeFaults.{asking_draws}
+use Rattle.dob_query.proofs.Shown.{asking_draws}
 use Rattle.dob_query.proofs.shows.drawn_lines.Goals as goal
 
 pub returns-in-Some-clause-answered : goal.returns-in-Some-clause-answered

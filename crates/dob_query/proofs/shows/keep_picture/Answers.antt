@@ -1,6 +1,6 @@
 -- The sink was empty and took the picture, which the shelf then keeps.
 use Rattle.dob_query.proofs.Common.{◌∙◌, err_from_is_err_and, others_kept, shelf_change}
-use Rattle.dob_query.proofs.Kept.{answered_later, filled_answers, others_after, shelf_fails, shelf_keeps, shelf_leaves}
+use Rattle.dob_files.proofs.Kept.{answered_later, filled_answers, others_after, shelf_fails, shelf_keeps, shelf_leaves}
 use Rattle.dob_query.proofs.shows.keep_picture.Goals as goal
 
 pub returns-in_err-sink : goal.returns-in_err-sink

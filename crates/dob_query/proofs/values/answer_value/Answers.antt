@@ -2,7 +2,7 @@
 use Rattle.std.proofs.Common.{ap, Err}
 use Rattle.std.proofs.lemmas.Result.{err_from_is_err_and}
 use Rattle.dob_value.specs.declared.fault.Fault as value
-use Rattle.dob_query.proofs.Endings.{value_fault_holds}
+use Rattle.dob_query.proofs.Valued.{value_fault_holds}
 use Rattle.dob_query.proofs.values.answer_value.Goals as goal
 
 pub returns-in_err-value-clause-err : goal.returns-in_err-value-clause-err

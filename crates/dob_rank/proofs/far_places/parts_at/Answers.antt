@@ -1,5 +1,7 @@
 -- What is left of the choice found is less than its weight for each of the others' squares.
 use Rattle.std.proofs.lemmas.Nat.{div_below, mod_below}
+use Rattle.std.proofs.Math.Nat.{mul-le-mul, mul-le-mul_right}
+use Rattle.dob_rank.proofs.Common.{◌*◌, ◌/◌, ◌≤◌, arith, div-add-mod', ℕ}
 use Rattle.dob_rank.proofs.Arithmetic.MixedRadix.{factor_positive}
 use Rattle.dob_rank.proofs.ProfileB.FarSpots.{IsInChoice, choice_found, weight_some, form_in_weight, parts_are}
 use Rattle.dob_rank.proofs.far_places.parts_at.Goals as goal
@@ -10,6 +12,18 @@ in_choice c =
     choice_found c.args.chicks c.args.lions c.args.others c.args.number c.choice_at-choice.result c.before_choice.result
     c.weight_of-weight.result (factor_positive c.args.number _ c.args.others c.requires.number) c.choice_at-choice.ensures.low
     c.choice_at-choice.ensures.high c.before_choice.ensures.value c.weight_of-weight.ensures.value
+
+pub overflow_mul-left : goal.overflow_mul-left
+overflow_mul-left c =
+    let most : c.before_choice.result * c.args.others ≤ 582 * 2025 = mul-le-mul c.before_choice.ensures.bound c.requires.others in
+    omega (arith, most)
+
+pub overflow_sub-left : goal.overflow_sub-left
+overflow_sub-left c =
+    all_within c.args.others c.args.number _ (rw c.before_choice.ensures.value c.choice_at-choice.ensures.low)
+  where
+    all_within : (n number sum : ℕ) → sum ≤ number / n → sum * n ≤ number
+    all_within n number sum low = omega (arith, div-add-mod' number n, mul-le-mul_right n low)
 
 pub nonzero_div-number : goal.nonzero_div-number
 nonzero_div-number c = factor_positive c.args.number _ c.args.others c.requires.number

@@ -77,3 +77,9 @@ returns c =
     spot_for c.args.on_board.now c.lions_at-lions.result c.args.number _ c.hand_size-in_hand.result c.before_lions.result c.local_at-local.result _
     c.lions_at-lions.ensures.lions (product_is _ (c.power.result * c.power-2.result) _ _ others.0.count_is others.1.count_is) some
     c.hand_size-in_hand.ensures.value hand c.before_lions.ensures.value before.low c.local_at-local.ensures refl
+
+pub overflow_mul-before-2 : goal.overflow_mul-before-2
+overflow_mul-before-2 c = let low = (before_in (goal.at.overflow_mul-before-2 c).After-before_lions).low in omega (arith, low)
+
+pub overflow_sub-number : goal.overflow_sub-number
+overflow_sub-number c = (before_in (goal.at.overflow_sub-number c).After-before_lions).low

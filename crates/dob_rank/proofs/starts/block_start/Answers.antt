@@ -1,6 +1,6 @@
 -- The table's entry is the sum, computed for each set and each block.
 use Rattle.dob_rank.proofs.Common.{◌<◌, ◌^◌, ◌∙◌, ◌≤◌, arith, subst, sym, ℕ, is_present, start_of}
-use Rattle.dob_rank.proofs.Positions.BlockStarts.{start_few}
+use Rattle.dob_rank.proofs.Positions.BlockStarts.{place_within, start_few}
 use Rattle.dob_rank.proofs.Marked.Words.{marks_below-le}
 use Rattle.dob_rank.proofs.OfFamilies.Present.{all_present}
 use Rattle.dob_rank.proofs.ProfileB.FarTables.{start_in_family}
@@ -21,3 +21,12 @@ returns-clause-bound c =
   where
     within : {m n k : ℕ} → m ≤ n → n < k → m < k
     within h l = omega (arith, h, l)
+
+pub overflow_add-place : goal.overflow_add-place
+overflow_add-place c = let within = place_within c.args.family.set c.args.block c.requires in omega (arith, within)
+
+pub bounds-place : goal.bounds-place
+bounds-place c = place_within c.args.family.set c.args.block c.requires
+
+pub offset_bounds-place_of-place : goal.offset_bounds-place_of-place
+offset_bounds-place_of-place c = let within = place_within c.args.family.set c.args.block c.requires in omega (arith, within)

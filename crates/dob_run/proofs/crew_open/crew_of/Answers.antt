@@ -1,6 +1,6 @@
 -- The crew's endpoints are its runners' own, and each runner is for the family and the size, unfailed and before any step.
 use Rattle.dob_run.proofs.Common.{◌∙◌, List, rules, subst, sym, Endpoint, IsCrew}
-use Rattle.dob_run.proofs.CrewRunners.{endpoints_are, runners_are, runners_new}
+use Rattle.dob_run.proofs.CrewRunners.{endpoints_are, runners_are, runners_new, runners_pace}
 use Rattle.dob_run.proofs.Inboxes.{nodes_are}
 use Rattle.dob_run.proofs.crew_open.crew_of.Goals as goal
 
@@ -25,4 +25,5 @@ returns g c =
       crew = subst (λ (l : List Endpoint). IsCrew c.in_ok-board.board l) (sym (endpoints_are family c.args.sizes.now.batch_size endpoints runners are)) c.in_ok-board.ensures.crew;
       each = runners_are family c.args.sizes.now.batch_size endpoints runners are;
       new = runners_new family c.args.sizes.now.batch_size c.args.sizes.now.capacity endpoints runners are c.in_ok-board.ensures.new;
+      pace = runners_pace family c.args.sizes.now.batch_size endpoints runners are;
     }

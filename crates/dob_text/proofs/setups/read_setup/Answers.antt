@@ -1,4 +1,6 @@
 -- The parts, the board and the hands, one after another.
+use Rattle.std.proofs.lemmas.Grind.{common_steps}
+use Rattle.std.proofs.Common.{arith}
 use Rattle.dob_text.proofs.Common.{refl, AreParts}
 use Rattle.dob_text.proofs.Whole.{shape_by, letters_by, no_mover, no_enemy, spelled_by, same_setup}
 use Rattle.dob_text.proofs.setups.read_setup.Goals as goal
@@ -27,3 +29,9 @@ returns c =
           c.in-Some-board_of.ensures.1 c.in-Some-hand_of.ensures.1 c.in-Some-hand_of-2.ensures.1,
       same_setup _ _ refl c.in-Some-hand_of.ensures.2 c.in-Some-hand_of-2.ensures.2,
     )
+
+pub returns-in_default : goal.returns-in_default
+returns-in_default c = grind (arith, common_steps)
+
+pub returns-in_default-board_of : goal.returns-in_default-board_of
+returns-in_default-board_of c = grind (arith, common_steps)

@@ -6,8 +6,16 @@ use Rattle.dobutsu_c.proofs.certificates.dobutsu_verify.Goals as goal
 
 pub returns-in-Ok-verify_file-clause-right : goal.returns-in-Ok-verify_file-clause-right
 returns-in-Ok-verify_file-clause-right c = λ zero_is.
-    let holds = c.in-Ok-verify_file.ensures.holds in
-    record { content = content c.in-Ok.certificate; file = c.in-Ok.ensures.found.1; root = holds.0; is_root = holds.1; holds = holds.2; told = c.told.ensures }
+    let shown = c.in-Ok-verify_file.ensures.proof in
+    record {
+      content = content c.in-Ok.certificate;
+      file = c.in-Ok.ensures.found.1;
+      root = shown.0;
+      is_root = shown.1;
+      proved = shown.2;
+      holds = shown.3;
+      told = c.told.ensures;
+    }
 
 pub returns-in-Err-Unsupported-clause-refused : goal.returns-in-Err-Unsupported-clause-refused
 returns-in-Err-Unsupported-clause-refused c = λ other.

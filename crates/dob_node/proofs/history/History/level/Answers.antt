@@ -1,7 +1,8 @@
 -- What is stored at the place is the settlement of that number, and those before are on the first level.
-use Rattle.dob_node.proofs.Common.{◌<◌, ◌∙◌, ◌≡◌, HistoryView, ap, arith, length, max, refl, same_Some, settlement_of, settlements_from, slice_get}
+use Rattle.dob_node.proofs.Common.{◌<◌, ◌∙◌, ◌≡◌, HistoryView, ap, arith, length, max, refl, same_Some, settlement_stored, settlements_from, slice_get}
 use Rattle.dob_node.proofs.Common.{starts_count, starts_of, sym, take, ℕ}
-use Rattle.dob_node.specs.Levels.{plies_of, level_of}
+use Rattle.dob_value.specs.Bounds.{plies_of}
+use Rattle.dob_node.specs.Levels.{level_of}
 use Rattle.dob_node.proofs.Opens.{start_level}
 use Rattle.dob_node.proofs.Stored.{stored_there, got_stored}
 use Rattle.dob_node.proofs.history.History.level.Goals as goal
@@ -25,5 +26,5 @@ returns c = λ s there.
     let stored = c.get-stored.result in
     let at = got_stored h.nodes h.id h.room h.count h.starts h.stored c.self.invariant.1 c.self.view_is c.args.number c.settled-first.result c.requires
     c.settled-first.ensures.count c.if-number-first.false stored _ c.get-stored.ensures.get refl in
-    let same : settlement_of h.nodes h.id c.args.number stored ≡ s = same_Some _ _ (sym at ∙ there) in
-    c.max.ensures ∙ ap (λ (p : ℕ). max p 1) c.plies_of.ensures ∙ ap (λ v. max (plies_of v) 1) c.value_of_code.ensures.value ∙ ap level_of same
+    let same : settlement_stored h.nodes h.id c.args.number stored ≡ s = same_Some _ _ (sym at ∙ there) in
+    c.max.ensures ∙ ap (λ (p : ℕ). max p 1) c.plies.ensures ∙ ap (λ v. max (plies_of v) 1) c.value_of_code.ensures.value ∙ ap level_of same

@@ -1,4 +1,6 @@
 -- The outboxes that are left are sound.
+use Rattle.std.proofs.lemmas.Grind.{common_steps}
+use Rattle.std.proofs.Common.{arith}
 use Rattle.dob_node.proofs.Common.{◌≡◌, ◌≢◌, BatchView, IfSome, IsCutFrom, None, Option, OutboxView, [], ap, empty_outbox, going, outbox_in, refl, rules, set}
 use Rattle.dob_node.proofs.Common.{subst, sym}
 use Rattle.std.proofs.Common.{IsNone}
@@ -57,3 +59,21 @@ returns-clause-step c =
       why = search rules;
       unchanged = search rules;
     }
+
+pub returns-then-is_empty-clause-step : goal.returns-then-is_empty-clause-step
+returns-then-is_empty-clause-step c = grind (arith, common_steps)
+
+pub returns-then-is_empty-clause-sound : goal.returns-then-is_empty-clause-sound
+returns-then-is_empty-clause-sound c = grind (arith, common_steps)
+
+pub returns-then-cut_count-ge-MAX_BATCHES-clause-step : goal.returns-then-cut_count-ge-MAX_BATCHES-clause-step
+returns-then-cut_count-ge-MAX_BATCHES-clause-step c = grind (arith, common_steps)
+
+pub returns-then-cut_count-ge-MAX_BATCHES-clause-sound : goal.returns-then-cut_count-ge-MAX_BATCHES-clause-sound
+returns-then-cut_count-ge-MAX_BATCHES-clause-sound c = grind (arith, common_steps)
+
+pub returns-in_err-batch-clause-step : goal.returns-in_err-batch-clause-step
+returns-in_err-batch-clause-step c = grind (arith, common_steps)
+
+pub returns-in_err-batch-clause-sound : goal.returns-in_err-batch-clause-sound
+returns-in_err-batch-clause-sound c = grind (arith, common_steps)

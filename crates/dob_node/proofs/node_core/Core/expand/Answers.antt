@@ -1,4 +1,6 @@
 -- One more settlement is expanded, and its items have its values.
+use Rattle.std.proofs.lemmas.Grind.{common_steps}
+use Rattle.std.proofs.Common.{arith}
 use Rattle.dob_node.proofs.Common.{◌++◌, ◌==◌, ◌∙◌, ap, filter, going, items_of, owner_of, predecessors, refl}
 use Rattle.dob_node.proofs.Sounds.{next_emitted, entries_more}
 use Rattle.dob_node.proofs.Sends.{sound_expanded}
@@ -28,3 +30,30 @@ returns-clause-sound c =
 pub returns-in_err-add_for_others-clause-sound : goal.returns-in_err-add_for_others-clause-sound
 returns-in_err-add_for_others-clause-sound c =
     rw (c.reach-settlement.ensures.same, c.in_err-add_for_others.ensures.unchanged, c.reserve.ensures.items) c.requires.sound
+
+pub returns-then-self-len-clause-step : goal.returns-then-self-len-clause-step
+returns-then-self-len-clause-step c = grind (arith, common_steps)
+
+pub returns-then-self-len-clause-sound : goal.returns-then-self-len-clause-sound
+returns-then-self-len-clause-sound c = grind (arith, common_steps)
+
+pub returns-in_err-targets-clause-step : goal.returns-in_err-targets-clause-step
+returns-in_err-targets-clause-step c = grind (arith, common_steps)
+
+pub returns-in_err-targets-clause-sound : goal.returns-in_err-targets-clause-sound
+returns-in_err-targets-clause-sound c = grind (arith, common_steps)
+
+pub returns-in_err-reserve-clause-step : goal.returns-in_err-reserve-clause-step
+returns-in_err-reserve-clause-step c = grind (arith, common_steps)
+
+pub returns-in_err-reserve-clause-sound : goal.returns-in_err-reserve-clause-sound
+returns-in_err-reserve-clause-sound c = grind (arith, common_steps)
+
+pub returns-in_err-add_for_others-clause-step : goal.returns-in_err-add_for_others-clause-step
+returns-in_err-add_for_others-clause-step c = grind (arith, common_steps)
+
+pub overflow_add-self : goal.overflow_add-self
+overflow_add-self c = grind (arith, common_steps)
+
+pub returns-clause-step : goal.returns-clause-step
+returns-clause-step c = grind (arith, common_steps)

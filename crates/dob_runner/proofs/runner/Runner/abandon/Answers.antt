@@ -10,7 +10,7 @@ invariant_of-self-clause-lawful c = λ _. (let r = c.args.self.now in
 
 pub returns-clause-failed : goal.returns-clause-failed
 returns-clause-failed c = (let fails = c.fail_for.ensures in record {
-  keeps = record { endpoint = links_kept c.args.self.now.endpoint c.fail_for.new.endpoint fails.keeps.links; family = refl; batch_size = refl };
+  keeps = record { endpoint = links_kept c.args.self.now.endpoint c.fail_for.new.endpoint fails.keeps.links; family = refl; batch_size = refl; pace = refl };
   cause = fails.cause;
   stopped = fails.stopped;
 })

@@ -28,11 +28,11 @@ invariant_of-self-clause-lawful c = λ _.
     c.in-Ok.ensures.keeps.sound
 
 pub returns-in-Err : goal.returns-in-Err
-returns-in-Err c = broken_for c.args.self.now _ c.in-Err.why c.fail_for.ensures refl refl (own_reason _ c.in-Err.why c.in-Err.ensures.step.stopped)
+returns-in-Err c = broken_for c.args.self.now _ c.in-Err.why c.fail_for.ensures refl refl refl (own_reason _ c.in-Err.why c.in-Err.ensures.step.stopped)
 
 pub returns-in-Ok : goal.returns-in-Ok
 returns-in-Ok c = record {
-  goes = goes_by (endpoint_same c.args.self.now.endpoint) refl refl c.requires refl refl;
+  goes = goes_by (endpoint_same c.args.self.now.endpoint) refl refl refl c.requires refl refl;
   endpoint = refl;
   done = none_left c.args.self.now.node.own c.left_for_itself-count.result c.left_for_itself-count.ensures;
   none = c.in-Ok.ensures.step.all;

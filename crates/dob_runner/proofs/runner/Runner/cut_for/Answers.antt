@@ -29,7 +29,7 @@ fills : (c : After-has_to_send) → c.has_to_send.result ≡ true → IsToFill c
 fills c has = (c.has_to_send.ensures.0 has, slot_there c.args.self.now.endpoint c.args.to c.index.result.now c.requires.node c.index.ensures (λ s. s ≡ None) (c.is_full.ensures.empty c.if-is_full.false))
 
 pub returns-in-Err : goal.returns-in-Err
-returns-in-Err c = broken_for c.args.self.now _ c.in-Err.why c.fail_for.ensures refl refl (cut_reason _ c.in-Err.why
+returns-in-Err c = broken_for c.args.self.now _ c.in-Err.why c.fail_for.ensures refl refl refl (cut_reason _ c.in-Err.why
     (λ counts. (let still = outbox_still c.args.self.now.node c.cut_for.new.self c.args.to c.in-Err.ensures.step.unchanged in
     let full = c.in-Err.ensures.step.counts.0 (ap (λ (w : Cause). err_of w) counts) in
     record {
@@ -80,7 +80,7 @@ invariant_of-self-2 c =
 pub returns-in_default : goal.returns-in_default
 returns-in_default c = fills_of c.args.to c.args.small c.args.self.now _ (Ok false) (fills (goal.at.returns-in_default c).After-has_to_send c.if-not-has_to_send.false)
     (let empty = c.in-Ok.ensures.step.none.0 (ap Ok c.in_default.is) in (
-      uncut c.args.to c.args.self.now _ c.requires.unfailed (c.in-Ok.ensures.step.nothing (ap Ok c.in_default.is)) refl refl refl,
+      uncut c.args.to c.args.self.now _ c.requires.unfailed (c.in-Ok.ensures.step.nothing (ap Ok c.in_default.is)) refl refl refl refl,
       (λ is. empty, λ is. refl),
     ))
 
@@ -90,7 +90,7 @@ returns c =
     let cut = batch_cut (goal.at.returns c).In-Some in
     fills_of c.args.to c.args.small r _ (Ok true) (fills (goal.at.returns c).After-has_to_send c.if-not-has_to_send.false)
     (cut_more c.args.to r.batch_size c.in-Some.batch r _
-    (goes_by c.post.ensures.keeps refl refl c.requires.unfailed
+    (goes_by c.post.ensures.keeps refl refl refl c.requires.unfailed
     (ap (λ (s : Stand). s.halt) c.post.ensures.counted)
     (ap (token_moves_of r.endpoint.seat.node) c.post.ensures.event.is_next ∙ c.post.ensures.event.alone))
     cut c.post.ensures.offered c.post.ensures.inlet
@@ -98,7 +98,7 @@ returns c =
 
 pub returns-then-is_full : goal.returns-then-is_full
 returns-then-is_full c = (
-  uncut c.args.to c.args.self.now c.args.self.now c.requires.unfailed refl refl refl refl,
+  uncut c.args.to c.args.self.now c.args.self.now c.requires.unfailed refl refl refl refl refl,
   (
     λ never. absurd (cc),
     λ fill. absurd (c.is_full.ensures.full c.if-is_full.true
@@ -108,6 +108,6 @@ returns-then-is_full c = (
 
 pub returns-then-not-has_to_send : goal.returns-then-not-has_to_send
 returns-then-not-has_to_send c = (
-  uncut c.args.to c.args.self.now c.args.self.now c.requires.unfailed refl refl refl refl,
+  uncut c.args.to c.args.self.now c.args.self.now c.requires.unfailed refl refl refl refl refl,
   (λ never. absurd (cc), λ fill. absurd (both_ways _ c.if-not-has_to_send.true (c.has_to_send.ensures.1 fill.0))),
 )

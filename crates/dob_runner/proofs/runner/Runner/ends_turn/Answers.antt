@@ -1,7 +1,6 @@
 -- A turn that did something ends at once, and any other one with the look for the token.
-use Rattle.dob_runner.proofs.Common.{refl, both_ways}
+use Rattle.dob_runner.proofs.Common.{◌∙◌, refl, sym, both_ways}
 use Rattle.dob_runner.proofs.Keeping.{work_same}
-use Rattle.dob_runner.proofs.TurnParts.{ends_idle}
 use Rattle.dob_runner.proofs.runner.Runner.ends_turn.Goals as goal
 
 pub returns-then-did-clause-ends : goal.returns-then-did-clause-ends
@@ -14,4 +13,13 @@ returns-then-did-clause-ends g c =
     }
 
 pub returns-clause-ends : goal.returns-clause-ends
-returns-clause-ends g c = ends_idle c.args.did c.args.self.now _ c.seeks_token-found.result c.if-did.false c.seeks_token-found.ensures.seeks
+returns-clause-ends g c =
+    let seeks = c.seeks_token-found.ensures.seeks in
+    record {
+      same = record { node = seeks.same.node; links = seeks.same.links };
+      busy = λ busy. absurd (let both = sym busy ∙ c.if-did.false in cc);
+      idle = λ idle. (
+        c.seeks_token-found.result,
+        record { same = record { node = seeks.same.node; links = seeks.same.links }; rests = seeks.rests; stays = seeks.stays },
+      );
+    }

@@ -27,11 +27,11 @@ invariant_of-self c =
     }
 
 pub returns-in-Err : goal.returns-in-Err
-returns-in-Err c = broken_for c.args.self.now _ c.in-Err.why c.fail_for.ensures refl refl (memory_reason no_gate _ c.in-Err.why c.in-Err.ensures.step.memory)
+returns-in-Err c = broken_for c.args.self.now _ c.in-Err.why c.fail_for.ensures refl refl refl (memory_reason no_gate _ c.in-Err.why c.in-Err.ensures.step.memory)
 
 pub returns-in-Ok : goal.returns-in-Ok
 returns-in-Ok c = record {
-  goes = goes_by (endpoint_same c.args.self.now.endpoint) refl refl c.requires.unfailed refl refl;
+  goes = goes_by (endpoint_same c.args.self.now.endpoint) refl refl refl c.requires.unfailed refl refl;
   endpoint = refl;
   done = (λ none. c.in-Ok.ensures.step.done.0 (ap Ok none), λ none. same_answer _ _ (c.in-Ok.ensures.step.done.1 none));
   expanded = λ did. c.in-Ok.ensures.step.expanded (ap Ok did);

@@ -79,5 +79,5 @@ returns g c =
       seat = seat_same f.endpoint.seat;
       outlets = one_kept KeepsOutlet outlet_same f.endpoint.outlets.items c.args.to old c.offer.new.self at c.offer.ensures.keeps;
       inlet = inlet_same f.endpoint.inlet;
-    }) refl refl fills.0.goes.unfailed refl refl))
+    }) refl refl refl fills.0.goes.unfailed refl refl))
     refl refl (old, c.offer.new.self, at, c.offer.ensures, refl) full c.is_full-2.result c.is_full-2.ensures.full c.is_full-2.ensures.empty

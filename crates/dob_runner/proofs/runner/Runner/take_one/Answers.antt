@@ -110,7 +110,7 @@ invariant_of-self-in-Ok-apply_batch g c =
 pub returns-in_default-clause-step : goal.returns-in_default-clause-step
 returns-in_default-clause-step g c =
     let r = c.args.self.now in
-    takes_none r _ c.receive.new.self (goes_by (kept_by r.endpoint _ refl refl c.receive.ensures.keeps) refl refl c.requires refl refl)
+    takes_none r _ c.receive.new.self (goes_by (kept_by r.endpoint _ refl refl c.receive.ensures.keeps) refl refl refl c.requires refl refl)
     c.receive.ensures.worked c.receive.ensures.asked refl refl (unchanged_same r.node) (inl c.in_default.ensures)
 
 pub returns-in-Err : goal.returns-in-Err
@@ -119,7 +119,7 @@ returns-in-Err g c =
     let fails = c.fail_for.ensures in
     let links = fails.keeps.links in
     record {
-      step = broken_by r _ _ c.in-Err.refused (kept_by r.endpoint _ refl refl c.receive.ensures.keeps) refl fails refl refl
+      step = broken_by r _ _ c.in-Err.refused (kept_by r.endpoint _ refl refl c.receive.ensures.keeps) refl fails refl refl refl
           (memory_reason no_gate _ c.in-Err.refused c.in-Err.ensures.step.memory);
       refused = λ _. record {
         from = c.in-Some.from;
@@ -136,7 +136,7 @@ returns-in_default-accept-clause-step g c =
     let kept = c.in_default-accept.ensures.kept in
     let refused = c.in_default-accept.ensures.refused in
     takes_none r _ c.receive.new.self
-    (goes_by (accepted g (goal.at.returns-in_default-accept-clause-step g c).After-accept) refl refl c.requires c.accept.ensures.halt c.accept.ensures.still)
+    (goes_by (accepted g (goal.at.returns-in_default-accept-clause-step g c).After-accept) refl refl refl c.requires c.accept.ensures.halt c.accept.ensures.still)
     c.receive.ensures.worked c.receive.ensures.asked (ap (λ v. v.items) c.accept.ensures.outlets) kept c.reserve.ensures.step.unchanged (inr (
       c.in-Some.from,
       refused.0,
@@ -147,7 +147,7 @@ returns-in_default-accept-clause-step g c =
 pub returns-in-Ok-apply_batch-clause-step : goal.returns-in-Ok-apply_batch-clause-step
 returns-in-Ok-apply_batch-clause-step g c =
     takes_one c.args.self.now _ c.receive.new.self
-    (goes_by (accepted g (goal.at.returns-in-Ok-apply_batch-clause-step g c).After-accept) refl refl c.requires c.accept.ensures.halt c.accept.ensures.still)
+    (goes_by (accepted g (goal.at.returns-in-Ok-apply_batch-clause-step g c).After-accept) refl refl refl c.requires c.accept.ensures.halt c.accept.ensures.still)
     c.receive.ensures.worked c.receive.ensures.asked (ap (λ v. v.items) c.accept.ensures.outlets)
     c.in-Some-accept.batch c.in-Some-accept.ensures.worked.0 c.in-Some-accept.ensures.worked.1
 
@@ -162,11 +162,11 @@ returns-clause-step g c =
     let links = fails.keeps.links in
     let kept = endpoint_trans r.endpoint c.accept.new.self failed (accepted g (goal.at.returns-clause-step g c).After-accept)
     (links_kept c.accept.new.self failed links) in
-    broken_by r _ c.accept.new.self why (accepted g (goal.at.returns-clause-step g c).After-accept) c.accept.ensures.still fails refl refl
+    broken_by r _ c.accept.new.self why (accepted g (goal.at.returns-clause-step g c).After-accept) c.accept.ensures.still fails refl refl refl
     (refused_reason _ why (record {
       was = r;
       going = c.requires;
-      kept = record { endpoint = kept; family = refl; batch_size = refl };
+      kept = record { endpoint = kept; family = refl; batch_size = refl; pace = refl };
       from = batch.from;
       other = of_other c.in-Some.ensures c.in-Some-accept.ensures.held;
       batch = batch;

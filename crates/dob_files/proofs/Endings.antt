@@ -1,0 +1,15 @@
+-- How the program ends: from what it tells of lines or a fault to what it owes.
+use Rattle.dob_files.proofs.Common.{List, ℕ, IfErr, IfOk, Result, FailsWhere, ShelfChange, Answers, Ending, IsAnswered, Tells}
+use Rattle.dob_files.proofs.Common.{is_io_error, Fault}
+use Rattle.dob_value.specs.declared.fault.Fault as value
+use Rattle.dob_value.specs.declared.fault.Fault.TheVariants as value_fault
+use Rattle.std.proofs.Common.{arith}
+
+-- what a call is known to have given by its result is answered
+pub answered_by : {X : Type 0} (c : ShelfChange) (Is : X → Type 0) (Holds : Fault → Type 0) (result : Result X Fault) → IfOk result Is → IfErr result Holds
+    → FailsWhere c (is_io_error result) → IsAnswered c Is Holds result
+answered_by c Is Holds result is holds failed = grind arith
+
+-- lines that are right
+pub answered : (AreLines : List ℕ → Type 0) (Holds : Fault → Type 0) (lines : List ℕ) (e : Ending) → AreLines lines → Tells lines e → Answers AreLines Holds e
+answered AreLines Holds lines e right told = grind arith

@@ -1,0 +1,119 @@
+-- The program's faults as they are printed, and their exit statuses.
+use Rattle.std.specs.Prelude.{◌≡◌, ◌⊎◌, ℕ, Bool, true, false, List, [], ◌∷◌, ◌++◌, Result, Ok, Err, codes}
+use Rattle.dob_pieces.specs.Faults.{memory_text, set_fault_text}
+use Rattle.dob_text.specs.Faults as position
+use Rattle.dob_value.specs.Faults as value_texts
+use Rattle.dob_value.specs.declared.fault.Fault as value
+use Rattle.dob_value.specs.declared.fault.Fault.TheVariants as value_fault
+use Rattle.dob_dbfile.specs.FaultTexts as file
+use Rattle.dob_dbfile.specs.Faults as reading
+use Rattle.dob_dbfile.specs.declared.fault.Fault.TheVariants as file_fault
+use Rattle.dob_stops.specs.Faults as run
+use Rattle.dob_stops.specs.declared.fault.Fault.TheVariants as run_fault
+use Rattle.dob_probe.specs.Faults as table
+use Rattle.dob_probe.specs.declared.fault.Fault.TheVariants as table_fault
+use Rattle.dob_pieces.specs.Bytes.{line_feed}
+use Rattle.dob_records.specs.declared.fault.Fault as records
+use Rattle.dob_records.specs.declared.fault.Fault.TheVariants as records_fault
+use Rattle.dob_shelf.specs.declared.shelf.ShelfFault as shelf
+use Rattle.dob_shelf.specs.declared.shelf.ShelfFault.TheVariants as shelf_fault
+use Rattle.dob_certificate.specs.Refusals as lists
+use Rattle.dob_certificate.specs.declared.refusal.Refusal.{Refusal}
+use Rattle.dob_certificate.specs.declared.refusal.Refusal.TheVariants as refusal
+use Rattle.dob_certfile.specs.Faults as certificate_file
+use Rattle.dob_certfile.specs.declared.defect.ReadFault.{ReadFault}
+use Rattle.dob_certfile.specs.declared.defect.ReadFault.TheVariants as read_fault
+use Rattle.dob_certfile.specs.declared.defect.WriteFault.TheVariants as write_fault
+use Rattle.dob_files.specs.declared.certificate_fault.CertificateFault.{CertificateFault}
+use Rattle.dob_files.specs.declared.certificate_fault.CertificateFault.TheVariants.{Defect, Unproved, TooMany, Unfit, Unlisted}
+use Rattle.dob_files.specs.declared.fault.Fault.{Fault}
+use Rattle.dob_files.specs.declared.fault.Fault.TheVariants.{Text, SetText, TooDeep, Run, File, Table, PuzzlePlies, Certificate, Memory, Io}
+
+abbrev pub certificate_fault_text : CertificateFault → List ℕ
+certificate_fault_text (Defect defect) = certificate_file.defect_text defect
+certificate_fault_text (Unproved refusal) = lists.fault_text refusal
+certificate_fault_text (TooMany most) = lists.too_many_text most
+certificate_fault_text Unfit = certificate_file.write_fault_text write_fault.Unfit
+certificate_fault_text Unlisted = codes "E41 Unlisted"
+
+abbrev pub fault_text : Fault → List ℕ
+fault_text (Text fault) = position.fault_text fault
+fault_text SetText = set_fault_text
+fault_text TooDeep = value_texts.fault_text value_fault.TooDeep
+fault_text (Run fault) = run.fault_text fault
+fault_text (File fault) = file.fault_text fault
+fault_text (Table fault) = table.fault_text fault
+fault_text PuzzlePlies = codes "--plies is an odd number of at least 3"
+fault_text (Certificate fault) = certificate_fault_text fault
+fault_text Memory = memory_text
+fault_text Io = file.fault_text (file_fault.Io 0)
+
+-- the line on standard error
+abbrev pub fault_line : Fault → List ℕ
+fault_line fault = codes "dobutsu: " ++ fault_text fault ++ line_feed ∷ []
+
+-- the line on standard error, with what a device said
+abbrev pub said_line : Fault → List ℕ → List ℕ
+said_line fault said = codes "dobutsu: " ++ fault_text fault ++ codes ": " ++ said ++ line_feed ∷ []
+
+-- whether it is the fault of a device that failed
+abbrev pub is_io : Fault → Bool
+is_io (File fault) = reading.is_io fault
+is_io Io = true
+is_io _ = false
+
+-- a line on standard error for the fault: of a device that failed it may say what that said
+abbrev pub IsFaultLine : Fault → List ℕ → Type 0
+IsFaultLine fault line = (line ≡ fault_line fault) ⊎ ((is_io fault ≡ true) × (said : List ℕ) × (line ≡ said_line fault said))
+
+abbrev pub is_io_error : {X : Type 0} → Result X Fault → Bool
+is_io_error (Ok x) = false
+is_io_error (Err fault) = is_io fault
+
+-- 3 where no memory was left or a distance is above what a file says, 1 where the certificate is refused, or is none
+abbrev pub status_of_certificate : CertificateFault → ℕ
+status_of_certificate (Unproved refusal.Memory) = 3
+status_of_certificate Unfit = 3
+status_of_certificate _ = 1
+
+-- 1 where what was asked is refused, 2 where the words make no sense, 3 where the program failed
+abbrev pub status_of : Fault → ℕ
+status_of (Text _) = 1
+status_of SetText = 1
+status_of TooDeep = 3
+status_of (Run (run_fault.Stopped node why)) = 3
+status_of (Run run_fault.Memory) = 3
+status_of (Run _) = 1
+status_of (File file_fault.Memory) = 3
+status_of (File (file_fault.Io _)) = 3
+status_of (File _) = 1
+status_of (Table table_fault.Memory) = 3
+status_of (Table _) = 1
+status_of PuzzlePlies = 2
+status_of (Certificate fault) = status_of_certificate fault
+status_of Memory = 3
+status_of Io = 3
+
+-- a fault of finding a value
+abbrev pub fault_of_value : value.Fault → Fault
+fault_of_value value_fault.TooDeep = TooDeep
+fault_of_value value_fault.Memory = Memory
+
+-- a fault of opening or making a file
+abbrev pub fault_of_shelf : shelf.ShelfFault → Fault
+fault_of_shelf shelf_fault.Memory = Memory
+fault_of_shelf shelf_fault.Failed = Io
+
+-- a fault of asking the records of a file
+abbrev pub fault_of_records : records.Fault → Fault
+fault_of_records (records_fault.File fault) = File fault
+fault_of_records (records_fault.Inconsistent class) = Table (table_fault.Inconsistent class)
+fault_of_records records_fault.Memory = Memory
+
+-- a fault of reading a certificate, of believing its lists
+abbrev pub fault_of_reading : ReadFault → Fault
+fault_of_reading read_fault.Memory = Memory
+fault_of_reading (read_fault.Defect defect) = Certificate (Defect defect)
+
+abbrev pub fault_of_refusal : Refusal → Fault
+fault_of_refusal refusal = Certificate (Unproved refusal)

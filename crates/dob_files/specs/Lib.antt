@@ -1,0 +1,5 @@
+pub mod Faults
+pub mod Endings
+pub mod Tables
+pub mod Telling
+pub mod Keeping

@@ -1,0 +1,4 @@
+-- The lemmas, in the order in which they are read.
+mod Common  -- names of other crates and of this one's definitions, for the proofs
+pub mod CountLines  -- lines of counts, one after the other
+pub mod Tallies  -- the tally of a list from those of its parts

@@ -1,0 +1,34 @@
+-- The faults of asking a file and of keeping a picture are those of showing, and by the file of a value table a drawing is right.
+use Rattle.dob_query.proofs.Common.{AnswersOver, AnswersShowRight, AreRightShowLines, AreShowLines, Draw, Ending, Fault, Files, HasValueFile}
+use Rattle.dob_query.proofs.Common.{IsAskingFault, IsDrawingFault, IsShelfFault, IsShowFault, IsTextOf, List, Option, Profile, SameFiles, Setup, ShelfChange}
+use Rattle.dob_query.proofs.Common.{ShelfState, Some, arith, inr, refl, ℕ}
+use Rattle.dob_files.proofs.Kept.{of_shelf_fault, same_chain}
+use Rattle.dob_files.proofs.TableFaults.{over_weaker}
+use Rattle.dob_query.proofs.Asking.{answer_right}
+
+-- a fault of asking the file
+pub asking_draws : (Has : Files) (file : List ℕ) (position : Setup) (fault : Fault) → IsAskingFault Draw (Has file) position fault
+    → IsDrawingFault Has (Some file) position fault
+asking_draws Has file position fault holds = grind arith
+
+module _ (c : ShelfChange) (file : Option (List ℕ)) (words : List ℕ) (position : Setup) (named : IsTextOf words position) where
+  -- the file of the picture isn't kept
+  pub picture_shows : (mid : ShelfState) (name : List ℕ) (fault : Fault) → SameFiles c.before.has mid.has → IsShelfFault fault → SameFiles mid.has c.after.has
+      → IsShowFault c file (Some name) words fault
+  picture_shows mid name fault same holds still =
+      let kept = same_chain c.before.has mid.has c.after.has same still in
+      of_shelf_fault (IsShowFault c file (Some name) words) kept (position, named, inr refl, kept) fault holds
+
+-- ---- by the file of a value table
+
+module _ (c : ShelfChange) (profile : Profile) (file : List ℕ) (e : Ending) (right : HasValueFile (c.before.has file) profile) where
+  pub show_right : (picture : Option (List ℕ)) (words : List ℕ)
+      → AnswersOver c (AreShowLines c (Some file) picture words) (IsShowFault c (Some file) picture words) e → AnswersShowRight c profile file picture words e
+  show_right picture words =
+      over_weaker c (AreShowLines c (Some file) picture words) (AreRightShowLines c profile picture words) (IsShowFault c (Some file) picture words) e
+      (λ lines told. record {
+        position = told.position;
+        named = told.named;
+        drawn = answer_right (c.before.has file) profile right told.position Draw lines told.drawn;
+        kept = told.kept;
+      })

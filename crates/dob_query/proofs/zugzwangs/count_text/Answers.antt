@@ -1,9 +1,0 @@
--- The two lines, one after the other.
-use Rattle.dob_query.proofs.Common.{◌∙◌, codes, decimal, count_line}
-use Rattle.dob_query.proofs.Kept.{two_lines}
-use Rattle.dob_query.proofs.zugzwangs.count_text.Goals as goal
-
-pub returns : goal.returns
-returns c =
-    let counts = c.args.counts in
-    c.in_ok-format.ensures.ok ∙ two_lines (codes "lost by both ") (decimal counts.lost_by_both) (count_line (codes "loss and draw ") counts.loss_and_draw)

@@ -1,0 +1,1 @@
+pub mod Turning  -- rounds and their undoing

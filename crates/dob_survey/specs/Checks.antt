@@ -1,0 +1,38 @@
+-- What the program owes where it is asked whether a database file's table is the value table.
+use Rattle.std.specs.Prelude.{◌++◌, ◌+◌, ◌-◌, ◌∷◌, ◌≡◌, List, Result, String, [], codes, ℕ}
+use Rattle.dob_files.specs.Endings.{GivesLines}
+use Rattle.dob_files.specs.Tables.{HasFileFault, IsFileOf, IsShut}
+use Rattle.dob_files.specs.declared.fault.Fault.{Fault}
+use Rattle.dob_files.specs.declared.fault.Fault.TheVariants.{File, Io, Memory, Table}
+use Rattle.dob_pieces.specs.Bytes.{line_feed}
+use Rattle.dob_probe.specs.Checks.{IsFirstBroken}
+use Rattle.dob_shelf.specs.Shelves.{ShelfChange}
+use Rattle.dob_value.specs.Follows.{ClassTable, IsValueTable}
+use Rattle.dob_dbfile.specs.FaultTexts as file
+use Rattle.dob_probe.specs.Faults as table
+use Rattle.dob_probe.specs.declared.fault.Fault.TheVariants as table_fault
+use Rattle.dob_value.specs.declared.fault.Fault as value
+
+-- the line that says that a table is consistent
+abbrev pub consistent_line : List ℕ
+consistent_line = codes "consistent" ++ line_feed ∷ []
+
+-- the lines say that the file's table is the value table
+pub record IsCheckLine (Has : List ℕ → Type 0) (lines : List ℕ) : Type 0 where
+  pub table : ClassTable
+  pub file : IsFileOf Has table
+  pub right : IsValueTable table.family table.values
+  pub same : lines ≡ consistent_line
+
+-- a fault of checking a file: the file's, or the table's; or memory failed, or the file couldn't be opened
+abbrev pub IsCheckFault : (List ℕ → Type 0) → Fault → Type 0
+IsCheckFault Has (File fault) = HasFileFault Has fault
+IsCheckFault Has (Table (table_fault.Inconsistent class)) = (table : ClassTable) × IsFileOf Has table × IsFirstBroken table class
+IsCheckFault Has (Table table_fault.Memory) = Unit {0}
+IsCheckFault Has Memory = Unit {0}
+IsCheckFault Has Io = IsShut Has
+IsCheckFault Has _ = ⊥
+
+-- what the call gives
+abbrev pub GivesCheck : {X : Type 0} → List ℕ → Result (String X) Fault → ShelfChange → Type 0
+GivesCheck file result c = GivesLines c (IsCheckLine (c.before.has file)) (IsCheckFault (c.before.has file)) result

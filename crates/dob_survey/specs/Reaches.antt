@@ -1,0 +1,107 @@
+-- What the program owes where it is asked what a game from a position can reach.
+use Rattle.std.specs.Prelude.{◌≡◌, ℕ, zero, suc, ◌-◌, Bool, true, false, List, [], ◌∷◌, ◌++◌, Option, None, Some, codes, length, slice_index_or, Result, String}
+use Rattle.std.specs.Fmt.{decimal}
+use Rattle.dob_pieces.specs.declared.profile.Family.{Family}
+use Rattle.dob_pieces.specs.declared.profile.Profile.{Profile}
+use Rattle.dob_pieces.specs.declared.setup.Setup.{Setup}
+use Rattle.dob_pieces.specs.Bytes.{line_feed, space}
+use Rattle.dob_text.specs.Faults.{HasTextFault}
+use Rattle.dob_rank.specs.Families.{IsPositionOf, class_number}
+use Rattle.dob_value.specs.Follows.{ClassTable}
+use Rattle.dob_reach.specs.declared.search.Reached.{Reached}
+use Rattle.dob_reach.specs.declared.values.ByValue.{ByValue}
+use Rattle.dob_reach.specs.Reached.{AreReachedFrom}
+use Rattle.dob_reach.specs.Values.{AreCountedFrom}
+use Rattle.dob_files.specs.declared.fault.Fault.{Fault}
+use Rattle.dob_files.specs.declared.fault.Fault.TheVariants.{Text, Memory}
+use Rattle.dob_survey.specs.declared.reaches.ReachSearch.{ReachSearch}
+use Rattle.dob_files.specs.Endings.{AnswersOver, Ending, GivesLines}
+use Rattle.dob_lines.specs.Tallies.{count_line}
+use Rattle.dob_files.specs.Tables.{IsFileOf, IsPositionFault, IsRightFileOf, IsTextOf}
+use Rattle.dob_shelf.specs.Shelves.{Files, ShelfChange}
+
+-- ---- lines
+
+-- a distance and how many classes have it, as `2 17`
+abbrev pub level_line : ℕ → ℕ → List ℕ
+level_line distance classes = decimal distance ++ (space ∷ (decimal classes ++ line_feed ∷ []))
+
+-- those of so many first distances
+abbrev pub level_lines : List ℕ → ℕ → List ℕ
+level_lines levels zero = []
+level_lines levels (suc distance) = level_lines levels distance ++ level_line distance (slice_index_or levels distance 0)
+
+-- of all distances, where they are asked for
+abbrev pub levels_asked : Bool → List ℕ → List ℕ
+levels_asked true levels = level_lines levels (length levels)
+levels_asked false levels = []
+
+-- how many classes are won, lost and drawn
+abbrev pub value_text : ByValue → List ℕ
+value_text counts = count_line (codes "win ") counts.win ++ (count_line (codes "loss ") counts.loss ++ count_line (codes "draw ") counts.draw)
+
+-- the same, where that is known
+abbrev pub value_lines : Option ByValue → List ℕ
+value_lines None = []
+value_lines (Some counts) = value_text counts
+
+-- how many classes are reached, how many of them are open, and the greatest distance
+abbrev pub number_lines : Reached → List ℕ
+number_lines reached =
+    count_line (codes "classes ") reached.classes
+    ++ (count_line (codes "open ") reached.opens ++ count_line (codes "depth ") (length reached.levels.items - 1))
+
+abbrev pub reach_lines : Bool → Reached → Option ByValue → List ℕ
+reach_lines has_levels reached counts = number_lines reached ++ (value_lines counts ++ levels_asked has_levels reached.levels.items)
+
+-- the lines tell what is reached from the class of the text's position, by the rules of the profile
+pub record AreReachLines (search : ReachSearch) (words lines : List ℕ) : Type 0 where
+  pub family : Family
+  pub rules : family.profile ≡ search.profile
+  pub position : Setup
+  pub named : IsTextOf words position
+  pub member : IsPositionOf family position
+  pub reached : Reached
+  pub found : AreReachedFrom family (class_number family position) reached
+  pub same : lines ≡ reach_lines search.has_levels reached None
+
+-- the lines tell it by the rules of such a table, with how many of the classes have which value by it
+pub record AreReachLinesBy (Is : ClassTable → Type 0) (search : ReachSearch) (words lines : List ℕ) : Type 0 where
+  pub table : ClassTable
+  pub is : Is table
+  pub position : Setup
+  pub named : IsTextOf words position
+  pub member : IsPositionOf table.family position
+  pub reached : Reached
+  pub found : AreReachedFrom table.family (class_number table.family position) reached
+  pub counts : ByValue
+  pub counted : AreCountedFrom table.family (class_number table.family position) table.values counts
+  pub same : lines ≡ reach_lines search.has_levels reached (Some counts)
+
+-- by the file of that name where one is named
+abbrev pub AreReachLinesFor : Files → ReachSearch → Option (List ℕ) → List ℕ → List ℕ → Type 0
+AreReachLinesFor Has search None words = AreReachLines search words
+AreReachLinesFor Has search (Some file) words = AreReachLinesBy (IsFileOf (Has file)) search words
+
+-- ---- faults
+
+-- the fault is the text's, E26 behind all others; or memory failed
+abbrev pub IsReachFault : Profile → List ℕ → Fault → Type 0
+IsReachFault profile words (Text fault) = HasTextFault profile words fault
+IsReachFault profile words Memory = Unit {0}
+IsReachFault profile words _ = ⊥
+
+-- the same, or one of asking the file that is named
+abbrev pub IsReachFaultFor : Files → ReachSearch → Option (List ℕ) → List ℕ → Fault → Type 0
+IsReachFaultFor Has search None words = IsReachFault search.profile words
+IsReachFaultFor Has search (Some file) words = IsPositionFault (Has file) words
+
+-- ---- what the call gives, and what the program does
+
+abbrev pub GivesReach : {X : Type 0} → ReachSearch → Option (List ℕ) → List ℕ → Result (String X) Fault → ShelfChange → Type 0
+GivesReach search file words result c = GivesLines c (AreReachLinesFor c.before.has search file words) (IsReachFaultFor c.before.has search file words) result
+
+-- what the program answers by a file whose values are right by the rules of the profile
+abbrev pub AnswersReachRight : ShelfChange → Profile → List ℕ → ReachSearch → List ℕ → Ending → Type 0
+AnswersReachRight c profile file search words =
+    AnswersOver c (AreReachLinesBy (IsRightFileOf (c.before.has file) profile) search words) (IsPositionFault (c.before.has file) words)

@@ -1,0 +1,221 @@
+// What a game from a position can reach, by rules or by a database file.
+ghost use Rattle.std.specs.Prelude.{◌≡◌, ◌<◌, ◌+◌, ◌++◌, IfErr, IfOk, OnOk, length, string_bytes};
+ghost use Rattle.dob_pieces.specs.Profiles.{IsAllowed};
+ghost use Rattle.dob_rank.specs.Families.{IsPositionOf, class_number};
+ghost use Rattle.dob_reach.specs.Reached.{AreReachedFrom};
+ghost use Rattle.dob_survey.specs.Reaches.{AreReachLines, AreReachLinesBy, IsReachFault, GivesReach, level_line, level_lines, levels_asked, number_lines, reach_lines, value_lines, value_text};
+ghost use Rattle.dob_files.specs.Endings.{GivesLines};
+ghost use Rattle.dob_files.specs.Tables.{IsFileOf, IsPositionFault};
+ghost use Rattle.dob_words.specs.Readings.{text_given};
+ghost use Rattle.dob_shelf.specs.Shelves.{Leaving, SameFiles};
+
+use dob_classes::Classes;
+use dob_files::{Lines, file_and_position};
+use dob_lines::Console;
+use dob_pieces::{Family, Memory, Position, Profile};
+use dob_probe::check_member;
+use dob_reach::{ByValue, Reached, Watch, reach};
+use dob_shelf::Shelf;
+use dob_text::read_position;
+use std::alloc::Global;
+use std::thread::Threads;
+
+/// How it is looked for what can be reached.
+#[derive(Clone, Copy)]
+pub struct ReachSearch {
+    /// The rules, where no file says them.
+    pub profile: Profile,
+    /// Whether there is a line for each distance.
+    pub has_levels: bool,
+    /// Whether lines on the console say how far it is.
+    pub is_watched: bool,
+}
+
+// Says on the console's standard error how many classes have which distance, if it is watched.
+#[derive(Drop)]
+struct Levels<'a, C> {
+    console: &'a C,
+    is_watched: bool,
+}
+
+impl<C: Console> Watch for Levels<'_, C> {
+    ghost told = { λ _ _ _. Unit {0} };
+
+    fn met(&self, distance: u64, classes: u64) {
+        if self.is_watched {
+            let _ = eprintln!(self.console; "ply {distance}: {classes} classes");
+        }
+    }
+}
+
+/// The lines that say how many classes can be reached from that of the position that the text names, how many of them are open and how
+/// far the furthest lies; where a database file is named, by its rules and with how many of them have which value.
+pub fn answer_reach<S: Shelf>(
+    rt: &(impl Threads + Sync + Console),
+    alloc: Global,
+    shelf: &mut S,
+    search: ReachSearch,
+    file: Option<&str>,
+    text: &str,
+) -> Lines
+    ensures { Leaving SameFiles S.state shelf.old shelf.new (GivesReach search (text_given file.entry) text.now result) }
+{
+    match file {
+        None => by_rules(rt, alloc, search, text),
+        Some(file) => by_file(rt, alloc, shelf, search, file, text),
+    }
+}
+
+// The lines by the rules of the search's profile.
+fn by_rules(
+    rt: &(impl Threads + Sync + Console),
+    alloc: Global,
+    search: ReachSearch,
+    text: &str,
+) -> Lines
+    ensures ok { IfOk result (λ lines. AreReachLines search text.now (string_bytes lines)) }
+    ensures err { IfErr result (IsReachFault search.profile text.now) }
+{
+    let position = read_position(search.profile, text)?;
+    let classes = classes_for(alloc, search.profile, &position)?;
+    let reached = reached_from(rt, alloc, &classes, &position, search.is_watched)?;
+    Ok(reach_lines(alloc, search.has_levels, &reached, None)?)
+}
+
+// The classes of the position's family by the rules of the profile.
+fn classes_for(alloc: Global, profile: Profile, position: &Position) -> Result<Classes, Memory>
+    requires { IsAllowed profile position.now.setup }
+    ensures rules { IfOk result (λ classes. classes.family.profile ≡ profile) }
+    ensures member { IfOk result (λ classes. IsPositionOf classes.family position.now.setup) }
+{
+    let family = Family {
+        set: position.piece_set(),
+        profile,
+    };
+    Classes::open(alloc, family)
+}
+
+// The lines by the table of the file.
+fn by_file<S: Shelf>(
+    rt: &(impl Threads + Sync + Console),
+    alloc: Global,
+    shelf: &mut S,
+    search: ReachSearch,
+    file: &str,
+    text: &str,
+) -> Lines
+    ensures { Leaving SameFiles S.state shelf.old shelf.new (λ c.
+        GivesLines c (AreReachLinesBy (IsFileOf (c.before.has file.now)) search text.now) (IsPositionFault (c.before.has file.now) text.now) result) }
+{
+    let (table, position) = file_and_position(alloc, shelf, file, text)?;
+    check_member(table.family(), &position)?;
+    let reached = reached_from(rt, alloc, table.classes(), &position, search.is_watched)?;
+    let counts = reached.by_value(&table);
+    Ok(reach_lines(alloc, search.has_levels, &reached, Some(counts))?)
+}
+
+// What is reached from the position's class.
+fn reached_from(
+    rt: &(impl Threads + Sync + Console),
+    alloc: Global,
+    classes: &Classes,
+    position: &Position,
+    is_watched: bool,
+) -> Result<Reached, Memory>
+    requires member { IsPositionOf classes.now.family position.now.setup }
+    ensures { IfOk result (AreReachedFrom classes.now.family (class_number classes.now.family position.now.setup)) }
+{
+    let levels = Levels {
+        console: rt,
+        is_watched,
+    };
+    reach(rt, alloc, classes, position, &levels)
+}
+
+// The lines that tell what is reached.
+fn reach_lines(
+    alloc: Global,
+    has_levels: bool,
+    reached: &Reached,
+    counts: Option<ByValue>,
+) -> Result<String, Memory>
+    requires { 0 < length reached.now.levels.items }
+    ensures { IfOk result (λ lines. string_bytes lines ≡ reach_lines has_levels reached.now counts) }
+{
+    let mut lines = number_lines(alloc, reached)?;
+    let values = value_lines(alloc, counts)?;
+    let levels = levels_asked(alloc, has_levels, &reached.levels)?;
+    lines.push_str(values.as_str())?;
+    lines.push_str(levels.as_str())?;
+    Ok(lines)
+}
+
+// The lines of the numbers.
+fn number_lines(alloc: Global, reached: &Reached) -> Result<String, Memory>
+    requires { 0 < length reached.now.levels.items }
+    ensures { IfOk result (λ lines. string_bytes lines ≡ number_lines reached.now) }
+{
+    let classes = reached.classes;
+    let opens = reached.opens;
+    let depth = reached.depth();
+    Ok(format!(in alloc; "classes {classes}\nopen {opens}\ndepth {depth}\n")?)
+}
+
+// The lines of the values, where these are known.
+fn value_lines(alloc: Global, counts: Option<ByValue>) -> Result<String, Memory>
+    ensures { IfOk result (λ lines. string_bytes lines ≡ value_lines counts) }
+{
+    match counts {
+        None => Ok(String::new(alloc)),
+        Some(counts) => value_text(alloc, counts),
+    }
+}
+
+// The lines of the values.
+fn value_text(alloc: Global, counts: ByValue) -> Result<String, Memory>
+    ensures { IfOk result (λ lines. string_bytes lines ≡ value_text counts) }
+{
+    let win = counts.win;
+    let loss = counts.loss;
+    let draw = counts.draw;
+    Ok(format!(in alloc; "win {win}\nloss {loss}\ndraw {draw}\n")?)
+}
+
+// A line for each distance, if they are asked for.
+fn levels_asked(alloc: Global, has_levels: bool, levels: &[u64]) -> Result<String, Memory>
+    ensures { IfOk result (λ lines. string_bytes lines ≡ levels_asked has_levels levels.now) }
+{
+    if has_levels {
+        level_lines(alloc, levels)
+    } else {
+        Ok(String::new(alloc))
+    }
+}
+
+// A line for each distance.
+#[tactic(auto, using(crate::proofs::Levels::one_level))]
+fn level_lines(alloc: Global, levels: &[u64]) -> Result<String, Memory>
+    ensures { IfOk result (λ lines. string_bytes lines ≡ level_lines levels.now (length levels.now)) }
+{
+    let mut lines = String::new(alloc);
+    for distance in 0..levels.len() {
+        push_level(alloc, &mut lines, distance as u64, levels[distance])?;
+    }
+    Ok(lines)
+}
+
+// Writes the line of a distance at the end.
+fn push_level(alloc: Global, lines: &mut String, distance: u64, classes: u64) -> Result<(), Memory>
+    ensures { OnOk result (string_bytes lines.new ≡ string_bytes lines.old ++ level_line distance classes) }
+{
+    let line = level_line(alloc, distance, classes)?;
+    lines.push_str(line.as_str())?;
+    Ok(())
+}
+
+// The line of a distance.
+fn level_line(alloc: Global, distance: u64, classes: u64) -> Result<String, Memory>
+    ensures { IfOk result (λ line. string_bytes line ≡ level_line distance classes) }
+{
+    Ok(format!(in alloc; "{distance} {classes}\n")?)
+}

@@ -1,0 +1,80 @@
+-- The faults of reading a certificate and of its lists are those of verifying it, of making one, and of asking one for a reply.
+use Rattle.dob_verdict.proofs.Common.{◌||◌, ◌≡◌, ◌⊎◌, Bool, List, false, inr, ℕ, Err, IfErr, IfOk, Ok, Result, String, Setup, Content, HasCertFault, FailsWhere}
+use Rattle.dob_verdict.proofs.Common.{ShelfChange, ShelfFault, fault_of_shelf, is_io, IsTextOf, Fault, Certificate, Memory, Text}
+use Rattle.std.specs.Prelude.{string_bytes}
+use Rattle.dob_certfile.specs.declared.defect.Defect.{Defect as AnyDefect}
+use Rattle.dob_certfile.specs.declared.defect.ReadFault.{ReadFault}
+use Rattle.dob_certfile.specs.declared.defect.ReadFault.TheVariants as reading
+use Rattle.dob_files.specs.declared.certificate_fault.CertificateFault.TheVariants.{Unproved}
+use Rattle.dob_verdict.specs.Certificates.{AreBytes, GivesVerify, IsBytesFault, IsCertificateFile, IsReadingFault, IsVerdict, IsVerdictFault, IsVerifyFault}
+use Rattle.dob_files.specs.Faults.{fault_of_reading}
+use Rattle.dob_verdict.specs.Replying.{GivesReply, IsReplyFault, IsReplyFaultOf, IsToldReply}
+use Rattle.dob_files.proofs.TableFaults.{is_shut}
+use Rattle.dob_shelf.specs.declared.shelf.ShelfFault.TheVariants as shelf_fault
+use Rattle.std.proofs.Common.{arith}
+
+-- ---- the file
+
+module _ (Has : List ℕ → Type 0) where
+  -- a file that a shelf has isn't read only for lack of memory
+  pub shelf_bytes : (lower : ShelfFault) → ((bytes : List ℕ) → Has bytes → lower ≡ shelf_fault.Memory) → IsBytesFault Has (fault_of_shelf lower)
+  shelf_bytes lower found = grind (arith, is_shut Has)
+
+  pub bytes_read : (fault : Fault) → IsBytesFault Has fault → IsReadingFault Has fault
+  bytes_read fault holds = grind arith
+
+  -- the defect of the bytes is the file's
+  pub defect_read : (found : List ℕ) → AreBytes Has found → (given : ReadFault)
+      → (given ≡ reading.Memory) ⊎ ((defect : AnyDefect) × (given ≡ reading.Defect defect) × HasCertFault found defect)
+      → IsReadingFault Has (fault_of_reading given)
+  defect_read found are given why = grind (arith, are)
+
+  -- ---- verifying
+
+  pub read_verifies : (fault : Fault) → IsReadingFault Has fault → IsVerifyFault Has fault
+  read_verifies fault holds = grind arith
+
+  pub verdict_verifies : (said : Content) → IsCertificateFile Has said → (fault : Fault) → IsVerdictFault said fault → IsVerifyFault Has fault
+  verdict_verifies said is (Certificate (Unproved r)) holds = (said, is, holds)
+  verdict_verifies said is Memory holds = tt
+  verdict_verifies said is fault holds = absurd holds
+
+-- a defect of a file is no device's
+pub read_fails : (before after : Bool) (given : ReadFault) → after ≡ (before || false) → after ≡ (before || is_io (fault_of_reading given))
+read_fails before after given failed = grind arith
+
+verdict_fails : (said : Content) (before after : Bool) (fault : Fault) → IsVerdictFault said fault → after ≡ (before || false)
+    → after ≡ (before || is_io fault)
+verdict_fails said before after fault holds failed = grind arith
+
+-- what is given for a certificate is given for its file
+pub verified : {X : Type 0} (c : ShelfChange) (file : List ℕ) (result : Result (String X) Fault) (said : Content) → IsCertificateFile (c.before.has file) said
+    → FailsWhere c false → IfOk result (λ line. IsVerdict said (string_bytes line)) → IfErr result (IsVerdictFault said) → GivesVerify file result c
+verified c file (Ok line) said is failed ok err = ((said, is, ok), failed)
+verified c file (Err fault) said is failed ok err =
+    (verdict_verifies (c.before.has file) said is fault err, verdict_fails said c.before.has_failed c.after.has_failed fault err failed)
+
+-- ---- asking for a reply
+
+reply_fails : (said : Content) (p : Setup) (before after : Bool) (fault : Fault) → IsReplyFault said p fault → after ≡ (before || false)
+    → after ≡ (before || is_io fault)
+reply_fails said p before after fault holds failed = grind arith
+
+module _ (Has : List ℕ → Type 0) (words : List ℕ) (position : Setup) (named : IsTextOf words position) where
+  pub read_replies : (fault : Fault) → IsReadingFault Has fault → IsReplyFaultOf Has words fault
+  read_replies fault holds = grind arith
+
+  told_replies : (said : Content) → IsCertificateFile Has said → (fault : Fault) → IsReplyFault said position fault → IsReplyFaultOf Has words fault
+  told_replies said is (Text f) holds = absurd holds
+  told_replies said is fault holds = (position, named, inr (said, is, holds))
+
+-- what is given for a certificate is given for its file
+pub replied : {X : Type 0} (c : ShelfChange) (file words : List ℕ) (position : Setup) → IsTextOf words position → (result : Result (String X) Fault)
+    → (said : Content) → IsCertificateFile (c.before.has file) said → FailsWhere c false
+    → IfOk result (λ line. IsToldReply said position (string_bytes line)) → IfErr result (IsReplyFault said position) → GivesReply file words result c
+replied c file words position named (Ok line) said is failed ok err =
+    (record { said = said; read = is; position = position; named = named; told = ok }, failed)
+replied c file words position named (Err fault) said is failed ok err = (
+  told_replies (c.before.has file) words position named said is fault err,
+  reply_fails said position c.before.has_failed c.after.has_failed fault err failed,
+)

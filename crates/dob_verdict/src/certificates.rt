@@ -1,0 +1,135 @@
+// What a certificate's file proves.
+ghost use Rattle.std.specs.Prelude.{◌≡◌, ◌++◌, ◌∷◌, IfOk, IfErr, string_bytes};
+ghost use Rattle.dob_pieces.specs.Bytes.{space};
+ghost use Rattle.dob_rank.specs.Families.{IsPositionOf};
+ghost use Rattle.dob_certificate.specs.Claims.{Holds, Prove};
+ghost use Rattle.dob_certificate.specs.Refusals.{IsRefusal};
+ghost use Rattle.dob_certfile.specs.Format.{Fits, content};
+ghost use Rattle.dob_shelf.specs.Shelves.{Leaving, SameFiles};
+ghost use Rattle.dob_files.specs.Endings.{IsAnswered};
+ghost use Rattle.dob_verdict.specs.Certificates.{AreBytes, GivesVerify, IsBytesFault, IsCertificateFile, IsReadingFault, IsVerdict, IsVerdictFault, claim_line, claim_text};
+
+use dob_certfile::{CertificateFile, read_certificate};
+use dob_certificate::{Claim, Refusal};
+use dob_check::verify_watched;
+use dob_classes::Classes;
+use dob_files::{Fault, Lines};
+use dob_lines::{Console, Progress, line_of};
+use dob_pieces::{Memory, Position};
+use dob_shelf::{Shelf, read_all};
+use dob_text::write_position;
+use std::alloc::Global;
+use std::thread::Threads;
+
+/// The line that says what the certificate of the file proves. Where it is watched, lines on the console say how far that is.
+pub fn answer_verify<S: Shelf>(
+    rt: &(impl Threads + Sync + Console),
+    alloc: Global,
+    shelf: &mut S,
+    file: &str,
+    is_watched: bool,
+) -> Lines
+    ensures { Leaving SameFiles S.state shelf.old shelf.new (GivesVerify file.now result) }
+{
+    let certificate = open_certificate(alloc, shelf, file)?;
+    verdict(rt, alloc, &certificate, is_watched)
+}
+
+// The line that says what the certificate proves of the representative of its root's class.
+fn verdict(
+    rt: &(impl Threads + Sync + Console),
+    alloc: Global,
+    certificate: &CertificateFile,
+    is_watched: bool,
+) -> Lines
+    requires { Fits (content certificate.now) }
+    ensures ok { IfOk result (λ line. IsVerdict (content certificate.now) (string_bytes line)) }
+    ensures err { IfErr result (IsVerdictFault (content certificate.now)) }
+{
+    let classes = Classes::open(alloc, certificate.family)?;
+    let position = classes.class_at(certificate.root as u64);
+    check_certificate(rt, alloc, &classes, certificate, &position, is_watched)?;
+    Ok(claim_line(alloc, &position, certificate.claim)?)
+}
+
+// Passes the certificate where its lists prove the claim of the position. Where it is watched, the console says how far that is.
+fn check_certificate(
+    rt: &(impl Threads + Sync + Console),
+    alloc: Global,
+    classes: &Classes,
+    certificate: &CertificateFile,
+    position: &Position,
+    is_watched: bool,
+) -> Result<(), Refusal>
+    requires { IsPositionOf classes.now.family position.now.setup }
+    ensures holds { IfOk result (λ _. Holds classes.now.family.profile position.now.setup certificate.now.claim) }
+    ensures proof { IfOk result (λ _. Prove classes.now.family certificate.now.certificate.lost certificate.now.certificate.held position.now.setup certificate.now.claim) }
+    ensures refusal { IfErr result (IsRefusal classes.now.family certificate.now.certificate.lost certificate.now.certificate.held position.now.setup certificate.now.claim) }
+{
+    let lists = &certificate.certificate;
+    let lost = lists.lost.as_slice().len() as u64;
+    let held = lists.held.as_slice().len() as u64;
+    let progress = Progress::new(rt, is_watched, lost.saturating_add(held));
+    let checked = verify_watched(
+        rt,
+        alloc,
+        classes,
+        lists,
+        position,
+        certificate.claim,
+        &progress,
+    );
+    progress.end();
+    checked
+}
+
+/// The certificate of the file.
+pub(crate) fn open_certificate<S: Shelf>(
+    alloc: Global,
+    shelf: &mut S,
+    file: &str,
+) -> Result<CertificateFile, Fault>
+    ensures { Leaving SameFiles S.state shelf.old shelf.new (λ c.
+        IsAnswered c (λ certificate. IsCertificateFile (c.before.has file.now) (content certificate)) (IsReadingFault (c.before.has file.now)) result) }
+{
+    let bytes = bytes_named(alloc, shelf, file)?;
+    Ok(read_certificate(alloc, &bytes)?)
+}
+
+// The bytes of the file.
+fn bytes_named<S: Shelf>(alloc: Global, shelf: &mut S, file: &str) -> Result<Vec<u8>, Fault>
+    ensures { Leaving SameFiles S.state shelf.old shelf.new (λ c.
+        IsAnswered c (λ bytes. AreBytes (c.before.has file.now) bytes.items) (IsBytesFault (c.before.has file.now)) result) }
+{
+    let mut source = shelf.find(file)?;
+    let read = read_all(alloc, &mut source);
+    shelf.close(source);
+    Ok(read?)
+}
+
+/// The line that says what is claimed of the position.
+pub(crate) fn claim_line(alloc: Global, position: &Position, claim: Claim) -> Result<String, Memory>
+    ensures { IfOk result (λ line. string_bytes line ≡ claim_line position.now.setup claim) }
+{
+    let text = write_position(alloc, position)?;
+    let claimed = claim_text(alloc, claim)?;
+    joined_line(alloc, text.as_str(), claimed.as_str())
+}
+
+// Both texts with a space between them.
+fn joined_line(alloc: Global, text: &str, rest: &str) -> Result<String, Memory>
+    ensures { IfOk result (λ line. string_bytes line ≡ text.now ++ (space ∷ rest.now)) }
+{
+    Ok(format!(in alloc; "{text} {rest}")?)
+}
+
+// What is claimed.
+fn claim_text(alloc: Global, claim: Claim) -> Result<String, Memory>
+    ensures { IfOk result (λ text. string_bytes text ≡ claim_text claim) }
+{
+    match claim {
+        Claim::Exactly(value) => line_of(alloc, value),
+        Claim::LostWithin(plies) => Ok(format!(in alloc; "loss within {plies}\n")?),
+        Claim::WonWithin(plies) => Ok(format!(in alloc; "win within {plies}\n")?),
+    }
+}
