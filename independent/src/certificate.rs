@@ -1,0 +1,175 @@
+//! Certificates (docs/FORMAT.md): lists of classes that show a claim without any table.
+
+use crate::classes::Family;
+use crate::file::{end, rules_of, set_of, take};
+use crate::rules::*;
+use crate::text;
+use crate::threads::first;
+
+/// So many plies stand for *ever*.
+const EVER: u16 = 65535;
+
+/// Classes, ascending, each with its plies.
+type List = Vec<(u32, u16)>;
+
+pub struct Certificate {
+    family: Family,
+    root: u32,
+    kind: u8,
+    plies: u16,
+    lost: List,
+    held: List,
+}
+
+/// Reads a number of seven bits a byte, the lowest first, in its fewest bytes and five at most.
+fn number(bytes: &mut &[u8]) -> Result<u64, String> {
+    let mut number = 0;
+    for place in 0..5 {
+        let [byte] = take(bytes)?;
+        number |= (byte as u64 & 127) << (7 * place);
+        if byte < 128 && (byte > 0 || place == 0) {
+            return Ok(number);
+        }
+        if byte < 128 {
+            break;
+        }
+    }
+    Err("E36 EntryNumber: an entry's number isn't in its fewest bytes".into())
+}
+
+/// The entries of `lost`, or those of `held`, which alone may be for ever.
+fn list(bytes: &mut &[u8], count: u32, classes: u32, is_lost: bool) -> Result<List, String> {
+    let mut list = vec![];
+    let mut next = 0; // the class before, plus 1
+    for _ in 0..count {
+        let step = number(bytes)?;
+        if step == 0 {
+            return Err("E37 EntryOrder: an entry's class isn't above the one before it".into());
+        }
+        next += step;
+        if next > classes as u64 {
+            return Err("E38 EntryClass: the family has no class of an entry's number".into());
+        }
+        let plies = match take(bytes)? {
+            [255] if is_lost => return Err("E42 EntryPlies: an entry of the lost list has 255 plies".into()),
+            [255] => EVER,
+            [plies] => plies as u16,
+        };
+        list.push((next as u32 - 1, plies));
+    }
+    Ok(list)
+}
+
+/// A certificate of a file's bytes; the fault is the first that holds in the order of docs/FORMAT.md.
+pub fn read(file: &[u8]) -> Result<Certificate, String> {
+    take::<28>(&mut &file[..])?;
+    let mut bytes = file;
+    if take(&mut bytes)? != *b"DOBUCERT" {
+        return Err("E16 Magic: the file doesn't begin as certificates do".into());
+    }
+    if take(&mut bytes)? != [1] {
+        return Err("E32 Version: the certificate is of another version".into());
+    }
+    let set = set_of(take(&mut bytes)?)?;
+    let [rules] = take(&mut bytes)?;
+    let family = Family::new(set, rules_of(rules)?);
+    let root = u32::from_le_bytes(take(&mut bytes)?);
+    if root >= family.classes {
+        return Err("E33 RootClass: the family has no class of the root's number".into());
+    }
+    let [kind, plies] = take(&mut bytes)?;
+    if kind > 4 || plies == 255 || kind == 0 && plies != 0 {
+        return Err("E34 ClaimByte: what is claimed is no claim".into());
+    }
+    let [lost, held] = [take(&mut bytes)?, take(&mut bytes)?].map(u32::from_le_bytes);
+    if lost.max(held) > family.classes {
+        return Err("E35 EntryCount: a list counts more entries than the family has classes".into());
+    }
+    let lost = list(&mut bytes, lost, family.classes, true)?;
+    let held = list(&mut bytes, held, family.classes, false)?;
+    end(file, bytes)?;
+    Ok(Certificate { family, root, kind, plies: plies as u16, lost, held })
+}
+
+impl Certificate {
+    /// Checks each entry and then the claim; says what is proved.
+    pub fn verify(&self, threads: usize) -> Result<String, String> {
+        let unsupported = |list: &List, supports: fn(&Self, &Position, u16) -> bool| {
+            first(threads, list.len(), |n| {
+                let (class, plies) = list[n];
+                (!supports(self, &self.family.representative(class), plies)).then_some(class)
+            })
+        };
+        let fault = unsupported(&self.lost, Self::supports_lost);
+        if let Some(class) = fault.or_else(|| unsupported(&self.held, Self::supports_held)) {
+            let position = text::position(&self.family.representative(class));
+            return Err(format!("E30 Unsupported class {class}: its entry isn't shown by its moves: {position}"));
+        }
+        let root = self.family.representative(self.root);
+        let n = self.plies;
+        let loss = || self.lost(&root, n);
+        let win = || n > 0 && self.answered(&root, n - 1);
+        let (shown, claim) = match self.kind {
+            0 => (self.holds_out(&root, EVER) && self.safe(&root, EVER), "draw".to_string()),
+            1 => (win() && (n < 2 || self.safe(&root, n - 2)), format!("win {n}")),
+            2 => (loss() && (n == 0 || self.holds_out(&root, n - 1)), format!("loss {n}")),
+            3 => (win(), format!("win within {n}")),
+            _ => (loss(), format!("loss within {n}")),
+        };
+        let position = text::position(&root);
+        if shown {
+            Ok(format!("{position} {claim}"))
+        } else {
+            Err(format!("E31 Claim: the entries don't show `{position} {claim}`"))
+        }
+    }
+
+    fn plies(&self, list: &List, p: &Position) -> Option<u16> {
+        let class = self.family.class(p);
+        list.binary_search_by_key(&class, |entry| entry.0).ok().map(|n| list[n].1)
+    }
+
+    /// The position has lost; or it is open, and `open` holds of its moves.
+    fn lost_or(&self, p: &Position, open: impl Fn(&[Move]) -> bool) -> bool {
+        match p.status(self.family.rules) {
+            Status::Caught => false,
+            Status::Tried | Status::Stuck => true,
+            Status::Open(moves) => open(&moves),
+        }
+    }
+
+    /// The mover can catch the lion; or the position is open, and `open` holds of its moves.
+    fn won_or(&self, p: &Position, open: impl Fn(&[Move]) -> bool) -> bool {
+        match p.status(self.family.rules) {
+            Status::Caught => true,
+            Status::Tried | Status::Stuck => false,
+            Status::Open(moves) => open(&moves),
+        }
+    }
+
+    /// It is lost within n plies, as far as the list says.
+    fn lost(&self, p: &Position, n: u16) -> bool {
+        self.lost_or(p, |_| self.plies(&self.lost, p).is_some_and(|plies| plies <= n))
+    }
+
+    fn answered(&self, p: &Position, m: u16) -> bool {
+        self.won_or(p, |moves| moves.iter().any(|&one| self.lost(&p.play(one), m)))
+    }
+
+    fn holds_out(&self, p: &Position, k: u16) -> bool {
+        self.won_or(p, |_| k <= 1 || self.plies(&self.held, p).is_some_and(|plies| plies >= k))
+    }
+
+    fn safe(&self, p: &Position, k: u16) -> bool {
+        self.lost_or(p, |moves| moves.iter().all(|&one| self.holds_out(&p.play(one), k)))
+    }
+
+    fn supports_lost(&self, p: &Position, n: u16) -> bool {
+        self.lost_or(p, |moves| n >= 2 && moves.iter().all(|&one| self.answered(&p.play(one), n - 2)))
+    }
+
+    fn supports_held(&self, p: &Position, n: u16) -> bool {
+        let k = if n == EVER { EVER } else { n.saturating_sub(2) };
+        self.won_or(p, |moves| n < 2 || moves.iter().any(|&one| self.safe(&p.play(one), k)))
+    }
+}
