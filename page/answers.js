@@ -3,9 +3,10 @@
 const Answers = (() => {
   "use strict";
   const Core = DobutsuCore;
-  // For exercises a file of at most `small` classes is read whole. Of a larger one `windows` windows of `window` classes are drawn, and `tried`
-  // candidates in each; what lengths there are is known by `samples` windows of `sample` classes.
-  const limits = { small: 1 << 20, window: 1 << 16, windows: 200, tried: 8, sample: 1 << 12, samples: 48 };
+  // For exercises a file of at most `small` classes is read whole each time; where at most `few` classes are asked for they are put in order, else the order is
+  // gone through. A larger file is read once, by `window` classes, and `kept` positions of each length are kept; once more where they are used up, at most
+  // `passes` times for one exercise.
+  const limits = { small: 1 << 20, few: 2000, window: 1 << 21, kept: 200, passes: 3 };
   const MOST_LINES = 5000;
 
   // { status, value, moves, follows }: the moves with their values, best first and equal ones in move order, and whether the position's
@@ -88,30 +89,68 @@ const Answers = (() => {
   }
   const numbersOf = (records, wanted) => [...records.keys()].filter((i) => records[i] === wanted);
 
-  // The lengths in plies, from 3 on, at which positions of the file are won: of a large file those that were met in some windows.
+  // A large file read once: of each record some classes that have it, each choice of them as likely as any other (Vitter's algorithm R).
+  async function survey(table) {
+    const met = new Uint32Array(1 << 16), kept = new Map();
+    for (let first = 0; first < table.count; first += limits.window) {
+      const records = await table.records(first, Math.min(limits.window, table.count - first));
+      for (let i = 0; i < records.length; i++) {
+        const record = records[i];
+        if (record < 4 || record % 2) continue; // no win in 3 plies or more
+        const number = met[record]++;
+        if (!number) kept.set(record, []);
+        const place = number < limits.kept ? number : random(number + 1);
+        if (place < limits.kept) kept.get(record)[place] = first + i;
+      }
+    }
+    for (const classes of kept.values()) shuffled(classes);
+    return kept;
+  }
+  const surveys = new WeakMap(); // what is left of the last one, by table
+  function surveyOf(table, isNew) {
+    if (isNew || !surveys.has(table)) {
+      const found = survey(table);
+      surveys.set(table, found);
+      found.catch(() => surveys.delete(table));
+    }
+    return surveys.get(table);
+  }
+  // The classes that have a record, of a file that is read whole, in the order in which the program goes over them by that seed.
+  function* inOrder(records, record, seed) {
+    const order = new Shuffle(seed, records.length), classes = numbersOf(records, record), { places } = order;
+    if (classes.length <= limits.few) return yield* classes.map((number) => [order.placeOf(number), number]).sort((a, b) => a[0] - b[0]).map((it) => it[1]);
+    for (let place = 0; place < places; place++) {
+      const number = order.numberAt(place);
+      if (records[number] === record) yield number;
+    }
+  }
+  // The classes that have a record, in an order drawn at random: where the file is read whole that of a seed.
+  async function* classesOf(table, record, seed) {
+    if (table.count <= limits.small) return yield* inOrder(await table.records(0, table.count), record, seed);
+    for (let pass = 0; pass < limits.passes; pass++) {
+      const classes = (await surveyOf(table, pass > 0)).get(record) || [];
+      while (classes.length) yield classes.pop();
+    }
+  }
+
+  // The lengths in plies, from 3 on, at which positions of the file are won.
   async function lengths(table) {
-    const met = new Set(), note = (records) => records.forEach((it) => met.add(it));
-    if (table.count <= limits.small) note(await table.records(0, table.count));
-    else for (let i = 0; i < limits.samples; i++) note(await table.records(random(table.count - limits.sample + 1), limits.sample));
+    const met = table.count <= limits.small ? new Set(await table.records(0, table.count)) : (await surveyOf(table, false)).keys();
     return [...met].map((it) => it - 1).filter((plies) => plies >= 3 && plies % 2 === 1).sort((a, b) => a - b);
   }
 
   // A position with exactly one fastest winning move, in `plies`, with that move, or null where none was found; only one that is wanted is
-  // taken. Of a small file each position of that length is tried, in an order drawn at random.
-  async function drawExercise(table, engine, plies, isLate, isWanted = () => true) {
-    const isSmall = table.count <= limits.small, length = isSmall ? table.count : limits.window;
-    for (let window = 0; window < (isSmall ? 1 : limits.windows); window++) {
-      const first = random(table.count - length + 1);
-      const candidates = shuffled(numbersOf(await table.records(first, length), plies + 1));
-      for (const number of isSmall ? candidates : candidates.slice(0, limits.tried)) {
-        if (isLate()) return null;
-        let position = Core.positionAt(table.profile, table.pieces, first + number);
-        if (random(2)) position = Core.mirrored(position);
-        if (!isWanted(position)) continue;
-        const { value, moves } = await lookUp(table, engine, position);
-        const best = moves.filter((it) => it.value.kind === "win" && it.value.plies === plies);
-        if (value.kind === "win" && value.plies === plies && best.length === 1) return { position, move: best[0].move };
-      }
+  // taken. Each of the file is as likely as any other; of one that is read whole it is the program's by the seed, or its mirror image.
+  const newSeed = () => (BigInt(random(1 << 26)) << 26n) + BigInt(random(1 << 26));
+  async function drawExercise(table, engine, plies, isLate, isWanted = () => true, seed = newSeed()) {
+    for await (const number of classesOf(table, plies + 1, seed)) {
+      if (isLate()) return null;
+      let position = Core.positionAt(table.profile, table.pieces, number);
+      if (random(2)) position = Core.mirrored(position);
+      if (!isWanted(position)) continue;
+      const { value, moves } = await lookUp(table, engine, position);
+      const best = moves.filter((it) => it.value.kind === "win" && it.value.plies === plies);
+      if (value.kind === "win" && value.plies === plies && best.length === 1) return { position, move: best[0].move };
     }
     return null;
   }

@@ -215,10 +215,11 @@ const Board = (() => {
     element("board").before(element(`side-${isFlipped ? 0 : 1}`));
     element("board").after(element(`side-${isFlipped ? 1 : 0}`));
   }
+  const takeFocus = () => squares[focus].focus({ preventScroll: true });
   // Marks the squares of a move that is pointed at.
   function hint(hinted) {
     for (const button of squares) button.classList.toggle("hint", hinted.includes(+button.dataset.square));
   }
 
-  return { make, draw, flip, hint };
+  return { make, draw, flip, takeFocus, hint, arrowDrawing };
 })();

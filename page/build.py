@@ -12,11 +12,13 @@ import pathlib
 import sys
 
 HERE = pathlib.Path(__file__).resolve().parent
+ENGINE = ["core.js", "certificate.js"]  # a worker runs these too
 SCRIPTS = [
-    "core.js", "texts.js", "english.js", "japanese.js", "hiragana.js", "pieces.js", "certificate.js", "file.js", "answers.js", "game.js", "board.js", "setup.js", "view.js",
-    "settings.js", "worksheet.js", "exercise.js", "practice.js", "page.js",
+    "alone.js", "texts.js", "fence.js", "english.js", "japanese.js", "hiragana.js", "pieces.js", "file.js", "shuffle.js", "answers.js", "game.js", "board.js", "setup.js", "view.js",
+    "worksheet.js", "settings.js", "exercise.js", "practice.js",
+    "lesson.js", "mistakes.js", "results.js", "glance.js", "page.js",
 ]
-MOST_BYTES, MOST_WITH_FILE = 200_000, 3_000_000
+MOST_BYTES, MOST_WITH_FILE = 300_000, 3_000_000
 
 
 def read(name):
@@ -39,19 +41,21 @@ def file_line(file):
     return f"window.DobutsuFile = {json.dumps({'name': file.name, 'bytes': packed(file.read_bytes())})};\n"
 
 
-def code(module, file):
-    """The scripts in the order in which they stand on each other, the module in its own, and a file in front."""
-    texts = [read(name) for name in SCRIPTS]
-    if module:
-        texts.insert(1, read("wasm.js"))
-    joined = "\n".join(shortened(text) for text in texts)
-    return (file_line(file) if file else "") + (joined.replace("/*BYTES*/", packed(module)) if module else joined)
+def joined(names):
+    """Scripts in the order in which they stand on each other."""
+    return "\n".join(shortened(read(name)) for name in names)
+
+
+def engine(module):
+    """The scripts that touch no part of the page, the module in its own."""
+    return joined([*ENGINE, "wasm.js"]).replace("/*BYTES*/", packed(module)) if module else joined(ENGINE)
 
 
 def build(module=None, file=None):
     """The page's bytes."""
     page = read("page.html")
-    for mark, text in [("/*STYLE*/", read("style.css")), ("/*CODE*/", code(module, file))]:
+    code = (file_line(file) if file else "") + joined(SCRIPTS)
+    for mark, text in [("/*STYLE*/", read("style.css") + read("cards.css")), ("/*ENGINE*/", engine(module)), ("/*CODE*/", code)]:
         if page.count(mark) != 1 or "</script" in text or "</style" in text:
             raise SystemExit(f"page/build.py: {mark} can't be put in")
         page = page.replace(mark, text)

@@ -6,8 +6,10 @@ const Certificates = (() => {
   const Core = DobutsuCore;
   const TITLE = "DOBUCERT", HEAD = 28, DIGEST = 32, EVER = 65535, NEVER = 255; // NEVER is the byte of EVER
   const CLAIMS = ["draw", "win", "loss", "winWithin", "lossWithin"];
+  const TOLD = 100000; // so many entries are read between two words of how far that is
   const SLICE = 40; // milliseconds of checking, then the page is drawn
-  const limits = { checked: 20000 }; // entries that are checked in plain JavaScript, which takes some milliseconds for each
+  // Entries that are checked in plain JavaScript, some ten thousand in a second: by a worker, and by the page itself where there can be none.
+  const limits = { checked: 1000000, here: 20000 };
 
   // ---- reading
 
@@ -41,9 +43,8 @@ const Certificates = (() => {
     }
     throw new Core.Fault("E36 EntryNumber");
   }
-  function entriesAt(bytes, place, count, classes) {
-    if (count > bytes.length) throw new Core.Fault("E15 Truncated"); // an entry takes two bytes and more
-    const entries = new Entries(count);
+  function entriesAt(bytes, place, count, classes, isEverTold, tell) {
+    const entries = new Entries(Math.min(count, (bytes.length - place) >> 1)); // an entry takes two bytes and more
     let last = -1;
     for (let i = 0; i < count; i++) {
       const found = numberAt(bytes, place), number = last + found.number;
@@ -51,9 +52,11 @@ const Certificates = (() => {
       if (number <= last) throw new Core.Fault("E37 EntryOrder");
       if (number >= classes) throw new Core.Fault("E38 EntryClass");
       if (place >= bytes.length) throw new Core.Fault("E15 Truncated");
+      if (bytes[place] === NEVER && !isEverTold) throw new Core.Fault("E42 EntryPlies");
       entries.classes[i] = last = number;
       entries.plies[i] = bytes[place] === NEVER ? EVER : bytes[place];
       place++;
+      if (i % TOLD === 0) tell(place / bytes.length);
     }
     return { entries, place };
   }
@@ -74,10 +77,11 @@ const Certificates = (() => {
     if (lost > classes || held > classes) throw new Core.Fault("E35 EntryCount");
     return { pieces, profile, classes, root, claim: CLAIMS[kind], plies, lost, held };
   }
-  // What a file says: its head with both lists of entries. Its digest is tested where the browser can.
-  async function read(bytes, countClasses = Core.countClasses) {
+  // What a file says: its head with both lists of entries. Its digest is tested where the browser can. `tell` is called with the part that is read.
+  async function read(bytes, countClasses = Core.countClasses, tell = () => {}) {
     const head = headOf(bytes, countClasses);
-    const lost = entriesAt(bytes, HEAD, head.lost, head.classes), held = entriesAt(bytes, lost.place, head.held, head.classes), end = held.place;
+    const lost = entriesAt(bytes, HEAD, head.lost, head.classes, false, tell);
+    const held = entriesAt(bytes, lost.place, head.held, head.classes, true, tell), end = held.place;
     if (bytes.length < end + DIGEST) throw new Core.Fault("E15 Truncated");
     if (bytes.length > end + DIGEST) throw new Core.Fault("E19 Trailing");
     if (globalThis.crypto?.subtle) {
@@ -92,7 +96,7 @@ const Certificates = (() => {
   class Checker {
     constructor({ profile, pieces, lost, held }) {
       Object.assign(this, { profile, pieces, lost, held });
-      this.plies = { lost: new Map(), held: new Map() }; // by position, that of a mirror image too
+      this.plies = { lost: new Map(), held: new Map() }; // by open position, that of a mirror image too
     }
     key({ squares, mover, enemy }) { return squares + mover.join("") + enemy.join(""); }
     at(number) { return Core.positionAt(this.profile, this.pieces, number); }
@@ -157,10 +161,12 @@ const Certificates = (() => {
     let before = 0;
     const part = (i) => tell((before + i) / all);
     for (const [list, entries] of Object.entries({ lost, held })) {
+      const walk = Core.positionsOf(certificate.profile, certificate.pieces, entries.classes);
       await each(entries, (number, plies) => {
-        const position = checker.at(number);
+        const position = walk.next().value;
         positions.set(number, position);
-        for (const it of [position, Core.mirrored(position)]) checker.plies[list].set(checker.key(it), plies);
+        const isOpen = checker.status(position) === "open"; // an entry of another says nothing of it
+        for (const it of isOpen ? [position, Core.mirrored(position)] : []) checker.plies[list].set(checker.key(it), plies);
       }, part);
       before += entries.classes.length;
     }
@@ -190,11 +196,11 @@ const Certificates = (() => {
   function pliesAfter({ profile, lost }, engine, position, move) {
     const after = engine.apply(profile, position, move), { status } = engine.moves(profile, after);
     if (status === "tried" || status === "stuck") return 0;
-    const plies = status === "open" ? lost.find(engine.classAfter(profile, position, move)) : null;
-    return plies === EVER ? null : plies;
+    return status === "open" ? lost.find(engine.classAfter(profile, position, move)) : null;
   }
   const isRoot = ({ profile, root, set }, engine, position) => Core.setOf(position).join("") === set && engine.classOf(profile, position) === root;
 
+  // A position that is listed as lost: within the plies of its entry, and within those of the move that holds out longest.
   function ofLost(certificate, engine, position, moves, plies) {
     const { profile } = certificate;
     const answered = moves.map((move, order) => {
@@ -202,7 +208,7 @@ const Certificates = (() => {
       return { move, order, value: within("loss", reply ? reply.plies + 1 : plies), reply: reply && { move: reply.move, position: after, plies: reply.plies } };
     });
     answered.sort((a, b) => b.value.plies - a.value.plies || a.order - b.order);
-    return { value: within("loss", plies), moves: answered };
+    return { value: within("loss", Math.min(plies, answered[0].value.plies)), moves: answered };
   }
   function ofOthers(certificate, engine, position, moves) {
     const valued = moves.map((move, order) => {
@@ -220,7 +226,7 @@ const Certificates = (() => {
     if (status === "caught") return said({ kind: "win", plies: 1 });
     if (status !== "open") return said({ kind: "loss", plies: 0 });
     const listed = certificate.lost.find(engine.classOf(profile, position));
-    const found = listed !== null && listed !== EVER ? ofLost(certificate, engine, position, moves, listed) : ofOthers(certificate, engine, position, moves);
+    const found = listed !== null ? ofLost(certificate, engine, position, moves, listed) : ofOthers(certificate, engine, position, moves);
     if (["win", "loss", "draw"].includes(claim) && isRoot(certificate, engine, position)) found.value = { kind: claim, plies };
     return { status, ...found, follows };
   }
@@ -249,19 +255,63 @@ const Certificates = (() => {
     }
     position() { return Core.positionAt(this.profile, this.pieces, this.root); }
   }
-  // Reads and checks a file's bytes: by the engine's proved call, or a small one in plain JavaScript with `tell` for the part that is done.
-  async function open(name, bytes, engine, tell) {
-    const certificate = await read(bytes), entries = certificate.lost.classes.length + certificate.held.classes.length;
-    const checked = engine.isProved ? "proved" : entries <= limits.checked ? "plain" : "not";
-    if (checked === "proved") {
-      tell(0);
-      await new Promise((done) => setTimeout(done, 0)); // the page is drawn before the call, which takes seconds for the whole game's
-      engine.verify(certificate);
-    }
-    if (checked === "plain") await check(certificate, tell);
-    return new Open(name, certificate, checked, engine);
+
+  // Reads a file and checks it: by the engine's proved call, or one of at most so many entries in plain JavaScript; `tell` is called with the part that is
+  // done, and with about how many milliseconds the rest takes where nothing is told meanwhile. Gives { certificate, checked }, without the held list, of which nothing is looked up.
+  async function examine(file, engine, most, tell) {
+    const certificate = await read(new Uint8Array(await file.arrayBuffer()), Core.countClasses, (part) => tell(0.1 * part));
+    const entries = certificate.lost.classes.length + certificate.held.classes.length, rest = (part, wait) => tell(0.1 + 0.9 * part, wait);
+    const checked = engine.isProved ? "proved" : entries <= most ? "plain" : "not";
+    if (checked === "proved") engine.verify(certificate, rest);
+    if (checked === "plain") await check(certificate, rest);
+    return { certificate: { ...certificate, held: null }, checked };
   }
 
-  return { limits, isOne, read, check, open, lookUp, line };
+  // ---- beside the page: a worker checks, so that the page answers
+
+  // What the worker does: it examines the file that it is given.
+  function serve() {
+    onmessage = async ({ data: { file, isProved } }) => {
+      try {
+        const engine = isProved ? { ...(await DobutsuWasm.open(Core)), isProved } : Core.engine;
+        const { certificate, checked } = await examine(file, engine, limits.checked, (part, wait) => postMessage({ part, wait }));
+        const { classes, plies } = certificate.lost;
+        postMessage({ certificate: { ...certificate, lost: { classes, plies } }, checked }, [classes.buffer, plies.buffer]);
+      } catch ({ fault, message }) { postMessage({ fault, message }); }
+    };
+    postMessage({ part: 0 });
+  }
+  // Its script is what stands in the page in front of all that draws. It may open no address but this one, and sends nothing: the page's policy is its own.
+  function makeWorker() {
+    const script = `"use strict"; const window = self;\n${document.getElementById("engine-script").textContent}\nCertificates.limits.checked = ${limits.checked};\nCertificates.serve();`;
+    const address = URL.createObjectURL(new Blob([script], { type: "text/javascript" })), worker = new Worker(address);
+    return { worker, forget: () => URL.revokeObjectURL(address) };
+  }
+  // The same as `examine`, by a worker. `whenStarted` is called with what stops it: then it is the fault "stopped". Null where no worker can be made.
+  function examineBeside(file, isProved, tell, whenStarted) {
+    return new Promise((done, fail) => {
+      let isThere = false, made = null;
+      try { made = makeWorker(); } catch { return done(null); }
+      const { worker, forget } = made, end = (act, about) => { worker.terminate(); forget(); act(about); };
+      worker.onerror = (event) => { event.preventDefault(); isThere ? end(fail, new Error(event.message)) : end(done, null); };
+      worker.onmessage = ({ data }) => {
+        isThere = true;
+        if (data.part !== undefined) return tell(data.part, data.wait);
+        if (data.message !== undefined) return end(fail, data.fault ? new Core.Fault(data.fault) : new Error(data.message));
+        const { classes, plies } = data.certificate.lost;
+        return end(done, { ...data, certificate: { ...data.certificate, lost: Object.assign(new Entries(0), { classes, plies }) } });
+      };
+      whenStarted(() => end(fail, new Core.Fault("stopped")));
+      worker.postMessage({ file, isProved });
+    });
+  }
+  // Opens a file: examines it beside the page, or where that can't be here.
+  async function open(file, engine, tell, whenStarted) {
+    const beside = await examineBeside(file, engine.isProved, tell, whenStarted);
+    const { certificate, checked } = beside || await examine(file, engine, limits.here, tell);
+    return new Open(file.name, certificate, checked, engine);
+  }
+
+  return { limits, isOne, read, check, examine, serve, open, lookUp, line };
 })();
 if (typeof module === "object") module.exports = Certificates;

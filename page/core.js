@@ -270,17 +270,21 @@
     optionsAt(number) {
       let chosen = [], isMixed = !this.order;
       for (let digit = 0; digit < 6; digit++) {
-        const { listed } = this.options(chosen, digit);
-        let at = 0;
-        for (; ; at++) {
-          const some = isMixed ? this.earlier(chosen, digit, at, listed[at]) : this.ways([...chosen, listed[at]], digit + 1);
-          if (number < some) break;
-          number -= some;
-        }
-        isMixed = isMixed && this.image(chosen, digit, listed[at]) === at;
-        chosen = [...chosen, listed[at]];
+        const begins = isMixed ? this.beginnings(chosen, digit).findLast(({ firsts }) => firsts <= number) : this.beginning(chosen, digit, number);
+        number -= begins.firsts;
+        isMixed = isMixed && begins.isImage;
+        chosen = [...chosen, begins.option];
       }
       return chosen;
+    }
+    // The option in which the place of that number lies, where all places count, and how many begin before it. But for the chicks' squares, on which by
+    // rules B their forms rest, there are as many ways to go on from each option.
+    beginning(chosen, digit, number) {
+      const { listed } = this.options(chosen, digit), waysOf = (option) => this.ways([...chosen, option], digit + 1);
+      let at = 0, firsts = 0;
+      if (digit) firsts = waysOf(listed[0]) * (at = Math.floor(number / waysOf(listed[0])));
+      else for (; number >= firsts + waysOf(listed[at]); at++) firsts += waysOf(listed[at]);
+      return { option: listed[at], firsts };
     }
     // Behind how many representatives and how many places each option begins, where the digits before are those of the image.
     beginnings(chosen, digit) {
@@ -369,26 +373,45 @@
       number -= count;
       return false;
     });
-    const options = runOf(profile, on, lions).optionsAt(number), squares = Array(12).fill(".");
+    return positionIn(pieces, mover, runOf(profile, on, lions), number);
+  }
+  // The position of the representative with `number` before it in the run, with that hand.
+  function positionIn(pieces, mover, run, number) {
+    const options = run.optionsAt(number), squares = Array(12).fill("."), { on, lions } = run;
     squares[lions[0]] = "L";
     squares[lions[1]] = "l";
     for (let kind = 0; kind < 3; kind++) options[kind].forEach((square, i) => { squares[square] = options[3 + kind][i]; });
     return { squares: squares.join(""), mover, enemy: pieces.map((n, i) => n - on[i] - mover[i]) };
   }
 
-  // The ranks of the representatives of classes, whose numbers ascend: how many positions of the same pieces and rules stand before each.
-  function ranksOf(profile, pieces, classes) {
-    const ranks = new Uint32Array(classes.length);
+  // Goes with each of some classes, whose numbers ascend, to its run: { run, mover, number, places }, how many representatives stand before it in the run
+  // and how many positions before the run.
+  function* placesOfClasses(profile, pieces, classes) {
     let next = 0, firsts = 0, places = 0; // how many classes and positions stand before a run
     for (const on of product(pieces)) {
       const runs = LIONS.map((lions) => runOf(profile, on, lions));
-      for (const run of handsOf(pieces, on).flatMap(() => runs)) {
-        for (; next < classes.length && classes[next] < firsts + run.count; next++) ranks[next] = places + run.placeAt(classes[next] - firsts);
-        firsts += run.count;
-        places += run.size;
+      for (const mover of handsOf(pieces, on)) {
+        for (const run of runs) {
+          for (; next < classes.length && classes[next] < firsts + run.count; next++) yield { run, mover, number: classes[next] - firsts, places };
+          firsts += run.count;
+          places += run.size;
+        }
       }
     }
+  }
+  // The ranks of the representatives of classes, whose numbers ascend: how many positions of the same pieces and rules stand before each. They are
+  // written into the list `ranks`; `tell` is called now and then with how many there are.
+  function ranksOf(profile, pieces, classes, ranks = new Uint32Array(classes.length), tell = () => {}) {
+    let i = 0;
+    for (const { run, number, places } of placesOfClasses(profile, pieces, classes)) {
+      ranks[i++] = places + run.placeAt(number);
+      if (i % 50000 === 0) tell(i);
+    }
     return ranks;
+  }
+  // The representatives of classes, whose numbers ascend, one after the other.
+  function* positionsOf(profile, pieces, classes) {
+    for (const { run, mover, number } of placesOfClasses(profile, pieces, classes)) yield positionIn(pieces, mover, run, number);
   }
 
   // ---- records
@@ -448,7 +471,7 @@
 
   root.DobutsuCore = {
     engine, Fault, readPosition, writePosition, check, turned, mirrored, setOf, isAllowed, statusAndMoves, apply, grows, moveText, squareName,
-    classNumber, positionAt, ranksOf, countClasses, recordOf, recordBy, valueOf, afterMove, goodness, readHeader, isOwn, kindOf, STEPS, KINDS,
+    classNumber, positionAt, positionsOf, ranksOf, countClasses, recordOf, recordBy, valueOf, afterMove, goodness, readHeader, isOwn, kindOf, STEPS, KINDS,
   };
   if (typeof module === "object") module.exports = root.DobutsuCore;
 })(typeof window === "object" ? window : globalThis);

@@ -6,8 +6,9 @@ const Exercise = (() => {
   const element = (id) => document.getElementById(id);
 
   const known = new Map(); // of each file { lengths, why }: the lengths of its exercises, or the name of the text why there are none
-  let open = null; // { start, move, plies, isTried, isSolved, verdict } of the exercise on the board
+  let open = null; // { from, start, move, plies, isTried, isSolved, verdict } of the exercise on the board, `from` being its file
   let notice = null; // the name of a text where there is no exercise
+  let drawing = null; // the file of which one is drawn
   let right = 0, asked = 0, turn = 0;
 
   const table = () => Files.withRecords()[element("exercise-file").selectedIndex] || Files.withRecords().pop();
@@ -33,13 +34,17 @@ const Exercise = (() => {
     fill(select, names, files.map((it) => it.set + it.profile));
     select.hidden = files.length < 2;
     const chosen = table();
-    if (chosen && !known.get(chosen)?.lengths.length) known.set(chosen, await lengthsOf(chosen));
+    if (chosen && !known.get(chosen)?.lengths.length) {
+      if (!open && notice !== "drawing") notice = "reading";
+      draw();
+      known.set(chosen, await lengthsOf(chosen));
+    }
     const { lengths, why } = known.get(chosen) || { lengths: [], why: null };
     if (!open && notice !== "drawing") notice = why;
     fill(element("exercise-length"), lengths.map((plies) => text("length", plies, View.options.inMoves)), lengths);
     for (const name of ["draw", "worksheet"]) element(name).disabled = !lengths.length;
     element("exercise-choice").hidden = !lengths.length && files.length < 2;
-    element("worksheet").hidden = !lengths.length;
+    element("sheet-choice").hidden = !lengths.length;
     draw();
     element("exercise-card").setAttribute("aria-busy", false);
   }
@@ -52,6 +57,7 @@ const Exercise = (() => {
   async function drawOne() {
     const mine = ++turn, from = table(), length = plies();
     let why = "noExercise";
+    drawing = from;
     notice = "drawing";
     draw();
     const found = await Answers.drawExercise(from, Game.engine(), length, () => mine !== turn).catch(() => {
@@ -60,8 +66,9 @@ const Exercise = (() => {
       return null;
     });
     if (mine !== turn) return null;
+    drawing = null;
     notice = found ? null : why;
-    open = found && { start: Core.writePosition(found.position), move: found.move, plies: length, isTried: false, isSolved: false, verdict: null };
+    open = found && { from, start: Core.writePosition(found.position), move: found.move, plies: length, isTried: false, isSolved: false, verdict: null };
     if (!open) draw();
     return open && { start: open.start, profile: from.profile };
   }
@@ -87,14 +94,24 @@ const Exercise = (() => {
     count();
     open = null;
   }
-  // Makes a worksheet of the chosen file and length; says whether there are any exercises for it.
+  // A file that is closed ends its exercise, which counts for nothing then, and what is drawn of it.
+  function end(file) {
+    known.delete(file);
+    if (open && open.from === file) open = null;
+    if (drawing === file) {
+      turn++;
+      drawing = notice = null;
+    }
+  }
+  // Makes a worksheet of the chosen file, length and number; says whether there are any exercises for it.
   async function makeSheet() {
+    const length = plies(), asked = +element("sheet-number").value;
     notice = "drawing";
     draw();
-    const drawn = await Worksheet.drawSome(table(), Game.engine(), plies()).catch(() => []);
+    const drawn = await Worksheet.drawSome(table(), Game.engine(), length, asked).catch(() => []);
     notice = drawn.length ? null : "noSheet";
     draw();
-    if (drawn.length) Worksheet.draw(drawn, plies());
+    if (drawn.length) Worksheet.draw(drawn, length, asked, element("sheet-answers").value === "apart");
     return drawn.length > 0;
   }
   // Counts the exercise that is open, once: it was tried, answered, or its values were shown.
@@ -118,5 +135,5 @@ const Exercise = (() => {
     element("score").textContent = asked ? text("score", right, asked) : "";
   }
 
-  return { offer, chooseLast, drawOne, leave, makeSheet, isAsked, judge, told, answer, count, draw };
+  return { offer, chooseLast, drawOne, leave, end, makeSheet, isAsked, judge, told, answer, count, draw };
 })();

@@ -3,7 +3,7 @@
 const Files = (() => {
   "use strict";
   const Core = DobutsuCore;
-  const MOST_KEPT = 200000, MOST_TESTED = 64 << 20, DIGEST = 32;
+  const MOST_KEPT = 200000, MOST_TESTED = 64 << 20, DIGEST = 32, SEEN = 20;
 
   class Table {
     constructor(file, header, isTested) {
@@ -31,12 +31,14 @@ const Files = (() => {
     }
     // The records of some classes from that one on, without keeping them.
     async records(first, count) {
-      const bytes = await this.bytes(this.start + 2 * first, 2 * count);
-      return Uint16Array.from({ length: count }, (_, i) => bytes[2 * i] + 256 * bytes[2 * i + 1]);
+      return new Uint16Array((await this.bytes(this.start + 2 * first, 2 * count)).buffer); // the lower byte first, as in each browser's machine
     }
   }
 
   const tables = new Map(); // the open ones, by set and profile
+  let work = null; // { name, part, wait, at, stop } of the file that is opened; `part` of a certificate that was checked `at` then, about how long the rest takes
+  // where that is known, and what stops it
+  let queue = Promise.resolve(); // files that are given while others are opened wait for them
   let refused = []; // { name, fault } of the files that were given last and aren't open
 
   // Whether the digest was tested: not of a large file, nor where the browser has no SHA-256 for a page of a file. A wrong one is E20.
@@ -48,10 +50,11 @@ const Files = (() => {
     return true;
   }
 
-  // Opens a table, or a certificate: `tell` is called with the part of one that is checked.
+  // Opens a table, or a certificate: `tell` is called as the check of one goes on.
   async function open(file, engine, tell) {
     if (Certificates.isOne(new Uint8Array(await file.slice(0, 8).arrayBuffer()))) {
-      return Certificates.open(file.name, new Uint8Array(await file.arrayBuffer()), engine, tell);
+      const note = (part, wait = null) => { Object.assign(work, { part, wait, at: performance.now() }); tell(work); };
+      return Certificates.open(file, engine, note, (stop) => { work.stop = stop; note(0); });
     }
     const header = engine.readHeader(new Uint8Array(await file.slice(0, 21).arrayBuffer()), file.size);
     if (!engine.isProved && header.classes !== Core.countClasses(header.profile, header.set)) throw new Core.Fault("E18 ClassCount");
@@ -61,20 +64,30 @@ const Files = (() => {
     return new Table(file, header, await testDigest(file));
   }
 
-  // Opens those files that are whole, a later one of the same set and rules in place of an earlier; gives the last that was opened.
-  async function openAll(files, engine, tell) {
+  // Opens those files that are whole, a later one of the same set and rules in place of an earlier; gives the last that was opened. `tell` is called with
+  // the work on each { name, part, stop }.
+  async function openEach(files, engine, tell) {
     let last = null;
     refused = [];
     for (const file of files) {
+      work = { name: file.name, part: null, stop: null };
+      tell(work);
+      await new Promise((done) => setTimeout(done, SEEN)); // so that this is seen while classes are counted
       try {
         last = await open(file, engine, tell);
         tables.delete(last.key);
         tables.set(last.key, last);
       } catch (fault) {
-        refused.push({ name: file.name, fault });
+        if (fault.fault !== "stopped") refused.push({ name: file.name, fault });
       }
     }
+    work = null;
     return last;
+  }
+  function openAll(files, engine, tell) {
+    const opened = queue.then(() => openEach(files, engine, tell));
+    queue = opened.catch(() => { work = null; });
+    return opened;
   }
 
   // The table of a position's set by those rules, else the certificate.
@@ -86,5 +99,5 @@ const Files = (() => {
 
   const close = (table) => tables.delete(table.key);
 
-  return { openAll, close, tableFor, all, withRecords: () => all().filter((it) => !it.isCertificate), refused: () => refused, last: () => all().pop() || null };
+  return { openAll, close, tableFor, all, withRecords: () => all().filter((it) => !it.isCertificate), refused: () => refused, last: () => all().pop() || null, work: () => work };
 })();

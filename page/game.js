@@ -1,4 +1,4 @@
-// The game on the board: where it began, the moves that were played, and the address that says both. Sides are 0 for Forest, which plays
+// The game on the board: where it began, the moves that were played, the lines that were left, and the address. Sides are 0 for Forest, which plays
 // upwards, and 1 for Sky. Positions are seen from the side to move, as their texts are.
 const Game = (() => {
   "use strict";
@@ -6,8 +6,9 @@ const Game = (() => {
   const START = "gle/.c./.C./ELG - -";
 
   // plies[i] is { move, text, position, side, isOver }: a move, and the position and the side to move after it. After a catch of the
-  // lion the position has one lion, and is only drawn.
-  const state = { profile: "A", side: 0, start: START, plies: [], cursor: 0 };
+  // lion the position has one lion, and is only drawn. `lines` has the lines of plies that were left, each whole from the beginning; those that
+  // begin alike share their first plies, and none is the beginning of another one or of the line on the board.
+  const state = { profile: "A", side: 0, start: START, plies: [], cursor: 0, lines: [] };
   let engine = Core.engine;
 
   const now = () => (state.cursor ? state.plies[state.cursor - 1] : { position: Core.readPosition(state.start), side: state.side, isOver: false });
@@ -18,12 +19,21 @@ const Game = (() => {
 
   function load(text, side = 0) {
     Core.readPosition(text);
-    Object.assign(state, { start: text, side, plies: [], cursor: 0 });
+    Object.assign(state, { start: text, side, plies: [], cursor: 0, lines: [] });
   }
+  const isSame = (a, b) => a.letter === b.letter && a.from === b.from && a.to === b.to;
+  const isBeginning = (line, other) => line.length <= other.length && line.every((ply, i) => ply === other[i]);
+  // Puts a line on the board. The one that was there is kept, unless the new one goes on from it.
+  function take(line) {
+    state.lines = [...state.lines, state.plies].filter((other) => !isBeginning(other, line));
+    state.plies = line;
+  }
+  // Plays a move: on the line where a known one goes on with it, else on a new one.
   function play(move) {
-    const { position, side } = now(), isOver = moves().status === "caught";
-    const after = isOver ? Core.apply(position, move) : engine.apply(state.profile, position, move);
-    state.plies = [...state.plies.slice(0, state.cursor), { move, text: textOf(move), position: after, side: 1 - side, isOver }];
+    const { position, side } = now(), isOver = moves().status === "caught", { cursor } = state, before = state.plies.slice(0, cursor);
+    const known = [state.plies, ...state.lines].find((line) => line.length > cursor && isBeginning(before, line) && isSame(line[cursor].move, move));
+    const after = () => (isOver ? Core.apply(position, move) : engine.apply(state.profile, position, move));
+    take(known || [...before, { move, text: textOf(move), position: after(), side: 1 - side, isOver }]);
     state.cursor++;
   }
   const goTo = (cursor) => { state.cursor = Math.max(0, Math.min(cursor, state.plies.length)); };
@@ -60,7 +70,7 @@ const Game = (() => {
   }
 
   return {
-    START, state, now, moves, moveText, textOf, load, play, goTo, startOf, address, readAddress,
+    START, state, now, moves, moveText, textOf, load, play, take, goTo, startOf, address, readAddress,
     engine: () => engine, useEngine: (it) => { engine = it; },
   };
 })();

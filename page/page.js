@@ -14,9 +14,11 @@
   let replying = null; // the timer of the page's answer to one who practises
   let playing = null; // the timer of a line that is played out, or `true` until it is set
   let unfit = null; // what is wrong with the position that is being set up
+  let wasHidden = false; // whether values were hidden when the files were drawn
   let written = ""; // the address as it was written last
 
   const say = (words) => { element("live").textContent = words; };
+  const announce = (what) => document.dispatchEvent(new Event(what)); // to cards that stand on their own
   const isSame = (a, b) => a.letter === b.letter && a.from === b.from && a.to === b.to;
   const seenFrom = (side) => (square) => (side ? 11 - square : square);
 
@@ -28,7 +30,7 @@
     const isDrop = ({ letter, from }) => from < 0 && letter === place.hand.toUpperCase(), isStep = ({ from }) => from >= 0 && seen(from) === place.square;
     return Game.moves().moves.filter(place.hand ? isDrop : isStep);
   }
-  function drawBoard() {
+  const drawBoard = Fence.around("boardSection", () => {
     const { cursor, plies } = Game.state, now = Game.now(), seen = seenFrom(now.side), last = cursor ? plies[cursor - 1] : null;
     const valueOf = (move) => { const it = !options.isHidden && found && found.moves.find((other) => isSame(other.move, move)); return it ? it.value : null; };
     Board.draw({
@@ -38,15 +40,17 @@
       targets: new Map(movesOf(chosen).map((move) => [seen(move.to), valueOf(move)])),
       arrow: bestArrow(seen),
     });
-  }
-  // The squares of the best move, where it is shown by an arrow.
+  });
+  // The squares of the best move, where it is shown by an arrow; of a loss within a bound no move is known as the best.
   function bestArrow(seen) {
-    const best = found && !options.isHidden && !Setup.isOn() && !chosen && Settings.hasArrow() && found.moves[0];
+    const best = found && !options.isHidden && !Setup.isOn() && !chosen && Settings.hasArrow() && !(found.value.kind === "loss" && found.value.isWithin) && found.moves[0];
     return best ? [best.move.from, best.move.to].map((square) => (square < 0 ? square : seen(square))) : null;
   }
+  // In practice the page makes the other side's moves.
+  const isPagesTurn = () => Practice.isOn() && !Practice.isOf(Game.now().side);
   const isOwn = (place) => {
     const { side, isOver } = Game.now(), { squares, hands } = Setup.seen(Game.now());
-    if (isOver || place.tool !== undefined) return false;
+    if (isOver || isPagesTurn() || place.tool !== undefined) return false;
     const letter = place.hand || squares[place.square];
     return letter !== "." && Core.isOwn(letter) === !side && (!place.hand || hands[side][Core.KINDS.indexOf(letter.toUpperCase())] > 0);
   };
@@ -70,18 +74,33 @@
     chosen = null;
     drawBoard();
   }
+  const onBoard = (act) => Fence.around("boardSection", act);
   const boardCalls = {
-    choose, drop,
+    choose: onBoard(choose), drop: onBoard(drop),
     mayDrag: (place) => (Setup.isOn() ? Setup.mayDrag(place) : isOwn(place)),
-    lift: (place) => { stopPlaying(); if (!Setup.isOn()) { chosen = place; drawBoard(); } },
-    press: (place, key) => Setup.isOn() && Setup.press(place, key),
+    lift: onBoard((place) => { stopPlaying(); if (!Setup.isOn()) { chosen = place; drawBoard(); } }),
+    press: onBoard((place, key) => Setup.isOn() && Setup.press(place, key)),
   };
 
   // ---- moves
 
-  // A move of the reader: it is played, unless it is a wrong answer to an exercise.
+  // Whether in practice a certificate says nothing of a move, and the rules alone don't say that it loses.
+  function isOutside(move) {
+    const tried = found.moves.find((it) => isSame(it.move, move)), { profile } = Game.state, engine = Game.engine();
+    if (tried.value || found.status !== "open") return false;
+    return engine.moves(profile, engine.apply(profile, Game.now().position, move)).status !== "caught";
+  }
+  // A move of the reader: it is played, unless it is a wrong answer to an exercise, or in practice one of which nothing is known, or the page's to make.
   function tryMove(move) {
     stopPlaying();
+    if (isPagesTurn() || (Practice.isOn() && !found)) return;
+    if (Practice.isOn() && isOutside(move)) {
+      chosen = null;
+      Practice.sayOutside(Game.textOf(found.moves[0].move), Game.textOf(move));
+      if (options.isHidden) View.tellNone(Practice.told());
+      drawControls();
+      return drawBoard();
+    }
     Practice.forget();
     if (Exercise.isAsked()) {
       const tried = found && found.moves.find((it) => isSame(it.move, move));
@@ -103,6 +122,7 @@
   }
   function playSteps(steps) {
     stopPlaying();
+    if (isPagesTurn()) return;
     for (const { move } of steps) playOne(move);
     refresh();
   }
@@ -116,24 +136,25 @@
     playOne(line.steps[0].move);
     refresh();
   }
-  // Goes to that number of plies of the game.
-  function goTo(cursor) {
+  // Goes to that number of plies of the game, or of a line of it that was left.
+  function goTo(cursor, line = Game.state.plies) {
     stopPlaying();
     Practice.forget();
     chosen = null;
+    if (line !== Game.state.plies) Game.take(line);
     Game.goTo(cursor);
     refresh();
   }
   // One who practises takes the page's answer back with their own move.
   const goBack = () => goTo(Game.state.cursor - (Practice.isOf(Game.now().side) && Game.state.cursor > 1 ? 2 : 1));
-  const canStep = () => !!line && line.steps.length > 0 && !options.isHidden && !Setup.isOn();
+  const canStep = () => !!line && line.steps.length > 0 && !options.isHidden && !Setup.isOn() && !isPagesTurn();
 
   // ---- what is shown of the position
 
   // A button that means nothing now keeps the focus, since it may mean something again after a look-up.
   const enable = (name, isEnabled) => element(name).setAttribute("aria-disabled", !isEnabled);
   const isEnabled = (name) => element(name).getAttribute("aria-disabled") !== "true" && !element(name).disabled;
-  function drawControls() {
+  const drawControls = Fence.around("page", () => {
     const { cursor, plies } = Game.state, isOn = Setup.isOn();
     enable("undo", !isOn && cursor > 0);
     enable("redo", !isOn && cursor < plies.length);
@@ -148,19 +169,22 @@
     element("play").textContent = text(playing ? "stop" : "playOut");
     element("play").setAttribute("aria-pressed", !!playing);
     element("rules").value = Game.state.profile;
-    document.body.classList.toggle("hiding", options.isHidden);
+    if (document.body.classList.toggle("hiding", options.isHidden) !== wasHidden) drawFiles(); // a certificate's claim is hidden too
+    wasHidden = options.isHidden;
     document.body.classList.toggle("in-moves", options.inMoves);
     document.body.classList.toggle("setting-up", isOn);
-    Practice.draw();
-  }
+    Fence.keep("practise", () => Practice.draw());
+  });
   function drawRecord() {
     const { plies, cursor } = Game.state;
-    View.drawRecord(plies, cursor, goTo);
-    View.drawJudged(cursor && !Setup.isOn() ? plies[cursor - 1] : null);
+    Fence.keep("played", () => View.drawRecord(plies, cursor, Fence.around("played", goTo)));
+    Fence.keep("analysis", () => View.drawJudged(cursor && !Setup.isOn() ? plies[cursor - 1] : null));
+    announce("record");
   }
+  const tellNone = Fence.around("value", (words) => View.tellNone(words)), tellNoLine = Fence.around("line", (words) => View.tellLine(words));
   const tellNothing = (words) => {
-    View.tellNone(words);
-    View.tellLine("");
+    tellNone(words);
+    tellNoLine("");
   };
   const plainMoves = () => Game.moves().moves.map((move, order) => ({ move, order, value: null }));
   // A move of a list or a line is of the position that it was drawn for: a later click on it does nothing.
@@ -168,11 +192,12 @@
     const mine = turn;
     return (about) => { if (mine === turn) act(about); };
   };
-  const drawMoves = (list) => View.drawMoves(list, Game.now(), ofThisTurn(tryMove));
+  const drawMoves = Fence.around("movesWait", (list) => View.drawMoves(list, Game.now(), ofThisTurn(Fence.around("movesWait", tryMove))));
 
   // Looks the position up and shows what was found, or why nothing is; what comes too late is dropped.
   async function tell(isLate) {
     const { position, side, isOver } = Game.now(), { profile } = Game.state, table = Files.tableFor(profile, position);
+    View.headLine(!!table && table.isCertificate);
     if (isOver) { drawMoves([]); return tellNothing(text("over", text("sides")[1 - side])); }
     if (!Core.isAllowed(profile, position)) throw new Core.Fault("E26 FarChick");
     if (!table) {
@@ -189,38 +214,41 @@
     drawBoard();
     drawMoves(found.moves);
     if (options.isHidden) {
-      View.tellNone(Exercise.isAsked() ? Exercise.told() : Practice.told() || text("hidden"));
-      View.tellLine(text("hiddenShort"));
+      tellNone(Exercise.isAsked() ? Exercise.told() : Practice.told() || text("hidden"));
+      tellNoLine(text("hiddenShort"));
     } else if (found.value.kind === "unknown") tellNothing(text("outside"));
     else {
-      View.drawValue(found, side);
+      Fence.keep("value", () => View.drawValue(found, side));
       await tellLine(table, position, side, isLate);
     }
     if (table.isBroken !== wasBroken) drawFiles();
   }
   // What each move that was played was worth, where a file knows; then the lists say it.
   async function judgePlayed(isLate) {
-    const { plies, profile, start } = Game.state;
+    for (const line of [Game.state.plies, ...Game.state.lines]) await judgeLine(line, isLate);
+    if (!isLate()) drawRecord();
+  }
+  async function judgeLine(line, isLate) {
+    const { profile, start } = Game.state;
     let position = Core.readPosition(start);
-    for (const ply of plies) {
+    for (const ply of line) {
       const table = Files.tableFor(profile, position);
       if (ply.judgedBy !== table) ply.judged = table && await Answers.judge(table, Game.engine(), position, ply.move);
       ply.judgedBy = table;
       if (isLate()) return;
       ({ position } = ply);
     }
-    drawRecord();
   }
   // In practice the page answers, after a moment.
   function answer() {
-    const { cursor, plies } = Game.state, wasOn = Practice.isOn();
-    const move = found || Game.now().isOver ? Practice.answer(Game.now(), cursor, found, plies[cursor - 1]) : null;
-    if (move) replying = setTimeout(() => { playOne(move); refresh(); }, Settings.pace() / 2);
-    else if (wasOn && !Practice.isOn()) { Settings.hideValues(false); refresh(); }
+    if (!Practice.isOn()) return;
+    const { cursor, plies } = Game.state, move = Practice.answer(Game.now(), cursor, found, plies[cursor - 1]);
+    if (move) replying = setTimeout(Fence.around("practise", () => { playOne(move); refresh(); }), Settings.pace() / 2);
+    else if (!Practice.isOn()) { Settings.hideValues(false); refresh(); }
   }
   async function tellLine(table, position, side, isLate) {
-    if (found.value.kind === "draw") return View.tellLine(text("drawLine"));
-    const drawn = (it) => View.drawLine(it, side, ofThisTurn(playSteps));
+    if (found.value.kind === "draw") return tellNoLine(text("drawLine"));
+    const drawn = Fence.around("line", (it) => View.drawLine(it, side, ofThisTurn(Fence.around("line", playSteps))));
     const best = await Answers.bestLine(table, Game.engine(), position, isLate, drawn);
     if (!best || isLate()) return;
     line = best;
@@ -234,9 +262,9 @@
     slow = setTimeout(() => { drawMoves([]); tellNothing(text("looking")); }, SLOW);
     document.documentElement.dataset.busy = "1";
     found = line = null;
-    Exercise.draw();
+    Fence.keep("exercise", () => Exercise.draw());
     drawBoard();
-    Setup.draw();
+    Fence.keep("setUpSection", () => Setup.draw());
     drawControls();
     drawRecord();
     try {
@@ -249,8 +277,9 @@
     }
     if (isLate()) return;
     clearTimeout(slow);
-    if (playing) playing = canStep() ? setTimeout(step, Settings.pace()) : null;
-    answer();
+    if (playing) playing = canStep() ? setTimeout(Fence.around("playOut", step), Settings.pace()) : null;
+    Fence.keep("practise", answer);
+    if (isLate()) return;
     drawControls();
     document.documentElement.dataset.busy = "";
   }
@@ -288,6 +317,15 @@
     Practice.stop();
     chosen = null;
     Game.load(start, side);
+    return refresh();
+  }
+  // Puts a game on the board by a call that loads it.
+  function restart(load) {
+    stopPlaying();
+    Setup.end();
+    Practice.stop();
+    chosen = null;
+    load();
     return refresh();
   }
   async function copy(words, button) {
@@ -329,13 +367,15 @@
 
   // ---- files
 
-  const drawFiles = () => View.drawFiles(closeFile);
+  const offer = Fence.around("exercise", () => Exercise.offer());
+  const drawFiles = Fence.around("open", () => View.drawFiles(Fence.around("open", closeFile)));
   async function closeFile(table) {
     stopPlaying();
     Files.close(table);
+    Exercise.end(table);
     drawFiles();
     await refresh();
-    await Exercise.offer();
+    await offer();
   }
   // A first position of a file: of a certificate that of its claim, unless it is the starting layout's or its mirror image's.
   function startOf(file) {
@@ -345,19 +385,19 @@
   async function openFiles(files) {
     if (!files.length) return;
     stopPlaying();
-    View.tellOpening();
-    await new Promise((done) => setTimeout(done, SLOW / 6)); // so that this is seen while classes are counted
-    const last = await Files.openAll(files, Game.engine(), View.tellChecking), isUntouched = Game.state.start === Game.START && !Game.state.plies.length && !Setup.isOn();
+    const tellWork = (work) => View.tellWork(work, drawFiles), clock = setInterval(() => { if (Files.work()) tellWork(Files.work()); }, SLOW * 5);
+    const last = await Files.openAll(files, Game.engine(), tellWork).finally(() => clearInterval(clock));
+    const isUntouched = Game.state.start === Game.START && !Game.state.plies.length && !Setup.isOn();
     if (last) {
       Answers.forget();
-      Game.state.profile = last.profile;
+      if (!Practice.isOn() && !Exercise.isAsked()) Game.state.profile = last.profile; // a certificate may take a minute, and its reader goes on
       if (isUntouched && !Files.tableFor(last.profile, Game.now().position)) Game.load(startOf(last));
     }
     drawFiles();
     await refresh();
-    await Exercise.offer();
+    await offer();
     if (last) Exercise.chooseLast();
-    await Exercise.offer();
+    await offer();
   }
 
   // ---- exercises
@@ -371,10 +411,16 @@
     Game.state.profile = drawn.profile;
     Settings.hideValues(true);
     await begin(drawn.start);
-    if (element("table").getBoundingClientRect().top < 0) element("table").scrollIntoView();
+    bringBoard();
+    Board.takeFocus();
+  }
+  // Scrolls to the board and what is said of it, whichever stands above the other, where that isn't in view.
+  function bringBoard() {
+    const top = (name) => element(name).getBoundingClientRect().top, first = top("value-card") < top("table") ? "value-card" : "table";
+    if (top(first) < 0) element(first).scrollIntoView();
   }
   // Begins to practise from the position on the board, where its side wins by the file; or stops.
-  function practise() {
+  async function practise() {
     stopPlaying();
     if (Practice.isOn()) Practice.stop();
     else if (found && found.value.kind === "win" && !Setup.isOn()) {
@@ -382,14 +428,16 @@
       Practice.begin(Game.now(), Game.state.cursor);
       Settings.hideValues(true);
     } else Practice.refuse();
-    refresh();
+    await refresh();
+    if (Practice.isOn()) bringBoard();
   }
   async function printSheet() {
     if (!await Exercise.makeSheet()) return;
     document.body.classList.add("sheet");
     window.print();
-    document.body.classList.remove("sheet");
   }
+  // A phone's browser comes back from it before it prints: only its event says that the sheet isn't needed any more.
+  const endSheet = () => document.body.classList.remove("sheet");
 
   // ---- what the reader asks for
 
@@ -399,7 +447,8 @@
     element("badge").textContent = text(isProved ? "badgeProved" : "badgePlain");
     element("badge").className = isProved ? "proved" : "plain";
     drawFiles();
-    return Exercise.offer();
+    Fence.draw();
+    return offer();
   }
   function showChoices() {
     drawLanguage();
@@ -414,39 +463,43 @@
     start: () => { Setup.end(); begin(Files.last() ? startOf(Files.last()) : Game.START); },
     hide: () => { stopPlaying(); Settings.hideValues(!options.isHidden); if (!options.isHidden) Exercise.count(); refresh(); },
     next: () => { stopPlaying(); step(); },
-    play: () => { if (playing) stopPlaying(); else { playing = true; step(); } },
+    play: () => { if (playing) stopPlaying(); else { Practice.stop(); playing = true; step(); } },
     draw: drawExercise,
     answer: () => { Exercise.answer(); Settings.hideValues(false); refresh(); },
     practise, worksheet: printSheet,
-    print: () => window.print(),
+    print: () => { endSheet(); window.print(); },
     copy: () => copy(element("text").value, element("copy")),
     link: () => copy(location.href.split("#")[0] + Game.address(), element("link")),
     theme: Settings.nextTheme,
     language: () => { Settings.otherLanguage(); showChoices(); },
     kana: () => { Settings.switchKana(); showChoices(); },
+    lesson: Lesson.toggle,
+    "copy-game": () => copy(Mistakes.gameText(), element("copy-game")),
   };
-  const perform = (name) => { if (isEnabled(name)) acts[name](); };
-  const LETTERS = { u: "undo", r: "redo", f: "flip", e: "edit", h: "hide", n: "next", p: "play", x: "draw" };
+  const perform = (name) => { if (isEnabled(name)) Fence.keep(element(name).dataset.text || name, acts[name]); };
+  const LETTERS = { u: "undo", r: "redo", f: "flip", e: "edit", h: "hide", n: "next", p: "play", x: "draw", c: "lesson" };
 
   function pressed(event) {
     if (/^(INPUT|SELECT|TEXTAREA)$/.test(event.target.tagName) || event.ctrlKey || event.metaKey || event.altKey) return;
     const arrow = !event.target.closest("#board, .steps") && { ArrowLeft: "undo", ArrowRight: "redo" }[event.key];
-    const letter = Settings.hasLetters() && !(Setup.isOn() && event.key === "x") && LETTERS[event.key];
+    const letter = Settings.hasLetters() && !(Setup.isOn() && "xc".includes(event.key)) && LETTERS[event.key];
     if (arrow || letter) perform(arrow || letter);
     if (event.key === "Escape") { stopPlaying(); chosen = null; drawBoard(); }
   }
   function listen() {
     for (const name of Object.keys(acts)) element(name).addEventListener("click", () => perform(name));
-    element("text").addEventListener("input", readText);
-    element("text").addEventListener("blur", leaveText);
-    element("file").addEventListener("change", async () => { await openFiles([...element("file").files]); element("file").value = ""; });
-    element("exercise-file").addEventListener("change", () => Exercise.offer());
-    element("rules").addEventListener("change", () => { Game.state.profile = element("rules").value; if (Setup.isOn()) setUpChanged(); else refresh(); });
-    document.addEventListener("keydown", pressed);
-    addEventListener("hashchange", () => { if (location.hash !== written) readAddress(location.hash); });
+    const on = (target, event, name, act) => target.addEventListener(event, Fence.around(name, act));
+    on(element("text"), "input", "position", readText);
+    on(element("text"), "blur", "position", leaveText);
+    on(element("file"), "change", "open", async () => { await openFiles([...element("file").files]); element("file").value = ""; });
+    on(element("exercise-file"), "change", "exercise", () => Exercise.offer());
+    on(element("rules"), "change", "rules", () => { Game.state.profile = element("rules").value; if (Setup.isOn()) setUpChanged(); else refresh(); });
+    on(document, "keydown", "letterKeys", pressed);
+    addEventListener("afterprint", endSheet);
+    on(window, "hashchange", "link", () => { if (location.hash !== written) readAddress(location.hash); });
     addEventListener("dragover", (event) => { event.preventDefault(); element("drop").classList.add("on"); });
     addEventListener("dragleave", (event) => { if (!event.relatedTarget) element("drop").classList.remove("on"); });
-    addEventListener("drop", (event) => { event.preventDefault(); element("drop").classList.remove("on"); openFiles([...event.dataTransfer.files]); });
+    on(window, "drop", "open", (event) => { event.preventDefault(); element("drop").classList.remove("on"); return openFiles([...event.dataTransfer.files]); });
   }
 
   // Takes the game of an address, or says why it has none or which of its moves is none.
@@ -486,10 +539,14 @@
     }
   }
   async function begun() {
+    Fence.make();
     Board.make(boardCalls);
-    Setup.make(setUpChanged);
+    Setup.make(Fence.around("setUpSection", setUpChanged));
     View.makeSteps();
-    Settings.make(showChoices);
+    Lesson.make();
+    Mistakes.make({ goTo, restart });
+    Glance.make(restart);
+    Settings.make(Fence.around("settings", showChoices));
     drawBoard(); // seen while the engine is made
     await chooseEngine();
     listen();

@@ -10,11 +10,11 @@ const Practice = (() => {
   const isOn = () => side !== null;
   const sideName = (of) => text("sides")[of];
 
+  const task = (of) => () => text("practiceTask", sideName(of));
   function begin(now, cursor) {
     side = now.side;
     first = cursor;
-    const mine = side;
-    tell = () => text("practiceTask", sideName(mine));
+    tell = task(side);
   }
   function refuse() {
     tell = () => text("practiceNeeds");
@@ -27,22 +27,27 @@ const Practice = (() => {
     tell = words;
   }
 
-  // What comes next of the position { side, isOver } that `found` is about, where `last` is the ply that led to it: the page's move where it has
-  // to answer, null where the reader is to move or it is over.
+  // What comes next of the position { side, isOver } that `found` is about, null where no file knows it, and `last` is the ply that led to it: the
+  // page's move where it has to answer, null where the reader is to move or it is over.
   function answer(now, cursor, found, last) {
-    if (!isOn()) return null;
     const winner = side, plies = cursor - first;
-    const isWon = now.isOver || (now.side !== winner && found.status !== "open" && found.status !== "caught");
-    if (isWon) end(() => text("practiceWon", sideName(winner), plies));
+    if (plies < 0) end(() => text("practiceLeft"));
+    else if (now.isOver || (found && now.side !== winner && found.status !== "open" && found.status !== "caught")) end(() => text("practiceWon", sideName(winner), plies));
+    else if (!found) end(() => text("practiceBlind"));
     else if (now.side === winner) return null;
     else if (found.value.kind === "loss") return found.moves[0].move;
-    else end(() => (found.value.kind === "unknown" ? text("practiceOutside") : View.lostWords(last)));
+    else if (found.value.kind === "unknown") tell = () => text("practiceOutside");
+    else end(() => View.lostWords(last, found.value));
     return null;
   }
+  // A certificate says nothing of a move that was tried: it is for another one.
+  function sayOutside(known, tried) {
+    tell = () => text("practiceUnlisted", known, tried);
+  }
 
-  // What was said of practice that is over goes with the next move.
+  // What was said of practice that is over, or of a move that was tried, goes with the next move.
   function forget() {
-    if (!isOn()) tell = null;
+    tell = isOn() ? task(side) : null;
   }
   const told = () => (tell ? tell() : "");
 
@@ -50,8 +55,8 @@ const Practice = (() => {
     element("practise").textContent = text(isOn() ? "stopPractising" : "practise");
     element("practise").setAttribute("aria-label", isOn() ? text("stopPractising") : text("practiseLabel"));
     element("practise").setAttribute("aria-pressed", isOn());
-    element("practice").textContent = isOn() ? "" : told();
+    element("practice").textContent = isOn() && View.options.isHidden ? "" : told();
   }
 
-  return { isOn, begin, refuse, stop, forget, answer, draw, told, isOf: (it) => side === it };
+  return { isOn, begin, refuse, stop, forget, sayOutside, answer, draw, told, isOf: (it) => side === it };
 })();

@@ -68,9 +68,12 @@ const Settings = (() => {
     Texts.choose(stored.get("language") || (/^ja\b/.test(navigator.language) ? "ja" : "en"));
     if (THEMES.includes(stored.get("theme"))) theme = stored.get("theme");
     options.isHidden = stored.get("hidden") === "yes";
+    Worksheet.make();
     for (const name of ["letters", "arrow"]) keepChecked(name);
     keepSelected("measure", ["plies", "moves"]);
     keepSelected("speed", Object.keys(SPEEDS));
+    keepSelected("sheet-number", Array.from({ length: Worksheet.MOST }, (_, i) => String(i + 1)));
+    keepSelected("sheet-answers", ["below", "apart"]);
     take();
     wantsDark.addEventListener("change", drawTheme);
     drawLanguage();

@@ -26,7 +26,10 @@ const Texts = (() => {
 
   // A value in words, and the same in few letters for a square.
   const value = ({ kind, plies, isWithin }, inMoves) => (kind === "draw" ? text("draw") : text(kind === "win" ? "wins" : "loses", plies, inMoves, isWithin));
-  const tag = ({ kind, plies }, inMoves) => (kind === "draw" ? text("tagDraw") : text(kind === "win" ? "tagWin" : "tagLoss", inMoves ? winnersMoves(plies) : plies));
+  const tag = ({ kind, plies, isWithin }, inMoves) => {
+    const number = inMoves ? winnersMoves(plies) : plies;
+    return kind === "draw" ? text("tagDraw") : text(kind === "win" ? "tagWin" : "tagLoss", isWithin ? `≤${number}` : number);
+  };
 
   // Writes the texts that stand in the page from the beginning.
   function writeAll() {

@@ -38,7 +38,7 @@ const View = (() => {
   }
   // The open files with a button to close each, more than one as a menu, and those that were refused; `close` is called with a file.
   function drawFiles(close) {
-    const words = (table) => (table.isBroken ? text("brokenFile") : table.isCertificate ? text("certificateInfo", table, Texts.value(table.said, options.inMoves)) : text("fileInfo", table));
+    const words = (table) => (table.isBroken ? text("brokenFile") : table.isCertificate ? text("certificateInfo", table, options.isHidden ? "" : Texts.value(table.said, options.inMoves)) : text("fileInfo", table));
     const lineOf = (table) => fileLine(table.name, words(table), table.isBroken, () => close(table));
     const open = Files.all(), lines = open.map(lineOf), refused = Files.refused().map(({ name, fault }) => fileLine(name, Texts.wrong(fault), true));
     if (lines.length > 1) {
@@ -50,11 +50,31 @@ const View = (() => {
       if (open.some((table) => table.isBroken)) menu.className = "bad";
       lines.splice(0, lines.length, menu);
     }
-    element("files").replaceChildren(...(lines.length + refused.length ? [...lines, ...refused] : [node("p", text("noFile"))]));
+    const work = workLine();
+    element("files").setAttribute("aria-busy", work.length > 0);
+    element("files").replaceChildren(...(lines.length + refused.length + work.length ? [...lines, ...refused, ...work] : [node("p", text("noFile"))]));
   }
-  const tellFiles = (words) => element("files").replaceChildren(node("p", words));
-  const tellOpening = () => tellFiles(text("opening"));
-  const tellChecking = (part) => tellFiles(text("checking", Math.floor(100 * part)));
+  // The file that is opened, with how far its check is and a button to stop it.
+  const MOST = 0.97; // of the rest, while it goes on
+  function workWords({ name, part, wait, at }) {
+    if (part === null) return text("opening", name);
+    const rest = wait ? Math.min(MOST, (performance.now() - at) / wait) : 0;
+    return text("checking", name, Math.floor(100 * (part + rest * (1 - part))));
+  }
+  function workLine() {
+    const work = Files.work();
+    if (!work) return [];
+    const line = node("p", "", "work");
+    line.append(node("span", workWords(work)));
+    if (work.stop) line.append(button("✕", "close", text("stopChecking", work.name), () => work.stop()));
+    return [line];
+  }
+  // Tells how far the work on a file is: its line is made anew only where it can be stopped from now on.
+  function tellWork(work, draw) {
+    const line = element("files").querySelector(".work");
+    if (line && !work.stop === !line.querySelector("button")) line.firstChild.textContent = workWords(work);
+    else draw();
+  }
 
   // ---- the value
 
@@ -71,11 +91,17 @@ const View = (() => {
   }
 
   // What a move that was played is said to be worth, beside the best one.
-  const judgedWords = ({ text: words, judged }) => {
-    const [value, best] = [judged.value, judged.best].map((it) => Texts.value(it, options.inMoves));
-    return text("judged", words, value, best, value === best);
-  };
-  const lostWords = ({ text: words, judged }) => text("practiceLost", words, ...[judged.value, judged.best].map((it) => Texts.value(it, options.inMoves)));
+  // Bounds aren't compared, since the greater one may be of the worse move: of a bound it is said that it stands.
+  function judgedWords({ text: words, judged }) {
+    const { value, best } = judged, said = (it) => Texts.value(it, options.inMoves);
+    if (value.kind === best.kind && (value.isWithin || best.isWithin)) return text("judgedWithin", words, value.kind, value.plies, options.inMoves);
+    return text("judged", words, said(value), said(best), said(value) === said(best));
+  }
+  // What is said of a move that gave a win away, `now` being the other side's value behind it: where no file judged the move, that alone.
+  function lostWords({ text: words, judged }, now) {
+    const said = (value) => Texts.value(value, options.inMoves);
+    return judged ? text("practiceLost", words, said(judged.value), said(judged.best)) : text("practiceGiven", words, said(now));
+  }
   // A mistake gives away a win or a draw.
   const isMistake = (ply) => !!ply.judged && ply.judged.value.kind !== ply.judged.best.kind;
   function drawJudged(ply) {
@@ -86,10 +112,10 @@ const View = (() => {
 
   // ---- the moves
 
-  // A move as it is written; in kana its piece is a picture.
+  // A move as it is written; in Japanese its piece is a picture, since records there don't name pieces by Latin letters.
   function moveNode(words) {
     const made = node("span", "", "move");
-    if (Texts.language() !== "kana") made.textContent = words;
+    if (Texts.language() === "en") made.textContent = words;
     else {
       made.innerHTML = Pieces.drawing(words[0], true);
       made.append(words.slice(1));
@@ -160,9 +186,11 @@ const View = (() => {
     rove(box, place >= 0 ? Math.min(place, movesIn(box).length - 1) : current);
   }
   function makeSteps() {
-    for (const name of ["line", "record"]) element(name).addEventListener("keydown", arrowIn);
+    for (const name of ["line", "record", "strip"]) element(name).addEventListener("keydown", arrowIn);
   }
 
+  // A line by a certificate is headed as such, since its bounds don't say which play is best.
+  const headLine = (isCertificate) => { element("line-head").textContent = text(isCertificate ? "lineOfCertificate" : "line"); };
   function drawLine({ steps, end }, side, playUpTo) {
     const words = steps.map(({ position, move }, i) => Game.moveText(position, move, (side + i) % 2));
     const parts = numbered(words, (word, i) => text("playUpTo", word, i + 1), (i) => playUpTo(steps.slice(0, i + 1)));
@@ -192,5 +220,5 @@ const View = (() => {
     drawSteps("record", plies.length ? [first, ...rest] : [node("span", text("noneYet"), "end")], cursor);
   }
 
-  return { options, makeSteps, drawFiles, tellOpening, tellChecking, tellNone, drawValue, drawJudged, lostWords, drawMoves, drawLine, tellLine, drawRecord };
+  return { options, node, button, replace, makeSteps, drawSteps, drawFiles, tellWork, tellNone, drawValue, drawJudged, lostWords, drawMoves, headLine, drawLine, tellLine, drawRecord };
 })();

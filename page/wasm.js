@@ -20,6 +20,7 @@ window.DobutsuWasm = {
     const OUT_AT = at(OUT), ROW_ARGS = [at(ROW), BigInt(ROW_LEN)];
 
     const NAMES = { 1: "Shape", 2: "Letter", 3: "Hand", 4: "Lions", 5: "Count", 6: "FarLion", 15: "Truncated", 16: "Magic", 17: "SetByte", 18: "ClassCount", 19: "Trailing", 20: "Digest", 23: "Memory", 26: "FarChick", 27: "ProfileByte", 30: "Unsupported", 31: "Claim" };
+    const GIVEN = 0.15, REST = 6; // the part of a certificate's time until its lists are given, and how many times that the call takes, about
     const NO_MOVE = 28, UNSUPPORTED = 30, PLACES = 180, NO_SQUARE = 12, MOST_CLASSES = (1n << 64n) - 1n;
     const STATUSES = ["open", "caught", "tried", "stuck"], KINDS = ["draw", "win", "loss"], LETTERS = "CEGHL";
     const accept = (answer) => { if (answer) throw new Core.Fault(`E${answer} ${NAMES[answer] || "Call"}`); };
@@ -118,25 +119,32 @@ window.DobutsuWasm = {
       }
       return room.place;
     }
-    // Puts lists of ranks and of plies there, one behind the other. Gives the words for a call.
-    function giveLists(lists) {
-      const total = lists.reduce((sum, { ranks, plies }) => sum + 4 * ranks.length + 2 * plies.length + 2, 0), words = [];
-      let place = roomFor(total);
-      const put = (list) => {
-        new list.constructor(calls.memory.buffer, place, list.length).set(list);
-        words.push(BigInt(place), BigInt(list.length));
-        place += Math.ceil((list.BYTES_PER_ELEMENT * list.length) / 4) * 4;
+    // Puts the ranks of lists of entries and their plies there, one behind the other. Gives the words for a call; `tell` is called with the part that is done.
+    function giveLists({ profile, pieces }, lists, tell) {
+      const total = lists.reduce((sum, { classes }) => sum + 6 * classes.length + 2, 0), all = lists.reduce((sum, { classes }) => sum + classes.length, 0), words = [];
+      let place = roomFor(total), before = 0;
+      const room = (Numbers, length) => {
+        const list = new Numbers(calls.memory.buffer, place, length);
+        words.push(BigInt(place), BigInt(length));
+        place += Math.ceil(list.byteLength / 4) * 4;
+        return list;
       };
-      for (const { ranks, plies } of lists) [ranks, plies].forEach(put);
+      for (const { classes, plies } of lists) {
+        Core.ranksOf(profile, pieces, classes, room(Uint32Array, classes.length), (i) => tell((before + i) / all));
+        room(Uint16Array, plies.length).set(plies);
+        before += classes.length;
+      }
       return words;
     }
 
-    // Throws why a certificate doesn't prove what it claims. The position is that of its root.
+    // Throws why a certificate doesn't prove what it claims. The position is that of its root. `tell` is called with the part that is done,
+    // and before the call, which tells nothing on its way, with about how many milliseconds it takes.
     const CLAIMS = ["draw", "win", "loss", "winWithin", "lossWithin"];
-    function verify({ profile, pieces, root, claim, plies, lost, held }) {
+    function verify({ profile, pieces, root, claim, plies, lost, held }, tell = () => {}) {
       const position = Core.positionAt(profile, pieces, root);
       if (classOf(profile, position) !== root) throw new Core.Fault("E33 RootClass");
-      const lists = giveLists([lost, held].map((list) => ({ ranks: Core.ranksOf(profile, pieces, list.classes), plies: list.plies })));
+      const since = performance.now(), lists = giveLists({ profile, pieces }, [lost, held], (part) => tell(GIVEN * part));
+      tell(GIVEN, REST * (performance.now() - since));
       const answer = calls.dobutsu_certified(...ask(profile, position), CLAIMS.indexOf(claim), plies, ...lists, OUT_AT);
       if (answer === UNSUPPORTED) {
         const place = Number(long(0)), behind = place - lost.classes.length;

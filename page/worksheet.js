@@ -1,9 +1,10 @@
-// A worksheet: six exercises of one length on a sheet of paper, their answers below. No two of them are alike.
+// A worksheet: exercises of one length on a sheet of paper, their answers below upside down, or on a second sheet. No two of them are alike.
 const Worksheet = (() => {
   "use strict";
   const Core = DobutsuCore;
   const { text } = Texts;
-  const NUMBER = 6;
+  const NUMBER = 6; // of exercises, where no other number is chosen
+  const MOST = 12, LARGE = 6; // up to so many have large boards
   const element = (id) => document.getElementById(id);
 
   // Each piece of a position with where it is: a square, or a hand.
@@ -24,10 +25,10 @@ const Worksheet = (() => {
   // Whether two positions, or one and the other's mirror image, differ in one piece at most.
   const areAlike = (a, b) => differences(a, b) < 2 || differences(a, Core.mirrored(b)) < 2;
 
-  // Up to six exercises { position, move } of that length, no two of them alike.
-  async function drawSome(table, engine, plies) {
+  // Up to so many exercises { position, move } of that length, no two of them alike.
+  async function drawSome(table, engine, plies, number) {
     const drawn = [], isNew = (position) => drawn.every((it) => !areAlike(position, it.position));
-    while (drawn.length < NUMBER) {
+    while (drawn.length < number) {
       const found = await Answers.drawExercise(table, engine, plies, () => false, isNew);
       if (!found) break;
       drawn.push(found);
@@ -48,21 +49,35 @@ const Worksheet = (() => {
     if (letter !== ".") made.innerHTML = Pieces.drawing(letter, Core.isOwn(letter));
     return made;
   }
-  const hand = (numbers, isOwn) => node("div", "sheet-hand", ...numbers.flatMap((number, kind) => Array.from({ length: number }, () => piece(isOwn ? Core.KINDS[kind] : Core.KINDS[kind].toLowerCase()))));
-  function board(position) {
-    const rows = [3, 2, 1, 0].map((row) => node("div", "sheet-row", ...[0, 1, 2].map((column) => piece(position.squares[3 * row + column]))));
-    return node("div", "sheet-board", ...rows);
+  // A side's name and its pieces in hand.
+  function hand(numbers, isOwn) {
+    const held = numbers.flatMap((number, kind) => Array.from({ length: number }, () => piece(isOwn ? Core.KINDS[kind] : Core.KINDS[kind].toLowerCase())));
+    return node("div", "sheet-hand", node("span", "sheet-side", text("sides")[isOwn ? 0 : 1]), ...held);
   }
+  const label = (words) => node("span", "sheet-label", words);
+  function board(position) {
+    const rows = [3, 2, 1, 0].map((row) => node("div", "sheet-row", label(row + 1), ...[0, 1, 2].map((column) => piece(position.squares[3 * row + column]))));
+    return node("div", "sheet-board", ...rows, node("div", "sheet-row", label(""), ...[..."abc"].map(label)));
+  }
+  // A board between both hands.
+  const diagram = (position) => [hand(position.enemy, false), board(position), hand(position.mover, true)];
   function exercise({ position }, i) {
-    return node("div", "sheet-item", node("b", "", `${i + 1}.`), hand(position.enemy, false), board(position), hand(position.mover, true),
+    return node("div", "sheet-item", node("b", "", `${i + 1}.`), ...diagram(position),
       node("p", "sheet-text", Core.writePosition(position)), node("p", "", `${text("sheetMove")} ______________`));
   }
-  function draw(drawn, plies) {
+  // Draws what was drawn of so many that were asked for; where they are fewer the sheet says so.
+  function draw(drawn, plies, asked, isApart) {
     const answers = drawn.map(({ position, move }, i) => `${i + 1}. ${Game.moveText(position, move, 0)}`).join("   ");
+    const fewer = drawn.length < asked ? [node("p", "sheet-fewer", text("sheetFewer", drawn.length, asked))] : [];
+    element("sheet").className = drawn.length > LARGE ? "many" : "";
     element("sheet").replaceChildren(
-      node("h2", "", text("sheetTitle")), node("p", "", `${text("sheetTask", text("length", plies, View.options.inMoves))} ${text("sheetName")} ____________________`),
-      node("div", "sheet-items", ...drawn.map(exercise)), node("p", "sheet-answers", `${text("sheetAnswers")} ${answers}`));
+      node("h2", "", text("sheetTitle")), node("p", "", `${text("sheetTask", text("length", plies, View.options.inMoves))} ${text("sheetName")} ____________________`), ...fewer,
+      node("div", "sheet-items", ...drawn.map(exercise)), node("p", isApart ? "sheet-answers apart" : "sheet-answers", `${text("sheetAnswers")} ${answers}`));
+  }
+  // Offers the numbers that a sheet may have.
+  function make() {
+    element("sheet-number").replaceChildren(...Array.from({ length: MOST }, (_, i) => new Option(i + 1, i + 1, i + 1 === NUMBER, i + 1 === NUMBER)));
   }
 
-  return { areAlike, drawSome, draw };
+  return { MOST, areAlike, drawSome, diagram, draw, make };
 })();

@@ -21,6 +21,14 @@ def flipped(checks, screen, program):
     checks.expect("pieces on a flipped board", pieces(screen), ["b1 L forest turned", "b2 C forest turned", "b4 l sky"])
     screen.press("flip")
     checks.expect("flipped back", pieces(screen), ["b4 l sky turned", "b2 C forest", "b1 L forest"])
+    screen.enter("..l/.../.../L.. C -")
+    screen.browser.click("[data-square='0']")
+    tags = screen.seen("tags")
+    checks.expect("values on the squares that the lion reaches", sorted(tags), ["1", "3", "4"])
+    screen.press("flip")
+    checks.expect("on a flipped board too, each on its own square", [screen.seen("tags"), len(set(tags.values())) > 1], [tags, True])
+    screen.press("flip")
+    screen.key("Escape")
 
 
 def marks(checks, screen, program):
@@ -40,8 +48,27 @@ def marks(checks, screen, program):
     screen.browser.click("[data-square='1']")
     checks.expect("the chosen piece", screen.seen("squares", ".chosen"), ["b1"])
     checks.expect("where it goes", screen.seen("squares", ".target"), ["a1", "a2", "c1", "c2"])
+    checks.expect("a dot on each of them", [screen.seen("squares", ".taken"), dots(screen)], [[], 4])
     screen.js("document.querySelector('#moves button').dispatchEvent(new Event('pointerenter'))")
     checks.expect("the squares of a move that is pointed at", screen.seen("squares", ".hint"), ["a2", "b1"])
+    screen.js("document.querySelector('#moves button').dispatchEvent(new Event('pointerleave'))")
+    checks.expect("none where it isn't any more", screen.seen("squares", ".hint"), [])
+    screen.key("Escape")
+    screen.play("Lb1-a2")
+    checks.expect("the last move is marked to the eye", screen.js("getComputedStyle(document.querySelector('.square.last')).boxShadow !== 'none'"))
+    screen.enter(".../.l./.L./.C. - -")
+    screen.browser.click("[data-square='4']")
+    checks.expect("a piece that can be caught has a ring", [screen.seen("squares", ".target"), screen.seen("squares", ".taken"), dots(screen)], [["b3"], ["b3"], 1])
+    screen.enter("..l/.../.../L.. C -")
+    full = "[...document.querySelectorAll('.slot:not(.none)')].map(it => it.dataset.hand)"
+    checks.expect("hands that have a piece", screen.js(full), ["C"])
+    pale = "[...document.querySelectorAll('.slot .art')].filter(it => getComputedStyle(it).opacity < 1).length"
+    checks.expect("all others are pale", screen.js(pale), 5)
+
+
+def dots(screen):
+    """How many squares have a mark that is seen."""
+    return screen.js("[...document.querySelectorAll('.square')].filter(it => getComputedStyle(it, '::after').content !== 'none').length")
 
 
 def arrow(checks, screen, program):
@@ -49,6 +76,7 @@ def arrow(checks, screen, program):
     screen.give(program.build("100", "A"))
     screen.enter(PLAIN)
     checks.expect("the arrow", screen.seen("arrow"), ["b1", "a2"])
+    checks.expect("it is seen", screen.js("document.querySelector('.arrow svg').checkVisibility() && document.querySelector('.arrow path').getBoundingClientRect().width > 20"))
     screen.press("flip")
     checks.expect("on a flipped board", screen.seen("arrow"), ["b1", "a2"])
     screen.press("flip")
@@ -68,7 +96,7 @@ def sky(checks, screen, program):
     screen.give(program.build("100", "A"))
     screen.open("#~.l./.../.C./.L._-_-")
     screen.give(program.build("100", "A"))
-    checks.expect("Sky moves first", screen.text("turn-1"), "to move")
+    checks.expect("Sky moves first, and Forest doesn't", [screen.text("turn-1"), screen.text("turn-0")], ["to move", ""])
     checks.expect("where its pieces stand", pieces(screen), ["b4 l sky turned", "b3 c sky turned", "b1 L forest"])
     checks.expect("its moves", screen.moves(), ["lb4-c3 win 5", "lb4-a3 win 5", "lb4-c4 win 11", "lb4-a4 win 11", "cb3-b2 loss 6"])
     checks.expect("its line", screen.line(), "lb4-c3 Lb1-a1 lc3-c2 La1-b1 lc2xb1")
@@ -105,6 +133,11 @@ def stops(checks, screen, program):
     screen.play("Lb1-a2")
     tabs = lambda box: screen.js(f"[...document.querySelectorAll('#{box} .move')].map(it => it.tabIndex)")
     checks.expect("one stop in the line", tabs("line"), [0, -1, -1, -1])
+    squares = lambda: screen.js("[...document.querySelectorAll('.square')].flatMap((it, i) => it.tabIndex === 0 ? [i] : [])")
+    checks.expect("one stop on the board", squares(), [10])
+    screen.focus("[data-square='1']")
+    screen.key("ArrowUp", "ArrowUp")
+    checks.expect("it goes with the focus", squares(), [4])
     checks.expect("one stop in the record, the current move", tabs("record"), [-1, 0])
     screen.focus("#line .move")
     screen.key("ArrowRight", "ArrowRight")

@@ -71,5 +71,28 @@ for (const [set, a, b] of SIZES) {
     }
   }
 }
+// The order of a seed is that of the Python package, which is the program's; and each number stands at its place.
+const Shuffle = require("../shuffle.js"), seeds = [[1n, 10], [7n, 54], [123456789012345n, 2124], [18446744073709551615n, 1]];
+const ORDERS = `
+import sys
+sys.dont_write_bytecode = True
+sys.path.insert(0, ${JSON.stringify(path.join(TOOLS, "../python"))})
+from dobutsu import puzzles
+for line in sys.stdin:
+    print(*puzzles.shuffled(*map(int, line.split())))
+`;
+const orders = spawnSync("python3", ["-c", ORDERS], { input: seeds.map((it) => `${it.join(" ")}\n`).join(""), encoding: "utf8" }).stdout.split("\n");
+seeds.forEach(([seed, count], i) => {
+  const order = new Shuffle(seed, count), all = Array.from({ length: order.places }, (_, place) => order.numberAt(place));
+  if (all.filter((it) => it < count).join(" ") !== orders[i]) differs("the order of seed", seed);
+  if (all.some((number, place) => order.placeOf(number) !== place)) differs("places by seed", seed);
+});
+// Positions of classes in a row are those of each.
+for (const rules of "AB") {
+  const numbers = Array.from({ length: 300 }, () => draw(32768) * 17), row = [...new Set(numbers)].sort((a, b) => a - b), pieces = [2, 1, 1];
+  const found = [...Core.positionsOf(rules, pieces, row)];
+  row.forEach((number, i) => { if (Core.writePosition(found[i]) !== Core.writePosition(Core.positionAt(rules, pieces, number))) differs("class in a row", number, rules); });
+}
+
 console.log(`${asked.length} positions and 600 classes, ${wrong} differences`);
 process.exit(wrong || ran.status ? 1 : 0);

@@ -1,4 +1,6 @@
 """Mouse, keys and fingers: moves, undo, the address, setting up a position, exercises, the line step by step, hidden values."""
+from program import read_db
+
 PLAIN = ".l./.../.C./.L. - -"
 HAND = "..l/.../..c/.L. C -"
 
@@ -51,6 +53,13 @@ def mouse(checks, screen, program):
     screen.open("#" + where.split("#")[1])
     checks.expect("the address tells position and moves", [screen.position(), screen.record()], ["..l/.../LC./... - -", ["start", "Lb1-a2", "lb4-c4"]])
     screen.give(path)
+    screen.enter(PLAIN)
+    for move in ("Lb1-a2", "lb4-c4", "La2-a3"):
+        screen.play(move)
+    checks.expect("the numbers before the pairs", screen.js("[...document.querySelectorAll('#record .number')].map(it => it.textContent)"), ["1.", "3."])
+    screen.js("document.querySelectorAll('#record .move')[2].click()")
+    screen.settle()
+    checks.expect("a click on the second move", [screen.current(), screen.js("Game.state.cursor"), screen.position()], ["lb4-c4", 2, "..l/.../LC./... - -"])
     screen.enter(".../.l./.L./.C. - -")
     screen.play("Lb2xb3")
     checks.expect("a caught lion ends it", [screen.told(), screen.moves(), screen.position()], ["Forest caught the lion and has won.", [], ""])
@@ -77,6 +86,115 @@ def drops(checks, screen, program):
     screen.drag(hand("C"), square("a3"))
     checks.expect("a drop by dragging", after(screen, "C*a3"))
     screen.press("undo")
+
+
+def twelve(checks, screen, program):
+    """A hen of either side on each of the twelve squares is chosen by a click, goes where the rules let it, and is moved there by another."""
+    for sky in (False, True):
+        name = lambda at: read_db.square_name(11 - at if sky else at)
+        for start in range(12):
+            text, wanted = hen_on(start)
+            screen.open(("#~" if sky else "#") + text.replace(" ", "_"))
+            screen.browser.click(square(name(start)))
+            checks.expect(f"{'Sky' if sky else 'Forest'}, from {name(start)}", screen.seen("squares", ".target"), sorted(map(name, wanted)))
+            screen.browser.click(square(name(wanted[0])))
+            screen.settle()
+            checks.expect(f"to {name(wanted[0])}", [it[1:] for it in screen.record()[1:]], [f"{name(start)}-{name(wanted[0])}"])
+    screen.open()
+
+
+def hen_on(start):
+    """A position of three pieces with the mover's hen on that square, in which no lion can be caught, and the squares that the hen reaches."""
+    for own in range(9):
+        for other in range(3, 12):
+            if len({start, own, other}) == 3:
+                letters = {start: "H", own: "L", other: "l"}
+                position = "".join(letters.get(at, ".") for at in range(12)), (0, 0, 0), (0, 0, 0)
+                status, moves = read_db.status_and_moves("A", position)
+                reached = [end for letter, at, end in moves if at == start]
+                if status == "open" and reached:
+                    return read_db.write_position(position), reached
+
+
+def edges(checks, screen, program):
+    """Arrow keys go from square to square as the screen shows them, flipped or not, and stay at the board's edges."""
+    there = lambda: screen.js("DobutsuCore.squareName(+document.activeElement.dataset.square)")
+    walk = [("ArrowUp", "b2"), ("ArrowRight", "c2"), ("ArrowDown", "c1"), ("ArrowLeft", "b1"), ("ArrowDown", "b1"), ("ArrowRight", "c1"), ("ArrowRight", "c1"),
+            ("ArrowUp", "c2"), ("ArrowUp", "c3"), ("ArrowUp", "c4"), ("ArrowUp", "c4"), ("ArrowLeft", "b4"), ("ArrowLeft", "a4"), ("ArrowLeft", "a4")]
+    flipped = [("ArrowDown", "b2"), ("ArrowRight", "a2"), ("ArrowRight", "a2"), ("ArrowUp", "a1"), ("ArrowUp", "a1"), ("ArrowLeft", "b1"), ("ArrowLeft", "c1"), ("ArrowLeft", "c1")]
+    for about, steps in [("", walk), (" on a flipped board", flipped)]:
+        screen.focus(square("b1"))
+        for number, (key, wanted) in enumerate(steps, 1):
+            screen.key(key)
+            checks.expect(f"{key}, step {number}{about}", there(), wanted)
+        screen.press("flip")
+    checks.expect("nothing went wrong", screen.js("document.getElementById('broken').textContent"), "")
+
+
+def dragging(checks, screen, program):
+    """While a piece is dragged a copy of it follows the pointer; Escape lets it go; another button of the mouse drags nothing."""
+    screen.enter(PLAIN)
+    at, to = screen.middle(square("b1")), screen.middle(square("a2"))
+    mouse = lambda kind, x, y, held, button="left": screen.browser.call("Input.dispatchMouseEvent", type=kind, x=x, y=y, button=button, buttons=held, clickCount=1)
+    copies = "[...document.querySelectorAll('.dragged')].map(it => { const box = it.getBoundingClientRect(); return [box.x + box.width / 2, box.y + box.height / 2]; })"
+
+    def begin(button="left", held=1):
+        mouse("mousePressed", *at, held, button)
+        for part in (0.3, 1):
+            mouse("mouseMoved", at[0] + part * (to[0] - at[0]), at[1] + part * (to[1] - at[1]), held, button)
+
+    begin()
+    found = screen.js(copies)
+    near = [abs(x - to[0]) < 3 and abs(y - to[1]) < 3 for x, y in found]
+    checks.expect("a copy under the pointer", [near, screen.js("document.querySelectorAll('.dragged .piece').length")], [[True], 1])
+    screen.browser.key("Escape")
+    checks.expect("Escape lets it go", screen.js(copies), [])
+    mouse("mouseReleased", *to, 0)
+    screen.settle()
+    checks.expect("nothing is played then", [screen.record(), screen.position()], [[], PLAIN])
+    # the right button by events alone, since the browser's own menu would end the drag
+    for name, held, (x, y) in [("pointerdown", 2, at), ("pointermove", 2, to)]:
+        screen.js(f"void document.querySelector(\"{square('b1')}\").dispatchEvent(new PointerEvent('{name}', {{ button: 2, buttons: {held}, isPrimary: true, bubbles: true, clientX: {x}, clientY: {y} }}))")
+    checks.expect("the right button drags nothing", screen.js(copies), [])
+    screen.js(f"void document.dispatchEvent(new PointerEvent('pointerup', {{ button: 2, isPrimary: true, bubbles: true, clientX: {to[0]}, clientY: {to[1]} }}))")
+    screen.settle()
+    checks.expect("nor plays", screen.position(), PLAIN)
+    at = screen.middle(square("a3"))
+    begin()
+    checks.expect("an empty square isn't dragged", screen.js(copies), [])
+    mouse("mouseReleased", *to, 0)
+    screen.settle()
+
+
+def letters(checks, screen, program):
+    """All letters that are keys."""
+    screen.give(program.build("100", "A"))
+    screen.enter(PLAIN)
+    screen.js("window.print = () => { window.wasPrinted = true; }; document.activeElement.blur()")
+    screen.key("n")
+    checks.expect("n plays the next move", screen.record(), ["start", "Lb1-a2"])
+    screen.key("u")
+    checks.expect("u takes it back", screen.current(), "start")
+    screen.key("r")
+    checks.expect("r plays it again", screen.current(), "Lb1-a2")
+    screen.key("f")
+    checks.expect("f turns the board", screen.js("document.querySelector('.square').dataset.square"), "2")
+    screen.key("f")
+    screen.key("h")
+    checks.expect("h hides values", screen.value(), "")
+    screen.key("h")
+    screen.key("p")
+    checks.expect("p plays out, and prints nothing", [screen.text("play"), screen.js("!!window.wasPrinted")], ["Stop", False])
+    screen.key("p")
+    checks.expect("p stops", screen.text("play"), "Play out")
+    screen.key("e")
+    checks.expect("e sets up", screen.js("Setup.isOn()"))
+    screen.key("e")
+    checks.expect("and is done", screen.js("Setup.isOn()"), False)
+    screen.key("x")
+    screen.settle("Exercise.isAsked()")
+    checks.expect("x draws an exercise", screen.text("task") != "")
+    screen.js("document.getElementById('exercise-card').scrollIntoView()")
 
 
 def keys(checks, screen, program):
@@ -189,7 +307,7 @@ def setting(checks, screen, program):
     checks.expect("a missing lion is told", "E4" in screen.text("editor-fault"))
     checks.expect("and it can't be done", screen.js("document.getElementById('edit').disabled"))
     screen.press("language")
-    checks.expect("in the other language too", screen.text("editor-fault"), "ライオンは両者に1枚ずつ必要です。(E4)")
+    checks.expect("in the other language too", screen.text("editor-fault"), "ライオンは両者に1枚ずつ必要です。（E4）")
     screen.press("language")
     screen.key("L")
     checks.expect("a lion that is back is no fault", screen.text("editor-fault"), "")
@@ -203,6 +321,24 @@ def setting(checks, screen, program):
     screen.press("edit")
     checks.expect("done", [screen.js("document.getElementById('editor').hidden"), screen.position()], [True, ".l./.../.../.L. - -"])
     screen.press("start")
+    hens = "..l/H.h/.../L.. - -"
+    screen.enter(hens)
+    seen = ["c4 l sky turned", "a3 H forest", "c3 h sky turned", "a1 L forest"]
+    checks.expect("hens are drawn as hens", screen.seen("pieces"), seen)
+    screen.press("edit")
+    checks.expect("and while a position is set up", screen.seen("pieces"), seen)
+    sides = lambda: screen.js("[0, 1].map(it => document.getElementById(`move-${it}`).getAttribute('aria-pressed'))")
+    checks.expect("Forest is to move", sides(), ["true", "false"])
+    screen.press("move-1")
+    checks.expect("Sky is to move", sides(), ["false", "true"])
+    screen.press("move-0")
+    screen.press("edit")
+    checks.expect("nothing was set up", screen.position(), hens)
+    screen.enter("..l/.../.../L.. CE g")
+    screen.press("edit")
+    screen.press("lions")
+    checks.expect("lions alone, with no hand either", screen.position(), ".l./.../.../.L. - -")
+    screen.press("edit")
 
 
 def no_values(screen):
@@ -258,6 +394,11 @@ def exercises(checks, screen, program):
     checks.expect("the answer is shown", screen.text("verdict"), f"The move is {program.puzzles(path, lengths[0])[screen.position()]}.")
     screen.enter(PLAIN)
     checks.expect("another position ends the exercise", screen.text("task"), "")
+    screen.choose("exercise-length", str(lengths[2]))
+    for language in ("ja", "kana", "en"):
+        screen.language(language)
+        checks.expect(f"the length that was chosen stays, {language}", screen.js("document.getElementById('exercise-length').value"), str(lengths[2]))
+    chosen_file(checks, screen, program)
     screen.open()
     screen.js("Object.assign(Answers.limits, { small: 100, window: 200, sample: 200 })")  # so the file is a large one
     screen.give(path)
@@ -266,6 +407,18 @@ def exercises(checks, screen, program):
         draw_one(screen)
         checks.expect(f"an exercise of {plies} plies out of a window", screen.position() in program.puzzles(path, plies))
     screen.open()
+
+
+def chosen_file(checks, screen, program):
+    """Exercises are of the file that is chosen, by its rules."""
+    screen.give(program.build("000", "A"), program.build("100", "A"), program.build("100", "B"))
+    for place, pieces, rules in [(0, "000", "A"), (2, "100", "B"), (1, "100", "A")]:
+        screen.js(f"document.getElementById('exercise-file').selectedIndex = {place}; document.getElementById('exercise-file').dispatchEvent(new Event('change'))")
+        screen.settle("document.querySelector('#exercise-card[aria-busy=false]')")
+        screen.choose("exercise-length", "3")
+        draw_one(screen)
+        found = [screen.js("DobutsuCore.setOf(Game.now().position).join('')"), screen.js("Game.state.profile"), screen.position() in program.puzzles(program.build(pieces, rules), 3)]
+        checks.expect(f"an exercise of {pieces} by rules {rules}", found, [pieces, rules, True])
 
 
 def steps(checks, screen, program):
@@ -289,5 +442,5 @@ def steps(checks, screen, program):
 
 
 PARTS = {
-    "mouse": mouse, "drops": drops, "keys": keys, "fingers": fingers, "setting": setting, "hidden": hidden, "exercises": exercises, "steps": steps,
+    "mouse": mouse, "drops": drops, "twelve": twelve, "edges": edges, "dragging": dragging, "letters": letters, "keys": keys, "fingers": fingers, "setting": setting, "hidden": hidden, "exercises": exercises, "steps": steps,
 }

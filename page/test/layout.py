@@ -1,6 +1,6 @@
-"""Where things stand at five sizes, in three languages and both themes: nothing is cut, the palette and the value are in view, a sheet is one sheet."""
+"""Where things stand at six sizes, in three languages and both themes: nothing is cut, the palette and the value are in view, a sheet is one sheet."""
 PLAIN = ".l./.../.C./.L. - -"
-SIZES = ((1366, 768), (1280, 720), (1024, 768), (768, 1024), (360, 740))
+SIZES = ((1920, 1080), (1366, 768), (1280, 720), (1024, 768), (768, 1024), (360, 740))
 LANGUAGES = ("en", "ja", "kana")
 
 
@@ -100,4 +100,50 @@ def menu(checks, screen, program):
     screen.in_both(checks, "no exercises then", lambda: screen.text("task"), "Open a file for exercises.", "練習問題にはファイルを開いてください。")
 
 
-PARTS = {"sizes": sizes, "palette": palette, "fold": fold, "paper": paper, "menu": menu}
+# The part of the window, in hundredths, that no card covers.
+EMPTY = """(() => {
+  const boxes = [...document.querySelectorAll("header, .card")].filter((it) => it.checkVisibility()).map((it) => it.getBoundingClientRect());
+  const isFree = (x, y) => !boxes.some((it) => x >= it.left && x <= it.right && y >= it.top && y <= it.bottom);
+  let free = 0, all = 0;
+  for (let y = 2; y < innerHeight; y += 8) for (let x = 2; x < innerWidth; x += 8) { all++; free += isFree(x, y); }
+  return Math.round(100 * free / all);
+})()"""
+
+
+def filled(checks, screen, program):
+    """A projector's window isn't left empty by a third, with a file and while one practises; nor is a large one."""
+    for size in ((1280, 720), (1920, 1080)):
+        at(screen, size)
+        screen.give(program.build("100", "A"))
+        screen.enter(PLAIN)
+        checks.expect(f"with a file, {size}", screen.js(EMPTY) < 33)
+        screen.press("practise")
+        checks.expect(f"in practice, {size}", screen.js(EMPTY) < 33)
+        screen.press("practise")
+        screen.press("hide")
+
+
+def brought(checks, screen, program):
+    """On a phone *Practise* and *New exercise* scroll to the board and what is said of it; a new exercise gives the board the focus."""
+    at(screen, (360, 740))
+    screen.give(program.build("100", "A"))
+    screen.enter(PLAIN)
+    for button in ("practise", "draw"):
+        screen.js(f"document.getElementById('{button}').scrollIntoView()")
+        screen.press(button)
+        screen.settle("!/Drawing/.test(document.getElementById('task').textContent)")
+        said, board = screen.seen("box", "#value"), screen.seen("box", "#board")
+        checks.expect(f"{button}: what is said is in view", said["top"] >= 0 and said["bottom"] <= 740)
+        checks.expect(f"{button}: so is the board", board["top"] >= 0 and board["bottom"] <= 740)
+        if button == "practise":
+            screen.press("practise")
+    checks.expect("the board has the focus", screen.js("document.activeElement.classList.contains('square')"))
+    at(screen, (1180, 1000))
+    screen.js("document.getElementById('draw').focus()")
+    screen.press("draw")
+    screen.settle("Exercise.isAsked() && document.activeElement.classList.contains('square')")
+    screen.key("ArrowUp")
+    checks.expect("arrows go over it then", screen.js("document.activeElement.classList.contains('square')"))
+
+
+PARTS = {"filled": filled, "brought": brought, "sizes": sizes, "palette": palette, "fold": fold, "paper": paper, "menu": menu}

@@ -17,7 +17,10 @@ def addresses(checks, screen, program):
     screen.seen("catchCopies")
     screen.press("link")
     checks.expect("the link that is copied", screen.js("window.copied"), screen.url + CHICK + ":Lb1-a2")
+    checks.expect("the button says so", screen.text("link"), "Copied")
     screen.press("copy")
+    checks.expect("and so does the other", screen.text("copy"), "Copied")
+    screen.browser.wait("document.getElementById('link').textContent === 'Link' && document.getElementById('copy').textContent === 'Copy'")
     checks.expect("the text that is copied", screen.js("window.copied"), ".../.cl/.../.L. - -")
     screen.give(program.build("100", "B"))
     checks.expect("by rules B the address says so", screen.js("location.hash"), "#B;.l./.../.C./.L._-_-:Lb1-a2")
@@ -75,6 +78,11 @@ def kept(checks, screen, program):
     screen.open(CHICK)
     screen.give(path)
     checks.expect("what was chosen", screen.js("[Settings.hasArrow(), Settings.hasLetters(), Settings.pace(), View.options.isHidden]"), [False, False, 500, False])
+    screen.theme("dark")
+    screen.open(CHICK)
+    checks.expect("the colours", screen.js("document.documentElement.dataset.theme"), "dark")
+    screen.theme("light")
+    screen.give(path)
     checks.expect("the measure", [screen.value(), screen.js("document.querySelectorAll('.arrow path').length")], ["wins in 3 moves", 0])
 
 

@@ -4,7 +4,7 @@ import json
 from browser import Browser
 
 PLAIN = ".l./.../.C./.L. - -"
-WIDTHS = (320, 360, 480, 768, 1024, 1280, 1600)
+WIDTHS = (320, 360, 480, 768, 1024, 1280, 1600, 1920)
 
 
 def languages(checks, screen, program):
@@ -19,7 +19,7 @@ def languages(checks, screen, program):
         missing = screen.seen("missing")
         checks.expect(f"texts that are missing in {language}", missing, [])
         screen.choose("measure", "moves")
-        checks.expect(f"the value in moves in {language}", screen.value(), {"en": "wins in 3 moves", "ja": "3手で勝ち"}[language])
+        checks.expect(f"the value in moves in {language}", screen.value(), {"en": "wins in 3 moves", "ja": "自分の3手目で勝ち"}[language])
         screen.choose("measure", "plies")
     ours = screen.js("['Lion', 'Undo', 'Redo', 'Moves', 'Value', 'Forest', 'Sky', 'win ', 'plies'].filter(it => document.body.innerText.includes(it))")
     checks.expect("English words left in Japanese", ours, [])
@@ -148,6 +148,8 @@ def printed(checks, screen, program):
         screen.browser.call("Emulation.setEmulatedMedia", media="")
         checks.expect("it is one page of paper", screen.pages(), 1)
     screen.press("hide")
+    screen.play("Lb1-a2")
+    screen.in_both(checks, "Sky's caption", lambda: screen.js("document.getElementById('caption').textContent"), "Sky to move: .../.cl/.../.L. - -", "そらの番: .../.cl/.../.L. - -")
     screen.js("window.print = () => { window.wasPrinted = true; }")
     screen.press("print")
     checks.expect("the button prints", screen.js("window.wasPrinted"))
@@ -156,7 +158,8 @@ def printed(checks, screen, program):
 # What a page might do to send something, and the rule of the policy that refuses it.
 ATTEMPTS = {
     "a request": "connect-src", "a request to this machine": "connect-src", "a request of a file": "connect-src", "a beacon": "connect-src",
-    "a socket": "connect-src", "a picture": "img-src", "a script": "script-src-elem", "a frame": "frame-src", "a form": "form-action",
+    "a socket": "connect-src", "a picture": "img-src", "a script": "script-src-elem", "a frame": "frame-src", "a form": "form-action", "a worker": "worker-src",
+    "a request of a worker": "connect-src",
 }
 
 
@@ -169,6 +172,7 @@ def private(checks, screen, program):
     checks.expect("exceptions", wrong, [])
     said = [json.dumps(it["params"])[:300] for it in events if it["method"] in ("Runtime.consoleAPICalled", "Log.entryAdded")]
     checks.expect("what the console says", said, [])
+    checks.expect("constructors of peer connections", screen.js("[typeof RTCPeerConnection, typeof webkitRTCPeerConnection]"), ["undefined", "undefined"])
     for what, rule in ATTEMPTS.items():
         checks.expect(f"{what} is refused by the page's policy", screen.seen("refused", what), rule)
 

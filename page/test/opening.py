@@ -1,4 +1,7 @@
 """Files as they are given: picked, dropped, opened again, cut short; which of them is asked, and where the board begins."""
+import pathlib
+import time
+
 PLAIN = ".l./.../.C./.L. - -"
 TRIED = ".../L../..l/h.. - -"  # won by a try, La3-a4
 
@@ -11,7 +14,7 @@ def dropped(checks, screen, program):
     screen.enter(PLAIN)
     checks.expect("its value", screen.value(), "win 5")
     screen.in_both(checks, "what is said of it", screen.files, [["mine.db set 100, rules A, 2,124 classes, digest tested", False]],
-                   [["mine.db セット 100、ルール A、2,124 局面類、ダイジェストテスト済み", False]])
+                   [["mine.db セット 100、ルール A、2,124 局面（左右対称は1つ）、ダイジェストテスト済み", False]])
 
 
 def starts(checks, screen, program):
@@ -69,7 +72,7 @@ def untested(checks, screen, program):
     screen.js("void Object.defineProperty(globalThis, 'crypto', { value: {}, configurable: true })")
     screen.give(program.build("100", "A"))
     screen.in_both(checks, "a digest that isn't tested", screen.files, [["100A.db set 100, rules A, 2,124 classes, digest not tested", False]],
-                   [["100A.db セット 100、ルール A、2,124 局面類、ダイジェスト未テスト", False]])
+                   [["100A.db セット 100、ルール A、2,124 局面（左右対称は1つ）、ダイジェスト未テスト", False]])
     screen.enter(PLAIN)
     checks.expect("the file answers", screen.value(), "win 5")
 
@@ -82,7 +85,7 @@ def large(checks, screen, program):
         file.truncate(21 + 2 * classes + 32)
     screen.give(path)
     screen.in_both(checks, "a large file", screen.files, [["large.db set 222, rules A, 588,021,930 classes, digest not tested", False]],
-                   [["large.db セット 222、ルール A、588,021,930 局面類、ダイジェスト未テスト", False]])
+                   [["large.db セット 222、ルール A、588,021,930 局面（左右対称は1つ）、ダイジェスト未テスト", False]])
     screen.enter("gle/.c./.C./ELG - -")
     checks.expect("a record of zeros", screen.value(), "draw")
 
@@ -92,10 +95,38 @@ def rules(checks, screen, program):
     text = "..l/.../.../L.. C -"
     screen.give(program.build("100", "A"), program.build("100", "B"))
     for name, number in (("A", 13), ("B", 11), ("A", 13)):
-        screen.choose("rules", name)
         screen.enter(text)
+        screen.choose("rules", name)
         far = [it.split()[0] for it in screen.moves() if it[:2] == "C*" and it[3] == "4"]
         checks.expect(f"moves by rules {name}", [len(screen.moves()), sorted(far)], [number, ["C*a4", "C*b4"] if name == "A" else []])
 
 
-PARTS = {"dropped": dropped, "starts": starts, "short": short, "good": good, "ends_early": ends_early, "untested": untested, "large": large, "rules": rules}
+def format_1(checks, screen, program):
+    """A file of the first format is read, whose values are from outside."""
+    source = pathlib.Path(__file__).resolve().parents[2] / "testdata"
+    screen.give(source / "lions_alone.db")
+    checks.expect("the file", screen.files(), [["lions_alone.db set 000, rules A, 54 classes, digest tested", False]])
+    for line in (source / "lions_alone.txt").read_text().split("\n")[:8]:
+        text, value = line.split(" = ")
+        screen.enter(text)
+        checks.expect(f"the value of {text}", screen.value(), value)
+
+
+def late(checks, screen, program):
+    """What a slow disk gives for a position that isn't shown any more is dropped."""
+    screen.give(program.build("100", "A"))
+    screen.js("""(() => {
+      const table = Files.last(), bytes = table.bytes.bind(table);
+      table.kept.clear();
+      window.slow = 600;
+      table.bytes = async (...about) => { const wait = window.slow; await new Promise((done) => setTimeout(done, wait)); return bytes(...about); };
+    })()""")
+    screen.seen("enter", ".../..l/.../L.. - c")
+    screen.js("window.slow = 0")
+    screen.enter(PLAIN)
+    for when in ("at once", "after the late answer"):
+        checks.expect(f"the value {when}", [screen.value(), screen.moves()[0], screen.position()], ["win 5", "Lb1-a2 win 5", PLAIN])
+        time.sleep(1)
+
+
+PARTS = {"dropped": dropped, "format_1": format_1, "late": late, "starts": starts, "short": short, "good": good, "ends_early": ends_early, "untested": untested, "large": large, "rules": rules}

@@ -68,7 +68,7 @@ class Screen:
         return self.js(f"(it => !it.disabled && it.getAttribute('aria-disabled') !== 'true')(document.getElementById({json.dumps(button)}))")
 
     def settle_files(self):
-        self.settle("document.querySelector('#files b') && document.querySelector('#exercise-card[aria-busy=false]')")
+        self.settle("document.querySelector('#files:not([aria-busy=true]) b') && document.querySelector('#exercise-card[aria-busy=false]')")
 
     def base64(self, path):
         return base64.b64encode(path.read_bytes()).decode()

@@ -52,14 +52,16 @@ globalThis.Seen = (() => {
     const art = it.querySelector(".piece"), letter = art.querySelector(".letter").textContent;
     return [nameOf(it), letter, art.classList[1], ...(art.querySelector("g").getAttribute("transform") ? ["turned"] : [])].join(" ");
   });
-  // The squares from which and to which the arrow goes, or that of a ring.
-  function arrow() {
-    const path = document.querySelector(".arrow path"), ring = document.querySelector(".arrow circle");
+  // The squares from which and to which an arrow goes, or that of a ring or circle.
+  function squaresOf(drawn) {
     const name = ([x, y]) => nameOf(all(".square")[Math.floor(x) + 3 * Math.floor(y)]);
-    if (ring) return [name([+ring.getAttribute("cx"), +ring.getAttribute("cy")])];
-    const points = path ? path.getAttribute("d").match(/[\d.]+ [\d.]+/g).map((it) => it.split(" ").map(Number)) : [];
-    return path ? [name(points[0]), name(points[3])] : [];
+    if (drawn.tagName === "circle") return [name([+drawn.getAttribute("cx"), +drawn.getAttribute("cy")])];
+    const points = drawn.getAttribute("d").match(/[\d.]+ [\d.]+/g).map((it) => it.split(" ").map(Number));
+    return [name(points[0]), name(points[3])];
   }
+  // Of the best move's arrow, and of all that is drawn in class mode.
+  const arrow = () => all(".arrow path, .arrow circle").flatMap(squaresOf);
+  const ink = () => shown("#ink path, #ink circle").map(squaresOf);
   const texts = (selector) => all(selector).map((it) => it.textContent);
 
   // ---- files and the clipboard
@@ -118,6 +120,12 @@ globalThis.Seen = (() => {
     const { left, top, right, bottom } = document.querySelector(selector).getBoundingClientRect();
     return { left, top, right, bottom };
   }
+  // The pairs of shown elements that lie on one another.
+  function overlaps(selector) {
+    const boxes = shown(selector).map((it) => [it.id || it.className, it.getBoundingClientRect()]);
+    const lie = (a, b) => a.left < b.right - 1 && b.left < a.right - 1 && a.top < b.bottom - 1 && b.top < a.bottom - 1;
+    return boxes.flatMap(([name, box], i) => boxes.slice(i + 1).filter((other) => lie(box, other[1])).map((other) => `${name} on ${other[0]}`));
+  }
   // Fills the lists of moves and of the line with copies, up to so many.
   function fillLists(moves, plies) {
     for (const [list, number] of [["moves", moves], ["line", plies]]) {
@@ -154,7 +162,7 @@ globalThis.Seen = (() => {
     const colour = (name) => [1, 3, 5].map((at) => parseInt(styles.getPropertyValue(name).trim().slice(at, at + 2), 16));
     const between = (a, b) => ratio(colour(a), colour(b)), found = [];
     const lands = ["--land", "--forest-land", "--sky-land"], pairs = (marks, grounds) => marks.flatMap((mark) => grounds.map((it) => [mark, it]));
-    for (const [mark, it] of [...pairs(["--chosen", "--last", "--focus", "--accent"], lands), ...pairs(["--edge", "--focus"], ["--card", "--ground"])]) {
+    for (const [mark, it] of [...pairs(["--chosen", "--last", "--focus", "--accent", "--pen"], lands), ...pairs(["--edge", "--focus"], ["--card", "--ground"])]) {
       if (between(mark, it) < 3) found.push(`${mark} on ${it}`);
     }
     for (const side of ["forest", "sky"]) {
@@ -172,7 +180,7 @@ globalThis.Seen = (() => {
   const refusal = (act) => new Promise((done) => {
     addEventListener("securitypolicyviolation", (event) => done(event.effectiveDirective), { once: true });
     setTimeout(() => done("not refused"), 3000);
-    try { act(); } catch { /* the policy's event tells */ }
+    try { act(done); } catch { /* the policy's event tells */ }
   });
   const add = (name, about) => document.body.append(Object.assign(document.createElement(name), about));
   const far = "https://example.com/";
@@ -185,6 +193,11 @@ globalThis.Seen = (() => {
     "a picture": () => { new Image().src = far; },
     "a script": () => add("script", { src: far }),
     "a frame": () => add("iframe", { src: far }),
+    "a request of a worker": (done) => {
+      const script = `addEventListener("securitypolicyviolation", (event) => postMessage(event.effectiveDirective)); fetch("${far}").catch(() => 0);`;
+      new Worker(URL.createObjectURL(new Blob([script]))).onmessage = (event) => done(event.data);
+    },
+    "a worker": () => new Worker("data:text/javascript,0"),
     "a form": () => {
       add("form", { action: far, id: "sent" });
       element("sent").submit();
@@ -193,7 +206,7 @@ globalThis.Seen = (() => {
 
   return {
     enter, choose, middle, tags, hasValues, lineNumbers, shapes, missing, misnamed, cut, onTwoLines, tooSmall, tooPale, paleMarks, visible,
-    classNumber, outcomes, arrow, crowded, box, fillLists, squares, pieces, texts, dropFile, catchCopies,
+    classNumber, outcomes, arrow, ink, crowded, box, overlaps, fillLists, squares, pieces, texts, dropFile, catchCopies,
     refused: (name) => refusal(attempts[name]),
   };
 })();

@@ -32,3 +32,4 @@ def values(number):
 
 
 PARTS = {"values": values(40), "short": values(10)}
+NAMED = {"short"}  # told/values has its positions too

@@ -1,0 +1,238 @@
+// A game's mistakes: a strip of the values behind each ply, with marks where a win or a draw was given away; the lines that were left; and the game as a
+// text that is copied and pasted, and on paper with boards. A bound by a certificate stays a bound, and what no file says is told as not known.
+const Mistakes = (() => {
+  "use strict";
+  const Core = DobutsuCore;
+  const { text } = Texts;
+  const { options, node, button } = View;
+  const WORTH = { loss: 0, draw: 1, win: 2 };
+  const GIVEN = { win: { draw: "gaveWin", loss: "gaveAll" }, draw: { loss: "gaveDraw" } }; // the name of what a ply gave away, by the best and by what it was worth
+  const MARKS = { gaveWin: "?", gaveDraw: "?", gaveAll: "??" };
+  const LONGEST = 200; // a bar of so many plies would be empty
+  const SHOWN = 4; // plies of a line that was left
+  const element = (id) => document.getElementById(id);
+  let calls = null; // of the page: goTo(cursor, line) and restart(load)
+
+  // ---- what is known of a game
+
+  const isMine = (ply) => 1 - ply.side; // the side that made a ply
+  // What a ply gave away: the name of a text, or undefined.
+  const given = ({ judged }) => judged && (GIVEN[judged.best.kind] || {})[judged.value.kind];
+  // The value of a position by that of the move that led to it: who wins it, or null of a draw, and in how many plies.
+  function behind({ kind, plies, isWithin }, side) {
+    if (kind === "draw") return { winner: null, plies: 0, isWithin: false };
+    const left = plies - 1;
+    return { winner: kind === "win" ? side : 1 - side, plies: left, isWithin: !!isWithin && left > 1 };
+  }
+  // The value behind so many plies of the line on the board, or null where no file says it.
+  function valueBehind(number) {
+    const { plies, side } = Game.state, ply = plies[number && number - 1];
+    if (!ply.judged) return null;
+    if (number) return behind(ply.judged.value, isMine(ply));
+    const { kind, plies: length, isWithin } = ply.judged.best;
+    return { winner: kind === "draw" ? null : kind === "win" ? side : 1 - side, plies: length, isWithin };
+  }
+  const counted = (plies) => (options.inMoves ? Texts.winnersMoves(plies) : plies);
+
+  // ---- the strip
+
+  // Who wins behind a ply, in words.
+  function told(value) {
+    if (!value) return text("stripUnknown");
+    if (value.winner === null) return text("draw");
+    const side = text("sides")[value.winner];
+    return value.plies ? text("stripWins", side, text("lengthTold", value.plies, options.inMoves, value.isWithin)) : text("stripWon", side);
+  }
+  function cell(number, cursor) {
+    const ply = number ? Game.state.plies[number - 1] : null, value = valueBehind(number), gave = ply && given(ply);
+    const name = ply ? text("stripPly", number, ply.text) : text("beginning");
+    const made = button("", "move cell", [`${name}: ${told(value)}`, gave && text(gave)].filter(Boolean).join(", "), () => calls.goTo(number));
+    made.title = made.getAttribute("aria-label");
+    const way = !value ? "unknown" : value.winner === null ? "even" : value.winner ? "down" : "up", bar = node("span", "", `bar ${way}`);
+    if (value) bar.style.setProperty("--part", Math.max(0.12, 1 - Math.log(1 + value.plies) / Math.log(LONGEST)).toFixed(3));
+    const words = node("span", "", "worth");
+    words.append(node("b", gave ? MARKS[gave] : ""), value && value.winner !== null ? `${value.isWithin ? "≤" : ""}${counted(value.plies)}` : value ? "" : "·");
+    made.append(bar, words, node("small", number || ""));
+    made.classList.toggle("gave", !!gave);
+    if (number === cursor) made.setAttribute("aria-current", "step");
+    return made;
+  }
+
+  // ---- the cards' texts
+
+  function summary() {
+    const { plies } = Game.state;
+    if (!plies.length) return [text("gameNone")];
+    if (options.isHidden) return [text("hiddenShort")];
+    const known = plies.filter((ply) => ply.judged), gave = known.filter(given), unknown = plies.length - known.length;
+    if (!known.length) return [text("gameUnknown")];
+    const of = (side) => gave.filter((ply) => isMine(ply) === side).length;
+    const isBounded = known.some(({ judged }) => judged.value.isWithin);
+    return [
+      gave.length ? text("gameGave", text("sides"), [of(0), of(1)]) : text("gameClean", !unknown), unknown ? text("gamePartly", unknown) : "",
+      isBounded ? text("gameBounds") : "", text("stripHelp", text("sides")),
+    ].filter(Boolean);
+  }
+  const comment = ({ judged }) => [judged.value, judged.best].map((it) => Texts.value(it, options.inMoves));
+  function mistake(ply, number) {
+    const words = text("gaveTold", number, ply.text, text(given(ply)), ...comment(ply)), item = node("li", "");
+    item.append(button(words, "", text("goBefore", words), () => calls.goTo(number - 1)));
+    return item;
+  }
+  // How many plies two lines begin with alike.
+  function alike(line, other) {
+    const end = line.findIndex((ply, i) => ply !== other[i]);
+    return end < 0 ? line.length : end;
+  }
+  function branch(line) {
+    const from = alike(line, Game.state.plies), rest = line.slice(from), words = rest.slice(0, SHOWN).map((ply) => ply.text).join(" ");
+    const item = node("li", ""), shown = text("branch", from + 1, rest.length > SHOWN ? `${words} …` : words);
+    item.append(button(shown, "", shown, () => calls.goTo(from + 1, line)));
+    return item;
+  }
+
+  function draw() {
+    const { plies, cursor, lines } = Game.state, isTold = plies.length > 0 && !options.isHidden && plies.some((ply) => ply.judged);
+    if (element("game-told").textContent !== summary().join(" ")) element("game-told").textContent = summary().join(" "); // heard where it changes
+    View.drawSteps("strip", isTold ? [...Array(plies.length + 1).keys()].map((number) => cell(number, cursor)) : [], cursor);
+    element("mistakes").replaceChildren(...(isTold ? plies.flatMap((ply, i) => (given(ply) ? [mistake(ply, i + 1)] : [])) : []));
+    element("branches-head").hidden = !lines.length;
+    element("branches").replaceChildren(...[...lines].sort((a, b) => alike(a, plies) - alike(b, plies)).map(branch));
+    for (const name of ["copy-game", "print-game"]) element(name).hidden = !plies.length;
+  }
+
+  // ---- as a text: what stands before the game in brackets, then the moves, each left line in parentheses behind the ply that it isn't
+
+  const isKnown = (ply) => !!ply.judged && !options.isHidden;
+  function plyWords(ply) {
+    if (!isKnown(ply)) return ply.text;
+    const [value, best] = comment(ply), gave = given(ply);
+    return `${ply.text}${gave ? MARKS[gave] : ""} {${gave ? text("gaveBest", value, best) : value}}`;
+  }
+  // The lines, which begin alike up to that ply, from there on.
+  function written([main, ...others], from) {
+    const words = [];
+    let isNumbered = true;
+    for (let i = from; i < main.length; i++) {
+      const leaving = others.filter((line) => alike(line, main) === i), firsts = new Set(leaving.map((line) => line[i]));
+      words.push(i % 2 === 0 || isNumbered ? `${i + 1}. ${plyWords(main[i])}` : plyWords(main[i]));
+      for (const first of firsts) words.push(`(${written(leaving.filter((line) => line[i] === first), i)})`);
+      isNumbered = firsts.size > 0;
+    }
+    return words.join(" ");
+  }
+  function gameText() {
+    const { profile, start, side, plies, lines } = Game.state;
+    return `[Rules "${profile}"] [First "${side ? "Sky" : "Forest"}"] [Position "${start}"]\n\n${written([plies, ...lines], 0)}\n`;
+  }
+
+  // The ways to write a move: also without its signs, and by its squares alone.
+  function ways(written) {
+    const bare = written.toLowerCase(), grown = bare.replace("+", "");
+    return [bare, grown, ...[bare, grown].map((it) => it.replace(/[-x]/, ""))].flatMap((it) => [it, it.slice(1)]);
+  }
+  // The move of a word, where it is one alone.
+  function moveOf(word) {
+    const { moves } = Game.moves(), same = moves.find((move) => Game.textOf(move) === word);
+    const like = moves.filter((move) => ways(Game.textOf(move)).includes(word.toLowerCase()));
+    return same || (like.length === 1 ? like[0] : null);
+  }
+  const words = (given) => given.replace(/\{[^}]*\}/g, " ").replace(/\[[^\]]*\]/g, " ").replace(/([()])/g, " $1 ").split(/[\s,]+/)
+    .map((word) => word.replace(/^\d*\.+/, "").replace(/[?!]+$/, "")).filter(Boolean);
+  // Plays the words of a game, up to the first that is no move there: gives that one as { word, number }, or null.
+  function playWords(list) {
+    const left = []; // the lines that are gone back to at the end of a parenthesis
+    let wrong = null;
+    for (const word of list) {
+      if (word === "(" && Game.state.cursor) {
+        left.push([Game.state.plies, Game.state.cursor]);
+        Game.goTo(Game.state.cursor - 1);
+      } else if (word === ")" && left.length) back(left.pop());
+      else {
+        const move = moveOf(word);
+        if (!move) { wrong = { word, number: Game.state.cursor + 1 }; break; }
+        Game.play(move);
+      }
+    }
+    if (left.length) back(left[0]);
+    return wrong;
+  }
+  function back([line, cursor]) {
+    Game.take(line);
+    Game.goTo(cursor);
+  }
+  const POSITION = /(?:[.LGECH]{3}\/){3}[.LGECH]{3} (?:-|[CEG]+) (?:-|[CEG]+)/i;
+  // Where a game begins: { start, side, profile } as its text says, else as the board says; the starting layout where the first move is none there.
+  function beginningOf(given, first) {
+    const { start, side, profile } = Game.state, found = POSITION.exec(given), tag = (name) => (new RegExp(`\\[${name} "(\\w+)"\\]`).exec(given) || [])[1];
+    const rules = ["A", "B"].includes(tag("Rules")) ? tag("Rules") : profile;
+    if (found) return { start: found[0], side: tag("First") === "Sky" ? 1 : 0, profile: rules };
+    Game.goTo(0);
+    return moveOf(first) ? { start, side, profile: rules } : { start: Game.START, side: 0, profile: rules };
+  }
+  // Loads the game of a text, or of a link; gives the first word that is no move as { word, number }, or null. What is no game at all is a fault.
+  function load(given) {
+    const list = words(given.replace(POSITION, " "));
+    if (given.includes("#")) return Game.readAddress(given.slice(given.indexOf("#")).trim());
+    if (!list.length) throw new Core.Fault("empty");
+    const { start, side, profile } = beginningOf(given, list[0]);
+    if (!Core.isAllowed(profile, Core.readPosition(start))) throw new Core.Fault("E26 FarChick");
+    Game.load(start, side);
+    Game.state.profile = profile;
+    return playWords(list);
+  }
+  // Puts the game of the text on the board; says what is wrong with it, and leaves the board as it is where no move was played.
+  async function takeGame() {
+    const kept = { ...Game.state }, restore = () => Object.assign(Game.state, kept);
+    let fault = "";
+    await calls.restart(() => {
+      try {
+        const wrong = load(element("game-text").value);
+        if (wrong) fault = text("gameWrong", wrong.word, wrong.number);
+        if (wrong && !Game.state.plies.length) restore();
+      } catch (why) {
+        restore();
+        fault = why.fault === "empty" ? text("gameEmpty") : Texts.wrong(why);
+      }
+    });
+    element("game-fault").textContent = fault;
+    if (!fault) showPaste(false);
+  }
+  function showPaste(isShown) {
+    element("paste-box").hidden = !isShown;
+    element("paste-game").setAttribute("aria-expanded", isShown);
+    if (isShown) element("game-text").focus();
+    else element("game-text").value = element("game-fault").textContent = "";
+  }
+
+  // ---- on paper
+
+  function diagram(number) {
+    const { plies } = Game.state, ply = number ? plies[number - 1] : { position: Core.readPosition(Game.state.start), side: Game.state.side };
+    const { squares, hands: [mover, enemy] } = Setup.seen(ply), item = node("div", "", "sheet-item");
+    const gave = number && isKnown(ply) ? given(ply) : null, value = number && isKnown(ply) ? Texts.value(ply.judged.value, options.inMoves) : "";
+    item.append(node("b", number ? `${number}. ${ply.text}${gave ? MARKS[gave] : ""}` : text("beginning")), node("span", ` ${value}`));
+    item.append(...Worksheet.diagram({ squares: squares.join(""), mover, enemy }));
+    item.classList.toggle("gave", !!gave);
+    return item;
+  }
+  function print() {
+    const { plies, profile, start } = Game.state, items = node("div", "", "sheet-items game-items");
+    items.append(...[...Array(plies.length + 1).keys()].map(diagram));
+    const told = options.isHidden ? [] : summary().slice(0, -1);
+    element("sheet").replaceChildren(node("h2", text("gameTitle")), node("p", [text("gameRules", profile), start, ...told].join(" · ")), items);
+    element("sheet").className = "";
+    document.body.classList.add("sheet"); // until the page is told that it was printed
+    window.print();
+  }
+
+  function make(given) {
+    calls = given;
+    element("paste-game").addEventListener("click", () => showPaste(element("paste-box").hidden));
+    element("take-game").addEventListener("click", takeGame);
+    element("print-game").addEventListener("click", print);
+    document.addEventListener("record", draw);
+  }
+
+  return { make, gameText };
+})();
