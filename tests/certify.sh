@@ -1,49 +1,7 @@
 # Certificates: what is made of a table verifies and says the value that the table gives, and what is refused.
 # Takes minutes.
 
-# 300 of them, of three sets by both rules: wins, losses and draws, each within its plies and exact. `ask.py PROGRAM FOLDER TABLE..` takes the
-# positions from a reader in Python, and prints how many of each kind were claimed.
-cat >"$work/ask.py" <<'PYTHON'
-import collections
-import pathlib
-import subprocess
-import sys
-sys.path.insert(0, "python")
-from dobutsu import plain
-
-
-def lines(*words):
-    return subprocess.run(words, capture_output=True, text=True, check=True).stdout.splitlines()
-
-
-program, folder = sys.argv[1], pathlib.Path(sys.argv[2])
-certificate = folder / "one.cert"
-kinds = collections.Counter()
-for path in sys.argv[3:]:
-    db = plain.open_db(path)
-    by_kind = collections.defaultdict(list)
-    for number in range(db.count):
-        by_kind[plain.value_text(db.record_at(number)).split()[0]].append(number)
-    for kind, count in ("win", 9), ("loss", 9), ("draw", 7):
-        found = by_kind[kind]
-        for number in found[:: max(1, len(found) // count)][:count]:
-            text = plain.write_position(plain.position_at(db.profile, db.pieces, number))
-            (value,) = lines(program, "probe", "--db", path, text)
-            for exact in (), ("--exact",):
-                made = lines(program, "certify", "--db", path, "--out", certificate, *exact, text)
-                claim = f"{text} {value if exact or value == 'draw' else value.replace(' ', ' within ')}"
-                assert made[0] == claim and made[1].startswith("lost ") and made[2].startswith("held ") and len(made) == 3, made
-                assert lines(program, "verify", "--cert", certificate) == [claim], (text, claim)
-                if value.startswith("win"):
-                    (reply,) = lines(program, "reply", "--cert", certificate, text)
-                    move, _, plies = reply.partition(" win within ")
-                    assert 1 <= int(plies) <= int(value.split()[1]), (text, reply)
-                    assert any(line.split()[:2] == [move, "win"] for line in lines(program, "moves", "--db", path, text)), (text, reply)
-                if value.startswith("loss"):
-                    assert lines(program, "reply", "--cert", certificate, text) == [value.replace(" ", " within ")], text
-                kinds[value.split()[0] + " exactly" * bool(exact)] += 1
-print(sum(kinds.values()), dict(sorted(kinds.items())))
-PYTHON
+# 300 of them, of three sets by both rules: wins, losses and draws, each within its plies and exact. A reader in Python has the positions.
 good=no
 tables=()
 made=yes
@@ -54,7 +12,7 @@ for rules in A B; do
     done
 done
 note "tables of three sets by both rules" "$made"
-if python3 "$work/ask.py" "$program" "$work" "${tables[@]}" >"$work/out" 2>&1 && grep -q '^300 ' "$work/out"; then good=yes; fi
+if python3 tests/certify_ask.py "$program" "$work" "${tables[@]}" >"$work/out" 2>&1 && grep -q '^300 ' "$work/out"; then good=yes; fi
 note "300 certificates verify and say the table's value: $(tail -1 "$work/out")" "$good"
 
 # One that is made by hand: the lions alone, where a step beside the other lion wins in 3.

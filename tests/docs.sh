@@ -20,6 +20,10 @@ note "the class numbers of docs/CLASSES.md: $(tail -1 "$work/out")" "$good"
 good=no
 if tools/planted --check >"$work/out"; then good=yes; fi
 note "tools/planted --check: $(head -1 "$work/out")" "$good"
+# docs/DECISIONS.md says what stands in another form than the design began with, in at most 500 words.
+good=no
+if [ -s docs/DECISIONS.md ] && [ "$(wc -w <docs/DECISIONS.md)" -le 500 ]; then good=yes; fi
+note "docs/DECISIONS.md: it isn't there, or has more than 500 words" "$good"
 # The toolchain is used as it is: no tool locks for it, nor writes by itself what it believes proved.
 good=no
 if ! grep -rIn --exclude-dir=__pycache__ 'floc[k]\|stam[p]' tools test tests .ci dobutsu >"$work/out"; then good=yes; fi

@@ -38,3 +38,7 @@ for question in 'drive 000 2 2 1 20000' 'alone 000 100000' 'built 000 2 1 1' 'ap
     echo "$question" >"$work/question"
     refuse --program "$answers" --input "$work/question"
 done
+# a world that stops has the lists of one to which the same has happened, except the event at which it stopped
+tests=crates/dob_tests_nodes/out/dob_tests_nodes_tests
+[ -x "$tests" ] || (cd crates/dob_tests_nodes && rt test) </dev/null >/dev/null 2>&1
+refuse --program "$tests" world::stops::a_stopped_world_is_as_before

@@ -19,3 +19,20 @@ for change in 's/DOBUTSU_INDEX = 29/DOBUTSU_INDEX = 28/' 's/DOBUTSU_HEN = 3/DOBU
     ! header_holds "$work/changed" || same=no
     note "a header changed by $change doesn't hold" "$same"
 done
+
+# The faults' numbers and names are one table, that of docs/FAULTS.md: the library's, the header's, Python's, the page's, and each in a text.
+good=yes
+tools/check-faults >"$work/out" || good=no
+note "the faults are called the same everywhere: $(head -1 "$work/out")" "$good"
+for change in 'python/dobutsu/library.py|s/28: "NoMove", //' \
+    'python/dobutsu/library.py|s/23: "Memory"/23: "Full"/' 'include/dobutsu.h|s/DOBUTSU_INDEX = 29/DOBUTSU_INDEX = 39/' \
+    'page/wasm.js|s/17: "SetByte"/17: "SetText"/' 'page/core.js|s/E15 Truncated/E16 Truncated/' 'docs/FAULTS.md|s/`E37 EntryOrder`/`E37 Order`/'; do
+    IFS='|' read -r file edit <<<"$change"
+    rm -rf "$work/named" && mkdir -p "$work/named"
+    cp -r docs include page python "$work/named" && mkdir "$work/named/crates"
+    for crate in crates/*; do mkdir "$work/named/$crate" && cp -r "$crate"/{src,specs} "$work/named/$crate" 2>>"$work/err"; done
+    sed "$edit" "$file" >"$work/named/$file"
+    good=yes
+    ! tools/check-faults "$work/named" >"$work/out" || good=no
+    note "a name changed by $edit in $file is seen: $(head -1 "$work/out")" "$good"
+done

@@ -1,4 +1,4 @@
-# The page: its values by both rules, its faults, mouse, keys and fingers, both languages, paper, and that nothing leaves it, in headless Chromium.
+# The page: its values by both rules, its faults, mouse, keys and fingers, all three languages, paper, and that nothing leaves it, in headless Chromium.
 # Takes minutes.
 
 # Counts tests that can't be run here, and says why.
@@ -29,9 +29,9 @@ same=yes
 python3 page/build.py - "$work/dobutsu.html" >"$work/out" 2>&1 || same=no
 python3 "$work/elsewhere/page/build.py" - "$work/again.html" >>"$work/out" 2>&1 || same=no
 cmp -s "$work/dobutsu.html" "$work/again.html" || same=no
-[ "$(wc -c <"$work/dobutsu.html")" -lt 200000 ] || same=no
+[ "$(wc -c <"$work/dobutsu.html")" -lt 300000 ] || same=no
 rm -rf "$work/elsewhere"
-note "page/build.py makes one file of less than 200 KB here and at another path: $(tail -1 "$work/out")" "$same"
+note "page/build.py makes one file of less than 300 KB here and at another path: $(tail -1 "$work/out")" "$same"
 
 # A page with a file in it.
 same=yes
@@ -54,16 +54,23 @@ fi
 # The page with the proved engine, of which `tools/page` makes the module, and with the plain one.
 if needs chromium wasm-opt; then
     add_counts python3 page/test/page_test.py "$work/dobutsu.html" "$program"
+    if command -v firefox-esr firefox >/dev/null; then
+        add_counts python3 page/test/page_test.py "$work/dobutsu.html" "$program" --firefox
+    else
+        leave_out 1 'the page in Firefox, since it is not there (apt-get install firefox-esr)'
+    fi
     add_counts python3 page/test/planted.py "$program"
     good=no
     if tools/page "$work/proved.html" >"$work/out" 2>&1 && grep -q '^window.DobutsuWasm = ' "$work/proved.html"; then good=yes; fi
     note "tools/page makes the page with the proved engine: $(tail -1 "$work/out")" "$good"
     add_counts python3 page/test/page_test.py "$work/proved.html" "$program" told faults opening certificates
     if command -v node >/dev/null; then
+        if node page/test/wasm.test.js page/out/dobutsu_web.wasm 500 >"$work/out" 2>&1; then good=yes; else good=no; fi
+        note "page/test/wasm.test.js: $(tail -1 "$work/out")" "$good"
         if node page/test/told.test.js page/out/dobutsu_web.wasm "$program" 2000 >"$work/out" 2>&1; then good=yes; else good=no; fi
         note "page/test/told.test.js: $(tail -1 "$work/out")" "$good"
     else
-        leave_out 1 'the proved engine against the program on 2,000 positions of 111 by each of the rules, since Node is not there'
+        leave_out 2 'the proved engine against the plain one, and against the program on 2,000 positions of 111 by each of the rules, since Node is not there'
     fi
 fi
-if [ "$left_out" -gt 0 ]; then echo "page: $left_out of 6 tests left out"; fi
+if [ "$left_out" -gt 0 ]; then echo "page: $left_out of 9 tests left out"; fi

@@ -1,4 +1,4 @@
-# The reader in Python, written from docs/FORMAT.md alone, and the program: they say the same of thousands of positions.
+# The reader in Python, written from docs/FORMAT.md and docs/RULES.md alone, and the program: they say the same of thousands of positions.
 # Takes minutes.
 
 # By files of both formats, each position of lions alone, and 500 of one chick: `probe`, `look` and the reader that was written from docs/FORMAT.md alone give

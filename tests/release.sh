@@ -1,4 +1,4 @@
-# The release: what its archive has, and that it is the same wherever it is made.
+# The release: what its archive has, that it is the same wherever it is made, and that it stands alone.
 # Takes minutes.
 
 # The release: made twice, the second time by a copy of the repository at another path, it is one archive; its program runs in an empty folder, and
@@ -19,11 +19,39 @@ same=yes
 cmp -s "$release/chick.db" testdata/one_chick_2.db || same=no
 rm -f "$release/chick.db"
 ! ldd "$release/dobutsu" >"$work/out" 2>&1 || same=no
-for name in README.md USE.md FORMAT.md RULES.md CLASSES.md PROVED libdobutsu.pc dobutsu.h dobutsu.html libdobutsu.a libdobutsu.so dobutsu.1 \
-    completions/{dobutsu.bash,_dobutsu,dobutsu.fish}; do
+for name in README.md docs/{START,USE,FORMAT,RULES,CLASSES,FAULTS,PROOF,RESULTS}.md PROVED 111.db libdobutsu.pc dobutsu.h dobutsu.html libdobutsu.a \
+    libdobutsu.so dobutsu.1 completions/{dobutsu.bash,_dobutsu,dobutsu.fish}; do
     [ -s "$release/$name" ] || same=no
 done
 note "the program of the release, unpacked in an empty folder" "$same"
+# The archive tests itself, and a byte changed in it is seen.
+good=no
+if tools/verify-release "$archive" >"$work/out" 2>&1; then good=yes; fi
+note "tools/verify-release: $(tail -1 "$work/out")" "$good"
+mkdir "$work/spoilt" && cp -r "$release" "$work/spoilt" && printf x >>"$work/spoilt/$(basename "$release")/docs/USE.md"
+tar -czf "$work/spoilt.tar.gz" -C "$work/spoilt" "$(basename "$release")"
+good=no
+if ! tools/verify-release "$work/spoilt.tar.gz" >"$work/out" 2>&1 && grep -q 'not as SHA256SUMS says' "$work/out"; then good=yes; fi
+note "tools/verify-release of a changed archive: $(tail -1 "$work/out")" "$good"
+# Every link of the archive's pages leads somewhere.
+good=no
+if python3 - "$release" >"$work/out" 2>&1 <<'PYTHON'; then good=yes; fi
+import pathlib, re, sys
+top = pathlib.Path(sys.argv[1])
+links = [(page, link) for page in top.rglob("*.md") for link in re.findall(r"\]\(([^)#:]+)\)", page.read_text())]
+sys.exit("\n".join(f"{page.relative_to(top)}: {link}" for page, link in links if not (page.parent / link).exists()))
+PYTHON
+note "the links of the archive's pages: $(head -1 "$work/out")" "$good"
+# Each example is built by the line in its head, in the archive and in a clone with the library beside it.
+mkdir "$work/clone" && cp -r examples include "$work/clone" && cp "$release/libdobutsu.a" "$work/clone"
+for folder in "$release" "$work/clone"; do
+    good=yes
+    for example in examples/probe.c examples/search.c examples/solve.c examples/verify.c; do
+        line="$(tr '\n' ' ' <"$example" | grep -o 'cc examples/[^*]* -o [a-z]*')"
+        (cd "$folder" && bash -c "$line" && rm "$(basename "$example" .c)") >"$work/out" 2>&1 || good=no
+    done
+    note "the examples by the lines in their heads, in $(basename "$folder"): $(head -1 "$work/out")" "$good"
+done
 # What libdobutsu.pc says builds an example in another folder.
 if command -v pkg-config >/dev/null; then
     same=yes

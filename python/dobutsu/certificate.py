@@ -24,7 +24,7 @@ class Certificate:
 
     Raises OSError where the file can't be opened, and `Fault` where it is no certificate's, by all the tests of docs/FORMAT.md. What it claims is true
     only where `verify` says nothing. That goes by the proved library where it is found, in a second for the starting layout. Else, or with `library=""`, it
-    goes by plain Python, a second opinion that is unproved: small ones take a moment, that of the starting layout some minutes.
+    goes by plain Python, a second opinion that is unproved: small ones take a moment, that of the starting layout a minute or two.
     """
 
     #: Which code verifies: `libdobutsu`, the proved library, or `plain Python`, where none was found.

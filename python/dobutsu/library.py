@@ -16,8 +16,9 @@ from .value import Move, Value
 
 NAMES = {
     1: "Shape", 2: "Letter", 3: "Hand", 4: "Lions", 5: "Count", 6: "FarLion", 7: "OtherSet", 15: "Truncated", 16: "Magic", 17: "SetByte",
-    18: "ClassCount", 19: "Trailing", 20: "Digest", 21: "Inconsistent", 23: "Memory", 25: "SetText", 26: "FarChick", 27: "ProfileByte",
-    30: "Unsupported", 31: "Claim", 32: "Version", 33: "RootClass", 34: "ClaimByte", 35: "EntryCount", 36: "EntryNumber", 37: "EntryOrder", 38: "EntryClass",
+    18: "ClassCount", 19: "Trailing", 20: "Digest", 21: "Inconsistent", 23: "Memory", 24: "Io", 25: "SetText", 26: "FarChick", 27: "ProfileByte",
+    28: "NoMove", 29: "Index", 30: "Unsupported", 31: "Claim", 32: "Version", 33: "RootClass", 34: "ClaimByte", 35: "EntryCount", 36: "EntryNumber",
+    37: "EntryOrder", 38: "EntryClass", 42: "EntryPlies",
 }  # fmt: skip
 KINDS = "CEGHL"
 VALUES = "draw", "win", "loss"

@@ -582,8 +582,8 @@ def entry_at(data: bytes, place: int, least: int) -> tuple[int, int]:
     raise Fault("E36 EntryNumber")
 
 
-def entries_at(data: bytes, place: int, count: int, classes: int) -> tuple[Entries, int]:
-    """That many entries as a dictionary from classes to plies, and the place behind them."""
+def entries_at(data: bytes, place: int, count: int, classes: int, is_ever_told: bool) -> tuple[Entries, int]:
+    """That many entries as a dictionary from classes to plies, and the place behind them. Only what isn't lost may be told for ever."""
     entries: Entries = {}
     least = 0
     for _ in range(count):
@@ -594,6 +594,8 @@ def entries_at(data: bytes, place: int, count: int, classes: int) -> tuple[Entri
             raise Fault("E38 EntryClass")
         if place >= len(data):
             raise Fault("E15 Truncated")
+        if data[place] == 255 and not is_ever_told:
+            raise Fault("E42 EntryPlies")
         entries[number] = EVER if data[place] == 255 else data[place]
         place, least = place + 1, number + 1
     return entries, place
@@ -625,8 +627,8 @@ class Certificate:
         self.claim = CLAIMS[kind]
         if lost > classes or held > classes:
             raise Fault("E35 EntryCount")
-        self.lost, place = entries_at(data, 28, lost, classes)
-        self.held, place = entries_at(data, place, held, classes)
+        self.lost, place = entries_at(data, 28, lost, classes, is_ever_told=False)
+        self.held, place = entries_at(data, place, held, classes, is_ever_told=True)
         if len(data) < place + 32:
             raise Fault("E15 Truncated")
         if len(data) > place + 32:

@@ -9,7 +9,7 @@ from collections.abc import Iterable, Iterator
 from types import TracebackType
 from typing import TypeVar, Union
 
-from . import plain
+from . import plain, puzzles
 from .library import Library, LibraryFile, load, paths
 from .plain import Fault
 from .position import Position, after_move
@@ -171,6 +171,17 @@ class Table:
             for text, record in zip(library.positions(start, count), records):
                 self._open()
                 yield text, recorded(record)
+
+    def puzzles(self, plies: int, count: int, seed: int | None = None) -> list[tuple[str, str]]:
+        """Positions that one move alone wins soonest, in so many plies, an odd number of at least 3; each with that move; at most so many.
+
+        In the order of the file, or shuffled by the seed, a number below 2^64: then each is as likely as any other to come next, and no two have
+        as many pieces of each kind on the board and the lions on the same squares. They are those that `dobutsu puzzles` prints.
+
+        >>> Table("testdata/lions_alone_2.db").puzzles(3, 2, 10)
+        [('l../.../.L./... - -', 'Lb2-c3'), ('..l/.../L../... - -', 'La2-a3')]
+        """
+        return [(text, move) for _, text, move in puzzles.puzzles(self._open(), plies, count, seed)]
 
     def stats(self) -> Stats:
         """How many classes have which value. It looks at each record: a second for some ten million."""
