@@ -1,5 +1,6 @@
 /* Tells the values of positions, a line of standard input each, by a database's file: probe FILE < POSITIONS. A line is the program's own: "win 3",
-   "loss 2", "draw", or the number of a fault. Build: cc examples/probe.c -Iinclude -L. -ldobutsu */
+   "loss 2", "draw", or the number of a fault. Build, beside libdobutsu.a of the archive or of tools/library:
+   cc examples/probe.c -Iinclude -I. libdobutsu.a -o probe */
 
 #include <fcntl.h>
 #include <stdio.h>

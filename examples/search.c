@@ -1,7 +1,8 @@
 /* Looks for the value of positions by alpha-beta: search DEPTH [FILE] < POSITIONS. A position stands on a line of standard input, its answer on a line: `win D`
    or `loss D`, in how many plies it can be forced; `draw`; or a fault's number. The search is DEPTH plies deep, 1 or more. What lies behind them is asked of a
    database's file, so that the answer is what `dobutsu probe` prints, by the file's rules; without one it is by rules A, and `unknown` where nothing is forced
-   within so many plies. Build: cc examples/search.c -Iinclude -L. -ldobutsu */
+   within so many plies. Build, beside libdobutsu.a of the archive or of tools/library:
+   cc examples/search.c -Iinclude -I. libdobutsu.a -o search */
 
 #include <stdio.h>
 #include <stdlib.h>

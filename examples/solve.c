@@ -1,6 +1,7 @@
 /* Tells the best move of positions and the line of best moves, by probes alone: solve FILE < POSITIONS. A position stands on a line of standard input, its
    answer on a line: the best move, its value, and behind a colon what `dobutsu line` prints; or `end` where the side to move has lost already, or a
-   fault's number. The index of the file's family is made once. Build: cc examples/solve.c -Iinclude -L. -ldobutsu */
+   fault's number. The index of the file's family is made once. Build, beside libdobutsu.a of the archive or of tools/library:
+   cc examples/solve.c -Iinclude -I. libdobutsu.a -o solve */
 
 #include <ctype.h>
 #include <stdio.h>

@@ -1,5 +1,6 @@
 /* Whether certificates prove what they claim: verify CERT.. prints for each the claim, as "100 A class 686 loss 8", or the number of its fault.
-   Build: cc examples/verify.c -Iinclude -L. -ldobutsu */
+   Build, beside libdobutsu.a of the archive or of tools/library:
+   cc examples/verify.c -Iinclude -I. libdobutsu.a -o verify */
 #include "dobutsu.h"
 
 #include <inttypes.h>
