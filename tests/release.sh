@@ -39,7 +39,7 @@ if python3 - "$release" >"$work/out" 2>&1 <<'PYTHON'; then good=yes; fi
 import pathlib, re, sys
 top = pathlib.Path(sys.argv[1])
 links = [(page, link) for page in top.rglob("*.md") for link in re.findall(r"\]\(([^)#:]+)\)", page.read_text())]
-sys.exit("\n".join(f"{page.relative_to(top)}: {link}" for page, link in links if not (page.parent / link).exists()))
+sys.exit("\n".join(f"{page.relative_to(top)}: {link}" for page, link in links if not (page.parent / link).exists()) or 0)
 PYTHON
 note "the links of the archive's pages: $(head -1 "$work/out")" "$good"
 # Each example is built by the line in its head, in the archive and in a clone with the library beside it.
