@@ -1,8 +1,10 @@
 -- Idle, the node shows the value table.
-use Rattle.dob_node.proofs.Common.{◌<◌, Family, ap, classes_of, subst, ℕ}
+use Rattle.std.proofs.Common.{ap, subst, ℕ, ◌<◌}
+use Rattle.dob_pieces.specs.declared.profile.Family.{Family}
+use Rattle.dob_rank.specs.Families.{classes_of}
 use Rattle.dob_value.proofs.Parity.{IfOk-both}
-use Rattle.dob_node.proofs.AloneSteps.{shows_entry, alone_given}
-use Rattle.dob_node.proofs.one_owner.table_of.Goals as goal
+use Rattle.dob_alone.proofs.AloneSteps.{alone_given, shows_entry}
+use Rattle.dob_alone.proofs.one_owner.table_of.Goals as goal
 
 pub from_fn-requires-clause-entries : goal.from_fn-requires-clause-entries
 from_fn-requires-clause-entries c = λ class value low has.

@@ -1,9 +1,11 @@
 -- What is so of the node is so of its family.
+use Rattle.std.proofs.Common.{Ok, ap, arith, subst, ◌∙◌}
 use Rattle.std.proofs.lemmas.Grind.{common_steps}
-use Rattle.std.proofs.Common.{arith}
-use Rattle.dob_node.proofs.Common.{◌∙◌, Family, IsTooDeepWithin, IsUnderWay, Ok, ap, err_from_is_err_and, subst}
-use Rattle.dob_node.proofs.AloneSteps.{never_too_deep}
-use Rattle.dob_node.proofs.one_owner.alone.Goals as goal
+use Rattle.std.proofs.lemmas.Result.{err_from_is_err_and}
+use Rattle.dob_pieces.specs.declared.profile.Family.{Family}
+use Rattle.dob_alone.proofs.AloneSteps.{never_too_deep}
+use Rattle.dob_alone.specs.Alone.{IsTooDeepWithin, IsUnderWay}
+use Rattle.dob_alone.proofs.one_owner.alone.Goals as goal
 
 pub returns-in_err-ended-clause-too_deep : goal.returns-in_err-ended-clause-too_deep
 returns-in_err-ended-clause-too_deep c = λ same.

@@ -1,15 +1,38 @@
 -- One node that owns all classes, as it is opened: it is lawful.
-use Rattle.dob_node.proofs.Common.{◌*◌, ◌+◌, ◌<◌, ◌∙◌, ◌≡◌, All, AreLawfulNodes, AreOpenings, CellValue-same, Draw, Family, HasCome, HasMade, HasStatus}
-use Rattle.dob_node.proofs.Common.{HaveFalls, IsAlone, IsChained, IsEntry, IsFirst, IsOpened, IsOpening, IsOwn, IsSound, List, NodeView, Open, Opening}
-use Rattle.dob_node.proofs.Common.{SameCell, Settlement, Status, [], alone_applied, alone_history, ap, arith, cells_below, class_setup, classes_of, fresh}
-use Rattle.dob_node.proofs.Common.{inr, items_from, known_of, length, moves_of, one_status, opening_of, opening_settlements, opening_status, opening_value}
-use Rattle.dob_node.proofs.Common.{owner_of, places_of, predecessors, refl, subst, suc, sym, value_of, zero, ℕ}
-use Rattle.dob_node.proofs.Beginnings.{or_else, closed_follows, opened_value, opened_chained, opened_entries}
-use Rattle.dob_node.proofs.ValuesFollow.{SumsUp-same}
+use Rattle.std.proofs.Common.{List, [], ap, arith, inr, length, refl, subst, suc, sym, zero, ℕ, ◌*◌, ◌+◌, ◌<◌, ◌∙◌, ◌≡◌}
+use Rattle.std.specs.List.{All}
+use Rattle.dob_pieces.specs.declared.profile.Family.{Family}
+use Rattle.dob_moves.proofs.Cases.{one_status}
+use Rattle.dob_moves.specs.MoveLists.{moves_of}
+use Rattle.dob_moves.specs.Statuses.{HasStatus}
+use Rattle.dob_moves.specs.declared.position_status.Status.{Status}
+use Rattle.dob_moves.specs.declared.position_status.Status.TheVariants.{Open}
+use Rattle.dob_rank.specs.Families.{class_setup, classes_of}
+use Rattle.dob_value.specs.Follows.{IsEntry}
+use Rattle.dob_value.specs.declared.value.Value.TheVariants.{Draw}
+use Rattle.dob_unmove.specs.Edges.{predecessors}
+use Rattle.dob_share.proofs.Applied.{CellValue-same}
+use Rattle.dob_share.specs.Cells.{SameCell, fresh}
+use Rattle.dob_share.specs.Openings.{opening_of}
+use Rattle.dob_share.specs.Owners.{owner_of}
+use Rattle.dob_share.specs.Shares.{IsOwn, places_of}
+use Rattle.dob_share.specs.declared.news.Settlement.{Settlement}
+use Rattle.dob_share.specs.declared.opening.Opening.{Opening}
+use Rattle.dob_update.specs.Items.{items_from}
+use Rattle.dob_node.proofs.Beginnings.{closed_follows, opened_chained, opened_entries, opened_value, or_else}
+use Rattle.dob_node.proofs.Opens.{listed_opening}
+use Rattle.dob_node.proofs.Rises.{falls_start, fresh_within, opened_first}
 use Rattle.dob_node.proofs.Totals.{start_sums}
-use Rattle.dob_node.proofs.AloneSteps.{cell_below, one_owner}
-use Rattle.dob_node.proofs.Rises.{opened_first, fresh_within, falls_start}
-pub use Rattle.dob_node.proofs.Opens.{listed_opening}
+use Rattle.dob_node.proofs.ValuesFollow.{SumsUp-same}
+use Rattle.dob_node.specs.Falls.{HaveFalls, IsFirst}
+use Rattle.dob_node.specs.Histories.{IsChained, value_of}
+use Rattle.dob_node.specs.Lawful.{AreLawfulNodes, known_of}
+use Rattle.dob_node.specs.NodeViews.{NodeView}
+use Rattle.dob_node.specs.Nodes.{IsOpened, IsSound}
+use Rattle.dob_node.specs.OpeningLists.{opening_settlements, opening_status, opening_value}
+use Rattle.dob_node.specs.Openings.{AreOpenings, IsOpening}
+use Rattle.dob_alone.proofs.AloneSteps.{cell_below, one_owner}
+use Rattle.dob_alone.specs.Alone.{HasCome, HasMade, IsAlone, alone_applied, alone_history, cells_below}
 
 -- ---- the settlements of the opening are those of a node that is the only one
 

@@ -5,8 +5,8 @@ use Rattle.dob_share.specs.Faults as share_texts
 use Rattle.dob_share.specs.declared.fault.Fault.TheVariants as share
 use Rattle.dob_stops.specs.declared.cause.Cause.{Cause}
 use Rattle.dob_stops.specs.declared.cause.Cause.TheVariants as cause
-use Rattle.dob_node.specs.declared.fault.Fault.{Fault}
-use Rattle.dob_node.specs.declared.fault.Fault.TheVariants.{TooDeep, Contradiction, Memory}
+use Rattle.dob_alone.specs.declared.fault.Fault.{Fault}
+use Rattle.dob_alone.specs.declared.fault.Fault.TheVariants.{TooDeep, Contradiction, Memory}
 
 -- the fault's number and name
 abbrev pub fault_text : Fault → List ℕ

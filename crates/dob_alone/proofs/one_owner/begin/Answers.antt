@@ -1,7 +1,7 @@
 -- No step is made yet.
 use Rattle.dob_value.proofs.Parity.{IfOk-both}
-use Rattle.dob_node.proofs.AloneOpens.{made_none}
-use Rattle.dob_node.proofs.one_owner.begin.Goals as goal
+use Rattle.dob_alone.proofs.AloneOpens.{made_none}
+use Rattle.dob_alone.proofs.one_owner.begin.Goals as goal
 
 pub returns-clause-made : goal.returns-clause-made
 returns-clause-made c = IfOk-both c.open.result _ _ _

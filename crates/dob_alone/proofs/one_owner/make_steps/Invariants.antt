@@ -1,6 +1,7 @@
 -- So many steps are made.
-use Rattle.dob_node.proofs.Common.{◌≡◌, HasMade, None}
-use Rattle.dob_node.proofs.one_owner.make_steps.Given as goal
+use Rattle.std.proofs.Common.{None, ◌≡◌}
+use Rattle.dob_alone.specs.Alone.{HasMade}
+use Rattle.dob_alone.proofs.one_owner.make_steps.Given as goal
 
 abbrev pub invariant-loop-step : goal.invariant-loop-step
 invariant-loop-step l = record {

@@ -1,6 +1,6 @@
 // Why a build of one node gives no table.
 ghost use Rattle.std.specs.Prelude.{◌≡◌, Some};
-ghost use Rattle.dob_node.specs.declared.fault.Fault.TheVariants as fault;
+ghost use Rattle.dob_alone.specs.declared.fault.Fault.TheVariants as fault;
 
 use dob_pieces::Memory;
 use std::alloc::AllocFailed;
@@ -19,7 +19,7 @@ pub enum Fault {
 }
 
 impl fmt::Display for Fault {
-    ghost use Rattle.dob_node.specs.Faults.{fault_text};
+    ghost use Rattle.dob_alone.specs.Faults.{fault_text};
 
     ghost output = { λ fault. Some (fault_text fault) };
 

@@ -5,14 +5,13 @@ ghost use Rattle.dob_rank.specs.Families.{classes_of};
 ghost use Rattle.dob_value.specs.Follows.{IsValueTable};
 ghost use Rattle.dob_share.specs.Shares.{IsOwn, HasValueNow};
 ghost use Rattle.dob_node.specs.Nodes.{IsSound};
-ghost use Rattle.dob_node.specs.Faults.{IsFaultOf};
-ghost use Rattle.dob_node.specs.Alone.{HasMade, IsDone, IsUnderWay, IsDoneWithin, HasStoppedAlone, IsTooDeepWithin};
+ghost use Rattle.dob_alone.specs.Faults.{IsFaultOf};
+ghost use Rattle.dob_alone.specs.Alone.{HasMade, IsDone, IsUnderWay, IsDoneWithin, HasStoppedAlone, IsTooDeepWithin};
 
 use crate::fault::Fault;
-use crate::node::Node;
-use crate::openings::opening;
 use dob_classes::Classes;
 use dob_lists::SegmentLength;
+use dob_node::{Node, opening};
 use dob_pieces::{Family, Memory};
 use dob_safra::NodeCount;
 use dob_stops::Cause;

@@ -1,8 +1,9 @@
 -- One step more is made.
-use Rattle.dob_node.proofs.Common.{◌<◌, ◌≡◌, HasMade, HasStoppedAlone, Ok, ap, ℕ}
-use Rattle.dob_node.proofs.AloneSteps.{made_applied, made_expanded, stopped_alone}
+use Rattle.std.proofs.Common.{Ok, ap, ℕ, ◌<◌, ◌≡◌}
 use Rattle.dob_node.proofs.TakenLists.{carried}
-use Rattle.dob_node.proofs.one_owner.step.Goals as goal
+use Rattle.dob_alone.proofs.AloneSteps.{made_applied, made_expanded, stopped_alone}
+use Rattle.dob_alone.specs.Alone.{HasMade, HasStoppedAlone}
+use Rattle.dob_alone.proofs.one_owner.step.Goals as goal
 
 pub returns-in_err-apply_own-clause-stopped : goal.returns-in_err-apply_own-clause-stopped
 returns-in_err-apply_own-clause-stopped c =

@@ -1,7 +1,9 @@
 -- A step that stops is one of fewer than all.
-use Rattle.dob_node.proofs.Common.{Family, HasStoppedAlone, subst}
+use Rattle.std.proofs.Common.{subst}
+use Rattle.dob_pieces.specs.declared.profile.Family.{Family}
 use Rattle.dob_node.proofs.TakenLists.{carried}
-use Rattle.dob_node.proofs.one_owner.make_steps.Goals as goal
+use Rattle.dob_alone.specs.Alone.{HasStoppedAlone}
+use Rattle.dob_alone.proofs.one_owner.make_steps.Goals as goal
 
 pub returns-in_err-step-clause-stopped : goal.returns-in_err-step-clause-stopped
 returns-in_err-step-clause-stopped c =

@@ -1,26 +1,52 @@
 -- The steps of one node that owns all classes: it stays lawful, and makes one step more; where it stops, when it has nothing left to do, and the
 -- values that it shows then.
-use Rattle.dob_node.proofs.Common.{◌%◌, ◌++◌, ◌+◌, ◌<◌, ◌==◌, ◌∙◌, ◌∷◌, ◌≡◌, ◌≢◌, ◌⊎◌, AreAfter, AreGiven, AreKept, AreLawfulNodes, AreOpenings, AreSettled}
-use Rattle.dob_node.proofs.Common.{AreValuesBelow, CanApply, Cause, CellCanTake, Draw, Family, Fits, GoesTooDeep, HasApplied, HasCome, HasItemFault, HasMade}
-use Rattle.dob_node.proofs.Common.{HasStoppedAlone, HasValueNow, HaveFalls, HistoryView, IsAlone, IsDone, IsEntry, IsExpanded, IsIdle, IsNextItem, IsOwn}
-use Rattle.dob_node.proofs.Common.{IsSound, IsTaken, IsTooDeep, IsTooDeepWithin, IsUnderWay, IsValueTable, Item, List, NodeView, Open, Opening, OutboxView}
-use Rattle.dob_node.proofs.Common.{SameCell, Settlement, Share, Value, [], add-one, alone_applied, alone_history, alone_items, ap, append-nil, append_assoc}
-use Rattle.dob_node.proofs.Common.{arith, cases_eq, cell_at, cell_short, cells_below, changed, class_setup, classes_of, cond, drop, empty_outbox, fresh}
-use Rattle.dob_node.proofs.Common.{get_or-eq_default, inl, inr, items_from, items_of, length, length-append, listed, lit<, lt-ltb, ltb-true, nat_lt}
-use Rattle.dob_node.proofs.Common.{one_status, outbox_to, predecessors, refl, status_at, subst, suc, sym, take, take_all, value_of, zero, ℕ}
+use Rattle.std.proofs.Common.{List, [], add-one, ap, append_assoc, arith, cond, drop, inl, inr, length, lit<, nat_lt, refl, subst, suc, sym, take}
+use Rattle.std.proofs.Common.{zero, ℕ, ◌%◌, ◌++◌, ◌+◌, ◌<◌, ◌==◌, ◌∙◌, ◌∷◌, ◌≡◌, ◌≢◌, ◌⊎◌}
+use Rattle.std.proofs.Math.ListN.{get_or-eq_default}
+use Rattle.std.proofs.lemmas.Bool.{cases_eq, lt-ltb, ltb-true}
+use Rattle.std.proofs.lemmas.List.{append-nil, length-append, take_all}
+use Rattle.dob_pieces.specs.declared.profile.Family.{Family}
+use Rattle.dob_moves.proofs.Cases.{one_status}
+use Rattle.dob_moves.specs.declared.position_status.Status.TheVariants.{Open}
+use Rattle.dob_rank.specs.Families.{class_setup, classes_of}
+use Rattle.dob_value.specs.Follows.{AreGiven, IsEntry, IsValueTable}
+use Rattle.dob_value.specs.declared.value.Value.{Value}
+use Rattle.dob_value.specs.declared.value.Value.TheVariants.{Draw}
+use Rattle.dob_unmove.specs.Edges.{predecessors}
 use Rattle.dob_share.proofs.Changing.{short_value}
-use Rattle.dob_node.proofs.ItemChanges.{same_by, Change, item_changes}
-use Rattle.dob_node.proofs.Kepts.{fits_own}
-use Rattle.dob_node.proofs.Steps.{can_apply, lawful_after}
-use Rattle.dob_node.proofs.Rises.{falls_stay, not_too_deep}
-use Rattle.dob_node.proofs.Settles.{emitted_more, emitted_grown, emitted_all}
-use Rattle.dob_node.specs.declared.fault.Fault.{Fault}
-use Rattle.dob_node.specs.Faults.{IsFaultOf}
-use Rattle.dob_node.proofs.Kept.{last_now-entry}
-use Rattle.dob_node.proofs.ShownValues.{value_shown, values_given}
+use Rattle.dob_share.proofs.Owning.{cell_short}
+use Rattle.dob_share.specs.Cells.{CellCanTake, SameCell, changed, fresh}
+use Rattle.dob_share.specs.Shares.{Fits, GoesTooDeep, HasValueNow, IsOwn, cell_at, status_at}
+use Rattle.dob_share.specs.Steps.{IsTooDeep}
+use Rattle.dob_share.specs.declared.news.Item.{Item}
+use Rattle.dob_share.specs.declared.news.Settlement.{Settlement}
+use Rattle.dob_share.specs.declared.opening.Opening.{Opening}
+use Rattle.dob_share.specs.declared.share.Share.{Share}
+use Rattle.dob_update.specs.Batches.{OutboxView, empty_outbox}
+use Rattle.dob_update.specs.Items.{items_from, items_of}
+use Rattle.dob_stops.specs.declared.cause.Cause.{Cause}
 use Rattle.dob_node.proofs.Ends.{lawful_is_right}
+use Rattle.dob_node.proofs.ItemChanges.{Change, item_changes, same_by}
+use Rattle.dob_node.proofs.Kept.{last_now-entry}
+use Rattle.dob_node.proofs.Kepts.{fits_own}
+use Rattle.dob_node.proofs.Rises.{falls_stay, not_too_deep}
+use Rattle.dob_node.proofs.Settles.{emitted_all, emitted_grown, emitted_more}
+use Rattle.dob_node.proofs.ShownValues.{value_shown, values_given}
+use Rattle.dob_node.proofs.Steps.{can_apply, lawful_after}
+use Rattle.dob_node.specs.Falls.{HaveFalls}
+use Rattle.dob_node.specs.Histories.{AreValuesBelow, value_of}
+use Rattle.dob_node.specs.Lawful.{AreAfter, AreLawfulNodes, AreSettled, CanApply, IsNextItem}
+use Rattle.dob_node.specs.NodeViews.{NodeView}
+use Rattle.dob_node.specs.Nodes.{HasApplied, HasItemFault, IsExpanded, IsIdle, IsSound, outbox_to}
+use Rattle.dob_node.specs.Openings.{AreOpenings}
+use Rattle.dob_node.specs.Stores.{HistoryView}
+use Rattle.dob_node.specs.TakenItems.{AreKept, IsTaken, listed}
+use Rattle.dob_alone.specs.Alone.{HasCome, HasMade, HasStoppedAlone, IsAlone, IsDone, IsTooDeepWithin, IsUnderWay, alone_applied, alone_history}
+use Rattle.dob_alone.specs.Alone.{alone_items, cells_below}
+use Rattle.dob_alone.specs.Faults.{IsFaultOf}
+use Rattle.dob_alone.specs.declared.fault.Fault.{Fault}
 use Rattle.dob_stops.specs.declared.cause.Cause.TheVariants as cause
-use Rattle.dob_node.specs.declared.fault.Fault.TheVariants as fault
+use Rattle.dob_alone.specs.declared.fault.Fault.TheVariants as fault
 
 -- ---- the cells of all classes
 

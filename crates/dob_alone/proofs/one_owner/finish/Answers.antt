@@ -1,7 +1,7 @@
 -- It stops at a fault, or it has something left, or nothing.
-use Rattle.std.proofs.Common.{◌∙◌, sym}
-use Rattle.dob_node.proofs.AloneSteps.{under_way, fault_deep, fault_fits, done_idle, idle_done}
-use Rattle.dob_node.proofs.one_owner.finish.Goals as goal
+use Rattle.std.proofs.Common.{sym, ◌∙◌}
+use Rattle.dob_alone.proofs.AloneSteps.{done_idle, fault_deep, fault_fits, idle_done, under_way}
+use Rattle.dob_alone.proofs.one_owner.finish.Goals as goal
 
 pub returns-clause-done : goal.returns-clause-done
 returns-clause-done c =
