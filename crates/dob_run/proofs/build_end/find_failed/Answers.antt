@@ -1,6 +1,6 @@
 -- The first failure that is found is that of the runner at its place, and none before it has failed.
 use Rattle.dob_run.proofs.Common.{rules, sym, some_at}
-use Rattle.dob_run.proofs.bounded_run.find_failed.Goals as goal
+use Rattle.dob_run.proofs.build_end.find_failed.Goals as goal
 
 pub returns-in-Some-clause-first : goal.returns-in-Some-clause-first
 returns-in-Some-clause-first c =

@@ -1,7 +1,14 @@
 -- A crew that isn't opened or has a failed runner is refused with that cause; else its runners are closed as a crew.
-use Rattle.dob_run.proofs.Common.{List, rules, subst, carried, says_no, Runner, Turns, AreUnfailed, IsFirstFailed, StopsSo, HasBuildFault}
-use Rattle.dob_run.proofs.CrewRunners.{still_crew, first_fault, first_stops, has_turned, carries_few, outside_none, unbegun_fault, unbegun_stops}
-use Rattle.dob_run.proofs.bounded_run.run_turns.Goals as goal
+use Rattle.std.proofs.Common.{List, rules, subst}
+use Rattle.dob_node.proofs.TakenLists.{carried}
+use Rattle.dob_runner.specs.Runners.{says_no}
+use Rattle.dob_runner.specs.declared.runner.Runner.{Runner}
+use Rattle.dob_runner.specs.declared.turn_loop.Until.TheVariants.{Turns}
+use Rattle.dob_run.proofs.CrewRunners.{outside_none, still_crew, unbegun_fault, unbegun_stops}
+use Rattle.dob_run.specs.CrewStops.{AreUnfailed, IsFirstFailed, StopsSo}
+use Rattle.dob_run.specs.Faults.{HasBuildFault}
+use Rattle.dob_turns.proofs.Turned.{carries_few, first_fault, first_stops, has_turned}
+use Rattle.dob_turns.proofs.bounded_run.run_turns.Goals as goal
 
 pub returns-in_err-sizes : goal.returns-in_err-sizes
 returns-in_err-sizes g c =

@@ -1,7 +1,7 @@
 -- The node and the endpoint of each runner are put behind the others, until the lists are those of all runners.
 use Rattle.dob_run.proofs.Common.{refl, rules, endpoint_of, node_of}
 use Rattle.dob_run.proofs.Places.{moves_on, ends_up}
-use Rattle.dob_run.proofs.bounded_run.part_runners.Goals as goal
+use Rattle.dob_run.proofs.crew_close.part_runners.Goals as goal
 
 pub loop-runner-preserved : goal.loop-runner-preserved
 loop-runner-preserved c =

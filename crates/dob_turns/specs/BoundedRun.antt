@@ -1,30 +1,24 @@
 -- What a crew leaves whose runners made some turns without the token.
-use Rattle.std.specs.Prelude.{◌≡◌, ◌≢◌, ⊤, ℕ, ◌+◌, ◌-◌, ◌*◌, ◌<◌, ◌≤◌, List, ◌++◌, Option, Some, None, length, map, take, slice_get, slice_index}
+use Rattle.std.specs.Prelude.{◌≡◌, ◌≢◌, ℕ, ◌+◌, ◌-◌, ◌*◌, ◌<◌, ◌≤◌, List, ◌++◌, Option, Some, length, map, take, slice_get, slice_index}
 use Rattle.dob_pieces.specs.declared.profile.Family.{Family}
 use Rattle.dob_share.specs.declared.news.Item.{Item}
 use Rattle.dob_update.specs.Batches.{BatchView, items_of_batches}
-use Rattle.dob_board.specs.declared.board.Board.{Board}
 use Rattle.dob_board.specs.Words.{posted_word, taken_word, word_count}
 use Rattle.dob_board.specs.Seats.{AreWords}
 use Rattle.dob_chan.specs.declared.ends.Rejoined.{Rejoined}
 use Rattle.dob_chan.specs.Inboxes.{IsLawfulInbox}
 use Rattle.dob_chan.specs.Ends.{taken_by, IsRejoined}
-use Rattle.dob_stops.specs.declared.cause.Cause.TheVariants.{Held}
 use Rattle.dob_node.specs.declared.node.Node.{Node}
 use Rattle.dob_node.specs.Nodes.{outbox_to}
-use Rattle.dob_stops.specs.declared.fault.Fault.{Fault}
-use Rattle.dob_stops.specs.declared.fault.Fault.TheVariants.{Nodes, Sizes, Stopped, Memory}
 use Rattle.dob_runner.specs.declared.slots.Outlet.{Outlet}
 use Rattle.dob_runner.specs.declared.slots.Inlet.{Inlet}
 use Rattle.dob_runner.specs.declared.runner.Runner.{Runner}
-use Rattle.dob_run.specs.declared.bounded_run.Worker.{Worker}
-use Rattle.dob_run.specs.declared.bounded_run.Turned.{Turned}
+use Rattle.dob_turns.specs.declared.bounded_run.Worker.{Worker}
+use Rattle.dob_turns.specs.declared.bounded_run.Turned.{Turned}
 use Rattle.dob_run.specs.CrewClose.{AreLinked, seat_in, slots_out, slots_in}
 use Rattle.dob_runner.specs.Slots.{in_slot}
 use Rattle.dob_runner.specs.Knows.{KnowsRight}
-use Rattle.dob_runner.specs.declared.turn_loop.Until.{Until}
 use Rattle.dob_run.specs.CrewRunners.{endpoint_of}
-use Rattle.dob_run.specs.CrewTurns.{HasRun}
 use Rattle.dob_runner.specs.LawfulRunners.{planned}
 
 -- The worker is that of node i. It has applied what its node planned for itself and isn't left in its own list, and knows just
@@ -72,39 +66,6 @@ pub record CarriesFew (n most : ℕ) (turned : Turned) : Type 0 where
       (slice_index turned.closed.words.items (posted_word n i j) ≤ most) × (slice_index turned.closed.words.items (taken_word n i j) ≤ most)
   pub links : (i j : ℕ) → i < n → j < n →
       (link : Rejoined) × (slice_get turned.links.items (i * n + j) ≡ Some link) × (link.sent ≤ most) × (link.received ≤ most)
-
--- no runner has failed
-abbrev pub AreUnfailed : List Runner → Type 0
-AreUnfailed runners = (k : ℕ) (runner : Runner) → slice_get runners k ≡ Some runner → runner.failed ≡ None
-
--- the least node that has failed, and why
-abbrev pub IsFirstFailed : List Runner → Fault → Type 0
-IsFirstFailed runners (Stopped node why) = (runner : Runner) × (slice_get runners node ≡ Some runner) × (runner.failed ≡ Some why)
-    × ((k : ℕ) (other : Runner) → k < node → slice_get runners k ≡ Some other → other.failed ≡ None)
-IsFirstFailed runners Nodes = ⊥
-IsFirstFailed runners Sizes = ⊥
-IsFirstFailed runners Memory = ⊥
-
--- The crew that was run for so long has stopped, and the fault names which of its runners and why.
-pub record HasStoppedTurns (Names : List Runner → Fault → Type 0) (No : ℕ → Type 0) (until : Until) (family : Family) (n size capacity : ℕ) (fault : Fault) : Type 0 where
-  pub board : Board
-  pub ended : List Runner
-  pub ran : HasRun No until family n size capacity board ended
-  pub names : Names ended fault
-
--- where a node is named the crew has stopped so
-abbrev pub StopsSo : (List Runner → Fault → Type 0) → (ℕ → Type 0) → Until → Family → ℕ → ℕ → ℕ → Fault → Type 0
-StopsSo Names No until family n size capacity (Stopped node why) = HasStoppedTurns Names No until family n size capacity (Stopped node why)
-StopsSo Names No until family n size capacity Nodes = ⊤
-StopsSo Names No until family n size capacity Sizes = ⊤
-StopsSo Names No until family n size capacity Memory = ⊤
-
--- no node of it was held back
-abbrev pub IsUnheld : Fault → Type 0
-IsUnheld (Stopped node why) = why ≢ Held
-IsUnheld Nodes = ⊤
-IsUnheld Sizes = ⊤
-IsUnheld Memory = ⊤
 
 -- The first workers have the nodes and the rows of slots that stand at their places.
 pub record AreWorkers (upto : ℕ) (nodes : List Node) (sending taking : List (List (Option BatchView))) (workers : List Worker) : Type 0 where

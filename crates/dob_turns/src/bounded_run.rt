@@ -1,21 +1,19 @@
 // A crew whose runners make a number of turns each, and what they leave.
-ghost use Rattle.std.specs.Prelude.{◌≡◌, ◌<◌, ◌≤◌, IfOk, IfErr, OnOk, map, length, Some, slice_get};
+ghost use Rattle.std.specs.Prelude.{◌≡◌, IfOk, IfErr, OnOk, map, length};
 ghost use Rattle.dob_run.specs.CrewClose.{IsCrew, row_of};
-ghost use Rattle.dob_run.specs.CrewRunners.{endpoint_of, node_of};
+ghost use Rattle.dob_run.specs.CrewRunners.{endpoint_of};
+ghost use Rattle.dob_run.specs.CrewStops.{IsFirstFailed, StopsSo};
 ghost use Rattle.dob_run.specs.Faults.{AreWithin, HasBuildFault};
 ghost use Rattle.dob_runner.specs.Runners.{says_no};
 ghost use Rattle.dob_runner.specs.TurnLoop.{until_turns};
-ghost use Rattle.dob_run.specs.BoundedRun.{IsTurned, CarriesFew, AreUnfailed, IsFirstFailed, StopsSo, AreWorkers, HasLeft};
+ghost use Rattle.dob_turns.specs.BoundedRun.{IsTurned, CarriesFew, AreWorkers, HasLeft};
 
-use crate::crew_close::{ClosedCrew, close_endpoints};
-use crate::limits::CrewSizes;
-use crate::threads::{EndedCrew, run_crew};
 use dob_board::{Board, Closed};
 use dob_chan::Rejoined;
-use dob_node::{Cause, Node};
+use dob_node::Node;
 use dob_pieces::{Family, Memory};
-use dob_runner::{Endpoint, Gate, Runner, Until};
-use dob_stops::Fault;
+use dob_run::{ClosedCrew, CrewSizes, EndedCrew, Fault, close_runners, find_failed, run_crew};
+use dob_runner::{Gate, Runner, Until};
 use dob_update::Batch;
 use std::alloc::Global;
 use std::sync::Wait;
@@ -45,7 +43,7 @@ pub struct Turned {
 ///
 /// # Errors
 ///
-/// Those of `run_nodes`, but `Stopped` with the least node that failed and its cause.
+/// Those of `dob_run::run_nodes`, but `Stopped` with the least node that failed and its cause.
 pub fn run_turns<R: Threads + Wait + Sync, G: Gate + Sync>(
     rt: &R,
     alloc: Global,
@@ -76,27 +74,6 @@ pub fn run_turns<R: Threads + Wait + Sync, G: Gate + Sync>(
     Ok(turned)
 }
 
-/// Refuses runners if one has failed, with the least of those.
-pub(crate) fn find_failed(runners: &[Runner]) -> Result<(), Fault>
-    ensures going { OnOk result (AreUnfailed runners.now) }
-    ensures first { IfErr result (IsFirstFailed runners.now) }
-{
-    for node in 0..runners.len() {
-        if let Some(cause) = failure_at(runners, node) {
-            return Err(Fault::Stopped { node, cause });
-        }
-    }
-    Ok(())
-}
-
-/// Why the runner at that place has failed, if it has.
-pub(crate) fn failure_at(runners: &[Runner], place: usize) -> Option<Cause>
-    requires { place < length runners.now }
-    ensures { (runner : Runner) → slice_get runners.now place ≡ Some runner → result ≡ runner.failed }
-{
-    runners[place].failure()
-}
-
 // Closes the crew of these runners.
 fn close_crew<R: Wait>(
     rt: &R,
@@ -107,41 +84,19 @@ fn close_crew<R: Wait>(
     requires { IsCrew board (map endpoint_of runners.items) }
     ensures { IfOk result (HasLeft board.nodes runners.items) }
 {
-    let (nodes, endpoints) = part_runners(alloc, runners)?;
+    let (nodes, ended) = close_runners(rt, alloc, board, runners)?;
     let ClosedCrew {
         closed,
         links,
         sending,
         taking,
-    } = close_endpoints(rt, alloc, board, endpoints)?;
+    } = ended;
     let workers = workers_of(alloc, nodes, sending, taking)?;
     Ok(Turned {
         workers,
         closed,
         links,
     })
-}
-
-/// The node and the endpoint of each runner.
-///
-/// # Errors
-///
-/// `Memory`, which gives the runners up.
-pub(crate) fn part_runners(
-    alloc: Global,
-    runners: Vec<Runner>,
-) -> Result<(Vec<Node>, Vec<Endpoint>), Memory>
-    ensures nodes { IfOk result (λ parts. parts.0.items ≡ map node_of runners.items) }
-    ensures endpoints { IfOk result (λ parts. parts.1.items ≡ map endpoint_of runners.items) }
-{
-    let mut nodes = Vec::with_capacity(alloc, runners.len())?;
-    let mut endpoints = Vec::with_capacity(alloc, runners.len())?;
-    for runner in runners {
-        let Runner { node, endpoint, .. } = runner;
-        nodes.push(node)?;
-        endpoints.push(endpoint)?;
-    }
-    Ok((nodes, endpoints))
 }
 
 // Each node with its slots.

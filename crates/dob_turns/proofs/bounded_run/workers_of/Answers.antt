@@ -1,7 +1,9 @@
 -- Each node finds a row of sending and one of taking slots left, those at its place, until all are workers.
-use Rattle.dob_run.proofs.Common.{◌∙◌, ◌≡◌, length, map, refl, rules, subst, ℕ, ⊎_elim, AreWorkers, row_of}
+use Rattle.std.proofs.Common.{length, map, refl, rules, subst, ℕ, ⊎_elim, ◌∙◌, ◌≡◌}
 use Rattle.dob_run.proofs.Places.{each_more, get_map, gone_all, next_at, one_gone, one_longer}
-use Rattle.dob_run.proofs.bounded_run.workers_of.Goals as goal
+use Rattle.dob_run.specs.CrewClose.{row_of}
+use Rattle.dob_turns.specs.BoundedRun.{AreWorkers}
+use Rattle.dob_turns.proofs.bounded_run.workers_of.Goals as goal
 
 pub loop-node-preserved : goal.loop-node-preserved
 loop-node-preserved c =

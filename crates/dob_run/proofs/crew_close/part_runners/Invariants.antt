@@ -1,6 +1,6 @@
 -- The nodes and endpoints so far, with those of the runners left, are those of all runners.
 use Rattle.dob_run.proofs.Common.{◌++◌, ◌≡◌, map, into_iter_items, endpoint_of, node_of}
-use Rattle.dob_run.proofs.bounded_run.part_runners.Given as goal
+use Rattle.dob_run.proofs.crew_close.part_runners.Given as goal
 
 abbrev pub invariant-loop-runner : goal.invariant-loop-runner
 invariant-loop-runner l = record {
