@@ -1,5 +1,5 @@
 // Answers about a build by one owner: how many classes of a piece set it finds won, lost and drawn.
-use dob_node::{Fault, alone};
+use dob_alone::{Fault, alone};
 use dob_pieces::{Family, Memory};
 use dob_value::{Table, Value};
 use std::alloc::{AllocError, Global};

@@ -81,10 +81,10 @@ fn told(alloc: Global, answer: Result<String, Fault>) -> Result<String, Memory> 
 }
 
 // The answer, or the line of the fault of a build.
-fn told_build(alloc: Global, answer: Result<String, dob_node::Fault>) -> Result<String, Memory> {
+fn told_build(alloc: Global, answer: Result<String, dob_alone::Fault>) -> Result<String, Memory> {
     match answer {
         Ok(text) => Ok(text),
-        Err(dob_node::Fault::Memory) => Err(Memory),
+        Err(dob_alone::Fault::Memory) => Err(Memory),
         Err(fault) => fault_line(alloc, fault),
     }
 }

@@ -4,9 +4,10 @@
 use crate::counts::{self, Outcomes};
 use crate::timer::Timer;
 use anyhow::{Result, bail};
+use dob_alone::alone;
 use dob_classes::Classes;
 use dob_lists::SegmentLength;
-use dob_node::{alone, opening};
+use dob_node::opening;
 use dob_pieces::Memory;
 use dob_safra::NodeCount;
 use dob_share::{Item, Share};

@@ -3,9 +3,9 @@ use crate::timer::{Rounds, Timer};
 use crate::{measure, rules};
 use anyhow::Result;
 use dob_classes::Classes;
-use dob_moves::{Status, plain as plain_rules};
+use dob_moves::Status;
 use dob_pieces::{Family, Memory, Position, Profile};
-use dob_unmove::plain as plain_back;
+use dob_plain::{back as plain_back, rules as plain_rules};
 use std::alloc::Global;
 use std::rt::Clock;
 

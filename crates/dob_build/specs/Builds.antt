@@ -14,7 +14,7 @@ use Rattle.dob_run.specs.Builds.{IsLeftByCrew}
 use Rattle.dob_run.specs.CrewSizes.{AreThese}
 use Rattle.dob_run.specs.Faults.{AreWithin, HasBuildFault}
 use Rattle.dob_run.specs.BuildEnd.{IsFailureOf}
-use Rattle.dob_run.specs.BoundedRun.{StopsSo, IsUnheld}
+use Rattle.dob_run.specs.CrewStops.{StopsSo, IsUnheld}
 use Rattle.dob_runner.specs.Runners.{says_no}
 use Rattle.dob_runner.specs.TurnLoop.{until_halted}
 use Rattle.dob_stops.specs.declared.fault.Fault.{Fault as RunFault}

@@ -1,7 +1,7 @@
 -- The names that the proofs here use most, from other crates and the definitions of this one.
 pub use Rattle.std.proofs.Common.{if◌then◌else◌, ◌&&◌, ◌*◌, ◌++◌, ◌+◌, ◌/◌, ◌<◌, ◌==◌, ◌||◌, ◌↔◌, ◌∙◌, ◌∷◌, ◌≡◌, ◌≢◌, ◌≤◌, Bool, Contains, List}
-pub use Rattle.std.proofs.Common.{MatchOption, None, Option, Some, [], add-one, ap, append_assoc, arith, bit_and, cond, count_ones, drop, drop-cons, eqb, false}
-pub use Rattle.std.proofs.Common.{get_or, inl, inr, length, nat_lt, not, option_to_list, refl, rules, set, slice_index_or, subst, suc, sym, take, true}
+pub use Rattle.std.proofs.Common.{MatchOption, None, Option, Some, [], ap, append_assoc, arith, bit_and, cond, count_ones, eqb, false}
+pub use Rattle.std.proofs.Common.{get_or, inl, inr, length, nat_lt, not, option_to_list, refl, rules, set, slice_index_or, subst, suc, sym, true}
 pub use Rattle.std.proofs.Common.{true≢false, zero, ℕ, ⊎_elim}
 pub use Rattle.std.proofs.lemmas.Bool.{and_parts, cases_eq, cases_lt, eqb-false, lt-ltb, ltb-true, not-true}
 pub use Rattle.std.proofs.lemmas.List.{append-nil, get_or-set_other, get_or-set_same, get_or_past, length-append, length-set}

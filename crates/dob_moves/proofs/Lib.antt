@@ -9,7 +9,6 @@ pub mod Mirrors  -- moves of mirror images
 -- The status of a position.
 pub mod Cases  -- the rules' cases exclude each other
 pub mod Shared  -- profiles share statuses
-pub mod Firsts  -- the first move of a list
 pub mod Runs  -- moves that may not be there, as lists
 pub mod Tables  -- the steps of a kind, ascending
 pub mod Reach  -- the walk over all squares finds all moves in order
@@ -19,7 +18,6 @@ pub mod Listed  -- masks give the same steps and drops
 pub mod Verdicts  -- what the searches say of a position
 -- Lists of moves.
 pub mod Appends  -- moves appended piece by piece
-pub mod PlainLists  -- the same in the plain program
 pub mod ProfileMoves  -- what moves by a profile lead to, and their mirror images
 pub mod MoveLists  -- the list has just the moves
 pub mod MoveCounts  -- moves counted without a list

@@ -1,11 +1,9 @@
 -- What the searches say of a position.
-use Rattle.dob_moves.proofs.Common.{◌++◌, ◌+◌, ◌∙◌, ◌∷◌, ◌≡◌, ◌≢◌, Bool, Contains, List, MatchOption, None, Option, Some, [], arith, false, inl, inr, length}
-use Rattle.dob_moves.proofs.Common.{refl, subst, sym, true, ℕ, Contains-append_cases, Contains-append_left, Contains-append_right, is_some, none_in_empty}
+use Rattle.dob_moves.proofs.Common.{◌++◌, ◌+◌, ◌∷◌, ◌≡◌, ◌≢◌, Contains, List, MatchOption, None, Option, Some, [], arith, inl, inr, length}
+use Rattle.dob_moves.proofs.Common.{refl, subst, sym, ℕ, Contains-append_cases, Contains-append_left, Contains-append_right, none_in_empty}
 use Rattle.dob_moves.proofs.Common.{rising-append, rising-pairs, Profile, A, Setup, CanGo, first_drop, place, AreMoves, CanCatch, HasStatus, IsFirstCatch}
 use Rattle.dob_moves.proofs.Common.{all_drops, all_steps, first, AtLion, Elsewhere, Move, Put, Step, Status, Open, HasTried}
-use Rattle.std.specs.Bool.{IsTrue}
 use Rattle.dob_moves.proofs.ByProfile.{can_go}
-use Rattle.dob_moves.proofs.Firsts.{none_from}
 use Rattle.dob_moves.proofs.Reach.{steps_go, steps_rising, found_in_steps, drops_sound, drops_rising, drops_whole, go_found, no_catch, is_first_catch, no_move}
 use Rattle.dob_moves.proofs.Reach.{step_goes, drop_goes}
 use Rattle.dob_moves.proofs.Cases.{one_status}
@@ -13,17 +11,6 @@ use Rattle.dob_moves.proofs.Cases.{one_status}
 pub catch_answer : (p : Setup) (o : Option Move) → length p.board ≡ 12 → o ≡ first (all_steps AtLion p) → MatchOption o (¬ CanCatch p) (λ m. IsFirstCatch p m)
 catch_answer p None len e = λ (w : CanCatch p). no_catch p len (sym e) w.0 w.1
 catch_answer p (Some m) len e = is_first_catch p len m (sym e)
-
-pub step_answer : (p : Setup) (b : Bool) (o : Option Move) → o ≡ first (all_steps Elsewhere p) → is_some o ≡ true → b ≡ true
-    → (IsTrue b → (move : Move) × CanGo A p move) × (((move : Move) × CanGo A p move) → IsTrue b)
-step_answer p b None e h t = cc
-step_answer p b (Some m) e h t = (λ _. (m, step_goes p m (sym e)), λ _. t)
-
-pub drop_answer : (p : Setup) (b : Bool) (o drop : Option Move) → length p.board ≡ 12 → o ≡ first (all_steps Elsewhere p) → is_some o ≡ false
-    → drop ≡ first (all_drops A p) → b ≡ is_some drop → (IsTrue b → (move : Move) × CanGo A p move) × (((move : Move) × CanGo A p move) → IsTrue b)
-drop_answer p b o None len e h d t =
-    (λ (yes : IsTrue b). cc, λ (w : (move : Move) × CanGo A p move). absurd (no_move p len (sym e ∙ none_from o h) (sym d) w.0 w.1))
-drop_answer p b o (Some m) len e h d t = (λ _. (m, drop_goes p m (sym d)), λ _. t)
 
 -- by how many there are
 first_of_none : (moves : List Move) → 0 ≡ length moves → first moves ≡ None

@@ -9,7 +9,8 @@
 // - A drop names a `HandKind`, so no type allows the drop of a lion or a hen.
 // - The capture of a lion is no move: `moves` lists none at Caught, Tried and Stuck; `first_catch` gives the first step that captures the lion, with `grows`
 //   true for a chick that does so on its far row.
-// - A plain program of the rules stays (`plain`), proved, for tests and measurements.
+// - A step or a drop by where it begins and ends is public (`Aim`, `own_kind`, `step_onto`, `put_on`) for the plain program of the rules, which stands in a
+//   crate of its own (`dob_plain`).
 #![tactic(auto)]
 
 mod applying;
@@ -20,13 +21,13 @@ mod first_moves;
 mod game_move;
 pub mod laws;
 mod listing;
-pub mod plain;
 mod position_status;
 mod status_of;
 
 pub use applying::apply;
 pub use at_place::{catch_at, move_at};
 pub use count::{count_moves, status_and_count, status_and_count_shown};
+pub use first_moves::{Aim, own_kind, put_on, step_onto};
 pub use game_move::Move;
 pub use listing::{moves, moves_into};
 pub use position_status::Status;

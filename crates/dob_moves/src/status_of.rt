@@ -8,7 +8,7 @@ ghost use Rattle.dob_moves.specs.Statuses.{CanCatch, HasStatus, IsFirstCatch};
 ghost use Rattle.dob_moves.specs.declared.game_move.Move.{Move as Moved};
 
 use crate::count::has_move;
-use crate::first_moves::{Aim, first_drop, first_step, step_between};
+use crate::first_moves::{Aim, step_between};
 use crate::game_move::Move;
 use crate::position_status::Status;
 use dob_pieces::{Hand, Kind, Masks, Position, Profile, Side, Square, lowest_square};
@@ -58,13 +58,6 @@ fn lion_can_step(position: &Position, masks: &Masks) -> bool
     ensures { IsTrue result → (move : Moved) × CanGo A position.now.setup move }
 {
     Kind::Lion.targets(own_lion(position, masks)) & masks.ends != 0
-}
-
-/// Whether a step, other than onto the enemy lion, or a drop of the mover is found.
-pub(crate) fn finds_move(position: &Position) -> bool
-    ensures { IsTrue result ↔ ((move : Moved) × CanGo A position.now.setup move) }
-{
-    first_step(&position.setup, Aim::Elsewhere).is_some() || first_drop(&position.setup).is_some()
 }
 
 // Whether the mover has a move while its steps onto the enemy lion aren't counted.

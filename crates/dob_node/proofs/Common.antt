@@ -1,11 +1,11 @@
 -- The names that the proofs here use most, from other crates and the definitions of this one.
 pub use Rattle.std.proofs.Common.{◌%◌, ◌&&◌, ◌*◌, ◌++◌, ◌+◌, ◌-◌, ◌/◌, ◌<◌, ◌==◌, ◌^◌, ◌↔◌, ◌∙◌, ◌∷◌, ◌≡◌, ◌≢◌, ◌≤◌, ◌⊎◌, Bool, Contains, Err, List}
 pub use Rattle.std.proofs.Common.{MatchOption, None, Ok, Option, Result, Some, [], add-one, ap, append_assoc, arith, cond, drop, eqb, false, get_or, inl, inr}
-pub use Rattle.std.proofs.Common.{length, lit<, ltb, map, max, nat_lt, refl, rules, set, slice_get, slice_set, subst, suc, sym, take, true, zero, ℕ}
+pub use Rattle.std.proofs.Common.{length, ltb, map, max, refl, rules, set, slice_get, slice_set, subst, suc, sym, take, true, zero, ℕ}
 pub use Rattle.std.proofs.Math.ListN.{get_or-eq_default}
 pub use Rattle.std.proofs.Math.Nat.{div-add-mod, div-le_self, mod-eq_of_lt, mul-add-mod_self_right, mul_comm}
 pub use Rattle.std.proofs.Math.Seq.{drop-append_seam, drop-cons, drop-nil, take-append_seam, take-suc}
-pub use Rattle.std.proofs.lemmas.Bool.{and_right, cases_Bool, cases_eq, cases_lt, cond_both, eq-eqb, eqb-true, false≢true, le-ltb, lt-ltb, ltb-true, ne_eqb}
+pub use Rattle.std.proofs.lemmas.Bool.{and_right, cases_Bool, cases_eq, cases_lt, cond_both, eq-eqb, eqb-true, false≢true, le-ltb, lt-ltb, ne_eqb}
 pub use Rattle.std.proofs.lemmas.Bool.Decides.{nat_tests}
 pub use Rattle.std.proofs.lemmas.List.{append-nil, get_or-set_other, get_or-set_same, get_or_append_left, get_or_default, length-append, length-map}
 pub use Rattle.std.proofs.lemmas.List.{length-set, same_lists, take-append-drop, take-append-le, take_all}
@@ -39,7 +39,7 @@ pub use Rattle.dob_value.specs.Bounds.{plies_of}
 pub use Rattle.dob_value.specs.Codes.{IsShort, value_of_code}
 pub use Rattle.dob_value.specs.Distances.{IsLeastLoss}
 pub use Rattle.dob_value.specs.Entries.{is_draw}
-pub use Rattle.dob_value.specs.Follows.{AreGiven, FollowsAt, FollowsFromSuccessors, HasInTable, HasSuccessor, IsConsistent, IsEntry, IsValueTable}
+pub use Rattle.dob_value.specs.Follows.{AreGiven, FollowsAt, FollowsFromSuccessors, HasInTable, HasSuccessor, IsConsistent, IsEntry}
 pub use Rattle.dob_value.specs.declared.value.Value.{Value}
 pub use Rattle.dob_value.specs.declared.value.Value.TheVariants.{Draw, Loss, Win}
 pub use Rattle.dob_unmove.proofs.Edges.{ArePredecessors-predecessors, representative_below, times-predecessors}
@@ -52,7 +52,7 @@ pub use Rattle.dob_share.specs.Cells.{Cell, CellCanTake, CellValue, Changes, IsG
 pub use Rattle.dob_share.specs.Openings.{AreOwn, moves_where, opening_of, settled_among, settles}
 pub use Rattle.dob_share.specs.Owners.{class_of_place, owner_of}
 pub use Rattle.dob_share.specs.Shares.{HasSettled, HasValueNow, IsApplication, IsNewShare, IsSeen, IsValue, SameClasses, cell_at}
-unfoldable pub use Rattle.dob_share.specs.Shares.{Fits, GoesTooDeep, IsOwn, places_of, status_at}
+unfoldable pub use Rattle.dob_share.specs.Shares.{Fits, IsOwn, places_of, status_at}
 pub use Rattle.dob_share.specs.Statuses.{StatusesView}
 pub use Rattle.dob_share.specs.Steps.{IsTooDeep}
 pub use Rattle.dob_share.specs.Values.{Better, NoWorse, is_win_in}
@@ -63,15 +63,13 @@ pub use Rattle.dob_share.specs.declared.share.Share.{Share}
 pub use Rattle.dob_update.specs.Batches.{BatchView, HasOneMore, IsCut, OutboxView, added, empty_outbox}
 pub use Rattle.dob_update.specs.Items.{item_for, items_from, items_of}
 pub use Rattle.dob_stops.specs.declared.cause.Cause.{Cause}
-pub use Rattle.dob_node.specs.Alone.{HasCome, HasMade, HasStoppedAlone, IsAlone, IsDone, IsTooDeepWithin, IsUnderWay, alone_applied, alone_history}
-pub use Rattle.dob_node.specs.Alone.{alone_items, cells_below}
 pub use Rattle.dob_node.specs.Falls.{Falls, HaveFalls, IsCellWithin, IsFall, IsFirst, IsSettlement, RestsOn}
 pub use Rattle.dob_node.specs.Histories.{AreValuesBelow, IsChained, IsNext, copies, items_to, known, last_now, value_of}
 unfoldable pub use Rattle.dob_node.specs.Histories.{all_known}
 pub use Rattle.dob_node.specs.Lawful.{AreAfter, AreLawfulNodes, AreSettled, CanApply, IsNextItem, IsOneMore, known_of}
 pub use Rattle.dob_node.specs.NodeSteps.{AppliesAll, AppliesEveryOwn}
 pub use Rattle.dob_node.specs.NodeViews.{NodeView, going, node_of}
-pub use Rattle.dob_node.specs.Nodes.{AreValuesNow, HasApplied, HasItemFault, HasTaken, HasTakenBefore, IsExpanded, IsIdle, IsOpened, IsOpenedBy, IsOpenedOf}
+pub use Rattle.dob_node.specs.Nodes.{AreValuesNow, HasItemFault, HasTaken, HasTakenBefore, IsOpened, IsOpenedBy, IsOpenedOf}
 pub use Rattle.dob_node.specs.Nodes.{IsSound, IsUnchanged, outbox_to}
 pub use Rattle.dob_node.specs.OpeningLists.{opening_settlement, opening_settlements, opening_status, opening_value, start_settlements}
 pub use Rattle.dob_node.specs.Openings.{AreOpenings, AreOpeningsBelow, AreOwnOpenings, AreOwnSoFar, IsOpening}

@@ -26,6 +26,3 @@ pub mod Sends  -- empty outboxes, what one settlement more adds to them, and wha
 -- Worlds of shares and histories.
 pub mod ItemChanges  -- what an item that a share takes changes
 pub mod ShownValues  -- the values that classes show, and lists of them
--- One node that owns all classes.
-pub mod AloneSteps  -- the node stays lawful, and makes one step more; where it stops, and the values that it shows at its end
-pub mod AloneOpens  -- the node is lawful as it is opened

@@ -5,7 +5,6 @@ pub mod Lawful
 pub mod Falls
 pub mod Laws
 pub mod Stores
-pub mod Faults
 pub mod TakenItems
 pub mod SeenItems
 pub mod Outboxes
@@ -14,4 +13,3 @@ pub mod NodeViews
 pub mod Levels
 pub mod Nodes
 pub mod NodeSteps
-pub mod Alone

@@ -15,19 +15,14 @@
 // - `expand` takes back what it added: an outbox doesn't show its room, so if one runs out of memory the settlement is taken out of those before it
 //   (`Outbox::take_back`), which needs no memory.
 // - A node has an outbox for itself too, which stays empty, so that outboxes stand by the numbers of their receivers.
-// - `alone` applies all its own items before it expands a further settlement, and its contract says so: else a body that gives up within `limit` would meet
-//   it.
-// - Why a node stops is said by cases of its cause (`IsReason`, `StopsAt`); a cause that a step never gives is impossible, so E13 is in a build by one
-//   owner.
+// - Why a node stops is said by cases of its cause (`IsReason`, `StopsAt`); a cause that a step never gives is impossible.
 #![tactic(auto)]
 
 mod entries;
-mod fault;
 mod history;
 pub mod laws;
 mod node;
 mod node_core;
-mod one_owner;
 mod openings;
 mod outboxes;
 mod start_statuses;
@@ -36,8 +31,6 @@ mod taking;
 pub use dob_share::Opening;
 pub use dob_stops::{Cause, Stopped};
 pub use entries::have_entries;
-pub use fault::Fault;
 pub use node::{Node, Part};
 pub use node_core::MAX_BATCHES;
-pub use one_owner::alone;
 pub use openings::{opening, opening_in};

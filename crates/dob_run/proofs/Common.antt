@@ -3,7 +3,7 @@ pub use Rattle.std.proofs.Common.{◌*◌, ◌++◌, ◌+◌, ◌-◌, ◌<◌, 
 pub use Rattle.std.proofs.Common.{arith, cond, eqb, false, get_or, inl, inr, length, length-append, length-set, map, refl, rules, set, subst, suc, sym, take}
 pub use Rattle.std.proofs.Common.{true, vec_len, zero, ℕ, ⊎_elim}
 pub use Rattle.std.proofs.lemmas.Bool.{cases_Bool, cases_eq, cases_lt, eq-eqb, eqb-true, ne_eqb}
-pub use Rattle.std.proofs.lemmas.List.{append-nil, get_or_past, length-map, take-append-drop, take_all}
+pub use Rattle.std.proofs.lemmas.List.{append-nil, get_or_past, length-map, take_all}
 pub use Rattle.std.proofs.lemmas.Option.{same_Some, slice_get-get_or, slice_get_within}
 pub use Rattle.std.specs.List.{All, AllZip, count_by, filter, range_with_len, sum_by}
 pub use Rattle.std.specs.Prelude.{Err, IfOk, MatchOption, Ok, OnOk, replicate, slice_get, slice_index, slice_index_or}
@@ -30,7 +30,7 @@ pub use Rattle.dob_stops.specs.declared.fault.Fault.TheVariants.{Memory, Nodes, 
 pub use Rattle.dob_node.proofs.Rest.{below_owner}
 pub use Rattle.dob_node.proofs.TakenLists.{carried}
 pub use Rattle.dob_node.specs.Histories.{last_now, value_of}
-pub use Rattle.dob_node.specs.Nodes.{IsIdle, IsOpened, outbox_to}
+pub use Rattle.dob_node.specs.Nodes.{IsIdle, IsOpened}
 pub use Rattle.dob_node.specs.declared.node.Node.{Node}
 pub use Rattle.dob_board.proofs.Halting.{same_halt}
 pub use Rattle.dob_board.specs.Rule.{fresh}
@@ -47,21 +47,21 @@ pub use Rattle.dob_chan.specs.declared.ends.Rejoined.{Rejoined}
 pub use Rattle.dob_chan.specs.declared.ends.SendEnd.{SendEnd}
 pub use Rattle.dob_chan.specs.declared.ends.TakeEnd.{TakeEnd}
 pub use Rattle.dob_runner.proofs.Knowing.{applied_else, applied_here, sums_by}
-pub use Rattle.dob_runner.proofs.Links.{each_after, few_of, front, parts}
+pub use Rattle.dob_runner.proofs.Links.{each_after, parts}
 pub use Rattle.dob_runner.specs.Endpoints.{AreOut}
 pub use Rattle.dob_runner.specs.Knows.{CanHaveMade, KnowsRight}
-pub use Rattle.dob_runner.specs.LawfulRunners.{AreLast, IsLawfulRunner, SendsRight, applied_from, items_worked, own_applied, planned}
+pub use Rattle.dob_runner.specs.LawfulRunners.{IsLawfulRunner, SendsRight, applied_from, items_worked, own_applied, planned}
 pub use Rattle.dob_runner.specs.Links.{KeepsInlet, offered, worked, worked_from}
 pub use Rattle.dob_runner.specs.Runners.{HasFailed, IsNew, IsReasonFor, KeepsRunner, says_no}
-pub use Rattle.dob_runner.specs.Slots.{held_from, in_slot, slot_row, worked_of}
+pub use Rattle.dob_runner.specs.Slots.{held_from, in_slot, slot_row}
 pub use Rattle.dob_runner.specs.TurnLoop.{Ends, EndsBy, Suits}
 pub use Rattle.dob_runner.specs.declared.endpoint.Endpoint.{Endpoint}
 pub use Rattle.dob_runner.specs.declared.runner.Runner.{Runner}
 pub use Rattle.dob_runner.specs.declared.slots.Inlet.{Inlet}
 pub use Rattle.dob_runner.specs.declared.slots.Outlet.{Outlet}
 pub use Rattle.dob_runner.specs.declared.turn_loop.Until.{Until}
-pub use Rattle.dob_runner.specs.declared.turn_loop.Until.TheVariants.{Halted, Turns}
-pub use Rattle.dob_run.specs.BoundedRun.{AreUnfailed, AreWorkers, CarriesFew, HasLeft, IsFirstFailed, IsLink, IsTurned, IsUnheld, IsWorker, StopsSo}
+pub use Rattle.dob_runner.specs.declared.turn_loop.Until.TheVariants.{Halted}
+pub use Rattle.dob_run.specs.CrewStops.{AreUnfailed, IsFirstFailed, IsUnheld, StopsSo}
 pub use Rattle.dob_run.specs.BuildEnd.{AllKnow, AreFailureless, AreOwners, AreShownBelow, HaveStopped, IsCodeShown, IsFailure, IsFailureOf, IsOwner}
 pub use Rattle.dob_run.specs.BuildEnd.{IsShownByOwner, share_in}
 pub use Rattle.dob_run.specs.Built.{IsBuilt, IsLinkDone, edges_to, needed}
@@ -77,14 +77,12 @@ pub use Rattle.dob_run.specs.Rows.{AreDealt, AreInOrder, AreRows, StandsAt}
 pub use Rattle.dob_run.specs.Scans.{AreFrom}
 pub use Rattle.dob_run.specs.Seating.{AreSeated, CanSeatAll}
 pub use Rattle.dob_run.specs.Started.{AreJoinable, IsEndOf, IsHandedOn, IsJoinable, IsStartOf}
-pub use Rattle.dob_run.specs.declared.bounded_run.Turned.{Turned}
 pub use Rattle.dob_run.specs.declared.built_table.Built.{Built}
 pub use Rattle.dob_run.specs.declared.handed.Handed.{Handed}
 pub use Rattle.dob_run.specs.declared.threads.Kept.{Kept}
 pub use Rattle.dob_dbfile.specs.Digests.{HasTaken}
 pub use Rattle.dob_value.specs.Codes.{value_of_code, values_of_codes}
 pub use Rattle.dob_unmove.specs.Edges.{predecessors}
-pub use Rattle.dob_run.specs.declared.crew_close.ClosedCrew.{ClosedCrew}
 pub use Rattle.rayon.proofs.ListFacts.{AllZip-weaken}
 pub use Rattle.dob_run.specs.InboxOpen.{AreLaid, AreLaidUpto, AreOutlets, IsLaid, IsOneLaid, IsUntaken}
 pub use Rattle.std.proofs.lemmas.Result.{IfErr-weaker, IfOk-weaker}

@@ -10,7 +10,7 @@ use Rattle.dob_runner.specs.TurnLoop.{until_halted}
 use Rattle.dob_run.specs.declared.built_table.Built.{Built}
 use Rattle.dob_run.specs.Built.{IsBuilt}
 use Rattle.dob_run.specs.BuildEnd.{IsFailureOf}
-use Rattle.dob_run.specs.BoundedRun.{StopsSo, IsUnheld}
+use Rattle.dob_run.specs.CrewStops.{StopsSo, IsUnheld}
 use Rattle.dob_run.specs.CrewClose.{seat_in}
 use Rattle.dob_run.specs.CrewRunners.{endpoint_of}
 use Rattle.dob_run.specs.CrewTurns.{HasRun}

@@ -14,5 +14,5 @@ pub mod Rows
 pub mod Scans
 pub mod Seating
 pub mod Started
-pub mod BoundedRun
+pub mod CrewStops
 pub mod Builds

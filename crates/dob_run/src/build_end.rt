@@ -1,21 +1,20 @@
 // What a build by threads leaves, when its crew has come to its end.
-ghost use Rattle.std.specs.Prelude.{◌≡◌, ◌↔◌, ℕ, IsTrue, IfOk, IfErr, OnOk, MatchOption, map};
+ghost use Rattle.std.specs.Prelude.{◌≡◌, ◌<◌, ◌↔◌, ℕ, IsTrue, IfOk, IfErr, OnOk, MatchOption, Some, length, map, slice_get};
 ghost use Rattle.dob_stops.specs.declared.cause.Cause.{Cause};
 ghost use Rattle.dob_runner.specs.declared.runner.Runner.{Runner};
 ghost use Rattle.dob_run.specs.CrewRunners.{endpoint_of, node_of};
 ghost use Rattle.dob_board.specs.Seats.{AreWords};
 ghost use Rattle.dob_run.specs.CrewClose.{IsCrew, AreClosed, seat_in};
 ghost use Rattle.dob_run.specs.Built.{IsBuilt};
-ghost use Rattle.dob_run.specs.BoundedRun.{AreUnfailed};
+ghost use Rattle.dob_run.specs.CrewStops.{AreUnfailed, IsFirstFailed};
 ghost use Rattle.dob_run.specs.BuildEnd.{HaveStopped, AllKnow, IsFailure, IsFailureOf, AreFailureless, share_in};
 
-use crate::bounded_run::{failure_at, find_failed, part_runners};
 use crate::built_table::Built;
-use crate::crew_close::{ClosedCrew, close_endpoints};
+use crate::crew_close::{ClosedCrew, close_runners};
 use crate::gathering::{Gathered, gather};
 use dob_board::{Board, Halt};
 use dob_classes::Classes;
-use dob_node::Node;
+use dob_node::{Cause, Node};
 use dob_pieces::Memory;
 use dob_runner::Runner;
 use dob_share::Share;
@@ -111,6 +110,31 @@ fn failure_of(runners: &[Runner], node: usize) -> Option<Fault>
     Some(Fault::Stopped { node, cause })
 }
 
+/// Refuses runners of which one has failed.
+///
+/// # Errors
+///
+/// `Stopped` with the least node that has failed and its cause, and no other fault.
+pub fn find_failed(runners: &[Runner]) -> Result<(), Fault>
+    ensures going { OnOk result (AreUnfailed runners.now) }
+    ensures first { IfErr result (IsFirstFailed runners.now) }
+{
+    for node in 0..runners.len() {
+        if let Some(cause) = failure_at(runners, node) {
+            return Err(Fault::Stopped { node, cause });
+        }
+    }
+    Ok(())
+}
+
+// Why the runner at that place has failed, if it has.
+fn failure_at(runners: &[Runner], place: usize) -> Option<Cause>
+    requires { place < length runners.now }
+    ensures { (runner : Runner) → slice_get runners.now place ≡ Some runner → result ≡ runner.failed }
+{
+    runners[place].failure()
+}
+
 // Closes the crew of these runners: the shares of their nodes, and what their endpoints leave.
 fn close_all<R: Wait>(
     rt: &R,
@@ -122,8 +146,7 @@ fn close_all<R: Wait>(
     ensures shares { IfOk result (λ closed. closed.0.items ≡ map share_in (map node_of runners.items)) }
     ensures ended { IfOk result (λ closed. AreClosed board.nodes (map endpoint_of runners.items) closed.1) }
 {
-    let (nodes, endpoints) = part_runners(alloc, runners)?;
-    let ended = close_endpoints(rt, alloc, board, endpoints)?;
+    let (nodes, ended) = close_runners(rt, alloc, board, runners)?;
     let shares = shares_of(alloc, nodes)?;
     Ok((shares, ended))
 }

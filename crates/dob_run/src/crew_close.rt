@@ -1,13 +1,15 @@
 // How the endpoints of a crew are closed: the seats go back to the board, and the ends of each inbox come together again.
-ghost use Rattle.std.specs.Prelude.{◌≡◌, ℕ, Some, IfOk, OnOk, slice_get, vec_len, length, []};
+ghost use Rattle.std.specs.Prelude.{◌≡◌, ℕ, Some, IfOk, OnOk, map, slice_get, vec_len, []};
 ghost use Rattle.dob_run.specs.CrewClose.{IsCrew, HasAdded, ArePartsOf, AreClosed};
+ghost use Rattle.dob_run.specs.CrewRunners.{endpoint_of, node_of};
 
 use crate::inbox_close::{part_outlets, rejoin_all, spread_slot};
 use crate::rows::{deal, empty_rows};
 use dob_board::{Board, Closed, NodeSeat};
 use dob_chan::{Rejoined, SendEnd, TakeEnd};
+use dob_node::Node;
 use dob_pieces::Memory;
-use dob_runner::{Endpoint, Inlet};
+use dob_runner::{Endpoint, Inlet, Runner};
 use dob_update::Batch;
 use std::alloc::Global;
 use std::sync::Wait;
@@ -15,11 +17,11 @@ use std::sync::Wait;
 /// What the endpoints of a crew leave: the words of its board, what went over each link, by sender and then by receiver, and what
 /// lies in the slots of each node, one place a node.
 #[derive(Drop)]
-pub(crate) struct ClosedCrew {
-    pub(crate) closed: Closed,
-    pub(crate) links: Vec<Rejoined>,
-    pub(crate) sending: Vec<Vec<Option<Batch>>>,
-    pub(crate) taking: Vec<Vec<Option<Batch>>>,
+pub struct ClosedCrew {
+    pub closed: Closed,
+    pub links: Vec<Rejoined>,
+    pub sending: Vec<Vec<Option<Batch>>>,
+    pub taking: Vec<Vec<Option<Batch>>>,
 }
 
 // The endpoints of some nodes of a crew, taken apart. The sending ends stand in the rows of the nodes to which they send.
@@ -32,12 +34,47 @@ struct Parts {
     taking: Vec<Vec<Option<Batch>>>,
 }
 
-/// Closes a crew's endpoints with its board. Its promises hold if it returns.
+/// Closes the crew of these runners with its board: their nodes, in order, and what their endpoints leave. Its promises hold if
+/// it returns.
 ///
 /// # Errors
 ///
 /// `Memory`, which gives the crew up.
-pub(crate) fn close_endpoints<R: Wait>(
+pub fn close_runners<R: Wait>(
+    rt: &R,
+    alloc: Global,
+    board: Board,
+    runners: Vec<Runner>,
+) -> Result<(Vec<Node>, ClosedCrew), Memory>
+    requires { IsCrew board (map endpoint_of runners.items) }
+    ensures nodes { IfOk result (λ closed. closed.0.items ≡ map node_of runners.items) }
+    ensures ended { IfOk result (λ closed. AreClosed board.nodes (map endpoint_of runners.items) closed.1) }
+{
+    let (nodes, endpoints) = part_runners(alloc, runners)?;
+    let ended = close_endpoints(rt, alloc, board, endpoints)?;
+    Ok((nodes, ended))
+}
+
+// The node and the endpoint of each runner. Out of memory the runners are given up.
+fn part_runners(
+    alloc: Global,
+    runners: Vec<Runner>,
+) -> Result<(Vec<Node>, Vec<Endpoint>), Memory>
+    ensures nodes { IfOk result (λ parts. parts.0.items ≡ map node_of runners.items) }
+    ensures endpoints { IfOk result (λ parts. parts.1.items ≡ map endpoint_of runners.items) }
+{
+    let mut nodes = Vec::with_capacity(alloc, runners.len())?;
+    let mut endpoints = Vec::with_capacity(alloc, runners.len())?;
+    for runner in runners {
+        let Runner { node, endpoint, .. } = runner;
+        nodes.push(node)?;
+        endpoints.push(endpoint)?;
+    }
+    Ok((nodes, endpoints))
+}
+
+// Closes a crew's endpoints with its board. Out of memory the crew is given up.
+fn close_endpoints<R: Wait>(
     rt: &R,
     alloc: Global,
     board: Board,

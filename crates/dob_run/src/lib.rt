@@ -3,7 +3,7 @@
 // nodes show is the table.
 //
 // The files: `limits` has the sizes of a crew; `crew_*` open and close a crew and `inbox_*` its inboxes; `threads` has a thread for
-// each runner, which `handed` hands to it; `build*` is a whole build and `bounded_run` a run of N turns.
+// each runner, which `handed` hands to it; `build*` is a whole build.
 //
 // A thread is started first and then handed its runner over a ring for one, so a runner for which no thread can be made never left its
 // place. What all runners know of the halt is read before the crew is closed, which takes memory: a failure is told where none is left.
@@ -20,7 +20,6 @@
 // - A table is gathered in parts of 2^20 classes (`codes_of`), and the part before goes into its list and the digest of its file meanwhile (`Parts::next`). A build opens the classes of its family once, and its table takes them over.
 #![tactic(auto)]
 
-mod bounded_run;
 mod build;
 mod build_end;
 mod built_table;
@@ -36,13 +35,14 @@ mod rows;
 mod scans;
 mod threads;
 
-pub use bounded_run::{Turned, Worker, run_turns};
 pub use build::{build_by, run_nodes};
-pub use build_end::finish;
+pub use build_end::{find_failed, finish};
 pub use built_table::Built;
+pub use crew_close::{ClosedCrew, close_runners};
 pub use crew_open::crew;
 pub use dob_runner::{Free, Gate, Runner};
 pub use dob_stops::Fault;
 pub use laws::finished_is_right;
 pub use limits::{BATCH, CAPACITY, CrewSizes};
 pub use scans::scan;
+pub use threads::{EndedCrew, run_crew};

@@ -54,18 +54,19 @@ pub(crate) enum Started<'s, G: Gate> {
 
 /// What a crew is after its turns: the classes of its family, its board, and what became of each runner.
 #[derive(Drop)]
-pub(crate) struct EndedCrew {
-    pub(crate) classes: Classes,
-    pub(crate) board: Board,
-    pub(crate) runners: Vec<Runner>,
+pub struct EndedCrew {
+    pub classes: Classes,
+    pub board: Board,
+    pub runners: Vec<Runner>,
 }
 
-/// Opens a crew of these sizes for the family, and lets its runners make their turns as below. Its promises hold if it returns.
+/// Opens a crew of these sizes for the family, and lets its runners make their turns for so long, each in a thread of its own; a runner for which no
+/// thread can be made makes none and fails for lack of memory. Its promises hold if it returns.
 ///
 /// # Errors
 ///
 /// `Memory`, which gives the crew up.
-pub(crate) fn run_crew<R: Threads + Wait + Sync, G: Gate + Sync>(
+pub fn run_crew<R: Threads + Wait + Sync, G: Gate + Sync>(
     rt: &R,
     alloc: Global,
     family: Family,

@@ -26,7 +26,7 @@ use Rattle.dob_share.specs.declared.opening.Opening.{Opening}
 use Rattle.dob_node.specs.Openings.{AreOpenings}
 use Rattle.dob_node.specs.OpeningLists.{opening_value, opening_status}
 use Rattle.dob_node.proofs.Totals.{start_sums}
-use Rattle.dob_node.proofs.AloneOpens.{listed_opening}
+use Rattle.dob_node.proofs.Opens.{listed_opening}
 use Rattle.dob_node.proofs.Beginnings.{or_else, opened_value, opened_chained, opened_entries}
 
 -- items that are taken make a history that goes on

@@ -21,7 +21,7 @@ pub(crate) enum Attackers {
 
 /// The enemy lion's square, and who attacks it.
 #[derive(Clone, Copy)]
-pub(crate) struct Threat {
+pub struct Threat {
     pub(crate) lion: Square,
     pub(crate) attackers: Attackers,
 }
@@ -57,7 +57,7 @@ fn attackers_in(attackers: u16) -> Attackers
 
 impl Threat {
     /// Where the enemy lion stands, and who attacks it, after a move and before the board is turned.
-    pub(crate) fn of(after: &Setup) -> Threat
+    pub fn of(after: &Setup) -> Threat
         requires { IsSeenTurned IsLegal after.now }
         ensures { IsThreat after.now result }
     {
@@ -79,7 +79,7 @@ impl Threat {
 
     /// Whether a piece attacked the enemy lion before the move, so that it could have been caught: one that didn't move,
     /// or the one that did, from where it stood.
-    pub(crate) fn stood_before(&self, undo: &Undo) -> bool
+    pub fn stood_before(&self, undo: &Undo) -> bool
         ensures { result ≡ stood_before self.now undo.now }
     {
         match *undo {

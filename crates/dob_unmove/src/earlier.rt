@@ -1,92 +1,13 @@
-// The position before a move.
-ghost use Rattle.std.specs.Prelude.{◌≡◌, MatchOption};
-ghost use Rattle.dob_pieces.specs.declared.profile.Profile.TheVariants.{A};
-ghost use Rattle.dob_pieces.specs.Setups.{HasFewPieces, IsLegal};
-ghost use Rattle.dob_moves.specs.Statuses.{HasStatus};
-ghost use Rattle.dob_moves.specs.declared.position_status.Status.TheVariants.{Open};
-ghost use Rattle.dob_unmove.specs.Undoes.{CanGiveBack, CanUndo, without_caught, enemy_cell, may_give_back, earlier};
-ghost use Rattle.dob_unmove.specs.Unmoves.{IsOpenPosition};
-ghost use Rattle.dob_unmove.specs.Classes.{IsSeenTurned};
+// The piece that a move caught: where it stood before, and whose hand holds it now.
+ghost use Rattle.std.specs.Prelude.{◌≡◌};
+ghost use Rattle.dob_unmove.specs.Undoes.{CanGiveBack, without_caught, enemy_cell, may_give_back};
+ghost use Rattle.dob_unmove.specs.Walks.{holds_caught};
 
 use crate::undo::Undo;
-use dob_pieces::{Hand, HandKind, Hands, Kind, Piece, Position, Profile, Setup, Side, Square};
-
-/// The position before the move, where there was one, if by its status it would be open. In `after` the side that made
-/// the move is still the mover; seen from the other side it is a position. Taking a move back keeps the lions and the
-/// other pieces, so only the mover's lion on row 4 is left to be tested.
-pub(crate) fn open_before(after: &Setup, undo: Undo) -> Option<Position>
-    requires can { CanUndo after.now undo }
-    requires legal { IsSeenTurned IsLegal after.now }
-    requires was_open { HasStatus A (earlier after.now undo) Open }
-    ensures { MatchOption result (¬ IsOpenPosition (earlier after.now undo)) (λ p. (p.setup ≡ earlier after.now undo) × HasStatus A p.setup Open) }
-{
-    let setup = earlier(after, undo);
-    if setup.has_lion_off_far_row() {
-        Some(Position::new(setup))
-    } else {
-        None
-    }
-}
-
-// What stood and lay where before the move.
-fn earlier(after: &Setup, undo: Undo) -> Setup
-    requires can { CanUndo after.now undo }
-    requires few { HasFewPieces after.now }
-    ensures { result ≡ earlier after.now undo }
-{
-    match undo {
-        Undo::Unstep {
-            kind,
-            from,
-            to,
-            caught,
-        } => before_step(after, kind, from, to, caught),
-        Undo::Unput { kind, to } => before_put(after, kind, to),
-    }
-}
-
-// What stood and lay where before a step.
-#[tactic(auto, unfolding(crate::specs::Undoes::earlier))]
-fn before_step(after: &Setup, kind: Kind, from: Square, to: Square, caught: Option<Kind>) -> Setup
-    requires { CanGiveBack after.now.hands.mover caught }
-    ensures { result ≡ earlier after.now (Undo.Unstep kind from to caught) }
-{
-    let mut board = after.board;
-    board[to.index()] = enemy_cell(caught);
-    board[from.index()] = Some(Piece {
-        side: Side::Mover,
-        kind,
-    });
-    let mover = without_caught(after.hands.mover, caught);
-    Setup {
-        board,
-        hands: Hands {
-            mover,
-            enemy: after.hands.enemy,
-        },
-    }
-}
-
-// What stood and lay where before a drop.
-#[tactic(auto, using(crate::proofs::Undone::few_held), unfolding(crate::specs::Undoes::earlier))]
-fn before_put(after: &Setup, kind: HandKind, to: Square) -> Setup
-    requires { HasFewPieces after.now }
-    ensures { result ≡ earlier after.now (Undo.Unput kind to) }
-{
-    let mut board = after.board;
-    board[to.index()] = None;
-    let mover = after.hands.mover.with_one_more(kind);
-    Setup {
-        board,
-        hands: Hands {
-            mover,
-            enemy: after.hands.enemy,
-        },
-    }
-}
+use dob_pieces::{Hand, Kind, Piece, Profile, Side};
 
 /// Whether the profile lets the piece that was caught stand where it was: in profile B no chick on row 1.
-pub(crate) fn may_give_back(profile: Profile, undo: &Undo) -> bool
+pub fn may_give_back(profile: Profile, undo: &Undo) -> bool
     ensures { result ≡ may_give_back profile undo.now }
 {
     match undo {
@@ -95,8 +16,8 @@ pub(crate) fn may_give_back(profile: Profile, undo: &Undo) -> bool
     }
 }
 
-// An enemy piece of that kind, if there is one.
-fn enemy_cell(caught: Option<Kind>) -> Option<Piece>
+/// An enemy piece of that kind, if there is one.
+pub fn enemy_cell(caught: Option<Kind>) -> Option<Piece>
     ensures { result ≡ enemy_cell caught }
 {
     caught.map(|kind| Piece {
@@ -105,8 +26,8 @@ fn enemy_cell(caught: Option<Kind>) -> Option<Piece>
     })
 }
 
-// The hand without the piece that was caught, if there is one.
-pub(crate) fn without_caught(hand: Hand, caught: Option<Kind>) -> Hand
+/// The hand without the piece that was caught, if there is one.
+pub fn without_caught(hand: Hand, caught: Option<Kind>) -> Hand
     requires { CanGiveBack hand caught }
     ensures { result ≡ without_caught hand caught }
 {
@@ -116,5 +37,15 @@ pub(crate) fn without_caught(hand: Hand, caught: Option<Kind>) -> Hand
             None => hand,
             Some(taken) => hand.with_one_less(taken),
         },
+    }
+}
+
+/// Whether the hand holds what a caught piece of that kind became.
+pub fn holds_caught(hand: &Hand, caught: Kind) -> bool
+    ensures { result ≡ holds_caught hand.now caught }
+{
+    match caught.in_hand() {
+        None => false,
+        Some(taken) => hand.count(taken) > 0,
     }
 }

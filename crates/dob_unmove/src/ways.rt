@@ -11,7 +11,7 @@ ghost use Rattle.dob_unmove.specs.Ways.{is_home, comes_home, may_come, AreWays};
 ghost use Rattle.dob_unmove.specs.Walks.{holds_caught};
 
 use crate::attackers::{Attackers, Threat};
-use crate::walk::holds_caught;
+use crate::earlier::holds_caught;
 use dob_classes::Bitboards;
 use dob_pieces::{ALL_SQUARES, Kind, Masks, Setup, Square};
 

@@ -20,7 +20,7 @@ use Rattle.dob_node.specs.Openings.{AreOpenings}
 use Rattle.dob_node.specs.OpeningLists.{opening_value, opening_settlements, opening_status}
 use Rattle.dob_node.specs.Falls.{IsFirst}
 use Rattle.dob_node.proofs.Rises.{opened_first, fresh_within, falls_start}
-use Rattle.dob_node.proofs.AloneOpens.{listed_opening}
+use Rattle.dob_node.proofs.Opens.{listed_opening}
 use Rattle.dob_node.proofs.Beginnings.{or_else, closed_follows, opened_value, opened_chained, opened_entries}
 use Rattle.dob_safra.proofs.Quiet.{quiet}
 use Rattle.dob_node.proofs.Ends.{lawful_is_right}

@@ -2,14 +2,15 @@
 ghost use Rattle.std.specs.Prelude.{◌<◌};
 
 use crate::sets::classes_of;
-use dob_moves::{Move, count_moves, first_catch, moves, moves_into, plain, status};
+use dob_moves::{Move, count_moves, first_catch, moves, moves_into, status};
 use dob_pieces::{Memory, Position, Profile};
+use dob_plain::rules;
 use std::alloc::Global;
 use std::process::Abort;
 
 // Both programs say the same of the position, by the rules of each profile.
 fn agree_on(rt: &impl Abort, alloc: Global, position: &Position) -> Result<(), Memory> {
-    assert!(rt; first_catch(position) == plain::first_catch(position));
+    assert!(rt; first_catch(position) == rules::first_catch(position));
     agree_by(rt, alloc, Profile::A, position)?;
     agree_by(rt, alloc, Profile::B, position)
 }
@@ -21,8 +22,8 @@ fn agree_by(
     profile: Profile,
     position: &Position,
 ) -> Result<(), Memory> {
-    assert!(rt; status(profile, position) == plain::status(profile, position));
-    let expected = plain::moves(alloc, profile, position)?;
+    assert!(rt; status(profile, position) == rules::status(profile, position));
+    let expected = rules::moves(alloc, profile, position)?;
     let mut listed = moves(alloc, profile, position)?;
     has_moves(rt, profile, position, &listed, &expected);
     let found = moves_into(profile, &mut listed, position)?;

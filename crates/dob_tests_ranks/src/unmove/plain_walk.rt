@@ -3,7 +3,8 @@ ghost use Rattle.std.specs.Prelude.{◌<◌};
 
 use crate::sets::classes_of;
 use dob_pieces::Memory;
-use dob_unmove::{back_into, plain};
+use dob_plain::back;
+use dob_unmove::back_into;
 use std::alloc::Global;
 use std::process::Abort;
 
@@ -17,7 +18,7 @@ fn agree_on_set(rt: &impl Abort, alloc: Global, name: &str, stride: u64) -> Resu
     for class in 0..classes.class_count() {
         if class % stride == 0 {
             found = back_into(found, &classes, class)?;
-            expected = plain::back_into(expected, &classes, class)?;
+            expected = back::back_into(expected, &classes, class)?;
             assert!(rt; found.as_slice() == expected.as_slice(), "of {class}");
         }
     }
