@@ -12,9 +12,9 @@ ghost use Rattle.dob_run.specs.BuildEnd.{HaveStopped, AllKnow, IsFailure, IsFail
 use crate::bounded_run::{failure_at, find_failed, part_runners};
 use crate::built_table::Built;
 use crate::crew_close::{ClosedCrew, close_endpoints};
-use crate::gathering::{Gathered, gather};
 use dob_board::{Board, Halt};
 use dob_classes::Classes;
+use dob_gather::{Gathered, gather};
 use dob_node::Node;
 use dob_pieces::Memory;
 use dob_runner::Runner;
