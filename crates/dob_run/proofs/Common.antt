@@ -62,8 +62,8 @@ pub use Rattle.dob_runner.specs.declared.slots.Outlet.{Outlet}
 pub use Rattle.dob_runner.specs.declared.turn_loop.Until.{Until}
 pub use Rattle.dob_runner.specs.declared.turn_loop.Until.TheVariants.{Halted}
 pub use Rattle.dob_run.specs.CrewStops.{AreUnfailed, IsFirstFailed, IsUnheld, StopsSo}
-pub use Rattle.dob_run.specs.BuildEnd.{AllKnow, AreFailureless, AreOwners, AreShownBelow, HaveStopped, IsCodeShown, IsFailure, IsFailureOf, IsOwner}
-pub use Rattle.dob_run.specs.BuildEnd.{IsShownByOwner, share_in}
+pub use Rattle.dob_run.specs.BuildEnd.{AllKnow, AreFailureless, HaveStopped, IsFailure, IsFailureOf, share_in}
+pub use Rattle.dob_gather.specs.Owners.{AreOwners, AreShownBelow, IsOwner, IsShownByOwner}
 pub use Rattle.dob_run.specs.Built.{IsBuilt, IsLinkDone, edges_to, needed}
 pub use Rattle.dob_run.specs.CrewClose.{AreClosed, AreLinked, ArePartsOf, HasAdded, HasRowMore, IsCrew, end_in, ends_out, row_of, seat_in, slots_in, slots_out}
 pub use Rattle.dob_run.specs.CrewOpen.{AreNewEndpoints, IsNewEndpoint}
@@ -71,10 +71,8 @@ pub use Rattle.dob_run.specs.CrewRunners.{AreRunnersFor, IsNewCrew, IsRunnerOf, 
 pub use Rattle.dob_run.specs.CrewTurns.{AllSuit, AreLetOn, HasRun}
 pub use Rattle.dob_run.specs.Faults.{AreWithin, HasBuildFault, HasCrewFault, HasSizeFault}
 pub use Rattle.dob_run.specs.Finished.{AreFinished, AreShown, IsLawfulAt}
-pub use Rattle.dob_run.specs.Gathering.{IsTaken}
 pub use Rattle.dob_run.specs.InboxClose.{AreEnds, AreJoined, outlet_end, outlet_slot}
 pub use Rattle.dob_run.specs.Rows.{AreDealt, AreInOrder, AreRows, StandsAt}
-pub use Rattle.dob_run.specs.Scans.{AreFrom}
 pub use Rattle.dob_run.specs.Seating.{AreSeated, CanSeatAll}
 pub use Rattle.dob_run.specs.Started.{AreJoinable, IsEndOf, IsHandedOn, IsJoinable, IsStartOf}
 pub use Rattle.dob_run.specs.declared.built_table.Built.{Built}

@@ -14,7 +14,8 @@ use Rattle.dob_chan.specs.Ends.{IsEndOf}
 use Rattle.dob_run.specs.declared.limits.CrewSizes.{CrewSizes}
 use Rattle.dob_run.specs.Builds.{Builds, IsLeftByCrew}
 use Rattle.dob_run.specs.CrewSizes.{AreThese}
-use Rattle.dob_run.proofs.Places.{get_map, map_got}
+use Rattle.dob_gather.proofs.Found.{map_got}
+use Rattle.dob_run.proofs.Places.{get_map}
 use Rattle.dob_run.proofs.Inboxes.{count_is}
 use Rattle.dob_runner.specs.declared.turn_loop.Until.TheVariants as until
 

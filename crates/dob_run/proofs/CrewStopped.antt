@@ -7,11 +7,12 @@ use Rattle.dob_run.proofs.Common.{items_from, Cause, Fault, Stopped, below_owner
 use Rattle.dob_run.proofs.Common.{Closed, Halt, Ended, Failed, Running, IsRejoined, sent_by, taken_by, taken_of, IsLawfulInbox, Rejoined, applied_else}
 use Rattle.dob_run.proofs.Common.{applied_here, sums_by, parts, AreOut, CanHaveMade, KnowsRight, IsLawfulRunner, SendsRight, applied_from, items_worked}
 use Rattle.dob_run.proofs.Common.{own_applied, planned, offered, worked_from, held_from, in_slot, Endpoint, Runner, Inlet, Outlet, AreUnfailed, IsFirstFailed}
-use Rattle.dob_run.proofs.Common.{AllKnow, AreFailureless, AreOwners, AreShownBelow, HaveStopped, IsCodeShown, IsFailure, IsFailureOf, IsOwner, IsShownByOwner}
+use Rattle.dob_run.proofs.Common.{AllKnow, AreFailureless, AreOwners, AreShownBelow, HaveStopped, IsFailure, IsFailureOf, IsOwner, IsShownByOwner}
 use Rattle.dob_run.proofs.Common.{share_in, IsBuilt, IsLinkDone, needed, AreClosed, IsCrew, seat_in, endpoint_of, node_of, AreFinished, AreShown, IsLawfulAt}
-use Rattle.dob_run.proofs.Common.{AreFrom, Built, value_of_code, values_of_codes, predecessors}
+use Rattle.dob_run.proofs.Common.{Built, predecessors}
 use Rattle.dob_node.proofs.Kept.{last_now-entry}
-use Rattle.dob_run.proofs.Places.{map_got, get_map}
+use Rattle.dob_gather.proofs.Found.{map_got}
+use Rattle.dob_run.proofs.Places.{get_map}
 use Rattle.dob_moves.specs.declared.position_status.Status.{Status}
 use Rattle.dob_moves.specs.declared.position_status.Status.TheVariants.{Open}
 use Rattle.dob_share.specs.declared.opening.Opening.{Opening}
@@ -77,27 +78,6 @@ late_failure runners _ know first = absurd first
 -- a lawful runner's node owns its classes
 pub owner_is : (family : Family) (size n k : ℕ) (node : Node) (endpoint : Endpoint) → IsLawfulRunner family size node endpoint → node.id ≡ k → node.n ≡ n → IsOwner family n k node.share
 owner_is family size n k node endpoint law id_is n_is = grind (arith, last_now-entry)
-
--- what a class's owner shows is such a value as a table can have
-pub shown_entry : (family : Family) (shares : List Share) (class : ℕ) (value : Value) → 0 < length shares → AreOwners family (length shares) shares →
-    class < classes_of family → IsShownByOwner (length shares) shares class value → IsEntry value
-shown_entry family shares class value some owners low shown =
-    let owner = some_at shares (owner_of (length shares) class) (below_owner (length shares) class some) in
-    (owners (owner_of (length shares) class) owner.0 owner.1).entries class value low refl (shown owner.0 owner.1)
-
--- codes of what the nodes show are those of a table, and their values what the nodes show
-module _ (n count : ℕ) (shares : List Share) (codes : List ℕ) (are : AreFrom (IsCodeShown n shares) 0 count codes) where
-  pub codes_fit : All (λ (code : ℕ). code < 65536) codes
-  codes_fit = λ k d low. (are.each k (slice_index_or codes k d) (slice_get-get_or codes k d low)).0
-
-  pub values_shown : AreShownBelow n count shares (values_of_codes codes)
-  values_shown = record {
-    whole = omega (arith, length-map codes value_of_code, are.whole);
-    each = λ class value at.
-        let got = map_got value_of_code codes class value at in
-        let here : 0 + class ≡ class = omega arith in
-        subst (λ (p : ℕ × Value). IsShownByOwner n shares p.0 p.1) (λ i. (here i, got.2 i)) (are.each class got.0 got.1).1;
-  }
 
 -- ---- a crew that has come to its end holds the value table
 

@@ -7,7 +7,8 @@ use Rattle.dob_run.proofs.Common.{Rejoined, SendEnd, TakeEnd, each_after, offere
 use Rattle.dob_run.proofs.Common.{HasRowMore, IsCrew, end_in, ends_out, row_of, seat_in, slots_in, slots_out, AreNewEndpoints, AreEnds, AreJoined, outlet_end}
 use Rattle.dob_run.proofs.Common.{AreDealt, AreInOrder, AreRows, StandsAt, AreSeated, CanSeatAll, AreLaid, AreLaidUpto, AreOutlets, IsLaid, IsOneLaid}
 use Rattle.dob_run.proofs.Common.{IsUntaken}
-use Rattle.dob_run.proofs.Places.{HaveGone, behind, each_more, none_at, get_map, map_got}
+use Rattle.dob_gather.proofs.Found.{map_got}
+use Rattle.dob_run.proofs.Places.{HaveGone, behind, each_more, none_at, get_map}
 use Rattle.dob_chan.specs.Ends.{IsEndOf}
 use Rattle.dob_board.specs.declared.view.Stand.{Stand}
 use Rattle.dob_run.specs.declared.crew_close.Parts.{Parts}

@@ -1,7 +1,7 @@
 -- What stands where in a list, also after one thing more, after one was exchanged, and in a function of all its things.
 use Rattle.dob_run.proofs.Common.{◌++◌, ◌+◌, ◌-◌, ◌<◌, ◌∙◌, ◌∷◌, ◌≡◌, ◌≤◌, ◌⊎◌, List, Option, Some, [], ap, append_assoc, arith, inl, inr, length}
 use Rattle.dob_run.proofs.Common.{length-append, map, refl, subst, suc, sym, zero, ℕ, ⊎_elim, append-nil, same_Some, slice_get_within, AllZip, range_with_len}
-use Rattle.dob_run.proofs.Common.{slice_get, Vec, at_end, middle, as_many, each_is, BatchView, held_from, slot_row, AreRows, StandsAt, AreFrom}
+use Rattle.dob_run.proofs.Common.{slice_get, Vec, at_end, middle, as_many, each_is, BatchView, held_from, slot_row, AreRows, StandsAt}
 use Rattle.std.proofs.lemmas.List.FromFn.{map-range_with_len_more}
 
 pub none_at : {A L : Type 0} → (l : List A) (k : ℕ) (a : A) → l ≡ [] → slice_get l k ≡ Some a → L
@@ -35,12 +35,6 @@ pub get_map : {A B : Type 0} → (f : A → B) (xs : List A) (k : ℕ) (x : A) �
 get_map f [] k x e = absurd (cc)
 get_map f (y ∷ xs) zero x e = cc
 get_map f (y ∷ xs) (suc k) x e = get_map f xs k x e
-
--- what stands at a place of a function of all things is that of the thing there
-pub map_got : {A B : Type 0} → (f : A → B) (xs : List A) (k : ℕ) (y : B) → slice_get (map f xs) k ≡ Some y → (x : A) × (slice_get xs k ≡ Some x) × (f x ≡ y)
-map_got f [] k y e = absurd (cc)
-map_got f (x ∷ xs) zero y e = (x, refl, same_Some (f x) y e)
-map_got f (x ∷ xs) (suc k) y e = map_got f xs k y e
 
 pub one_longer : {A : Type 0} {more : List A} (l : List A) (a : A) → more ≡ l ++ a ∷ [] → length more ≡ length l + 1
 one_longer {A} {more} l a is = omega (arith, ap length is, length-append l (a ∷ []))
@@ -116,30 +110,3 @@ row_grows n slot slots next so_far is =
 pub behind : {A : Type 0} (xs ys : List A) (k : ℕ) → slice_get (xs ++ ys) (length xs + k) ≡ slice_get ys k
 behind [] ys k = let same : 0 + k ≡ k = omega arith in ap (slice_get ys) same
 behind (x ∷ xs) ys k = let same : length (x ∷ xs) + k ≡ suc (length xs + k) = omega arith in ap (slice_get (x ∷ (xs ++ ys))) same ∙ behind xs ys k
-
--- ---- what was found of each class, in the order of the classes
-
--- what stands in two lists joined stands in one of them
-at_either : {A : Type 0} → (xs ys : List A) (k : ℕ) (x : A) → slice_get (xs ++ ys) k ≡ Some x →
-    (slice_get xs k ≡ Some x) ⊎ ((j : ℕ) × (k ≡ length xs + j) × (slice_get ys j ≡ Some x))
-at_either [] ys k x e = inr (k, omega arith, e)
-at_either (y ∷ xs) ys zero x e = inl e
-at_either (y ∷ xs) ys (suc k) x e = ⊎_elim (λ l. inl l) (λ r. let place = r.1 in inr (r.0, omega arith, r.2)) (at_either xs ys k x e)
-
--- what the threads found of each class stands in the classes' order
-pub found_are : {X : Type 0} → (IsFound : ℕ → X → Type 0) (first upto : ℕ) (items : List X) → first ≤ upto →
-    AllZip IsFound (range_with_len first (upto - first)) items → AreFrom IsFound first upto items
-found_are IsFound first upto items order are = grind (arith, as_many, each_is)
-
--- what was found below a number, and from there on
-pub found_joined : {X : Type 0} → (IsFound : ℕ → X → Type 0) (begin first upto : ℕ) (before more : List X) → AreFrom IsFound begin first before →
-    AreFrom IsFound first upto more → AreFrom IsFound begin upto (before ++ more)
-found_joined IsFound begin first upto before more are next = record {
-  whole = omega (arith, length-append before more, are.whole, next.whole);
-  each = λ place item there. elim (at_either before more place item there) [
-    | inl earlier ↦ are.each place item earlier
-    | inr later ↦ (
-        let here : first + later.0 ≡ begin + place = omega (arith, are.whole, later.1) in
-        subst (λ (class : ℕ). IsFound class item) here (next.each later.0 item later.2))
-  ];
-}

@@ -4,14 +4,12 @@ pub mod InboxClose
 pub mod Faults
 pub mod Finished
 pub mod BuildEnd
-pub mod Gathering
 pub mod InboxOpen
 pub mod CrewRunners
 pub mod CrewSizes
 pub mod CrewTurns
 pub mod CrewOpen
 pub mod Rows
-pub mod Scans
 pub mod Seating
 pub mod Started
 pub mod CrewStops

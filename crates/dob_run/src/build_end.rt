@@ -11,9 +11,9 @@ ghost use Rattle.dob_run.specs.BuildEnd.{HaveStopped, AllKnow, IsFailure, IsFail
 
 use crate::built_table::Built;
 use crate::crew_close::{ClosedCrew, close_runners};
-use crate::gathering::{Gathered, gather};
 use dob_board::{Board, Halt};
 use dob_classes::Classes;
+use dob_gather::{Gathered, gather};
 use dob_node::{Cause, Node};
 use dob_pieces::Memory;
 use dob_runner::Runner;

@@ -17,7 +17,7 @@
 // - A runner that fails after the end was announced stops the build all the same: the others don't know what it would have done.
 // - A crew opens and closes by its endpoints (`open_endpoints`, `close_endpoints`). A crew that runs out of memory while it is closed is given up.
 // - Each node finds the openings of its own classes in its own task (`open_runner`), so that nothing is found one by one before the nodes open.
-// - A table is gathered in parts of 2^20 classes (`codes_of`), and the part before goes into its list and the digest of its file meanwhile (`Parts::next`). A build opens the classes of its family once, and its table takes them over.
+// - A build opens the classes of its family once, and its table takes them over (`dob_gather`).
 #![tactic(auto)]
 
 mod build;
@@ -25,14 +25,12 @@ mod build_end;
 mod built_table;
 mod crew_close;
 mod crew_open;
-mod gathering;
 mod handed;
 mod inbox_close;
 mod inbox_open;
 mod laws;
 mod limits;
 mod rows;
-mod scans;
 mod threads;
 
 pub use build::{build_by, run_nodes};
@@ -40,9 +38,9 @@ pub use build_end::{find_failed, finish};
 pub use built_table::Built;
 pub use crew_close::{ClosedCrew, close_runners};
 pub use crew_open::crew;
+pub use dob_gather::scan;
 pub use dob_runner::{Free, Gate, Runner};
 pub use dob_stops::Fault;
 pub use laws::finished_is_right;
 pub use limits::{BATCH, CAPACITY, CrewSizes};
-pub use scans::scan;
 pub use threads::{EndedCrew, run_crew};

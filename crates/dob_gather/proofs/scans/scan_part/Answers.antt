@@ -1,13 +1,13 @@
 -- The threads go over each class number of the part, and the list has the opening of each, in order.
-use Rattle.dob_run.proofs.Common.{◌-◌, ◌<◌, ◌∙◌, List, arith, subst, sym, ℕ, AllZip, range_with_len, classes_of}
+use Rattle.dob_gather.proofs.Common.{◌-◌, ◌<◌, ◌∙◌, List, arith, subst, sym, ℕ, AllZip, range_with_len, classes_of}
 use Rattle.rayon.specs.Numbers.{nat_range}
 use Rattle.rayon.proofs.ToStd.{nat_range-All}
 use Rattle.dob_rank.specs.Families.{class_setup}
 use Rattle.dob_share.specs.declared.opening.Opening.{Opening}
 use Rattle.dob_node.specs.Openings.{IsOpening}
-use Rattle.dob_run.specs.Scans.{AreOpeningsFrom}
-use Rattle.dob_run.proofs.Places.{found_are}
-use Rattle.dob_run.proofs.scans.scan_part.Goals as goal
+use Rattle.dob_gather.specs.Scans.{AreOpeningsFrom}
+use Rattle.dob_gather.proofs.Found.{found_are}
+use Rattle.dob_gather.proofs.scans.scan_part.Goals as goal
 
 pub collect-requires-clause-ready : goal.collect-requires-clause-ready
 collect-requires-clause-ready g c = λ κs lives.

@@ -1,7 +1,7 @@
 -- The owner stands at its place.
-use Rattle.dob_run.proofs.Common.{◌∙◌, ◌≡◌, Some, length, subst, sym, ℕ, same_Some, slice_get, read_there, owner_of, HasValueNow, Share}
-use Rattle.dob_run.proofs.gathering.value_of.Goals as goal
-use Rattle.dob_run.proofs.gathering.value_of.Goals.{After-index-shares-node}
+use Rattle.dob_gather.proofs.Common.{◌∙◌, ◌≡◌, Some, length, subst, sym, ℕ, same_Some, slice_get, read_there, owner_of, HasValueNow, Share}
+use Rattle.dob_gather.proofs.gathering.value_of.Goals as goal
+use Rattle.dob_gather.proofs.gathering.value_of.Goals.{After-index-shares-node}
 
 there : (c : After-index-shares-node) → slice_get c.args.shares.now (owner_of (length c.args.shares.now) c.args.class) ≡ Some c.index-shares-node.result
 there c = subst (λ (m : ℕ). slice_get c.args.shares.now m ≡ Some c.index-shares-node.result) c.owner-node.ensures.owner

@@ -1,9 +1,9 @@
 -- The threads go over each class number of the part, and the list has the code of each, in order.
-use Rattle.dob_run.proofs.Common.{◌-◌, ◌<◌, ◌∙◌, List, arith, length, subst, sym, ℕ, AllZip, range_with_len, classes_of, IsCodeShown, AreFrom}
+use Rattle.dob_gather.proofs.Common.{◌-◌, ◌<◌, ◌∙◌, List, arith, length, subst, sym, ℕ, AllZip, range_with_len, classes_of, IsCodeShown, AreFrom}
 use Rattle.rayon.specs.Numbers.{nat_range}
 use Rattle.rayon.proofs.ToStd.{nat_range-All}
-use Rattle.dob_run.proofs.Places.{found_are}
-use Rattle.dob_run.proofs.gathering.codes_of.Goals as goal
+use Rattle.dob_gather.proofs.Found.{found_are}
+use Rattle.dob_gather.proofs.gathering.codes_of.Goals as goal
 
 pub collect-requires-clause-ready : goal.collect-requires-clause-ready
 collect-requires-clause-ready g c = λ κs lives.

@@ -2,7 +2,7 @@
 ghost use Rattle.std.specs.Prelude.{◌<◌, ◌≤◌, IfOk};
 ghost use Rattle.dob_rank.specs.Families.{class_setup, classes_of};
 ghost use Rattle.dob_node.specs.Openings.{IsOpening, AreOpenings};
-ghost use Rattle.dob_run.specs.Scans.{AreOpeningsFrom};
+ghost use Rattle.dob_gather.specs.Scans.{AreOpeningsFrom};
 
 use crate::gathering::AT_A_TIME;
 use dob_classes::Classes;

@@ -1,6 +1,6 @@
 -- What joins the list is what the digest takes.
-use Rattle.dob_run.proofs.Common.{subst, sym, HasTaken}
-use Rattle.dob_run.proofs.gathering.Taken.with.Goals as goal
+use Rattle.dob_gather.proofs.Common.{subst, sym, HasTaken}
+use Rattle.dob_gather.proofs.gathering.Taken.with.Goals as goal
 
 pub returns-clause-taken : goal.returns-clause-taken
 returns-clause-taken c = λ family count taken.

@@ -1,11 +1,11 @@
 -- Part after part is taken, of which each code is that of the value that its class's owner shows, and the digest has taken all of them.
-use Rattle.dob_run.proofs.Common.{◌++◌, ◌∙◌, ◌≡◌, List, ap, arith, length, subst, sym, ℕ, classes_of, ClassTable, AreShownBelow, IsCodeShown, AreFrom}
-use Rattle.dob_run.proofs.Common.{HasTaken, values_of_codes}
+use Rattle.dob_gather.proofs.Common.{◌++◌, ◌∙◌, ◌≡◌, List, ap, arith, length, subst, sym, ℕ, classes_of, ClassTable, AreShownBelow, IsCodeShown, AreFrom}
+use Rattle.dob_gather.proofs.Common.{HasTaken, values_of_codes}
 use Rattle.dob_dbfile.specs.Format.{digest_of}
-use Rattle.dob_run.proofs.Places.{found_joined}
-use Rattle.dob_run.proofs.CrewStopped.{codes_fit, values_shown}
-use Rattle.dob_run.proofs.gathering.gather.Goals as goal
-use Rattle.dob_run.proofs.gathering.gather.Goals.{In_ok-codes}
+use Rattle.dob_gather.proofs.Found.{found_joined}
+use Rattle.dob_gather.proofs.Found.{codes_fit, values_shown}
+use Rattle.dob_gather.proofs.gathering.gather.Goals as goal
+use Rattle.dob_gather.proofs.gathering.gather.Goals.{In_ok-codes}
 
 pub codes_of-requires-clause-owned : goal.codes_of-requires-clause-owned
 codes_of-requires-clause-owned g c = λ κs lives. (c.args.classes.family, omega (arith, c.min-class.ensures, c.class_count-count.ensures.number), c.requires.owners)

@@ -7,8 +7,8 @@ ghost use Rattle.dob_share.specs.declared.share.Share.{Share as Shower};
 ghost use Rattle.dob_share.specs.Owners.{owner_of};
 ghost use Rattle.dob_share.specs.Shares.{IsOwn};
 ghost use Rattle.dob_dbfile.specs.Format.{digest_of};
-ghost use Rattle.dob_run.specs.BuildEnd.{AreOwners, IsShownByOwner, IsCodeShown, AreShownBelow};
-ghost use Rattle.dob_run.specs.Scans.{AreFrom};
+ghost use Rattle.dob_gather.specs.Owners.{AreOwners, IsShownByOwner, IsCodeShown, AreShownBelow};
+ghost use Rattle.dob_gather.specs.Scans.{AreFrom};
 
 use dob_classes::Classes;
 use dob_dbfile::FileHasher;
@@ -27,9 +27,9 @@ pub(crate) const AT_A_TIME: u64 = 1 << 20;
 
 /// A table with the digest of its file.
 #[derive(Drop)]
-pub(crate) struct Gathered {
-    pub(crate) table: Table,
-    pub(crate) digest: [u8; 32],
+pub struct Gathered {
+    pub table: Table,
+    pub digest: [u8; 32],
     ghost digested: { digest ≡ digest_of table },
 }
 
@@ -52,7 +52,7 @@ struct Parts {
 /// # Errors
 ///
 /// `Memory`.
-pub(crate) fn gather(
+pub fn gather(
     rt: &(impl Threads + Sync),
     alloc: Global,
     classes: Classes,
@@ -83,7 +83,7 @@ pub(crate) fn gather(
 
 impl Taken {
     ghost use Rattle.dob_pieces.specs.declared.profile.Family.{Family as Known};
-    ghost use Rattle.dob_run.specs.Gathering.{IsTaken};
+    ghost use Rattle.dob_gather.specs.Gathering.{IsTaken};
     ghost use Rattle.std.specs.Prelude.{[]};
 
     // No code is taken yet of a table of the family, which has `count` classes.
@@ -110,7 +110,7 @@ impl Taken {
 
 impl Parts {
     ghost use Rattle.dob_pieces.specs.declared.profile.Family.{Family as Known};
-    ghost use Rattle.dob_run.specs.Gathering.{IsTaken, Takes};
+    ghost use Rattle.dob_gather.specs.Gathering.{IsTaken, Takes};
 
     // Takes the part that is gathered, while threads gather the next one: the codes of the classes from `first` on, before `end`.
     fn next(

@@ -3,7 +3,7 @@ use Rattle.std.specs.Prelude.{◌≡◌, ℕ, List, ◌++◌, Result, IfOk}
 use Rattle.dob_pieces.specs.declared.profile.Family.{Family}
 use Rattle.dob_pieces.specs.declared.memory.Memory.{Memory}
 use Rattle.dob_dbfile.specs.Digests.{HasTaken}
-use Rattle.dob_run.specs.declared.gathering.Taken.{Taken}
+use Rattle.dob_gather.specs.declared.gathering.Taken.{Taken}
 
 -- the digest of a file of so many classes of the family has taken the codes that are listed
 abbrev pub IsTaken : Family → ℕ → Taken → Type 0

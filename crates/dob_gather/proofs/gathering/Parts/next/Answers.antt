@@ -1,8 +1,8 @@
 -- The thread beside took the part.
-use Rattle.dob_run.proofs.Common.{Result, subst, IfOk, IsTaken}
+use Rattle.dob_gather.proofs.Common.{Result, subst, IfOk, IsTaken}
 use Rattle.dob_pieces.specs.declared.memory.Memory.{Memory}
-use Rattle.dob_run.specs.declared.gathering.Taken.{Taken}
-use Rattle.dob_run.proofs.gathering.Parts.next.Goals as goal
+use Rattle.dob_gather.specs.declared.gathering.Taken.{Taken}
+use Rattle.dob_gather.proofs.gathering.Parts.next.Goals as goal
 
 pub returns-clause-taken : goal.returns-clause-taken
 returns-clause-taken g c = λ family count taken.

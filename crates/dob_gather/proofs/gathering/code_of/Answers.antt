@@ -1,7 +1,7 @@
 -- The owner shows an entry, whose code stands for it.
-use Rattle.dob_run.proofs.Common.{length, refl, subst, sym, Value, IsShownByOwner}
-use Rattle.dob_run.proofs.CrewStopped.{shown_entry}
-use Rattle.dob_run.proofs.gathering.code_of.Goals as goal
+use Rattle.dob_gather.proofs.Common.{length, refl, subst, sym, Value, IsShownByOwner}
+use Rattle.dob_gather.proofs.Found.{shown_entry}
+use Rattle.dob_gather.proofs.gathering.code_of.Goals as goal
 
 pub value_of-requires-clause-own : goal.value_of-requires-clause-own
 value_of-requires-clause-own c = λ share at. (c.requires.owned.2 _ share at).own c.args.class c.requires.owned.1 refl

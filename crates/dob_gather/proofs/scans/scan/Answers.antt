@@ -1,10 +1,10 @@
 -- Part after part joins the list.
-use Rattle.dob_run.proofs.Common.{◌≡◌, ◌+◌, ◌++◌, ◌∙◌, ap, arith, subst, sym, ℕ, classes_of}
+use Rattle.dob_gather.proofs.Common.{◌≡◌, ◌+◌, ◌++◌, ◌∙◌, ap, arith, subst, sym, ℕ, classes_of}
 use Rattle.dob_rank.specs.Families.{class_setup}
 use Rattle.dob_node.specs.Openings.{IsOpening}
-use Rattle.dob_run.specs.Scans.{AreOpeningsFrom}
-use Rattle.dob_run.proofs.Places.{found_joined}
-use Rattle.dob_run.proofs.scans.scan.Goals as goal
+use Rattle.dob_gather.specs.Scans.{AreOpeningsFrom}
+use Rattle.dob_gather.proofs.Found.{found_joined}
+use Rattle.dob_gather.proofs.scans.scan.Goals as goal
 
 pub parts-init : goal.parts-init
 parts-init g c = (

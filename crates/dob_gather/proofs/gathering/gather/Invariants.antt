@@ -1,6 +1,6 @@
 -- The codes that are taken, with those of the part, are those of the classes so far; fewer are left each time.
-use Rattle.dob_run.proofs.Common.{◌++◌, ◌-◌, ◌≤◌, length, IsCodeShown, IsTaken, AreFrom}
-use Rattle.dob_run.proofs.gathering.gather.Given as goal
+use Rattle.dob_gather.proofs.Common.{◌++◌, ◌-◌, ◌≤◌, length, IsCodeShown, IsTaken, AreFrom}
+use Rattle.dob_gather.proofs.gathering.gather.Given as goal
 
 abbrev pub invariant-parts : goal.invariant-parts
 invariant-parts g l =
