@@ -135,6 +135,23 @@ rm -f "$work/mode.db"
 (umask 027; "$program" build --set 000 --nodes 2 --out "$work/mode.db") >"$work/out" 2>&1 || same=no
 [ "$(stat -c %a "$work/mode.db")" = 640 ] || same=no
 note "a rebuilt file keeps its mode, and a new one has that of the shell: $(stat -c %a "$work/mode.db")" "$same"
+# the part never has a wider mode than the file will have, whatever the shell allows: it is opened with that mode, and given no other
+if command -v strace >/dev/null && strace -qq -o "$work/calls" true 2>/dev/null; then
+    same=yes
+    for mode in 600 640 444; do
+        cp testdata/one_chick.db "$work/mode.db"
+        chmod "$mode" "$work/mode.db"
+        (umask 0; strace -f -qq -e trace=open,openat,creat,chmod,fchmod,fchmodat -o "$work/calls" \
+            "$program" build --set 000 --nodes 2 --out "$work/mode.db") >"$work/out" 2>&1 || same=no
+        made="$(grep 'mode\.db\.part.*O_CREAT' "$work/calls" | grep -c "O_EXCL.*, 0$mode)")"
+        [ "$made" = 1 ] && [ "$(grep -c 'O_CREAT' "$work/calls")" = 1 ] || same=no
+        ! grep 'chmod' "$work/calls" | grep -qv ", 0$mode)" || same=no
+        [ "$(stat -c %a "$work/mode.db")" = "$mode" ] || same=no
+    done
+    note "the part of a file is opened with the mode of that file: $(grep 'O_CREAT' "$work/calls" | head -c 80)" "$same"
+else
+    echo 'Not run: the mode with which a part is opened, since no strace is here.'
+fi
 # standard streams that are closed lead nowhere: no file that is opened takes their numbers
 same=yes
 "$program" build --set 000 --nodes 2 --progress --out "$work/silent.db" 2>&- >"$work/out" || same=no
