@@ -93,7 +93,8 @@ globalThis.Acts = (() => {
   // ---- what the page shows once it waits for nothing, against what the open files say of its position
 
   // The value and the moves as they are shown, each move with its value.
-  const shown = () => [element("value").firstChild.textContent, ...all("#moves button").map((it) => `${it.ariaLabel.split(", ")[0]} ${it.querySelector(".told")?.textContent ?? ""}`)];
+  const shownMove = (it) => `${it.ariaLabel.split(", ")[0]} ${it.querySelector(".told")?.textContent ?? ""}`;
+  const shown = () => [element("value").firstChild.textContent, ...all("#moves button").map(shownMove)];
   async function wanted(held) {
     const { position, side, isOver } = Game.now(), { profile } = Game.state, { isHidden, inMoves } = View.options;
     if (isOver || !Core.isAllowed(profile, position)) return [""];
@@ -101,8 +102,9 @@ globalThis.Acts = (() => {
     await held.settle(0);
     const found = await looked, plain = Game.moves().moves.map((move) => `${Game.moveText(position, move, side)} `);
     if (!found || isHidden) return ["", ...plain];
-    const told = ({ value, reply }) => (!value ? "" : reply ? Texts.text("replied", Game.moveText(reply.position, reply.move, 1 - side), Texts.value(value, inMoves)) : Texts.value(value, inMoves));
-    return [found.value.kind === "unknown" ? "" : Texts.value(found.value, inMoves), ...found.moves.map((it) => `${Game.moveText(position, it.move, side)} ${told(it)}`)];
+    const said = (value) => (!value || value.kind === "unknown" ? "" : Texts.value(value, inMoves));
+    const told = ({ value, reply }) => (reply ? Texts.text("replied", Game.moveText(reply.position, reply.move, 1 - side), said(value)) : said(value));
+    return [said(found.value), ...found.moves.map((it) => `${Game.moveText(position, it.move, side)} ${told(it)}`)];
   }
   // What is shown and isn't so, or nothing.
   async function differs(held) {

@@ -15,7 +15,8 @@ globalThis.Held = class {
 
   // Holds from now on; `draw` gives numbers below one for what comes when, `random` those that the page draws itself.
   constructor(draw, random) {
-    const held = this, timer = (isEvery) => (act, wait = 0) => held.#begin(act, wait, isEvery), end = (number) => held.#timers.delete(number) || held.#real.clearTimeout.call(globalThis, number);
+    const held = this, timer = (isEvery) => (act, wait = 0) => held.#begin(act, wait, isEvery);
+    const end = (number) => held.#timers.delete(number) || held.#real.clearTimeout.call(globalThis, number);
     const later = (call) => function (...about) { return held.#later(call.apply(this, about)); };
     this.#draw = draw;
     Object.assign(globalThis, { setTimeout: timer(false), setInterval: timer(true), clearTimeout: end, clearInterval: end, Worker: this.#worker() });

@@ -2,11 +2,12 @@
 """Tests the page in headless Chromium, offline: page/test/page_test.py PAGE PROGRAM [--firefox] [--jobs N] [--until-failure] [--seconds] [TOPIC[/PART]..]
 
 Expected values come from the program `dobutsu`, of small files that it builds, and expected texts stand in the tests. A topic is a module here with a
-dictionary PARTS; `--list` in place of the page prints topics and parts. `told/short` is `told/values` with few positions, and is left out where it isn't
-named; `lasting/acts_4` and further seeds too. With `--firefox` the browser is Firefox, by default with the parts that need no call of Chromium's own. N browsers work side by side, by default one for
-each processor; the next part goes to the next one that is free. With `--until-failure` the parts that are named come first, then all others, up to the first
-one that counts a failure, in one browser. `--seconds` tells how long each took. Prints a line for each failure, the engine that the page uses, and last `N passed, M failed`; the status is 0 where
-none failed. DOBUTSU_FILES may name a folder in which built files are kept, DOBUTSU_WAIT the seconds until a test gives up waiting (60).
+dictionary PARTS; `--list` in place of the page prints topics and parts. Some parts are left out where they aren't named: `told/short`, which is `told/values`
+with few positions, and `lasting/acts_4` and further seeds. With `--firefox` the browser is Firefox, by default with the parts that need no call of Chromium's
+own. N browsers work side by side, by default one for each processor; the next part goes to the next one that is free. With `--until-failure` the parts that
+are named come first, then all others, up to the first one that counts a failure, in one browser. `--seconds` tells how long each part took. Prints a line for
+each failure, the engine that the page uses, and last `N passed, M failed`; the status is 0 where none failed. DOBUTSU_FILES may name a folder in which built
+files are kept, DOBUTSU_WAIT the seconds until a test gives up waiting (60).
 """
 import argparse
 import multiprocessing
@@ -47,11 +48,12 @@ TOPICS = {
 
 # The parts that Firefox runs where none is named: the others ask Chromium's own calls for fingers, paper, contrasts and the log.
 IN_FIREFOX = ["told/short", "words", "opening/dropped", "opening/starts", "opening/format_1", "opening/late", "opening/rules", "certificates/beside", "certificates/claims",
-              "certificates/solution", "certificates/bounds", "certificates/unlisted", "certificates/wrong", "classroom/score", "classroom/judged", "classroom/practice",
+              "certificates/solution", "certificates/bounds", "certificates/unlisted", "certificates/whole_A", "certificates/wrong", "classroom/score", "classroom/judged", "classroom/practice",
               "classroom/longer", "classroom/closed", "faults/files", "faults/records", "handling/twelve", "handling/edges", "handling/letters", "lasting", "layout/filled"]
 
 # The parts that take longest, which come first, so that no browser works on alone at the end.
-LONG = []
+LONG = [("certificates", "whole_A"), ("certificates", "whole_B"), ("lasting", "acts_1"), ("lasting", "acts_2"), ("lasting", "acts_3"), ("told", "values"), ("lasting", "same"),
+        ("classroom", "evenly"), ("certificates", "mutated"), ("opening", "large")]
 
 
 def parts_of(names):
@@ -132,8 +134,10 @@ def main():
         words.error("the page and the program are needed")
     stops, names = given.until_failure, given.parts or (IN_FIREFOX if given.firefox else [])
     chosen = list(dict.fromkeys([*(parts_of(names) if names or not stops else ()), *(parts_of(()) if stops else ())]))
+    if not stops:
+        chosen.sort(key=lambda it: it not in LONG)
     with tempfile.TemporaryDirectory() as folder:
-        passed, failed = Run(given).test(chosen if stops else sorted(chosen, key=lambda it: it not in LONG), os.environ.get("DOBUTSU_FILES", folder), 1 if stops else given.jobs)
+        passed, failed = Run(given).test(chosen, os.environ.get("DOBUTSU_FILES", folder), 1 if stops else given.jobs)
     print(f"{passed} passed, {failed} failed")
     return failed > 0
 
