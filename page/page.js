@@ -232,10 +232,13 @@
     const { profile, start } = Game.state;
     let position = Core.readPosition(start);
     for (const ply of line) {
-      const table = Game.isMove(profile, position, ply.move) ? Files.tableFor(profile, position) : null; // by rules B a move of rules A may be none
-      const judged = ply.judgedBy === table ? ply.judged : table && await Answers.judge(table, Game.engine(), position, ply.move);
-      if (isLate()) return;
-      Object.assign(ply, { judged, judgedBy: table });
+      const table = Files.tableFor(profile, position);
+      if (ply.judgedBy !== table) {
+        const isKnown = table && Game.isMove(profile, position, ply.move); // by rules B a move of rules A may be none
+        const judged = isKnown ? await Answers.judge(table, Game.engine(), position, ply.move) : null;
+        if (isLate()) return;
+        Object.assign(ply, { judged, judgedBy: table });
+      }
       ({ position } = ply);
     }
   }

@@ -107,7 +107,7 @@ def rules(checks, screen, program):
     value = program.values(program.build("100", "B"), [text])[0]
     checks.expect("a drop that is none by rules B has no value by them", [screen.value(), screen.marks(), went_wrong()], [value, [""], ""])
     screen.press("redo")
-    screen.browser.click("[data-square='2']")  # the lion of the side to move
+    screen.browser.click("[data-square='11']")  # the lion of the side to move
     found = [screen.value(), screen.moves(), screen.seen("squares", ".target"), went_wrong()]
     checks.expect("and no move goes on from it", found, ["", [], [], ""])
 
