@@ -12,7 +12,9 @@ const Exercise = (() => {
   let right = 0, asked = 0, turn = 0;
 
   const table = () => Files.withRecords()[element("exercise-file").selectedIndex] || Files.withRecords().pop();
-  const isAsked = () => !!open && !open.isSolved && Game.state.start === open.start && Game.state.cursor === 0 && !Setup.isOn();
+  // An exercise is of its position by its file's rules: by other ones another move may be the right one, and another file may judge it, or none.
+  const isOnBoard = () => !!open && Game.state.start === open.start && Game.state.profile === open.from.profile;
+  const isAsked = () => isOnBoard() && !open.isSolved && Game.state.cursor === 0 && !Setup.isOn();
 
   function fill(select, names, values) {
     const { value } = select;
@@ -94,11 +96,12 @@ const Exercise = (() => {
     count();
     open = null;
   }
-  // A file that is closed ends its exercise, which counts for nothing then, and what is drawn of it.
+  // A file that is closed ends its exercise, which counts for nothing then, and what is drawn of it; so it is with one that was opened in its place.
   function end(file) {
+    const isOf = (from) => !!from && from.key === file.key;
     known.delete(file);
-    if (open && open.from === file) open = null;
-    if (drawing === file) {
+    if (open && isOf(open.from)) open = null;
+    if (isOf(drawing)) {
       turn++;
       drawing = notice = null;
     }
@@ -125,7 +128,7 @@ const Exercise = (() => {
   const told = () => (open.verdict ? open.verdict() : task());
 
   function draw() {
-    if (open && Game.state.start !== open.start && notice !== "drawing") open = null;
+    if (!isOnBoard() && notice !== "drawing") open = null;
     const isThere = !!open && notice !== "drawing";
     element("task").textContent = isThere ? task() : notice ? text(notice) : table() ? "" : text("needFile");
     element("verdict").textContent = isThere && open.verdict ? open.verdict() : "";

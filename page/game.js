@@ -12,7 +12,9 @@ const Game = (() => {
   let engine = Core.engine;
 
   const now = () => (state.cursor ? state.plies[state.cursor - 1] : { position: Core.readPosition(state.start), side: state.side, isOver: false });
-  const moves = () => (now().isOver ? { status: "over", moves: [] } : engine.moves(state.profile, now().position));
+  // A position that a game by rules A came to may be none by rules B: then it has no moves.
+  const movesOf = (profile, position) => (Core.isAllowed(profile, position) ? engine.moves(profile, position) : { status: "none", moves: [] });
+  const moves = () => (now().isOver ? { status: "over", moves: [] } : movesOf(state.profile, now().position));
   // The text of a move of a position in which that side moves.
   const moveText = (position, move, side) => engine.moveText(state.profile, position, move, side === 1);
   const textOf = (move) => moveText(now().position, move, now().side);
@@ -22,6 +24,7 @@ const Game = (() => {
     Object.assign(state, { start: text, side, plies: [], cursor: 0, lines: [] });
   }
   const isSame = (a, b) => a.letter === b.letter && a.from === b.from && a.to === b.to;
+  const isMove = (profile, position, move) => movesOf(profile, position).moves.some((it) => isSame(it, move));
   const isBeginning = (line, other) => line.length <= other.length && line.every((ply, i) => ply === other[i]);
   // Puts a line on the board. The one that was there is kept, unless the new one goes on from it.
   function take(line) {
@@ -70,7 +73,7 @@ const Game = (() => {
   }
 
   return {
-    START, state, now, moves, moveText, textOf, load, play, take, goTo, startOf, address, readAddress,
+    START, state, now, moves, isMove, moveText, textOf, load, play, take, goTo, startOf, address, readAddress,
     engine: () => engine, useEngine: (it) => { engine = it; },
   };
 })();

@@ -107,7 +107,7 @@
       if (!tried) return;
       chosen = null;
       if (!Exercise.judge({ move, text: Game.textOf(move), value: tried.value })) {
-        View.tellNone(Exercise.told());
+        if (options.isHidden) View.tellNone(Exercise.told());
         return drawBoard();
       }
       Settings.hideValues(false);
@@ -233,9 +233,12 @@
     let position = Core.readPosition(start);
     for (const ply of line) {
       const table = Files.tableFor(profile, position);
-      if (ply.judgedBy !== table) ply.judged = table && await Answers.judge(table, Game.engine(), position, ply.move);
-      ply.judgedBy = table;
-      if (isLate()) return;
+      if (ply.judgedBy !== table) {
+        const isKnown = table && Game.isMove(profile, position, ply.move); // by rules B a move of rules A may be none
+        const judged = isKnown ? await Answers.judge(table, Game.engine(), position, ply.move) : null;
+        if (isLate()) return;
+        Object.assign(ply, { judged, judgedBy: table });
+      }
       ({ position } = ply);
     }
   }
@@ -248,7 +251,7 @@
   }
   async function tellLine(table, position, side, isLate) {
     if (found.value.kind === "draw") return tellNoLine(text("drawLine"));
-    const drawn = Fence.around("line", (it) => View.drawLine(it, side, ofThisTurn(Fence.around("line", playSteps))));
+    const play = ofThisTurn(Fence.around("line", playSteps)), drawn = Fence.around("line", (it) => { if (!isLate()) View.drawLine(it, side, play); });
     const best = await Answers.bestLine(table, Game.engine(), position, isLate, drawn);
     if (!best || isLate()) return;
     line = best;
@@ -257,8 +260,7 @@
   }
   async function refresh() {
     const mine = ++turn, isLate = () => mine !== turn;
-    clearTimeout(replying);
-    clearTimeout(slow);
+    for (const timer of [replying, slow, playing]) clearTimeout(timer); // a line that is played out goes on behind this
     slow = setTimeout(() => { drawMoves([]); tellNothing(text("looking")); }, SLOW);
     document.documentElement.dataset.busy = "1";
     found = line = null;
@@ -271,7 +273,9 @@
       if (Setup.isOn() && unfit) throw unfit;
       writePosition();
       await tell(isLate);
-      if (!isLate()) await judgePlayed(isLate);
+      if (isLate()) return;
+      clearTimeout(slow); // what was told stays, however long the moves before it are looked up
+      await judgePlayed(isLate);
     } catch (fault) {
       if (!isLate()) { drawMoves([]); tellNothing(Setup.isOn() ? text("noPosition") : Texts.wrong(fault)); }
     }
@@ -353,6 +357,15 @@
       Game.load(Core.writePosition(position), Setup.board().side);
     } catch (fault) { unfit = fault; }
     refresh();
+  }
+  // Goes over to other rules: what is practised or played out ends, since another move may be the best one by them.
+  function chooseRules() {
+    Game.state.profile = element("rules").value;
+    stopPlaying();
+    Practice.stop();
+    chosen = null;
+    if (Setup.isOn()) setUpChanged();
+    else refresh();
   }
   function toggleSetUp() {
     if (element("edit").disabled) return;
@@ -493,7 +506,7 @@
     on(element("text"), "blur", "position", leaveText);
     on(element("file"), "change", "open", async () => { await openFiles([...element("file").files]); element("file").value = ""; });
     on(element("exercise-file"), "change", "exercise", () => Exercise.offer());
-    on(element("rules"), "change", "rules", () => { Game.state.profile = element("rules").value; if (Setup.isOn()) setUpChanged(); else refresh(); });
+    on(element("rules"), "change", "rules", chooseRules);
     on(document, "keydown", "letterKeys", pressed);
     addEventListener("afterprint", endSheet);
     on(window, "hashchange", "link", () => { if (location.hash !== written) readAddress(location.hash); });

@@ -25,13 +25,13 @@ const Worksheet = (() => {
   // Whether two positions, or one and the other's mirror image, differ in one piece at most.
   const areAlike = (a, b) => differences(a, b) < 2 || differences(a, Core.mirrored(b)) < 2;
 
-  // Up to so many exercises { position, move } of that length, no two of them alike.
+  // Up to so many exercises { position, move, words } of that length, no two of them alike; the words are the move's text by the file's rules.
   async function drawSome(table, engine, plies, number) {
     const drawn = [], isNew = (position) => drawn.every((it) => !areAlike(position, it.position));
     while (drawn.length < number) {
       const found = await Answers.drawExercise(table, engine, plies, () => false, isNew);
       if (!found) break;
-      drawn.push(found);
+      drawn.push({ ...found, words: engine.moveText(table.profile, found.position, found.move, false) });
     }
     return drawn;
   }
@@ -67,7 +67,7 @@ const Worksheet = (() => {
   }
   // Draws what was drawn of so many that were asked for; where they are fewer the sheet says so.
   function draw(drawn, plies, asked, isApart) {
-    const answers = drawn.map(({ position, move }, i) => `${i + 1}. ${Game.moveText(position, move, 0)}`).join("   ");
+    const answers = drawn.map(({ words }, i) => `${i + 1}. ${words}`).join("   ");
     const fewer = drawn.length < asked ? [node("p", "sheet-fewer", text("sheetFewer", drawn.length, asked))] : [];
     element("sheet").className = drawn.length > LARGE ? "many" : "";
     element("sheet").replaceChildren(

@@ -151,7 +151,9 @@ def needed(path, root):
 
 def bounds(checks, screen, program):
     """Bounds aren't values: no move is called the best by them, a line by a certificate isn't called best play, and tags say so."""
+    screen.js("window.checked = Certificates.limits.checked; Certificates.limits.checked = 10")  # whole_game has it checked, which takes a minute
     screen.give(pathlib.Path(__file__).resolve().parents[2] / "testdata" / "222_A.cert")
+    screen.js("Certificates.limits.checked = window.checked")
     screen.enter("gle/.c./.C./ELG - -")
     heads = "A line of the certificate", "証明書の手順"
     screen.in_both(checks, "the line's head", lambda: screen.text("line-head").lower().capitalize(), *heads)
@@ -346,18 +348,17 @@ def sealed(head, entries):
     return body + hashlib.sha256(body).digest()
 
 
-def whole_game(checks, screen, program):
-    """The whole game's certificates: both engines pass them, the proved call in seconds, and refuses them with a claim, an entry or a number changed."""
-    is_proved, path = screen.js("Game.engine().isProved"), program.folder / "spoilt.cert"
-    for rules in "AB":
+def whole_game(rules):
+    """The whole game's certificate by those rules: both engines pass it, the proved call in seconds, and refuses it with a claim, an entry or a number changed."""
+    def run(checks, screen, program):
+        is_proved, path = screen.js("Game.engine().isProved"), program.folder / "spoilt.cert"
         source = pathlib.Path(__file__).resolve().parents[2] / "testdata" / f"222_{rules}.cert"
         by = "checked by proved code" if is_proved else "checked by plain JavaScript"
-        screen.afresh()
         screen.give(source)
         said = f"222_{rules}.cert certificate of set 222, rules {rules}: the second player wins the game, loss within 78; {by}"
         checks.expect(f"{rules}: the file", screen.files(), [[said, False]])
         if not is_proved:
-            continue
+            return
         head, entries = parsed(source.read_bytes())
         root = struct.unpack("<I", head[14:18])[0]
         late = next(place for place, (_, plies) in enumerate(entries) if plies == 60)
@@ -372,6 +373,7 @@ def whole_game(checks, screen, program):
             path.write_bytes(sealed(head[:19] + bytes([plies]), lost))
             screen.give(path)
             checks.expect(f"{rules}: {name}", screen.files()[-1], [f"spoilt.cert {words}", True])
+    return run
 
 
 def beside(checks, screen, program):
@@ -407,4 +409,4 @@ def beside(checks, screen, program):
     checks.expect("where there is no worker the page itself checks", screen.files()[-1][0], f"here.cert certificate of set 100, rules A: a position, loss 6; checked by {by}")
 
 
-PARTS = {"beside": beside, "claims": claims, "solution": solution, "bounds": bounds, "unlisted": unlisted, "unchecked": unchecked, "wrong": wrong, "mutated": mutated, "given": given, "whole": whole_game}
+PARTS = {"beside": beside, "claims": claims, "solution": solution, "bounds": bounds, "unlisted": unlisted, "unchecked": unchecked, "wrong": wrong, "mutated": mutated, "given": given, "whole_A": whole_game("A"), "whole_B": whole_game("B")}

@@ -1,7 +1,10 @@
-"""What must not stop the page: practice that is undone past its beginning, a lion that is hung, a card that can't be drawn, and a thousand random acts."""
+"""What must not stop the page: practice that is undone past its beginning, a lion that is hung, an exercise whose rules or file are others, a card that can't
+be drawn, and a thousand random acts."""
+import json
 import pathlib
 
 from certificates import LOSS, WON, Maker
+from classroom import exercise
 from program import read_db
 
 PLAIN = ".l./.../.C./.L. - -"
@@ -206,22 +209,65 @@ def buttons_live(checks, screen, program, about):
     checks.expect(f"{about}: files are closed", screen.js("document.querySelectorAll('#files b').length"), 0)
 
 
+HERE = pathlib.Path(__file__).parent
+SEEDS, USUAL = range(1, 25), 3  # those that can be named, and how many are tried where none is
+
+
+def do_acts(screen, program, seed, number):
+    """Acts drawn at random from that seed: what went wrong, and all of them."""
+    maker, folder = Maker(program), program.folder
+    whole = maker.path.read_bytes()
+    (folder / "cut.db").write_bytes(whole[:-1])
+    paths = [maker.path, program.build("000", "A"), program.build("100", "B"), maker.write("won.cert", WON, "win", 5), maker.write("lost.cert", LOSS, "loss within", 6),
+             maker.write("wrong.cert", LOSS, "loss within", 4), folder / "cut.db"]
+    given = [{"name": path.name, "base64": screen.base64(path)} for path in paths]
+    for name in ("held.js", "acts.js"):
+        screen.js((HERE / name).read_text())
+    screen.choose("speed", "fast")
+    return screen.js(f"Acts.run({seed}, {number}, {json.dumps(given)})")
+
+
 def acts(seed):
-    """A thousand acts drawn at random from that seed leave no exception and no dead button."""
+    """A thousand acts drawn at random from that seed leave no exception, no dead button, and no value but that of the position on the board."""
     def run(checks, screen, program):
-        maker, folder = Maker(program), program.folder
-        whole = maker.path.read_bytes()
-        (folder / "cut.db").write_bytes(whole[:-1])
-        paths = [maker.path, program.build("000", "A"), program.build("100", "B"), maker.write("won.cert", WON, "win", 5), maker.write("lost.cert", LOSS, "loss within", 6),
-                 maker.write("wrong.cert", LOSS, "loss within", 4), folder / "cut.db"]
-        given = [{"name": path.name, "base64": screen.base64(path)} for path in paths]
-        screen.js((pathlib.Path(__file__).parent / "acts.js").read_text())
-        screen.choose("speed", "fast")
-        checks.expect("what went wrong", screen.js(f"Acts.run({seed}, 1000, {given})"), [])
+        checks.expect("what went wrong", do_acts(screen, program, seed, 1000)["wrong"], [])
         thrown = [it for it in screen.browser.events if it["method"] == "Runtime.exceptionThrown"]
         checks.expect("exceptions", [it["params"]["exceptionDetails"]["text"] for it in thrown], [])
         buttons_live(checks, screen, program, f"behind the acts of seed {seed}")
     return run
 
 
-PARTS = {**{f"acts_{seed}": acts(seed) for seed in (1, 2, 3)}, "undone": undone, "hung": hung, "fences": fences}
+def same(checks, screen, program):
+    """A seed does the same acts each time, so that what it finds is found again."""
+    first = do_acts(screen, program, 1, 200)["done"]
+    screen.afresh()
+    checks.expect("the same acts", do_acts(screen, program, 1, 200)["done"], first)
+
+
+def outlived(checks, screen, program):
+    """An exercise ends where its file's rules do, and where a file that was opened in its place is closed: what is left open doesn't judge it."""
+    maker = Maker(program)
+    certificate = maker.write("lost.cert", LOSS, "loss within", 6)
+
+    def is_over(about, wanted):
+        checks.expect(f"{about}: it is over", [screen.js("Exercise.isAsked()"), screen.text("task"), screen.score()], [False, wanted, ""])
+        screen.play("La2-b1")  # of which the certificate says nothing
+        checks.expect(f"{about}: a move is a move again", [screen.record(), screen.js("document.getElementById('broken').textContent")], [["start", "La2-b1"], ""])
+
+    screen.give(program.build("100", "B"), certificate)
+    exercise(screen, "..l/.../L../... - c", "La2-a3", 3)
+    checks.expect("an exercise by rules B", [screen.js("Exercise.isAsked()"), screen.js("Game.state.profile")], [True, "B"])
+    screen.choose("rules", "A")
+    is_over("other rules", "")
+    screen.open()
+    screen.give(certificate, maker.path)
+    exercise(screen, "..l/.../L../... - c", "La2-a3", 3)
+    screen.give(maker.path)
+    checks.expect("it goes on where its file is opened again", screen.js("Exercise.isAsked()"))
+    screen.js("[...document.querySelectorAll('#files .close')].at(-1).click()")
+    screen.settle("document.querySelectorAll('#files b').length === 1")
+    is_over("a file that was opened in its place", "Open a file for exercises.")
+
+
+PARTS = {**{f"acts_{seed}": acts(seed) for seed in SEEDS}, "same": same, "outlived": outlived, "undone": undone, "hung": hung, "fences": fences}
+NAMED = {f"acts_{seed}" for seed in SEEDS[USUAL:]}

@@ -163,18 +163,25 @@ ATTEMPTS = {
 }
 
 
-def private(checks, screen, program):
-    """By the browser's log of the whole run: nothing was asked for but the page itself, and nothing went wrong in it."""
+def asked(checks, screen):
+    """By the log of a browser's whole run: nothing was asked for but the page itself, and nothing went wrong in it."""
     events = screen.browser.events
-    asked = {it["params"]["request"]["url"].split("#")[0] for it in events if it["method"] == "Network.requestWillBeSent"}
-    checks.expect("what was asked for", {it for it in asked if not it.startswith(("data:", "blob:"))} - {screen.url, "about:blank"}, set())
+    sought = {it["params"]["request"]["url"].split("#")[0] for it in events if it["method"] == "Network.requestWillBeSent"}
+    checks.expect("what was asked for", {it for it in sought if not it.startswith(("data:", "blob:"))} - {screen.url, "about:blank"}, set())
     wrong = [json.dumps(it)[:300] for it in events if it["method"] == "Runtime.exceptionThrown"]
     checks.expect("exceptions", wrong, [])
     said = [json.dumps(it["params"])[:300] for it in events if it["method"] in ("Runtime.consoleAPICalled", "Log.entryAdded")]
     checks.expect("what the console says", said, [])
+
+
+def private(checks, screen, program):
+    """Each way to send something is refused by the page's policy, or isn't there."""
+    asked(checks, screen)
     checks.expect("constructors of peer connections", screen.js("[typeof RTCPeerConnection, typeof webkitRTCPeerConnection]"), ["undefined", "undefined"])
     for what, rule in ATTEMPTS.items():
         checks.expect(f"{what} is refused by the page's policy", screen.seen("refused", what), rule)
+    screen.open()
+    screen.browser.events.clear()  # what was tried stands in the log too
 
 
 PARTS = {"languages": languages, "widths": widths, "contrasts": contrasts, "hover": hover, "no_script": no_script, "heard": heard, "paper": printed, "privacy": private}

@@ -99,6 +99,17 @@ def rules(checks, screen, program):
         screen.choose("rules", name)
         far = [it.split()[0] for it in screen.moves() if it[:2] == "C*" and it[3] == "4"]
         checks.expect(f"moves by rules {name}", [len(screen.moves()), sorted(far)], [number, ["C*a4", "C*b4"] if name == "A" else []])
+    went_wrong = lambda: screen.js("document.getElementById('broken').textContent")
+    screen.play("C*a4")
+    screen.press("undo")
+    checks.expect("its value by rules A", screen.marks() != [""])
+    screen.choose("rules", "B")
+    value = program.values(program.build("100", "B"), [text])[0]
+    checks.expect("a drop that is none by rules B has no value by them", [screen.value(), screen.marks(), went_wrong()], [value, [""], ""])
+    screen.press("redo")
+    screen.browser.click("[data-square='11']")  # the lion of the side to move
+    found = [screen.value(), screen.moves(), screen.seen("squares", ".target"), went_wrong()]
+    checks.expect("and no move goes on from it", found, ["", [], [], ""])
 
 
 def format_1(checks, screen, program):
@@ -127,6 +138,39 @@ def late(checks, screen, program):
     for when in ("at once", "after the late answer"):
         checks.expect(f"the value {when}", [screen.value(), screen.moves()[0], screen.position()], ["win 5", "Lb1-a2 win 5", PLAIN])
         time.sleep(1)
+    late_line(checks, screen)
+    late_worth(checks, screen)
+
+
+def late_line(checks, screen):
+    """A part of a line that comes when another position is shown is dropped."""
+    screen.js("window.kept = Answers.bestLine; Answers.bestLine = (table, engine, position, isLate, tell) => new Promise(() => { window.tellPart = tell; })")
+    screen.seen("enter", ".../..l/.../L.. - c")
+    screen.browser.wait("!!window.tellPart")
+    screen.js("Answers.bestLine = window.kept")
+    screen.enter(PLAIN)
+    line = screen.line()
+    screen.js("window.tellPart({ steps: [{ position: Game.now().position, move: Game.moves().moves[0] }], end: 'going' })")
+    checks.expect("the line after a part of a late one", screen.line(), line)
+
+
+def late_worth(checks, screen):
+    """What a position is said to be stays while the moves before it are looked up, and a file that is closed meanwhile says nothing of them."""
+    screen.js("""Answers.judge = ((judge) => async (...about) => {
+      window.isJudging = true;
+      await new Promise((done) => setTimeout(done, 400));
+      return judge(...about);
+    })(Answers.judge)""")
+    screen.enter(".../.l./.L./.C. - -")
+    screen.play("Lb2xb3")
+    checks.expect("what is said while a move is judged", screen.told(), "Forest caught the lion and has won.")
+    screen.enter(PLAIN)
+    screen.js("window.isJudging = false; document.querySelector('#moves button').click()")
+    screen.browser.wait("window.isJudging")
+    screen.js("document.querySelector('#files .close').click()")
+    screen.settle()
+    time.sleep(0.6)
+    checks.expect("a closed file judges no move", screen.js("Game.state.plies[0].judged"), None)
 
 
 PARTS = {"dropped": dropped, "format_1": format_1, "late": late, "starts": starts, "short": short, "good": good, "ends_early": ends_early, "untested": untested, "large": large, "rules": rules}

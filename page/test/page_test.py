@@ -1,17 +1,21 @@
 #!/usr/bin/env python3
-"""Tests the page in headless Chromium, offline: page/test/page_test.py PAGE PROGRAM [--firefox] [--until-failure] [TOPIC[/PART]..]
+"""Tests the page in headless Chromium, offline: page/test/page_test.py PAGE PROGRAM [--firefox] [--jobs N] [--until-failure] [--seconds] [TOPIC[/PART]..]
 
 Expected values come from the program `dobutsu`, of small files that it builds, and expected texts stand in the tests. A topic is a module here with a
-dictionary PARTS; `--list` in place of the page prints topics and parts. `told/short` is `told/values` with few positions, and is left out where it isn't
-named. With `--firefox` the browser is Firefox, by default with the parts that need
-no call of Chromium's own. With `--until-failure` the parts that are named come first, then all others, up to the first one that counts a failure. Prints a line for each
-failure, the engine that the page uses, and last `N passed, M failed`; the status is 0 where none failed. DOBUTSU_FILES may name a folder in which built
+dictionary PARTS; `--list` in place of the page prints topics and parts. Some parts are left out where they aren't named: `told/short`, which is `told/values`
+with few positions, and `lasting/acts_4` and further seeds. With `--firefox` the browser is Firefox, by default with the parts that need no call of Chromium's
+own. N browsers work side by side, by default one for each processor; the next part goes to the next one that is free. With `--until-failure` the parts that
+are named come first, then all others, up to the first one that counts a failure, in one browser. `--seconds` tells how long each part took. Prints a line for
+each failure, the engine that the page uses, and last `N passed, M failed`; the status is 0 where none failed. DOBUTSU_FILES may name a folder in which built
 files are kept, DOBUTSU_WAIT the seconds until a test gives up waiting (60).
 """
+import argparse
+import multiprocessing
 import os
 import pathlib
 import sys
 import tempfile
+import time
 
 sys.dont_write_bytecode = True
 sys.path.insert(0, str(pathlib.Path(__file__).resolve().parent))
@@ -44,8 +48,12 @@ TOPICS = {
 
 # The parts that Firefox runs where none is named: the others ask Chromium's own calls for fingers, paper, contrasts and the log.
 IN_FIREFOX = ["told/short", "words", "opening/dropped", "opening/starts", "opening/format_1", "opening/late", "opening/rules", "certificates/beside", "certificates/claims",
-              "certificates/solution", "certificates/bounds", "certificates/unlisted", "certificates/wrong", "classroom/score", "classroom/judged", "classroom/practice",
+              "certificates/solution", "certificates/bounds", "certificates/unlisted", "certificates/whole_A", "certificates/wrong", "classroom/score", "classroom/judged", "classroom/practice",
               "classroom/longer", "classroom/closed", "faults/files", "faults/records", "handling/twelve", "handling/edges", "handling/letters", "lasting", "layout/filled"]
+
+# The parts that take longest, which come first, so that no browser works on alone at the end.
+LONG = [("certificates", "whole_A"), ("certificates", "whole_B"), ("lasting", "acts_1"), ("lasting", "acts_2"), ("lasting", "acts_3"), ("told", "values"), ("lasting", "same"),
+        ("classroom", "evenly"), ("certificates", "mutated"), ("opening", "large")]
 
 
 def parts_of(names):
@@ -58,34 +66,81 @@ def parts_of(names):
         yield from [(topic, part)] if part else [(topic, it) for it in TOPICS[topic].PARTS if it not in named]
 
 
-def main(given):
-    if given == ["--list"]:
+class Run:
+    """Parts that are tested side by side, each in the next browser that is free."""
+
+    def __init__(self, given):
+        self.page, self.name, self.is_firefox = pathlib.Path(given.page).resolve(), given.program, given.firefox
+        self.stops, self.tells_seconds = given.until_failure, given.seconds
+        self.parts, self.counts = multiprocessing.Queue(), multiprocessing.Queue()
+
+    def test(self, chosen, files, jobs):
+        """How many checks passed and failed."""
+        for it in [*chosen, *jobs * [None]]:
+            self.parts.put(it)
+        workers = [multiprocessing.Process(target=self.work, args=(number, files)) for number in range(jobs)]
+        for worker in workers:
+            worker.start()
+        for worker in workers:
+            worker.join()
+        self.parts.cancel_join_thread()  # what is left of them is tested no more
+        told = [self.counts.get() for worker in workers if worker.exitcode == 0]
+        passed, failed, done = map(sum, zip((0, 0, 0), *told))
+        if done < len(chosen) and not (self.stops and failed):
+            failed += 1
+            print(f"FAILED: page: {len(chosen) - done} of {len(chosen)} parts weren't tested")
+        return passed, failed
+
+    def work(self, number, files):
+        """Tests parts in one browser until none is left."""
+        checks, done = Checks(), []
+        with tempfile.TemporaryDirectory() as folder:
+            checks.topic("the browser", lambda: self.use(Firefox() if self.is_firefox else Browser(), Program(self.name, files, folder), checks, done, number == 0))
+        self.counts.put((checks.passed, checks.failed, len(done)))
+
+    def use(self, browser, program, checks, done, tells):
+        try:
+            screen = Screen(browser, self.page)
+            for topic, part in iter(self.parts.get, None):
+                since = time.monotonic()
+                screen.afresh()
+                checks.topic(f"{topic}/{part}", lambda: TOPICS[topic].PARTS[part](checks, screen, program))
+                done.append(part)
+                if self.tells_seconds:
+                    print(f"{topic}/{part}: {time.monotonic() - since:.1f} s", flush=True)
+                if self.stops and checks.failed:
+                    return
+            if tells:
+                print("engine:", "proved" if browser.js("Game.engine().isProved") else "plain JavaScript", flush=True)
+            if not self.is_firefox:
+                looks.asked(checks, screen)
+        finally:
+            browser.close()
+
+
+def main():
+    words = argparse.ArgumentParser(description=__doc__, formatter_class=argparse.RawDescriptionHelpFormatter)
+    for option in ("--list", "--firefox", "--until-failure", "--seconds"):
+        words.add_argument(option, action="store_true")
+    words.add_argument("--jobs", type=int, default=len(os.sched_getaffinity(0)))
+    words.add_argument("page", nargs="?")
+    words.add_argument("program", nargs="?")
+    words.add_argument("parts", nargs="*")
+    given = words.parse_intermixed_args()
+    if given.list:
         print(*(f"{topic}/{part}" for topic in TOPICS for part in TOPICS[topic].PARTS), sep="\n")
         return 0
-    page, name, *names = given
-    stops, is_firefox, checks = "--until-failure" in names, "--firefox" in names, Checks()
-    names = [it for it in names if it not in ("--until-failure", "--firefox")] or (IN_FIREFOX if is_firefox else [])
+    if not given.program:
+        words.error("the page and the program are needed")
+    stops, names = given.until_failure, given.parts or (IN_FIREFOX if given.firefox else [])
     chosen = list(dict.fromkeys([*(parts_of(names) if names or not stops else ()), *(parts_of(()) if stops else ())]))
+    if not stops:
+        chosen.sort(key=lambda it: it not in LONG)
     with tempfile.TemporaryDirectory() as folder:
-        program = Program(name, os.environ.get("DOBUTSU_FILES", folder), folder)
-
-        def run():
-            browser = Firefox() if is_firefox else Browser()
-            try:
-                screen = Screen(browser, pathlib.Path(page).resolve())
-                for topic, part in chosen:
-                    screen.afresh()
-                    checks.topic(f"{topic}/{part}", lambda: TOPICS[topic].PARTS[part](checks, screen, program))
-                    if stops and checks.failed:
-                        break
-                print("engine:", "proved" if browser.js("Game.engine().isProved") else "plain JavaScript")
-            finally:
-                browser.close()
-
-        checks.topic("the browser", run)
-    print(f"{checks.passed} passed, {checks.failed} failed")
-    return checks.failed > 0
+        passed, failed = Run(given).test(chosen, os.environ.get("DOBUTSU_FILES", folder), 1 if stops else given.jobs)
+    print(f"{passed} passed, {failed} failed")
+    return failed > 0
 
 
 if __name__ == "__main__":
-    sys.exit(main(sys.argv[1:]))
+    sys.exit(main())

@@ -4,6 +4,8 @@
 Each planted page has to be told apart by `page_test.py told/short`, by counts alone: a test that breaks off with a traceback doesn't count. Prints a line for
 each page that passed, and last `N passed, M failed`.
 """
+import concurrent.futures
+import os
 import pathlib
 import re
 import subprocess
@@ -24,20 +26,21 @@ PLANTS = {
 
 def counts(program, page):
     """How many checks failed of a page, or None where the run broke off."""
-    ran = subprocess.run([sys.executable, HERE / "page_test.py", page, program, "told/short"], capture_output=True, text=True)
+    ran = subprocess.run([sys.executable, HERE / "page_test.py", page, program, "told/short", "--jobs", "1"], capture_output=True, text=True)
     told = re.search(r"^(\d+) passed, (\d+) failed$", ran.stdout, re.MULTILINE)
     return int(told[2]) if told and "Traceback" not in ran.stdout + ran.stderr else None
 
 
 def main(program):
     whole, passed, failed = build.build().decode(), 0, 0
-    with tempfile.TemporaryDirectory() as folder:
-        page = pathlib.Path(folder, "dobutsu.html")
-        for name, (old, new) in PLANTS.items():
-            found = None
-            if whole.count(old) == 1:
-                page.write_text(whole.replace(old, new))
-                found = counts(program, page)
+    with tempfile.TemporaryDirectory() as folder, concurrent.futures.ThreadPoolExecutor(len(os.sched_getaffinity(0))) as pool:
+        def planted(place, old, new):
+            page = pathlib.Path(folder, f"{place}.html")
+            page.write_text(whole.replace(old, new))
+            return counts(program, page) if whole.count(old) == 1 else None
+
+        told = [pool.submit(planted, place, *plant) for place, plant in enumerate(PLANTS.values())]
+        for name, found in zip(PLANTS, [it.result() for it in told]):
             if found:
                 passed += 1
             else:

@@ -1,5 +1,6 @@
 """What the program `dobutsu` tells, from which the expected values come, and the small files that it builds."""
 import hashlib
+import os
 import pathlib
 import random
 import subprocess
@@ -23,7 +24,9 @@ class Program:
         """A file of that set by those rules."""
         path = self.files / f"{pieces}{rules}.db"
         if not path.exists():
-            self.run("build", "--set", pieces, "--rules", rules, "--nodes", 2, "--out", path)
+            own = path.with_name(f"{os.getpid()}-{path.name}")  # other tests may build it meanwhile
+            self.run("build", "--set", pieces, "--rules", rules, "--nodes", 2, "--out", own)
+            own.replace(path)
         return path
 
     def spoilt(self, name, whole):

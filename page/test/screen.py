@@ -26,7 +26,8 @@ class Screen:
         """The page as at a first visit, in English, in a window of its usual size."""
         self.browser.call("Emulation.setEmulatedMedia", media="")
         self.browser.size(1180, 1000)
-        self.open()
+        if self.js("location.protocol") != "file:":  # what the page keeps is only seen from a page
+            self.open()
         self.js("localStorage.clear()")
         self.open()
         self.language("en")
