@@ -39,3 +39,15 @@ open='import sys; sys.path.insert(0, "python"); from dobutsu import plain; plain
 (ulimit -v 300000; python3 -c "$open" "$work/claims.cert") >"$work/out" 2>&1
 if grep -q 'E15 Truncated$' "$work/out"; then good=yes; fi
 note "a count claims no memory in Python" "$good"
+
+# The winner's book behind each first move of the starting layout: plain Python checks the certificate, and in games it has a reply each time, that of the
+# program, and wins.
+good=no
+check='import sys; sys.path.insert(0, "python"); from dobutsu import Certificate; it = Certificate(sys.argv[1], ""); it.verify(); print(it)'
+if [ "$(python3 -c "$check" testdata/222_A_first_moves.cert 2>&1)" = 'gle/.c./.C./ELG - - loss within 78' ]; then good=yes; fi
+note 'plain Python verifies testdata/222_A_first_moves.cert' "$good"
+good=no
+starts=('g.e/.cl/.C./ELG - -' 'g.e/lc./.C./ELG - -' '.le/gc./.C./ELG - -' 'gle/.../.c./ELG - c')
+if python3 tests/certificates_book.py "$program" testdata/222_A_first_moves.cert 40 "${starts[@]}" >"$work/out" 2>&1 &&
+    [ "$(sed 's/.* within \([0-9]*\) .*/\1/' "$work/out" | xargs)" = '77 77 77 75' ]; then good=yes; fi
+note "the book behind each first move: $(tail -1 "$work/out")" "$good"

@@ -3,37 +3,20 @@
 Of every STEPth class and of some draws, for each claim that can be made, one of at most MOST bytes is written into the folder. The lines that they claim are
 printed.
 """
-import hashlib
 import itertools
 import pathlib
 import struct
 import sys
-sys.path.insert(0, "python")
+sys.path[:0] = ["python", "tools"]
+from certificates import certificate_bytes
 from dobutsu import plain
 
 EVER = plain.EVER
 
 
-def number_bytes(number):
-    out = []
-    while number >= 128:
-        out.append(128 + number % 128)
-        number //= 128
-    return bytes(out + [number])
-
-
-def entry_bytes(entries):
-    out, least = bytearray(), 0
-    for number, plies in sorted(entries.items()):
-        out += number_bytes(number + 1 - least) + bytes([min(plies, 255)])
-        least = number + 1
-    return bytes(out)
-
-
-def certificate_bytes(db, root, kind, plies, lost, held):
-    head = b"DOBUCERT\1" + bytes([*db.pieces, 2, "AB".index(db.profile)]) + struct.pack("<IBBII", root, kind, plies, len(lost), len(held))
-    contents = head + entry_bytes(lost) + entry_bytes(held)
-    return contents + hashlib.sha256(contents).digest()
+def written(db, root, kind, plies, lost, held):
+    head = b"DOBUCERT\1" + bytes([*db.pieces, 2, "AB".index(db.profile)]) + struct.pack("<IBB", root, kind, plies)
+    return certificate_bytes(head, lost, held)
 
 
 class Maker:
@@ -97,14 +80,14 @@ def make(db, number, is_exact):
     if kind == "draw":
         maker.hold(position, EVER)
         maker.be_safe(position, EVER)
-        data = certificate_bytes(db, number, 0, 0, {}, maker.held)
+        data = written(db, number, 0, 0, {}, maker.held)
     else:
         (maker.lose if kind == "loss" else maker.answer)(position)
         if is_exact and kind == "loss" and plies:
             maker.hold(position, plies - 1)
         if is_exact and kind == "win" and plies >= 2:
             maker.be_safe(position, plies - 2)
-        data = certificate_bytes(db, number, {"win": 1, "loss": 2}[kind] + (0 if is_exact else 2), plies, maker.lost, maker.held)
+        data = written(db, number, {"win": 1, "loss": 2}[kind] + (0 if is_exact else 2), plies, maker.lost, maker.held)
     claim = kind if kind == "draw" else f"{kind} {'' if is_exact else 'within '}{plies}"
     return data, f"{plain.write_position(position)} {claim}"
 

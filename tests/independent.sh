@@ -39,7 +39,7 @@ second_alone() {
         if sed -n 's/.* = //p' "testdata/$name.txt" | cmp - "$work/second.txt" >"$work/out" 2>&1; then good=yes; fi
         note "the second program finds the values of testdata/$name.txt: $(tail -1 "$work/out")" "$good"
     done
-    for name in A B; do
+    for name in A A_first_moves B; do
         good=no
         if [ "$("$second" verify --cert "testdata/222_$name.cert" 2>&1)" = 'gle/.c./.C./ELG - - loss within 78' ]; then good=yes; fi
         note "the second program verifies testdata/222_$name.cert" "$good"

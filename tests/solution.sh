@@ -15,3 +15,15 @@ for rules in A B; do
     expect 1 '' 'dobutsu: E7 OtherSet' reply --cert "$certificate" "$position"
     expect 1 '' 'dobutsu: E2 Letter' reply --cert "$certificate" 'glx/.c./.C./ELG - -'
 done
+
+# The certificate of the first moves: behind each the second player wins within the plies of docs/results_first_moves.csv, less one.
+certificate=testdata/222_A_first_moves.cert
+expect 0 "$start loss within 78" '' verify --cert "$certificate"
+if [ "$(wc -c <"$certificate")" -le 444000 ]; then good=yes; else good=no; fi
+note "$certificate has at most 444 kB" "$good"
+mapfile -t told < <(sed -n 's/^A,\([^,]*\),loss \([0-9]*\),.*/\1 \2/p' docs/results_first_moves.csv)
+moves=(Lb1-a2 Lb1-c2 Gc1-c2 Cb2xb3)
+for number in "${!moves[@]}"; do
+    note "the plies behind ${moves[number]}: ${told[number]}" "$([ "${told[number]% *}" = "${moves[number]}" ] && echo yes || echo no)"
+    expect 0 "~ win within $((${told[number]#* } - 1))\$" '' reply --cert "$certificate" "${answers[number]}"
+done

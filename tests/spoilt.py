@@ -9,7 +9,8 @@ import pathlib
 import struct
 import sys
 
-sys.path.insert(0, "python")
+sys.path[:0] = ["python", "tools"]
+from certificates import certificate_bytes
 from dobutsu import plain
 
 
@@ -25,26 +26,10 @@ def sealed(contents):
     return contents + hashlib.sha256(contents).digest()
 
 
-def number_bytes(number):
-    out = []
-    while number >= 128:
-        out.append(128 + number % 128)
-        number //= 128
-    return bytes([*out, number])
-
-
-def entry_bytes(entries):
-    out, least = bytearray(), 0
-    for number, plies in sorted(entries.items()):
-        out += number_bytes(number + 1 - least) + bytes([min(plies, 255)])
-        least = number + 1
-    return bytes(out)
-
-
 def with_lost(data, lost):
     """The same certificate with other lost classes."""
     held = plain.Certificate(data).held
-    return sealed(data[:20] + struct.pack("<II", len(lost), len(held)) + entry_bytes(lost) + entry_bytes(held))
+    return certificate_bytes(data[:20], lost, held)
 
 
 def ended_replies(certificate, number):
