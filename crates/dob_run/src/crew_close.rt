@@ -56,10 +56,7 @@ pub fn close_runners<R: Wait>(
 }
 
 // The node and the endpoint of each runner. Out of memory the runners are given up.
-fn part_runners(
-    alloc: Global,
-    runners: Vec<Runner>,
-) -> Result<(Vec<Node>, Vec<Endpoint>), Memory>
+fn part_runners(alloc: Global, runners: Vec<Runner>) -> Result<(Vec<Node>, Vec<Endpoint>), Memory>
     ensures nodes { IfOk result (λ parts. parts.0.items ≡ map node_of runners.items) }
     ensures endpoints { IfOk result (λ parts. parts.1.items ≡ map endpoint_of runners.items) }
 {

@@ -33,7 +33,8 @@ use Rattle.dob_runner.specs.declared.slots.Inlet.{Inlet}
 use Rattle.dob_runner.specs.declared.slots.Outlet.{Outlet}
 use Rattle.dob_runner.specs.declared.turn_loop.Until.{Until}
 use Rattle.dob_run.proofs.CrewRunners.{are_linked, crew_low, crew_many, fault_by, outlet_at, rejoined_at, seat_at, seat_there, still_crew, stops_so}
-use Rattle.dob_run.proofs.Places.{at_row, get_map, map_got}
+use Rattle.dob_gather.proofs.Found.{map_got}
+use Rattle.dob_run.proofs.Places.{at_row, get_map}
 use Rattle.dob_run.specs.CrewClose.{AreClosed, AreLinked, IsCrew, row_of, seat_in, slots_in, slots_out}
 use Rattle.dob_run.specs.CrewRunners.{AreRunnersFor, endpoint_of, node_of}
 use Rattle.dob_run.specs.CrewStops.{AreUnfailed, IsFirstFailed, StopsSo}
