@@ -174,9 +174,8 @@ fn fault_lines(alloc: Global, fault: Fault, question: Question) -> Result<String
     ensures { IfOk result (λ lines. string_bytes lines ≡ (end_of question).1 fault) }
 {
     match question {
-        Question::ValueObject
-        | Question::MovesObject
-        | Question::Line(LineForm::Object) => fault_object(alloc, fault),
+        Question::ValueObject | Question::MovesObject | Question::Line(LineForm::Object) =>
+            fault_object(alloc, fault),
         Question::Moves | Question::Line(LineForm::Numbered) => {
             Ok(format!(in alloc; "{fault}\n\n")?)
         }

@@ -16,9 +16,13 @@ pub enum Asked {
     /// Its value, by the whole table.
     Probe,
     /// Its value, by its record, as JSON if it is.
-    Look { is_json: bool },
+    Look {
+        is_json: bool,
+    },
     /// Its moves with their values, as JSON if they are.
-    Moves { is_json: bool },
+    Moves {
+        is_json: bool,
+    },
     /// The first move of its line, with its value.
     Best,
     /// Its line, by the whole table or by records, as JSON if it is, or each move on a line with its number if it is numbered.
