@@ -35,21 +35,24 @@ for case in 'empty|E15 Truncated' 'cut|E15 Truncated' 'at_0|E16 Magic' 'at_11|E1
     'longer|E19 Trailing' 'longer_20|E19 Trailing' 'at_20|E20 Digest' 'at_159|E20 Digest'; do
     IFS='|' read -r name fault <<<"$case"
     expect 1 '' "dobutsu: $fault" check --db "$work/$name.db"
-    expect 1 '' "dobutsu: $fault" probe --db "$work/$name.db" "$long"
+    for word in probe line; do expect 1 '' "dobutsu: $fault" "$word" --db "$work/$name.db" "$long"; done
+    # behind the position's fault, and before that of its set
+    expect 1 '' 'dobutsu: E6 FarLion' line --db "$work/$name.db" 'L../.../.../..l - -'
+    expect 1 '' "dobutsu: $fault" line --db "$work/$name.db" '..l/.../.../L.. C -'
 done
 
-# `look`, `line`, `moves`, `best` and `show` read the header and the records that they need: they say what is wrong with these, and nothing else.
+# `look`, `moves`, `best`, `show` and `line --records` read the header and the records that they need: they say what is wrong with these, and nothing else.
 head -c 54 "$lions" >"$work/short.db"
 for case in 'empty|E15 Truncated' 'short|E15 Truncated' 'at_0|E16 Magic' 'at_11|E17 SetByte' 'at_12|E18 ClassCount'; do
     IFS='|' read -r name fault <<<"$case"
-    for word in look line show; do expect 1 '' "dobutsu: $fault" "$word" --db "$work/$name.db" "$long"; done
+    for word in look show 'line --records'; do expect 1 '' "dobutsu: $fault" $word --db "$work/$name.db" "$long"; done
     if [ "$name" != short ]; then for word in moves best; do expect 1 '' "dobutsu: $fault" "$word" --db "$work/$name.db" "$long"; done; fi
 done
 for name in cut longer longer_20 at_20 at_159; do
     expect 0 'win 5' '' look --db "$work/$name.db" "$long"
 done
 for name in cut longer at_159; do
-    expect 0 'Lb1-b2 lb4-c4 Lb2-a3 lc4-b4 La3xb4' '' line --db "$work/$name.db" "$long"
+    expect 0 'Lb1-b2 lb4-c4 Lb2-a3 lc4-b4 La3xb4' '' line --records --db "$work/$name.db" "$long"
     expect 0 'Lb1-b2 win 5' '' best --db "$work/$name.db" "$long"
     expect 0 '~Lb1-b2 win 5' '' moves --db "$work/$name.db" "$long"
 done

@@ -21,6 +21,10 @@ expect 0 '1. La1-b1
 expect 0 '1. La3-a4' '' line --db "$lions" '..l/L../.../... - -' --numbered
 expect 0 'end' '' line --db "$lions" --numbered '.../L../.../..l - -'
 expect 0 'draw' '' line --db "$lions" --numbered -- '.l./.../.L./... - -'
+# the same by the records that it needs
+expect 0 'La2-a3 lc4-b4 La3xb4' '' line --records --db "$lions" "$position"
+expect 0 '1. La1-b1
+2. lc2xb1' '' line --numbered --records '.../.../..l/L.. - -' --db="$lions"
 # how many classes have which value, counted of testdata/lions_alone.txt by hand of each class, and the first of the longest
 expect 0 'classes 54
 win 38
@@ -129,6 +133,9 @@ answers_of best 1 "$position"'\n..l/.../L../... - x\n.../.../..l/L.. - -\n..l/..
 answers_of line 1 "$asked" 'La2-a3 lc4-b4 La3xb4\nE3 Hand\nLa1-b1 lc2xb1\nE7 OtherSet\ndraw\n' --db "$lions"
 answers_of line 1 "$asked" '1. La2-a3\n2. lc4-b4\n3. La3xb4\n\nE3 Hand\n\n1. La1-b1\n2. lc2xb1\n\nE7 OtherSet\n\ndraw\n\n' --db "$lions" --numbered
 answers_of line 1 "$position"'\n' 'E15 Truncated\n' --db "$work/cut.db"
+# a line of standard input is answered by records, whether that is said or not
+{ cat "$lions"; printf '\0'; } >"$work/longer.db"
+for given in '' --records; do answers_of line 0 "$position"'\n' 'La2-a3 lc4-b4 La3xb4\n' --db "$work/longer.db" $given; done
 for word in moves best line; do
     answers_of "$word" 0 '' '' --db "$lions"
     expect 3 '' "$(failed_at "$work/none.db" "$gone")" "$word" --each --db "$work/none.db"
@@ -143,6 +150,11 @@ expect 0 '{"position":".../.l./.L./... - -","moves":[{"move":"Lb2xb3","kind":"li
 expect 0 '{"position":".../L../.../..l - -","moves":[]}' '' moves --json --db "$lions" '.../L../.../..l - -'
 expect 0 '{"position":".../.../..l/L.. - -","value":"loss","plies":2,"moves":[{"move":"La1-b1","kind":"lion","from":"a1","to":"b1","catch":false},'\
 '{"move":"lc2xb1","kind":"lion","from":"c2","to":"b1","catch":true}]}' '' line --json --numbered --db "$lions" '.../.../..l/L.. - -'
+expect 0 '{"position":".../.l./.L./... - -","value":"win","plies":1,"moves":[{"move":"Lb2xb3","kind":"lion","from":"b2","to":"b3","catch":true}]}' '' \
+    line --records --json --db "$lions" '.../.l./.L./... - -'
+expect 0 '{"position":".l./.../.L./... - -","value":"draw","plies":null,"moves":[]}' '' line --json --db "$lions" '.l./.../.L./... - -'
+# a fault is told as ever
+expect 1 '' 'dobutsu: E19 Trailing' line --json --db "$work/longer.db" "$position"
 expect 0 '{"value":"draw","plies":null,"classes":4}
 {"value":"loss","plies":0,"classes":7}
 {"value":"win","plies":1,"classes":29}
@@ -355,15 +367,16 @@ expect 0 'loss 2' '' look '.../.../..l/L.. - -' --db "$lions"
 expect 0 'draw' '' look --db="$lions" '.l./.../.L./... - -'
 expect 1 '' 'dobutsu: E7 OtherSet' look --db "$lions" '..l/.../.../L.. C -'
 expect 1 '' 'dobutsu: E7 OtherSet' probe --db "$lions" '..l/.../.../L.. C -'
-expect 1 '' 'dobutsu: E7 OtherSet' line --db "$lions" '..l/.../.../L.. C -'
+for given in '' --records; do expect 1 '' 'dobutsu: E7 OtherSet' line $given --db "$lions" '..l/.../.../L.. C -'; done
 
 # The position is read before the file is looked for.
 expect 1 '' 'dobutsu: E1 Shape' probe --db "$work/none.db" ''
-expect 1 '' 'dobutsu: E1 Shape' line --db "$work/none.db" ''
+for given in '' --records; do expect 1 '' 'dobutsu: E1 Shape' line $given --db "$work/none.db" ''; done
 expect 1 '' 'dobutsu: E1 Shape' look --db "$work/none.db" ''
 expect 1 '' 'dobutsu: E6 FarLion' probe --db "$work/none.db" 'L../.../.../..l - -'
 expect 3 '' "$(failed_at "$work/none.db" "$gone")" probe --db "$work/none.db" "$position"
-expect 3 '' "$(failed_at "$work/none.db" "$gone")" line --db "$work/none.db" "$position"
+for given in '' --records; do expect 3 '' "$(failed_at "$work/none.db" "$gone")" line $given --db "$work/none.db" "$position"; done
+expect 3 '' "$(failed_at "$work" "$folder")" line --db "$work" "$position"
 expect 3 '' "$(failed_at "$work/none.db" "$gone")" look --db "$work/none.db" "$position"
 expect 3 '' "$(failed_at "$work" "$folder")" look --db "$work" "$position"
 expect 3 '' "$(failed_at "$work/none.db" "$gone")" check --db "$work/none.db"

@@ -9,8 +9,8 @@ refuse() {
 
 for words in "value|$position" "probe|--db|$lions|$position" "line|--db|$lions|$position" "check|--db|$lions" \
     "look|--db|$lions|$position" "reach|--levels|$position" "reach|--db|$lions|$position" "show|$position" "show|--db|$lions|$position" \
-    "line|--numbered|--db|$lions|$position" "stats|--db|$lions" "stats|--csv|--db|$lions" "zugzwangs|--db|$lions|--list|2" \
-    "best|--db|$lions|$position" "moves|--db|$lions|$position" \
+    "line|--numbered|--db|$lions|$position" "line|--records|--db|$lions|$position" "stats|--db|$lions" "stats|--csv|--db|$lions" \
+    "zugzwangs|--db|$lions|--list|2" "best|--db|$lions|$position" "moves|--db|$lions|$position" \
     "puzzles|--db|$lions|--plies|3|--count|5" "puzzles|--db|$lions|--plies|3|--count|5|--numbered|--random|10|--from|28"; do
     IFS='|' read -r -a given <<<"$words"
     refuse "${given[@]}"

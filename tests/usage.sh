@@ -75,6 +75,10 @@ misused '--db <FILE>' line --numbered "$position"
 misused '<POSITION>' line --numbered --db x
 misused "'x'" line --db x --numbered=x "$position"
 misused '--numbered' line --db x --numbered --numbered "$position"
+misused '<POSITION>' line --records --db x
+misused "'x'" line --db x --records=x "$position"
+misused '--records' line --db x --records --records "$position"
+misused "'--records'" look --records --db x "$position"
 misused "'--svg'" line --db x --svg y "$position"
 misused '<POSITION>' show
 misused '<POSITION>' show --db x

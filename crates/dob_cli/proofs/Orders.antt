@@ -13,18 +13,22 @@ use Rattle.dob_query.proofs.EachRight.{each_right}
 use Rattle.dob_query.proofs.Placed.{question_each_right}
 use Rattle.dob_query.specs.declared.questions.Question.{Question}
 use Rattle.dob_query.proofs.Asking.{question_right}
+use Rattle.dob_query.proofs.Played.{play_right}
+use Rattle.dob_cli.specs.declared.program.Way.{Way}
+use Rattle.dob_cli.specs.declared.program.Way.TheVariants as way
 use Rattle.dob_survey.proofs.Rightly.{puzzles_right, reach_right, stats_right, zugzwangs_right}
 use Rattle.dob_query.proofs.Shown.{show_right}
 use Rattle.dob_query.proofs.Valued.{probe_right}
 use Rattle.dob_cli.specs.Orders.{AnswersAskedRight, AnswersByLines, AnswersEachAskedRight, AnswersLinesRight, AnswersOrder, AnswersRight, AreAskedLines}
-use Rattle.dob_cli.specs.Orders.{AreEachAsked, ByValueFile, IsAskedFault, IsEachAskedFault, form_of, question_of, reach_of, search_of}
+use Rattle.dob_cli.specs.Orders.{AreEachAsked, ByValueFile, IsAskedFault, IsEachAskedFault, form_of, question_of, reach_of, search_of, way_of}
 
 module _ (c : ShelfChange) (e : Ending) where
   -- by the file of a value table what is asked of a position is answered rightly
-  asked_right : (q : Option Question) (file text : List ℕ) → AnswersOver c (AreAskedLines q (c.before.has file) text) (IsAskedFault q (c.before.has file) text) e
-      → ByValueFile c file (λ profile. AnswersAskedRight q c profile file text e)
-  asked_right None file text answers = λ profile right. probe_right c profile file text e right answers
-  asked_right (Some q) file text answers = λ profile right. question_right c profile q file text e right answers
+  asked_right : (w : Way) (file text : List ℕ) → AnswersOver c (AreAskedLines w (c.before.has file) text) (IsAskedFault w (c.before.has file) text) e
+      → ByValueFile c file (λ profile. AnswersAskedRight w c profile file text e)
+  asked_right way.Probe file text answers = λ profile right. probe_right c profile file text e right answers
+  asked_right (way.Line form) file text answers = λ profile right. play_right c profile form file text e right answers
+  asked_right (way.Records q) file text answers = λ profile right. question_right c profile q file text e right answers
 
   -- so is what is asked of each line
   each_asked_right : (q : Option Question) (file : List ℕ) → AnswersLines c (AreEachAsked q (c.before.has file)) (IsEachAskedFault q c file) e
@@ -34,7 +38,7 @@ module _ (c : ShelfChange) (e : Ending) where
 
   -- so is what is ordered
   rightly : (o : LinesOrder) → AnswersByLines c o e → AnswersLinesRight c o e
-  rightly (Ask f a t) answers = asked_right (question_of a) f.now t.now answers
+  rightly (Ask f a t) answers = asked_right (way_of a) f.now t.now answers
   rightly (Show (Some f) p t) answers = λ profile right. show_right c profile f.now e right (text_given p) t.now answers
   rightly (Reach p (Some f) l w t) answers = λ profile right. reach_right c profile f.now e right (reach_of p l w) t.now answers
   rightly (Stats f b j) answers = λ profile right. stats_right c profile f.now e right (form_of b j) answers
@@ -93,8 +97,8 @@ module _ (c : ShelfChange) (e : Ending) where
   pub done_probe : (P : Text → Text → Type 0) (file text : Text) → ((f t : Bor Text) → AnswersByLines c (probing f t) e → AnswersLinesRight c (probing f t) e → P f.now t.now)
       → (o : Order) → IsOrder (codes "probe") (Some file ∷ None ∷ Some text ∷ []) o → AnswersOrder c o e → AnswersRight c o e → P file text
   done_probe P file text of (Lines (Ask f ask.Probe t)) is answers right =
-      let same = probe_texts f.now t.now file text is.1.2 in rw (same.0, same.1) at (of f t answers right)
-  done_probe P file text of (EachLine f ask.Probe) is answers right = absurd (unlike_texts f.now is.1.2 file text is.1.3)
+      let same = probe_texts f.now t.now file text is.1.3 in rw (same.0, same.1) at (of f t answers right)
+  done_probe P file text of (EachLine f ask.Probe) is answers right = absurd (unlike_texts f.now is.1.3 file text is.1.4)
   done_probe P file text of o is answers right = absurd (differs (name_of_order o) (codes "probe") refl is.0)
 
   pub probe_told : (f t : Bor Text) → AnswersByLines c (probing f t) e → AnswersProbe c f.now t.now e

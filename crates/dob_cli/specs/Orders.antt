@@ -16,8 +16,13 @@ use Rattle.dob_query.specs.Sizes.{AreCountLinesOf, IsCountFaultOf}
 use Rattle.dob_build.specs.Builds.{AreBuildLines, IsBuildFault}
 use Rattle.dob_survey.specs.declared.stats.StatsForm.{StatsForm}
 use Rattle.dob_survey.specs.declared.stats.StatsForm.TheVariants as forms
+use Rattle.dob_query.specs.declared.questions.LineForm.{LineForm}
+use Rattle.dob_query.specs.declared.questions.LineForm.TheVariants as play
 use Rattle.dob_query.specs.declared.questions.Question.{Question}
 use Rattle.dob_query.specs.declared.questions.Question.TheVariants as question
+use Rattle.dob_cli.specs.declared.program.Way.{Way}
+use Rattle.dob_cli.specs.declared.program.Way.TheVariants as way
+use Rattle.dob_query.specs.Plays.{AnswersPlayRight, ArePlayLines}
 use Rattle.dob_query.specs.Questions.{AnswersQuestionRight, AreAnswerLines, GivesWhole, IsAskFault}
 use Rattle.dob_files.specs.Telling.{AnswersLines, TellsOver}
 use Rattle.dob_query.specs.Each.{AnswersEachRight, AreEachLines, IsEachFault, IsGivenTo}
@@ -48,16 +53,31 @@ reach_of profile has_levels is_watched = record { profile = profile; has_levels 
 
 -- ---- what a position is asked
 
--- the question that records answer; none where the whole table does
+-- how a line is told: as JSON, also where its moves are to be numbered
+abbrev pub line_form : Bool → Bool → LineForm
+line_form is_numbered true = play.Object
+line_form true false = play.Numbered
+line_form false false = play.Plain
+
+-- how a file is asked that: for the value or the line by the whole table, or by records
+abbrev pub way_of : Asked → Way
+way_of ask.Probe = way.Probe
+way_of ask.Best = way.Records question.Best
+way_of (ask.Look false) = way.Records question.Look
+way_of (ask.Look true) = way.Records question.ValueObject
+way_of (ask.Moves false) = way.Records question.Moves
+way_of (ask.Moves true) = way.Records question.MovesObject
+way_of (ask.Line is_numbered false is_json) = way.Line (line_form is_numbered is_json)
+way_of (ask.Line is_numbered true is_json) = way.Records (question.Line (line_form is_numbered is_json))
+
+-- the question that records answer of each line; none where the whole table does
+abbrev pub question_in : Way → Option Question
+question_in way.Probe = None
+question_in (way.Line form) = Some (question.Line form)
+question_in (way.Records asked) = Some asked
+
 abbrev pub question_of : Asked → Option Question
-question_of ask.Probe = None
-question_of ask.Best = Some question.Best
-question_of (ask.Look false) = Some question.Look
-question_of (ask.Look true) = Some question.ValueObject
-question_of (ask.Moves false) = Some question.Moves
-question_of (ask.Moves true) = Some question.MovesObject
-question_of (ask.Line is_numbered false) = Some (question.Line is_numbered)
-question_of (ask.Line is_numbered true) = Some question.LineObject
+question_of asked = question_in (way_of asked)
 
 -- how statistics are told: as JSON, also where they are to be for scripts
 abbrev pub form_of : Bool → Bool → StatsForm
@@ -66,19 +86,22 @@ form_of true false = forms.Csv
 form_of false false = forms.Lines
 
 -- the lines answer it, by a file that may have such bytes
-abbrev pub AreAskedLines : Option Question → (List ℕ → Type 0) → List ℕ → List ℕ → Type 0
-AreAskedLines None = IsProbeLine
-AreAskedLines (Some asked) = AreAnswerLines asked
+abbrev pub AreAskedLines : Way → (List ℕ → Type 0) → List ℕ → List ℕ → Type 0
+AreAskedLines way.Probe = IsProbeLine
+AreAskedLines (way.Line form) = ArePlayLines form
+AreAskedLines (way.Records asked) = AreAnswerLines asked
 
 -- the fault is one of that
-abbrev pub IsAskedFault : Option Question → (List ℕ → Type 0) → List ℕ → Fault → Type 0
-IsAskedFault None = IsPositionFault
-IsAskedFault (Some asked) = IsAskFault asked
+abbrev pub IsAskedFault : Way → (List ℕ → Type 0) → List ℕ → Fault → Type 0
+IsAskedFault way.Probe = IsPositionFault
+IsAskedFault (way.Line form) = IsPositionFault
+IsAskedFault (way.Records asked) = IsAskFault asked
 
 -- by the file of a value table it is answered rightly
-abbrev pub AnswersAskedRight : Option Question → ShelfChange → Profile → List ℕ → List ℕ → Ending → Type 0
-AnswersAskedRight None c profile = AnswersProbeRight c profile
-AnswersAskedRight (Some asked) c profile = AnswersQuestionRight c profile asked
+abbrev pub AnswersAskedRight : Way → ShelfChange → Profile → List ℕ → List ℕ → Ending → Type 0
+AnswersAskedRight way.Probe c profile = AnswersProbeRight c profile
+AnswersAskedRight (way.Line form) c profile = AnswersPlayRight c profile form
+AnswersAskedRight (way.Records asked) c profile = AnswersQuestionRight c profile asked
 
 -- the text answers it of the positions of such lines of standard input
 abbrev pub AreEachAsked : Option Question → (List ℕ → Type 0) → List (List ℕ) → Bool → List ℕ → Type 0
@@ -98,7 +121,7 @@ AnswersEachAskedRight (Some asked) c profile = AnswersQuestionEachRight c profil
 -- what a call gives that answers it
 abbrev pub GivesAsked : {X : Type 0} → List ℕ → Asked → List ℕ → Result (String X) Fault → ShelfChange → Type 0
 GivesAsked file asked position result c =
-    GivesLines c (AreAskedLines (question_of asked) (c.before.has file) position) (IsAskedFault (question_of asked) (c.before.has file) position) result
+    GivesLines c (AreAskedLines (way_of asked) (c.before.has file) position) (IsAskedFault (way_of asked) (c.before.has file) position) result
 
 -- what a call gives that tells the answers of each line
 abbrev pub GivesEachLine : List ℕ → Asked → Result Bool Fault → ShelfChange → Change → Type 0
@@ -117,7 +140,7 @@ AreLinesFor c (Value profile position) = IsValueLineOf profile position.now
 AreLinesFor c (Count profile set) = AreCountLinesOf profile set.now
 AreLinesFor c (Reach profile file has_levels is_watched position) = AreReachLinesFor c.before.has (reach_of profile has_levels is_watched) (text_given file) position.now
 AreLinesFor c (Build order) = AreBuildLines c order.profile order.set.now order.nodes order.file.now
-AreLinesFor c (Ask file asked position) = AreAskedLines (question_of asked) (c.before.has file.now) position.now
+AreLinesFor c (Ask file asked position) = AreAskedLines (way_of asked) (c.before.has file.now) position.now
 AreLinesFor c (Check file is_watched) = IsCheckLine (c.before.has file.now)
 AreLinesFor c (Show file picture position) = AreShowLines c (text_given file) (text_given picture) position.now
 AreLinesFor c (Stats file is_csv is_json) = AreStatsLines (IsFileOf (c.before.has file.now)) (form_of is_csv is_json)
@@ -135,7 +158,7 @@ IsFaultFor c (Value profile position) = IsFaultOf profile position.now
 IsFaultFor c (Count profile set) = IsCountFaultOf set.now
 IsFaultFor c (Reach profile file has_levels is_watched position) = IsReachFaultFor c.before.has (reach_of profile has_levels is_watched) (text_given file) position.now
 IsFaultFor c (Build order) = IsBuildFault c order.profile order.set.now order.nodes
-IsFaultFor c (Ask file asked position) = IsAskedFault (question_of asked) (c.before.has file.now) position.now
+IsFaultFor c (Ask file asked position) = IsAskedFault (way_of asked) (c.before.has file.now) position.now
 IsFaultFor c (Check file is_watched) = IsCheckFault (c.before.has file.now)
 IsFaultFor c (Show file picture position) = IsShowFault c (text_given file) (text_given picture) position.now
 IsFaultFor c (Stats file is_csv is_json) = IsStatsFault (c.before.has file.now)
@@ -176,7 +199,7 @@ ByValueFile c file IsRight = (profile : Profile) → HasValueFile (c.before.has 
 
 -- by the file of a value table the order is answered rightly
 abbrev pub AnswersLinesRight : ShelfChange → LinesOrder → Ending → Type 0
-AnswersLinesRight c (Ask file asked position) e = ByValueFile c file.now (λ profile. AnswersAskedRight (question_of asked) c profile file.now position.now e)
+AnswersLinesRight c (Ask file asked position) e = ByValueFile c file.now (λ profile. AnswersAskedRight (way_of asked) c profile file.now position.now e)
 AnswersLinesRight c (Show (Some file) picture position) e =
     ByValueFile c file.now (λ profile. AnswersShowRight c profile file.now (text_given picture) position.now e)
 AnswersLinesRight c (Reach own (Some file) has_levels is_watched position) e =

@@ -5,10 +5,10 @@ ghost use Rattle.std.specs.declared.io.ErrorKind.TheVariants.{OutOfMemory};
 ghost use Rattle.std.specs.Vec.Iter.{into_iter_items};
 ghost use Rattle.dob_dbfile.specs.Sinks.{Says, change};
 ghost use Rattle.dob_cli.specs.Runs.{LeavesShelf, Ran, RanOver, TellsNoText, contents};
-ghost use Rattle.dob_cli.specs.Orders.{AnswersByLines, AnswersEachLine, AnswersOrder, GivesAsked, GivesEachLine, GivesLinesFor, KeepsFiles, KeepsFilesFor, form_of, question_of, reach_of, search_of};
+ghost use Rattle.dob_cli.specs.Orders.{AnswersByLines, AnswersEachLine, AnswersOrder, GivesAsked, GivesEachLine, GivesLinesFor, KeepsFiles, KeepsFilesFor, form_of, line_form, question_of, reach_of, search_of, way_of};
 ghost use Rattle.dob_shelf.specs.Shelves.{Changes, Leaving, SameFiles};
 ghost use Rattle.dob_files.specs.Endings.{TellsAs, TellsFaultAs, TellsMemory, TellsOneFault, ended};
-ghost use Rattle.dob_files.specs.Faults.{IsFaultLine};
+ghost use Rattle.dob_files.specs.Faults.{AreFaultLines};
 ghost use Rattle.dob_files.specs.Telling.{status_of_lines};
 ghost use Rattle.dob_files.specs.declared.fault.Fault.TheVariants.{Memory};
 
@@ -19,8 +19,8 @@ use dob_lines::Console;
 use dob_pieces::Profile;
 use dob_probe::Walk;
 use dob_query::{
-    Question, answer_count, answer_each, answer_probe, answer_question, answer_question_each,
-    answer_show, answer_value,
+    LineForm, Question, answer_count, answer_each, answer_line, answer_probe, answer_question,
+    answer_question_each, answer_show, answer_value,
 };
 use dob_shelf::Shelf;
 use dob_survey::{
@@ -246,28 +246,64 @@ fn answer_asked<S: Shelf>(
 ) -> Lines
     ensures { Leaving SameFiles S.state shelf.old shelf.new (GivesAsked file.now asked position.now result) }
 {
-    match question_of(asked) {
-        None => answer_probe(alloc, shelf, file, position),
-        Some(question) => answer_question(alloc, shelf, file, question, position),
+    match way_of(asked) {
+        Way::Probe => answer_probe(alloc, shelf, file, position),
+        Way::Line(form) => answer_line(alloc, shelf, file, form, position),
+        Way::Records(question) => answer_question(alloc, shelf, file, question, position),
     }
 }
 
-// The question that records answer; none where the whole table does.
+// How a file is asked for a position: for its value or its line by the whole table, or by records.
+#[derive(Clone, Copy)]
+enum Way {
+    Probe,
+    Line(LineForm),
+    Records(Question),
+}
+
+// How a file is asked that.
+fn way_of(asked: Asked) -> Way
+    ensures { result ≡ way_of asked }
+{
+    match asked {
+        Asked::Probe => Way::Probe,
+        Asked::Best => Way::Records(Question::Best),
+        Asked::Look { is_json: false } => Way::Records(Question::Look),
+        Asked::Look { is_json: true } => Way::Records(Question::ValueObject),
+        Asked::Moves { is_json: false } => Way::Records(Question::Moves),
+        Asked::Moves { is_json: true } => Way::Records(Question::MovesObject),
+        Asked::Line {
+            is_numbered,
+            by_records: false,
+            is_json,
+        } => Way::Line(line_form(is_numbered, is_json)),
+        Asked::Line {
+            is_numbered,
+            by_records: true,
+            is_json,
+        } => Way::Records(Question::Line(line_form(is_numbered, is_json))),
+    }
+}
+
+// The question that records answer of each line; none where the whole table does. A line is asked of the records.
 fn question_of(asked: Asked) -> Option<Question>
     ensures { result ≡ question_of asked }
 {
-    match asked {
-        Asked::Probe => None,
-        Asked::Best => Some(Question::Best),
-        Asked::Look { is_json: false } => Some(Question::Look),
-        Asked::Look { is_json: true } => Some(Question::ValueObject),
-        Asked::Moves { is_json: false } => Some(Question::Moves),
-        Asked::Moves { is_json: true } => Some(Question::MovesObject),
-        Asked::Line {
-            is_numbered,
-            is_json: false,
-        } => Some(Question::Line { is_numbered }),
-        Asked::Line { is_json: true, .. } => Some(Question::LineObject),
+    match way_of(asked) {
+        Way::Probe => None,
+        Way::Line(form) => Some(Question::Line(form)),
+        Way::Records(question) => Some(question),
+    }
+}
+
+// How a line is told: as JSON, also where its moves are to be numbered.
+fn line_form(is_numbered: bool, is_json: bool) -> LineForm
+    ensures { result ≡ line_form is_numbered is_json }
+{
+    match (is_numbered, is_json) {
+        (_, true) => LineForm::Object,
+        (true, false) => LineForm::Numbered,
+        (false, false) => LineForm::Plain,
     }
 }
 
@@ -335,25 +371,27 @@ fn say<E: Sink>(err: &mut E, bytes: &[u8])
     let _written = write_all(err, bytes);
 }
 
-// The fault's line. Of a device that failed it says what that said, where the shelf knows it.
-fn fault_line<S: Shelf>(alloc: Global, fault: Fault, shelf: &S) -> Result<String, AllocError>
-    ensures { IfOk result (λ line. IsFaultLine fault (string_bytes line)) }
+// The fault's line. Below that of a device that failed stands the cause, where the shelf knows it.
+fn fault_lines<S: Shelf>(alloc: Global, fault: Fault, shelf: &S) -> Result<String, AllocError>
+    ensures { IfOk result (λ lines. AreFaultLines fault (string_bytes lines)) }
 {
-    if fault.is_io() {
-        if let Some(said) = shelf.said(alloc)? {
-            return format!(in alloc; "dobutsu: {fault}: {said}\n");
-        }
+    let line = format!(in alloc; "dobutsu: {fault}\n")?;
+    if !fault.is_io() {
+        return Ok(line);
     }
-    format!(in alloc; "dobutsu: {fault}\n")
+    match shelf.said(alloc)? {
+        None => Ok(line),
+        Some(cause) => format!(in alloc; "{line}  {cause}\n"),
+    }
 }
 
 // Prints a fault on standard error, or that no memory was left for it.
 fn tell_fault<S: Shelf, E: Sink>(alloc: Global, fault: Fault, shelf: &S, err: &mut E) -> u8
     ensures { TellsOneFault fault result (change (E.state err.old) (E.state err.new)) }
 {
-    match fault_line(alloc, fault, shelf) {
-        Ok(line) => {
-            say(err, line.as_bytes());
+    match fault_lines(alloc, fault, shelf) {
+        Ok(lines) => {
+            say(err, lines.as_bytes());
             fault.status()
         }
         Err(AllocError) => tell_memory(err),

@@ -52,9 +52,9 @@ fault_text Io = file.fault_text (file_fault.Io 0)
 abbrev pub fault_line : Fault → List ℕ
 fault_line fault = codes "dobutsu: " ++ fault_text fault ++ line_feed ∷ []
 
--- the line on standard error, with what a device said
-abbrev pub said_line : Fault → List ℕ → List ℕ
-said_line fault said = codes "dobutsu: " ++ fault_text fault ++ codes ": " ++ said ++ line_feed ∷ []
+-- the line on standard error, and below it a line with the cause, behind two spaces
+abbrev pub caused_lines : Fault → List ℕ → List ℕ
+caused_lines fault cause = fault_line fault ++ codes "  " ++ cause ++ line_feed ∷ []
 
 -- whether it is the fault of a device that failed
 abbrev pub is_io : Fault → Bool
@@ -62,9 +62,9 @@ is_io (File fault) = reading.is_io fault
 is_io Io = true
 is_io _ = false
 
--- a line on standard error for the fault: of a device that failed it may say what that said
-abbrev pub IsFaultLine : Fault → List ℕ → Type 0
-IsFaultLine fault line = (line ≡ fault_line fault) ⊎ ((is_io fault ≡ true) × (said : List ℕ) × (line ≡ said_line fault said))
+-- what standard error gets of the fault: its line, and of a device that failed there may be the cause below it
+abbrev pub AreFaultLines : Fault → List ℕ → Type 0
+AreFaultLines fault lines = (lines ≡ fault_line fault) ⊎ ((is_io fault ≡ true) × (cause : List ℕ) × (lines ≡ caused_lines fault cause))
 
 abbrev pub is_io_error : {X : Type 0} → Result X Fault → Bool
 is_io_error (Ok x) = false

@@ -1,5 +1,5 @@
 -- What the program owes where it is asked about a position by a database file of which only the header and the records that it needs are read.
-use Rattle.std.specs.Prelude.{◌≡◌, ◌⊎◌, ◌||◌, ℕ, Bool, IfOk, List, Result, String, string_bytes}
+use Rattle.std.specs.Prelude.{◌≡◌, ◌⊎◌, ◌||◌, ℕ, Bool, false, true, IfOk, List, Result, String, string_bytes}
 use Rattle.dob_pieces.specs.declared.profile.Family.{Family}
 use Rattle.dob_pieces.specs.declared.profile.Profile.{Profile}
 use Rattle.dob_pieces.specs.declared.profile.Profile.TheVariants.{A}
@@ -25,8 +25,10 @@ use Rattle.dob_records.specs.Faults.{BreaksBy}
 use Rattle.dob_records.specs.Records.{IsRecorded, LacksAlong, LacksNext, LacksRecord}
 use Rattle.dob_files.specs.declared.fault.Fault.{Fault}
 use Rattle.dob_files.specs.declared.fault.Fault.TheVariants.{Text, File, Table, Memory, Io}
+use Rattle.dob_query.specs.declared.questions.LineForm.{LineForm}
+use Rattle.dob_query.specs.declared.questions.LineForm.TheVariants.{Numbered, Object, Plain}
 use Rattle.dob_query.specs.declared.questions.Question.{Question}
-use Rattle.dob_query.specs.declared.questions.Question.TheVariants.{Look, Moves, Best, Line, Draw, ValueObject, MovesObject, LineObject}
+use Rattle.dob_query.specs.declared.questions.Question.TheVariants.{Look, Moves, Best, Line, Draw, ValueObject, MovesObject}
 use Rattle.dob_files.specs.Endings.{AnswersOver, Ending, GivesLines}
 use Rattle.dob_files.specs.Faults.{is_io_error}
 use Rattle.dob_lines.specs.Objects.{line_object, moves_object, value_object}
@@ -51,16 +53,21 @@ abbrev pub TellsPlay : (Value → List GameMove → List ℕ) → Profile → (S
 TellsPlay tell profile Has p lines =
     (value : Value) × (moves : List GameMove) × Has p value × IsLine profile Has p moves × (lines ≡ tell value moves)
 
+-- the lines that tell such moves, the line of a position of that value
+abbrev pub line_told : LineForm → Setup → Value → List GameMove → List ℕ
+line_told Plain p = moves_lines false
+line_told Numbered p = moves_lines true
+line_told Object p = line_object p
+
 -- the lines answer the question of the position
 abbrev pub IsToldBy : Question → Profile → (Setup → Value → Type 0) → Setup → List ℕ → Type 0
 IsToldBy Look profile Has p = TellsValue value_line Has p
 IsToldBy Moves profile Has p = TellsMoves move_lines profile Has p
 IsToldBy Best profile Has p = TellsMoves best_move_line profile Has p
-IsToldBy (Line is_numbered) profile Has p = TellsPlay (moves_lines is_numbered) profile Has p
+IsToldBy (Line form) profile Has p = TellsPlay (line_told form p) profile Has p
 IsToldBy Draw profile Has p = TellsPlay (played_drawing p) profile Has p
 IsToldBy ValueObject profile Has p = TellsValue (value_object p) Has p
 IsToldBy MovesObject profile Has p = TellsMoves (moves_object p) profile Has p
-IsToldBy LineObject profile Has p = TellsPlay (line_object p) profile Has p
 
 -- the stream's header names the family and the format, and the position is of that family
 pub record IsOfNamed (stream : Stream) (position : Setup) (format : Format) (family : Family) : Type 0 where
@@ -81,22 +88,20 @@ abbrev pub LacksFor : Question → Stream → Format → Family → Setup → fi
 LacksFor Look = LacksRecord
 LacksFor Moves = LacksNext
 LacksFor Best = LacksNext
-LacksFor (Line is_numbered) = LacksAlong
+LacksFor (Line form) = LacksAlong
 LacksFor Draw = LacksAlong
 LacksFor ValueObject = LacksRecord
 LacksFor MovesObject = LacksNext
-LacksFor LineObject = LacksAlong
 
 -- where it asks for the line, that breaks off at the class
 abbrev pub BreaksFor : Question → Stream → Format → Family → Setup → ℕ → Type 0
 BreaksFor Look stream format family p class = ⊥
 BreaksFor Moves stream format family p class = ⊥
 BreaksFor Best stream format family p class = ⊥
-BreaksFor (Line is_numbered) stream format family p class = BreaksBy family (IsRecorded stream format family) p class
+BreaksFor (Line form) stream format family p class = BreaksBy family (IsRecorded stream format family) p class
 BreaksFor Draw stream format family p class = BreaksBy family (IsRecorded stream format family) p class
 BreaksFor ValueObject stream format family p class = ⊥
 BreaksFor MovesObject stream format family p class = ⊥
-BreaksFor LineObject stream format family p class = BreaksBy family (IsRecorded stream format family) p class
 
 -- a fault of answering by the records of a source that shows these streams, in that format and family
 abbrev pub IsRecordsFault : Question → (Stream → Type 0) → Format → Family → Setup → Fault → Type 0

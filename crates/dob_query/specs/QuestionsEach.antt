@@ -20,7 +20,8 @@ use Rattle.dob_records.specs.Records.{IsRecorded}
 use Rattle.dob_files.specs.declared.fault.Fault.{Fault}
 use Rattle.dob_files.specs.declared.fault.Fault.TheVariants.{Text, File, Table, Memory, Io}
 use Rattle.dob_query.specs.declared.questions.Question.{Question}
-use Rattle.dob_query.specs.declared.questions.Question.TheVariants.{Moves, Line, ValueObject, MovesObject, LineObject}
+use Rattle.dob_query.specs.declared.questions.LineForm.TheVariants as line_form
+use Rattle.dob_query.specs.declared.questions.Question.TheVariants.{Moves, Line, ValueObject, MovesObject}
 use Rattle.dob_files.specs.Telling.{AnswersLines, TellsLinesOf, TellsOne, TellsOver, Told}
 use Rattle.dob_files.specs.Endings.{Ending}
 use Rattle.dob_files.specs.Faults.{fault_text, is_io}
@@ -45,10 +46,10 @@ plain_end end = (end, λ fault. fault_text fault ++ (line_feed ∷ end))
 -- an empty line where an answer may have more lines than one; a fault is an object where answers are
 abbrev pub end_of : Question → End
 end_of Moves = plain_end (line_feed ∷ [])
-end_of (Line true) = plain_end (line_feed ∷ [])
+end_of (Line line_form.Numbered) = plain_end (line_feed ∷ [])
+end_of (Line line_form.Object) = ([], fault_object)
 end_of ValueObject = ([], fault_object)
 end_of MovesObject = ([], fault_object)
-end_of LineObject = ([], fault_object)
 end_of _ = plain_end []
 
 -- what a call gave, as bytes

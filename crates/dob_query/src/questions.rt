@@ -1,12 +1,12 @@
-// What is asked of a position, and the answer by the header and the records of a database file that it needs.
+// What is asked of a position, how its line is told, and the answer by the header and the records of a database file that it needs.
 ghost use Rattle.std.specs.Prelude.{◌≡◌, false, IfErr, IfOk, string_bytes};
 ghost use Rattle.dob_rank.specs.Families.{IsPositionOf};
 ghost use Rattle.dob_dbfile.specs.Devices.{Stream};
 ghost use Rattle.dob_shelf.specs.Shelves.{Leaving, SameFiles};
 ghost use Rattle.dob_files.specs.Endings.{GivesLines};
 ghost use Rattle.dob_files.specs.Faults.{is_io_error};
-ghost use Rattle.dob_query.specs.declared.questions.Question.TheVariants.{Look, Moves, Best, Line, Draw, ValueObject, MovesObject, LineObject};
-ghost use Rattle.dob_query.specs.Questions.{GivesAnswer, GivesTold, IsAnswerBy, IsAnswerOf, IsAskingFault, IsFaultOfAsking, IsRecordsFault};
+ghost use Rattle.dob_query.specs.declared.questions.Question.TheVariants.{Look, Moves, Best, Line, Draw, ValueObject, MovesObject};
+ghost use Rattle.dob_query.specs.Questions.{GivesAnswer, GivesTold, IsAnswerBy, IsAnswerOf, IsAskingFault, IsFaultOfAsking, IsRecordsFault, line_told};
 
 use dob_classes::Classes;
 use dob_dbfile::{Format, PlacedSource, read_classes};
@@ -15,10 +15,12 @@ use dob_lines::{
     best_move_line, line_object, line_of, move_lines, moves_lines, moves_object, played_drawing,
     value_object,
 };
-use dob_pieces::Position;
+use dob_moves::Move;
+use dob_pieces::{Memory, Position};
 use dob_probe::check_member;
 use dob_records::{line_by_records, moves_by_records, value_at};
 use dob_shelf::Shelf;
+use dob_value::Value;
 use std::alloc::Global;
 
 /// What is asked of a position.
@@ -30,16 +32,25 @@ pub enum Question {
     Moves,
     /// The first of these.
     Best,
-    /// Its line, each move on a line with its number if it is numbered.
-    Line { is_numbered: bool },
+    /// Its line, told in that form.
+    Line(LineForm),
     /// Its drawing, with its value and its line.
     Draw,
     /// Its value, as a JSON object.
     ValueObject,
     /// Its moves with their values, as one.
     MovesObject,
-    /// Its value and its line, as one.
-    LineObject,
+}
+
+/// How a line is told.
+#[derive(Clone, Copy)]
+pub enum LineForm {
+    /// Its moves, all on one line.
+    Plain,
+    /// Each move on a line with its number.
+    Numbered,
+    /// The position's value and its line, as a JSON object.
+    Object,
 }
 
 /// The lines that answer the question of the position that the text names, by the header of the file and the records that it needs. The file is
@@ -112,18 +123,10 @@ pub(crate) fn answer_by_records<R: PlacedSource>(
         Question::Look => told_value(alloc, source, format, classes, position),
         Question::Moves => told_moves(alloc, source, format, classes, position),
         Question::Best => told_best(alloc, source, format, classes, position),
-        Question::Line { is_numbered } => told_line(
-            alloc,
-            source,
-            format,
-            classes,
-            is_numbered,
-            position,
-        ),
+        Question::Line(form) => told_line(alloc, source, format, classes, form, position),
         Question::Draw => told_drawing(alloc, source, format, classes, position),
         Question::ValueObject => told_value_object(alloc, source, format, classes, position),
         Question::MovesObject => told_moves_object(alloc, source, format, classes, position),
-        Question::LineObject => told_line_object(alloc, source, format, classes, position),
     }
 }
 
@@ -184,16 +187,33 @@ fn told_line<R: PlacedSource>(
     source: &mut R,
     format: Format,
     classes: &Classes,
-    is_numbered: bool,
+    form: LineForm,
     position: &Position,
 ) -> Lines
     requires { IsPositionOf classes.now.family position.now.setup }
-    ensures told { GivesTold (Line is_numbered) (R.shows source.old) (R.shows source.new) (R.has_failed source.old) (R.has_failed source.new)
+    ensures told { GivesTold (Line form) (R.shows source.old) (R.shows source.new) (R.has_failed source.old) (R.has_failed source.new)
         format classes.now.family position.now.setup result }
-    ensures fault { IfErr result (IsRecordsFault (Line is_numbered) (R.shows source.old) format classes.now.family position.now.setup) }
+    ensures fault { IfErr result (IsRecordsFault (Line form) (R.shows source.old) format classes.now.family position.now.setup) }
 {
     let (value, moves) = line_by_records(alloc, source, format, classes, position)?;
-    Ok(moves_lines(alloc, is_numbered, value, &moves)?)
+    Ok(line_told(alloc, form, position, value, &moves)?)
+}
+
+/// The lines that tell these moves, the line of a position of that value.
+pub(crate) fn line_told(
+    alloc: Global,
+    form: LineForm,
+    position: &Position,
+    value: Value,
+    moves: &[Move],
+) -> Result<String, Memory>
+    ensures { IfOk result (λ lines. string_bytes lines ≡ line_told form position.now.setup value moves.now) }
+{
+    match form {
+        LineForm::Plain => moves_lines(alloc, false, value, moves),
+        LineForm::Numbered => moves_lines(alloc, true, value, moves),
+        LineForm::Object => line_object(alloc, position, value, moves),
+    }
 }
 
 // The drawing, with the value and the line.
@@ -245,21 +265,4 @@ fn told_moves_object<R: PlacedSource>(
 {
     let legal = moves_by_records(alloc, source, format, classes, position)?;
     Ok(moves_object(alloc, position, &legal)?)
-}
-
-// The value and the line, as an object.
-fn told_line_object<R: PlacedSource>(
-    alloc: Global,
-    source: &mut R,
-    format: Format,
-    classes: &Classes,
-    position: &Position,
-) -> Lines
-    requires { IsPositionOf classes.now.family position.now.setup }
-    ensures told { GivesTold LineObject (R.shows source.old) (R.shows source.new) (R.has_failed source.old) (R.has_failed source.new)
-        format classes.now.family position.now.setup result }
-    ensures fault { IfErr result (IsRecordsFault LineObject (R.shows source.old) format classes.now.family position.now.setup) }
-{
-    let (value, moves) = line_by_records(alloc, source, format, classes, position)?;
-    Ok(line_object(alloc, position, value, &moves)?)
 }

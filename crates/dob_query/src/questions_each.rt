@@ -8,7 +8,7 @@ ghost use Rattle.dob_query.specs.QuestionsEach.{bytes_of, end_of, ended_lines, e
 ghost use Rattle.dob_files.specs.Telling.{TellsEach};
 ghost use Rattle.dob_shelf.specs.Shelves.{Leaving, SameFiles};
 
-use crate::questions::{Question, answer_by_records};
+use crate::questions::{LineForm, Question, answer_by_records};
 use dob_classes::Classes;
 use dob_dbfile::{Format, PlacedSource, Sink, read_classes};
 use dob_files::{Answerer, Fault, LineAnswers, Lines, position_on, tell_each};
@@ -151,7 +151,7 @@ fn end_of(question: Question) -> &'static str
     ensures { result.now ≡ (end_of question).0 }
 {
     match question {
-        Question::Moves | Question::Line { is_numbered: true } => "\n",
+        Question::Moves | Question::Line(LineForm::Numbered) => "\n",
         _ => "",
     }
 }
@@ -174,10 +174,9 @@ fn fault_lines(alloc: Global, fault: Fault, question: Question) -> Result<String
     ensures { IfOk result (λ lines. string_bytes lines ≡ (end_of question).1 fault) }
 {
     match question {
-        Question::ValueObject | Question::MovesObject | Question::LineObject => {
-            fault_object(alloc, fault)
-        }
-        Question::Moves | Question::Line { is_numbered: true } => {
+        Question::ValueObject | Question::MovesObject | Question::Line(LineForm::Object) =>
+            fault_object(alloc, fault),
+        Question::Moves | Question::Line(LineForm::Numbered) => {
             Ok(format!(in alloc; "{fault}\n\n")?)
         }
         _ => Ok(format!(in alloc; "{fault}\n")?),

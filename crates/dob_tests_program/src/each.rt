@@ -117,7 +117,7 @@ const FURTHER: &[(&[&str], u8, &str)] = &[
         "La2-a3 lc4-b4 La3xb4\nE3 Hand\nLa1-b1 lc2xb1\n",
     ),
     (
-        &["line", "--each", "--numbered", "--db", FILE],
+        &["line", "--each", "--records", "--numbered", "--db", FILE],
         1,
         "1. La2-a3\n2. lc4-b4\n3. La3xb4\n\nE3 Hand\n\n1. La1-b1\n2. lc2xb1\n\n",
     ),
@@ -218,7 +218,7 @@ fn input_in_pieces(rt: HostRuntime) {
         told.is(
             3,
             b"win 3\n",
-            b"dobutsu: E24 Io: standard input: other error\n"
+            b"dobutsu: E24 Io\n  standard input: other error\n"
         )
     );
 }

@@ -159,9 +159,7 @@ const ASKED: &[(&str, &str, &str, &str)] = &[
     ("look", "longer.db", LOSS_2, "loss 2\n"),
     ("look", "digest.db", WIN_3, "win 3\n"),
     ("look", "short.db", LOSS_2, "loss 2\n"),
-    // nor are they where the line is asked for
-    ("line", "cut.db", WIN_3, "La2-a3 lc4-b4 La3xb4\n"),
-    ("line", "longer.db", LONG, LINE_OF_LONG),
+    // nor are they where moves are asked for
     ("moves", "longer.db", WIN_3, MOVES_OF_WIN_3),
     ("best", "cut.db", WIN_3, "La2-a3 win 3\n"),
     ("show", "longer.db", CATCH, PLAYED),
@@ -178,11 +176,14 @@ const UNASKED: &[(&str, &str, &str, u8, &str)] = &[
     ("look", "set.db", WIN_3, 1, "E17 SetByte"),
     ("look", "count.db", WIN_3, 1, "E18 ClassCount"),
     ("look", "none.db", WIN_3, 3, "E24 Io"),
-    ("line", "short.db", WIN_3, 1, "E15 Truncated"),
     ("moves", "empty.db", WIN_3, 1, "E15 Truncated"),
     ("best", "magic.db", WIN_3, 1, "E16 Magic"),
     ("moves", "set.db", WIN_3, 1, "E17 SetByte"),
+    // for a line the whole file is read, and before the position is looked for in its set
+    ("line", "cut.db", WIN_3, 1, "E15 Truncated"),
     ("line", "count.db", WIN_3, 1, "E18 ClassCount"),
+    ("line", "longer.db", LONG, 1, "E19 Trailing"),
+    ("line", "digest.db", CHICK, 1, "E20 Digest"),
     ("moves", "none.db", WIN_3, 3, "E24 Io"),
     // a position is read before its file, which here is none
     ("look", "none.db", "", 1, "E1 Shape"),
@@ -235,6 +236,15 @@ const FURTHER: &[Answered] = &[
     (&["moves", "--db", "lions.db", TRIED], "end\n"),
     (&["line", "--db", "lions.db", "--numbered", WIN_3], NUMBERED),
     (&["line", "--numbered", "--db", "lions.db", DRAW], "draw\n"),
+    // by the records that the line needs
+    (
+        &["line", "--records", "--db", "cut.db", WIN_3],
+        "La2-a3 lc4-b4 La3xb4\n",
+    ),
+    (
+        &["line", "--db", "longer.db", "--records", LONG],
+        LINE_OF_LONG,
+    ),
     (&["check", "--db", "lions.db", "--progress"], "consistent\n"),
     (
         &[
@@ -258,6 +268,11 @@ const FURTHER: &[Answered] = &[
 
 const FURTHER_REFUSED: &[Refused] = &[
     (&["moves", "--db", "lions.db", CHICK], 1, "E7 OtherSet"),
+    (
+        &["line", "--records", "--db", "short.db", WIN_3],
+        1,
+        "E15 Truncated",
+    ),
     (&["stats", "--db", "count.db"], 1, "E18 ClassCount"),
     (&["show", "--db", "lions.db", CHICK], 1, "E7 OtherSet"),
     (&["show", FAR_LION], 1, "E6 FarLion"),

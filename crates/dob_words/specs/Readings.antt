@@ -54,7 +54,7 @@ subcommand_asked ask.Probe = subcommand.Probe
 subcommand_asked (ask.Look _) = subcommand.Look
 subcommand_asked (ask.Moves _) = subcommand.Moves
 subcommand_asked ask.Best = subcommand.Best
-subcommand_asked (ask.Line _ _) = subcommand.Line
+subcommand_asked (ask.Line _ _ _) = subcommand.Line
 
 -- the subcommand that the order is for
 abbrev pub subcommand_of : LinesOrder → Subcommand
@@ -77,19 +77,20 @@ abbrev pub name_of_order : Order → Text
 name_of_order (order.Lines o) = name_of (subcommand_of o)
 name_of_order (order.EachLine file asked) = name_of (subcommand_asked asked)
 
--- the flags `--numbered` and `--json` are given where that is asked
-abbrev pub IsFlaggedBy : Asked → Option Text → Option Text → Type 0
-IsFlaggedBy (ask.Look is_json) numbered json = is_json ≡ is_some json
-IsFlaggedBy (ask.Moves is_json) numbered json = is_json ≡ is_some json
-IsFlaggedBy (ask.Line is_numbered is_json) numbered json = (is_numbered ≡ is_some numbered) × (is_json ≡ is_some json)
-IsFlaggedBy _ numbered json = Unit {0}
+-- the flags `--numbered`, `--records` and `--json` are given where that is asked
+abbrev pub IsFlaggedBy : Asked → Option Text → Option Text → Option Text → Type 0
+IsFlaggedBy (ask.Look is_json) numbered records json = is_json ≡ is_some json
+IsFlaggedBy (ask.Moves is_json) numbered records json = is_json ≡ is_some json
+IsFlaggedBy (ask.Line is_numbered by_records is_json) numbered records json =
+    (is_numbered ≡ is_some numbered) × (by_records ≡ is_some records) × (is_json ≡ is_some json)
+IsFlaggedBy _ numbered records json = Unit {0}
 
--- the texts of what is asked, by those of FILE, `--numbered`, `--each`, `--json` and POSITION
-abbrev pub texts_asked : Asked → Option Text → Option Text → Option Text → Option Text → Option Text → List (Option Text)
-texts_asked (ask.Look _) file numbered each json position = file ∷ each ∷ json ∷ position ∷ []
-texts_asked (ask.Moves _) file numbered each json position = file ∷ each ∷ json ∷ position ∷ []
-texts_asked (ask.Line _ _) file numbered each json position = file ∷ numbered ∷ each ∷ json ∷ position ∷ []
-texts_asked _ file numbered each json position = file ∷ each ∷ position ∷ []
+-- the texts of what is asked, by those of FILE, `--numbered`, `--records`, `--each`, `--json` and POSITION
+abbrev pub texts_asked : Asked → Option Text → Option Text → Option Text → Option Text → Option Text → Option Text → List (Option Text)
+texts_asked (ask.Look _) file numbered records each json position = file ∷ each ∷ json ∷ position ∷ []
+texts_asked (ask.Moves _) file numbered records each json position = file ∷ each ∷ json ∷ position ∷ []
+texts_asked (ask.Line _ _ _) file numbered records each json position = file ∷ numbered ∷ records ∷ each ∷ json ∷ position ∷ []
+texts_asked _ file numbered records each json position = file ∷ each ∷ position ∷ []
 
 -- the text that may be left out
 abbrev pub text_given : Option (Bor Text) → Option Text
@@ -108,7 +109,8 @@ HasLinesTexts texts (lines.Build build) =
     (n rules flag : Option Text) × (Some build.set.now ∷ n ∷ Some build.file.now ∷ rules ∷ flag ∷ [] ≡ texts) × IfSome n (λ t. is_number t ≡ true)
     × (build.nodes ≡ option_map number_in n) × (build.profile ≡ profile_named rules) × (build.is_watched ≡ is_some flag)
 HasLinesTexts texts (lines.Ask file asked position) =
-    (numbered json : Option Text) × (texts_asked asked (Some file.now) numbered None json (Some position.now) ≡ texts) × IsFlaggedBy asked numbered json
+    (numbered records json : Option Text) × (texts_asked asked (Some file.now) numbered records None json (Some position.now) ≡ texts)
+    × IsFlaggedBy asked numbered records json
 HasLinesTexts texts (lines.Check file is_watched) = (flag : Option Text) × (Some file.now ∷ flag ∷ [] ≡ texts) × (is_watched ≡ is_some flag)
 HasLinesTexts texts (lines.Show file picture position) = text_given file ∷ text_given picture ∷ Some position.now ∷ [] ≡ texts
 HasLinesTexts texts (lines.Stats file is_csv is_json) =
@@ -129,8 +131,8 @@ HasLinesTexts texts (lines.Reply file position) = Some file.now ∷ Some positio
 abbrev pub HasTexts : List (Option Text) → Order → Type 0
 HasTexts texts (order.Lines o) = HasLinesTexts texts o
 HasTexts texts (order.EachLine file asked) =
-    (numbered json : Option Text) × (each : Text) × (texts_asked asked (Some file.now) numbered (Some each) json None ≡ texts)
-    × IsFlaggedBy asked numbered json
+    (numbered records json : Option Text) × (each : Text) × (texts_asked asked (Some file.now) numbered records (Some each) json None ≡ texts)
+    × IsFlaggedBy asked numbered records json
 
 -- the order is for this subcommand and these texts
 abbrev pub IsOrder : Text → List (Option Text) → Order → Type 0

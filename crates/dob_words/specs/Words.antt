@@ -235,11 +235,11 @@ takes_lines name =
     bytes_eq (codes "probe") name || (bytes_eq (codes "look") name
     || (bytes_eq (codes "moves") name || (bytes_eq (codes "best") name || bytes_eq (codes "line") name)))
 
--- of `--each` and a POSITION, which these have behind FILE, with `--json` between them, and `line` with `--numbered` before them, just one is given
+-- of `--each` and a POSITION, which these have behind FILE, with `--json` between them, and `line` with two flags before them, just one is given
 abbrev pub is_clear : List (Option Text) → Bool
 is_clear (file ∷ each ∷ position ∷ []) = if is_some each then not (is_some position) else is_some position
 is_clear (file ∷ each ∷ json ∷ position ∷ []) = if is_some each then not (is_some position) else is_some position
-is_clear (file ∷ numbered ∷ each ∷ json ∷ position ∷ []) = if is_some each then not (is_some position) else is_some position
+is_clear (file ∷ numbered ∷ records ∷ each ∷ json ∷ position ∷ []) = if is_some each then not (is_some position) else is_some position
 is_clear texts = true
 
 -- what is asked for, where one of `--each` and a POSITION is given

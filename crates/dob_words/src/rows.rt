@@ -114,6 +114,10 @@ pub const FIRST_ROWS: [Row; 6] = [
         &[DB],
         &[
             ("numbered", "Each move on a line, with its number"),
+            (
+                "records",
+                "Reads only the records that the answer needs; the rest of the file is not checked",
+            ),
             EACH,
             JSON,
         ],
@@ -364,7 +368,8 @@ pub(crate) const PROGRAM: &str =
     "`dobutsu value --help` says how a position is written and what the rules A and B are, `dobutsu count --help` how a
 piece set is.
 
-A fault is one line on standard error. The status is 1, and 3 for E12, E14, E23, E24 and E40:
+A fault is one line on standard error; below that of E24 a second one, behind two spaces, says which file or stream failed and
+why, where that is known. The status is 1, and 3 for E12, E14, E23, E24 and E40:
 
   E1 Shape         the text isn't fifteen bytes with `/` at 3, 7 and 11, then twice a space and a word
   E2 Letter        a square is none of `.LGECHlgech`
@@ -495,11 +500,16 @@ first such move: a piece's letter, its square, `-` or `x` for a capture, the squ
 `+` where a chick becomes a hen; or the letter of a piece in hand, `*` and a square. The moves of the
 side that isn't to move first are in lower case.
 
-Of the file only its first 21 bytes are read, the 2 bytes of the position, and for each move those of the positions that can
-follow, so that a file of any size is asked at once. Its digest isn't read, and damage isn't found: `dobutsu check` tests it all.
+The whole file is read and tested first, as by `dobutsu probe`. If `dobutsu check --db FILE` passes it, its answers are correct;
+otherwise they are only what it contains.
+
+With `--records` only the first 21 bytes of the file are read, the 2 bytes of the position, and for each move those of the
+positions that can follow, so that a file of any size is asked at once. Its digest isn't read: damage isn't found, nor whether the
+file is too long or too short.
 
 With `--each` in place of POSITION the positions come from standard input, one on each line, and each line is answered in the
-same order, as `dobutsu look --help` says. With `--numbered` too an empty line stands behind each answer.
+same order, as `dobutsu look --help` says, and by records, as if `--records` were given. With `--numbered` too an empty line stands
+behind each answer.
 
 Answers: the moves, `draw` where neither side can force an end, or `end` where the side to move has
 lost already. With `--numbered` each move stands on a line of its own behind its number, as `1. La2-a3`. With `--each` the status

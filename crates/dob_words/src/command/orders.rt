@@ -16,13 +16,21 @@ pub enum Asked {
     /// Its value, by the whole table.
     Probe,
     /// Its value, by its record, as JSON if it is.
-    Look { is_json: bool },
+    Look {
+        is_json: bool,
+    },
     /// Its moves with their values, as JSON if they are.
-    Moves { is_json: bool },
+    Moves {
+        is_json: bool,
+    },
     /// The first move of its line, with its value.
     Best,
-    /// Its line, as JSON if it is, or each move on a line with its number if it is numbered.
-    Line { is_numbered: bool, is_json: bool },
+    /// Its line, by the whole table or by records, as JSON if it is, or each move on a line with its number if it is numbered.
+    Line {
+        is_numbered: bool,
+        by_records: bool,
+        is_json: bool,
+    },
 }
 
 /// What the program is asked to do.
@@ -158,11 +166,13 @@ pub(super) fn order_for<'a>(subcommand: Subcommand, inner: &ArgMatches<'a>) -> O
         Subcommand::Best => asked_order(inner, Asked::Best),
         Subcommand::Line => {
             let is_numbered = inner.get_str("numbered").is_some();
+            let by_records = inner.get_str("records").is_some();
             let is_json = inner.get_str("json").is_some();
             asked_order(
                 inner,
                 Asked::Line {
                     is_numbered,
+                    by_records,
                     is_json,
                 },
             )
@@ -281,7 +291,8 @@ fn certify_order<'a>(inner: &ArgMatches<'a>) -> LinesOrder<'a>
 // What the matches ask for by one position or by `--each`, if it is clear.
 fn asked_order<'a>(inner: &ArgMatches<'a>, asked: Asked) -> Option<Order<'a>>
     requires fit { HasFit (form_for (subcommand_asked asked)) inner.now }
-    requires flagged { IsFlaggedBy asked (first_value (found_of inner.now) (codes "numbered")) (first_value (found_of inner.now) (codes "json")) }
+    requires flagged { IsFlaggedBy asked (first_value (found_of inner.now) (codes "numbered")) (first_value (found_of inner.now) (codes "records"))
+        (first_value (found_of inner.now) (codes "json")) }
     ensures { IsReadFor (cleared (asks (name_of (subcommand_asked asked)) (texts_in (form_for (subcommand_asked asked)) inner.now))) result }
 {
     let file = text(inner, "FILE");

@@ -2,8 +2,11 @@
 use Rattle.std.proofs.Common.{◌∙◌, sym}
 use Rattle.dob_cli.proofs.program.answer_asked.Goals as goal
 
-pub returns-in-None : goal.returns-in-None
-returns-in-None g c = rw (sym c.question_of.ensures ∙ c.in-None.is) c.answer_probe.ensures
+pub returns-in-Probe : goal.returns-in-Probe
+returns-in-Probe g c = rw (sym c.way_of.ensures ∙ c.in-Probe.is) c.answer_probe.ensures
 
-pub returns-in-Some : goal.returns-in-Some
-returns-in-Some g c = rw (sym c.question_of.ensures ∙ c.in-Some.is) c.answer_question.ensures
+pub returns-in-Line : goal.returns-in-Line
+returns-in-Line g c = rw (sym c.way_of.ensures ∙ c.in-Line.is) c.answer_line.ensures
+
+pub returns-in-Records : goal.returns-in-Records
+returns-in-Records g c = rw (sym c.way_of.ensures ∙ c.in-Records.is) c.answer_question.ensures
