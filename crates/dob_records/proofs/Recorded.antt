@@ -1,11 +1,10 @@
 -- A position has one record, and what it means that it isn't whole.
-use Rattle.dob_records.proofs.Common.{◌≡◌, refl, subst, ℕ, Family, Setup, IsPositionOf, Value, one_record, Stream, HasRecord, Format, IsRecorded}
+use Rattle.dob_records.proofs.Common.{◌≡◌, subst, ℕ, Family, Setup, IsPositionOf, Value, one_record, Stream, HasRecord, Format, IsRecorded}
 use Rattle.dob_dbfile.specs.declared.fault.Fault as lower
-use Rattle.dob_dbfile.specs.Faults as file
 use Rattle.dob_probe.specs.declared.gap.Gap.{Gap}
 use Rattle.dob_probe.specs.declared.gap.Gap.TheVariants as gaps
-use Rattle.dob_probe.specs.Said.{IsGapOfLine, IsGapOfMoves, is_failing}
-use Rattle.dob_records.specs.Faults.{IsFaultOfLine, IsFaultOfMoves, fault_of, is_io}
+use Rattle.dob_probe.specs.Said.{IsGapOfLine, IsGapOfMoves}
+use Rattle.dob_records.specs.Faults.{IsFaultOfLine, IsFaultOfMoves, fault_of}
 use Rattle.dob_records.specs.Records.{LacksRecord}
 use Rattle.dob_classes.proofs.OfFamilies.FamilyRepresentatives.{one_class}
 
@@ -29,9 +28,3 @@ module _ (stream : Stream) (format : Format) (family : Family) (p : Setup) where
   line_fault (gaps.Unsaid fault) lacks = lacks
   line_fault (gaps.Inconsistent class) breaks = breaks
   line_fault gaps.Memory memory = memory
-
--- a device failed where the fault says so
-pub device_fault : (gap : Gap lower.Fault) → is_failing file.is_io gap ≡ is_io (fault_of gap)
-device_fault (gaps.Unsaid fault) = refl
-device_fault (gaps.Inconsistent class) = refl
-device_fault gaps.Memory = refl

@@ -1,6 +1,5 @@
 -- A position has one record, so the line goes on in one way.
-use Rattle.dob_records.proofs.Common.{◌∙◌, sym}
-use Rattle.dob_records.proofs.Recorded.{device_fault, line_fault, one_recorded}
+use Rattle.dob_records.proofs.Recorded.{line_fault, one_recorded}
 use Rattle.dob_records.proofs.lines.line_by_records.Goals as goal
 
 pub line_by-requires-clause-single : goal.line_by-requires-clause-single
