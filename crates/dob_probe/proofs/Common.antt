@@ -40,7 +40,7 @@ pub use Rattle.dob_value.specs.Follows.{ClassTable, FollowsFromSuccessors, IsCon
 pub use Rattle.dob_value.specs.declared.value.Value.{Value}
 pub use Rattle.dob_value.specs.declared.value.Value.TheVariants.{Draw, Loss, Win}
 pub use Rattle.dob_probe.specs.Checks.{ClassBreaks, ClassFollows, HasEntry}
-pub use Rattle.dob_probe.specs.Faults.{IsFaultOfLine, IsGap}
+pub use Rattle.dob_probe.specs.Faults.{IsFaultOfLine}
 pub use Rattle.dob_probe.specs.Lines.{Begins, BreaksAt, Continues, EndsAt, GivenBy, GoesOnTo, IsFirstTo, IsLine, LacksMove, LeadsTo, value_wanted}
 pub use Rattle.dob_probe.specs.Outlines.{AreAlike, AreLike, AreOutlines, IsOutline, IsOutlineOf, same_outline}
 pub use Rattle.dob_probe.specs.Puzzles.{ArePuzzles, IsListedNext, IsPassed, IsPuzzle, IsSpread, puzzle_of}

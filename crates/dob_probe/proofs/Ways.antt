@@ -2,11 +2,15 @@
 use Rattle.dob_probe.proofs.Common.{◌++◌, ◌+◌, ◌<◌, ◌∙◌, ◌∷◌, ◌≡◌, ◌≤◌, ◌⊎◌, Err, IfErr, IfOk, List, None, Ok, Result, Some, [], ap, append-nil, arith}
 use Rattle.dob_probe.proofs.Common.{get_or, inl, inr, length, refl, slice_get, subst, sym, ℕ, same_Some, slice_get_read, before_or_here, standing, Profile}
 use Rattle.dob_probe.proofs.Common.{Setup, Goes-is, Goes, AreMoves, CanCatch, IsFirstCatch, Move, IsInClass, IsPositionOf, move_goes, moves_keep_the_family}
-use Rattle.dob_probe.proofs.Common.{ClassTable, IsEntry, Value, Draw, Loss, Win, IsFaultOfLine, IsGap, Begins, BreaksAt, Continues, EndsAt, GivenBy, GoesOnTo}
+use Rattle.dob_probe.proofs.Common.{ClassTable, Value, IsFaultOfLine, Begins, BreaksAt, Continues, EndsAt, GivenBy, GoesOnTo}
 use Rattle.dob_probe.proofs.Common.{IsFirstTo, IsLine, LacksMove, LeadsTo, value_wanted, Fault, Inconsistent, Memory}
 use Rattle.dob_pieces.specs.declared.profile.Family.{Family}
 use Rattle.dob_classes.proofs.OfFamilies.FamilyRepresentatives.{one_class}
 use Rattle.dob_probe.specs.Laws.{LinesDontBreak, OneBreak}
+use Rattle.dob_probe.specs.Said.{IsGapOfLine, IsGapTo, fault_of}
+use Rattle.dob_probe.specs.declared.gap.Gap.{Gap}
+use Rattle.dob_probe.specs.declared.gap.Gap.TheVariants.{Unsaid}
+use Rattle.dob_probe.specs.declared.gap.Gap.TheVariants as gaps
 use Rattle.dob_probe.proofs.Entries.{one_given}
 use Rattle.dob_probe.proofs.InOrder.{in_order}
 use Rattle.std.proofs.lemmas.Bool.{cases_lt}
@@ -131,12 +135,6 @@ one_break table p class other is a b =
 
 -- ---- the line as far as it has come
 
--- the plies that a value counts
-abbrev pub distance : Value → ℕ
-distance (Win plies) = plies
-distance (Loss plies) = plies
-distance Draw = 0
-
 -- the moves are a beginning of the line of p, and lead to a position with that value
 pub record IsBegun (profile : Profile) (Has : Setup → Value → Type 0) (p : Setup) (moves : List Move) (q : Setup) (value : Value) : Type 0 where
   pub begins : Begins profile Has p moves q
@@ -163,30 +161,21 @@ pub line_catches : {profile : Profile} {Has : Setup → Value → Type 0} {p : S
     → IsBegun profile Has p moves q value → (m : Move) → IsFirstCatch q m → IsLine profile Has p (moves ++ m ∷ [])
 line_catches {profile} {Has} {p} {moves} {q} on m catch = line_after profile Has moves (m ∷ []) p q on.begins (inl (catch, refl))
 
--- and the positions are of the table's family
-pub record IsOnLine (table : ClassTable) (p : Setup) (moves : List Move) (q : Setup) (value : Value) : Type 0 where
-  pub started : IsPositionOf table.family p
-  pub on : IsBegun table.family.profile (GivenBy table) p moves q value
-  pub member : IsPositionOf table.family q
-  pub entry : IsEntry value
+-- why there is no next move is why there is no line
+pub gap_breaks : {F : Type 0} (family : Family) (Has : Setup → Value → Type 0) (Lacks : Setup → F → Type 0) (p : Setup) (moves : List Move) (q : Setup)
+    (value wanted : Value) (gap : Gap F) → IsBegun family.profile Has p moves q value → ¬ CanCatch q → value_wanted value ≡ Some wanted
+    → IsGapTo family Has Lacks q wanted gap → IsGapOfLine family Has Lacks p gap
+gap_breaks family Has Lacks p moves q value wanted (Unsaid fault) on no_catch next gap = (gap.0, inr (moves, q, on.begins, gap.1), gap.2)
+gap_breaks family Has Lacks p moves q value wanted (gaps.Inconsistent class) on no_catch next gap =
+    (moves, q, on.begins, gap.0, (wanted, goes_on_to on no_catch wanted next, gap.1))
+gap_breaks family Has Lacks p moves q value wanted gaps.Memory on no_catch next gap = tt
 
--- the value that is wanted is again one of a table
-wanted_is_entry : (value wanted : Value) → IsEntry value → value_wanted value ≡ Some wanted → IsEntry wanted
-wanted_is_entry value wanted entry next = grind arith
-
-module _ {table : ClassTable} {p : Setup} {moves : List Move} {q : Setup} {value : Value} (come : IsOnLine table p moves q value) (no_catch : ¬ CanCatch q)
-    (wanted : Value) (next : value_wanted value ≡ Some wanted) where
-  pub on_line_more : (m : Move) (r : Setup) → IsFirstTo table.family.profile (GivenBy table) q wanted m r → IsOnLine table p (moves ++ m ∷ []) r wanted
-  on_line_more m r first = record {
-    started = come.started;
-    on = begun_more come.on no_catch wanted m r next first;
-    member = moves_keep_the_family table.family q m r come.member first.leads.goes_on first.leads.goes;
-    entry = wanted_is_entry value wanted come.entry next;
-  }
-
-  pub gap_breaks : (fault : Fault) → IsGap table q wanted fault → IsFaultOfLine table p fault
-  gap_breaks (Inconsistent class) gap = (come.started, (moves, q, come.on.begins, gap.0, (wanted, goes_on_to come.on no_catch wanted next, gap.1)))
-  gap_breaks fault gap = grind arith
+-- by a table that is a fault of the line
+pub fault_of_line : (table : ClassTable) (p : Setup) (gap : Gap Fault) → IsPositionOf table.family p
+    → IsGapOfLine table.family (GivenBy table) (λ q fault. ⊥) p gap → IsFaultOfLine table p (fault_of gap)
+fault_of_line table p (Unsaid fault) member lacks = absurd lacks.2
+fault_of_line table p (gaps.Inconsistent class) member breaks = (member, breaks)
+fault_of_line table p gaps.Memory member memory = tt
 
 -- ---- what is said of a line, whatever came of it
 

@@ -7,14 +7,12 @@ use Rattle.dob_pieces.specs.Faults.{far_chick_text, memory_text}
 use Rattle.dob_pieces.specs.Profiles.{IsAllowed}
 use Rattle.dob_pieces.specs.declared.profile.Family.{Family}
 use Rattle.dob_pieces.specs.declared.setup.Setup.{Setup}
-use Rattle.dob_moves.specs.declared.game_move.Move.{Move}
-use Rattle.dob_rank.specs.Families.{IsPositionOf, IsInClass}
+use Rattle.dob_rank.specs.Families.{IsPositionOf}
 use Rattle.dob_rank.specs.Order.{IsPositionOfSet}
-use Rattle.dob_value.specs.declared.value.Value.{Value}
 use Rattle.dob_value.specs.Follows.{ClassTable}
 use Rattle.dob_probe.specs.declared.fault.Fault.{Fault}
 use Rattle.dob_probe.specs.declared.fault.Fault.TheVariants.{FarChick, OtherSet, Inconsistent, Memory}
-use Rattle.dob_probe.specs.Lines.{GivenBy, LeadsTo, BreaksAt}
+use Rattle.dob_probe.specs.Lines.{BreaksAt}
 use Rattle.dob_probe.specs.Checks.{ClassFollows, ClassBreaks, IsFirstBroken}
 
 -- the fault's number and name
@@ -30,14 +28,6 @@ IsRefusal family p FarChick = ¬ IsAllowed family.profile p
 IsRefusal family p OtherSet = IsAllowed family.profile p × ¬ IsPositionOfSet family.set p
 IsRefusal family p (Inconsistent class) = ⊥
 IsRefusal family p Memory = ⊥
-
--- a fault of looking for a move to that value: none leads there from the position, of that class, or memory failed
-abbrev pub IsGap : ClassTable → Setup → Value → Fault → Type 0
-IsGap table p wanted FarChick = ⊥
-IsGap table p wanted OtherSet = ⊥
-IsGap table p wanted (Inconsistent class) =
-    IsInClass table.family p class × ((move : Move) (q : Setup) → ¬ LeadsTo table.family.profile (GivenBy table) p wanted move q)
-IsGap table p wanted Memory = Unit {0}
 
 -- a fault of a line: the position isn't one of the table's family, or the line breaks off at that class, or memory failed
 abbrev pub IsFaultOfLine : ClassTable → Setup → Fault → Type 0

@@ -1,4 +1,5 @@
 pub mod Lines
+pub mod Said
 pub mod Checks
 pub mod Sums
 pub mod ShownMoves

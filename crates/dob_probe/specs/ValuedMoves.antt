@@ -3,7 +3,8 @@ use Rattle.std.specs.Prelude.{◌≡◌, ◌⊎◌, ◌+◌, ◌<◌, List, leng
 use Rattle.dob_pieces.specs.declared.profile.Profile.{Profile}
 use Rattle.dob_pieces.specs.declared.setup.Setup.{Setup}
 use Rattle.dob_moves.specs.declared.position_status.Status.TheVariants.{Open}
-use Rattle.dob_moves.specs.Moves.{Goes, place}
+use Rattle.dob_moves.specs.declared.game_move.Move.{Move}
+use Rattle.dob_moves.specs.Moves.{CanGo, Goes, place}
 use Rattle.dob_moves.specs.Statuses.{CanCatch, HasStatus, IsFirstCatch}
 use Rattle.dob_value.specs.declared.value.Value.{Value}
 use Rattle.dob_value.specs.declared.value.Value.TheVariants.{Win, Loss, Draw}
@@ -51,4 +52,13 @@ pub record AreValuedMoves (profile : Profile) (Has : Setup → Value → Type 0)
   pub sound : (valued : ValuedMove) → Contains list valued → IsWinningCatch p valued ⊎ HasMoveValue profile Has p valued
   pub caught : CanCatch p → length list ≡ 1
   pub whole : (valued : ValuedMove) → HasMoveValue profile Has p valued → Contains list valued
+  pub ordered : AllPairs ComesBefore list
+
+-- The moves of a position with values, where one may have more values than one: of an open position each move, once, with a value that the position has which
+-- it leads to, best first and equal ones in the move order; where the lion can be caught its first catch alone; else none.
+pub record AreSaidMoves (profile : Profile) (Has : Setup → Value → Type 0) (p : Setup) (list : List ValuedMove) : Type 0 where
+  pub sound : (valued : ValuedMove) → Contains list valued → IsWinningCatch p valued ⊎ HasMoveValue profile Has p valued
+  pub caught : CanCatch p → length list ≡ 1
+  pub whole : (move : Move) → HasStatus profile p Open → CanGo profile p move → (valued : ValuedMove) × Contains list valued × (valued.played ≡ move)
+  pub once : (a b : ValuedMove) → Contains list a → Contains list b → a.played ≡ b.played → a ≡ b
   pub ordered : AllPairs ComesBefore list

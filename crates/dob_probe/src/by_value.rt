@@ -1,5 +1,5 @@
-// The moves of a position with their values by a table, best first.
-ghost use Rattle.std.specs.Prelude.{◌≡◌, ◌⊎◌, [], ◌∷◌, ◌↔◌, ◌<◌, ◌≤◌, ℕ, length, get_or, Contains, AllPairs, IsTrue, IfOk, IfErr, OnOk, Err};
+// The moves of a position with their values, best first, by a table and by whatever says values.
+ghost use Rattle.std.specs.Prelude.{◌≡◌, ◌⊎◌, [], ◌∷◌, ◌↔◌, ◌<◌, ◌≤◌, ◌||◌, ℕ, length, get_or, Contains, AllPairs, IsTrue, IfOk, IfErr, OnOk, Err};
 ghost use Rattle.dob_pieces.specs.declared.setup.Setup.{Setup};
 ghost use Rattle.dob_pieces.specs.Profiles.{IsAllowed};
 ghost use Rattle.dob_moves.specs.Moves.{place};
@@ -9,16 +9,18 @@ ghost use Rattle.dob_rank.specs.Order.{IsPositionOfSet};
 ghost use Rattle.dob_value.specs.declared.value.Value.TheVariants.{Win};
 ghost use Rattle.dob_value.specs.Values.{HasValue};
 ghost use Rattle.dob_value.specs.Follows.{IsConsistent, IsEntry, IsTable};
-ghost use Rattle.dob_probe.specs.ValuedMoves.{AreValuedMoves, ComesBefore, IsBetter, seen_from_before};
+ghost use Rattle.dob_probe.specs.ValuedMoves.{AreSaidMoves, AreValuedMoves, ComesBefore, IsBetter, seen_from_before};
 ghost use Rattle.dob_probe.specs.Faults.{IsFaultOfMoves};
 ghost use Rattle.dob_probe.specs.Lines.{GivenBy};
+ghost use Rattle.dob_probe.specs.Said.{IsGapOfMoves, fails, is_failing};
 
 use crate::fault::Fault;
+use crate::gap::Gap;
 use crate::members::check_member;
-use crate::successors::value_to;
+use crate::values::Values;
 use dob_moves::{Move, first_catch, moves};
-use dob_pieces::{Memory, Position};
-use dob_value::{Table, Value};
+use dob_pieces::{Family, Memory, Position};
+use dob_value::{Table, Value, outcome_of};
 use std::alloc::Global;
 
 /// A move with the value that the side that makes it then has.
@@ -67,19 +69,48 @@ fn moves_of_set(
     requires member { IsPositionOf table.now.family position.now.setup }
     ensures { IfOk result (λ list. AreValuedMoves table.now.family.profile (GivenBy table.now) position.now.setup list.items) }
 {
-    if let Some(played) = first_catch(position) {
-        return one_catch(alloc, played);
+    let mut nothing = ();
+    match moves_by(alloc, table, &mut nothing, table.family(), position) {
+        Ok(list) => Ok(list),
+        // A table has a value for each.
+        Err(_gap) => Err(Memory),
     }
-    let legal = moves(alloc, table.family().profile, position)?;
-    moves_by_value(alloc, table, position, &legal)
 }
 
-/// The catch of the lion alone, which wins in 1 ply.
+/// The moves of a position of the family, as `valued_moves` lists them by a table, where the positions that they lead to have the values that are said. None
+/// is asked for if the lion can be caught.
 ///
 /// # Errors
 ///
-/// `Memory`.
-pub fn one_catch(alloc: Global, played: Move) -> Result<Vec<ValuedMove>, Memory>
+/// `Unsaid` if one of them has none; `Memory`.
+pub fn moves_by<S, V: Values<S>>(
+    alloc: Global,
+    by: &V,
+    source: &mut S,
+    family: Family,
+    position: &Position,
+) -> Result<Vec<ValuedMove>, Gap<V::Fault>>
+    requires stands { V.stands by.now }
+    requires family { V.family_of by.now ≡ family }
+    requires member { IsPositionOf family position.now.setup }
+    ensures moves { (held : V.Held) → V.holds source.old held
+        → IfOk result (λ list. AreSaidMoves family.profile (V.says by.now held) position.now.setup list.items) }
+    ensures fault { (held : V.Held) → V.holds source.old held
+        → IfErr result (IsGapOfMoves family.profile (V.lacks by.now held) position.now.setup) }
+    ensures held { (held : V.Held) → V.holds source.old held → V.holds source.new held }
+    ensures failed { V.has_failed source.new ≡ (V.has_failed source.old || fails (is_failing V.is_failure) result) }
+{
+    if let Some(played) = first_catch(position) {
+        return Ok(one_catch(alloc, played)?);
+    }
+    let legal = moves(alloc, family.profile, position)?;
+    moves_in_order(alloc, by, source, family, position, &legal)
+}
+
+// The catch of the lion alone, which wins in 1 ply.
+//
+// Error: `Memory`.
+fn one_catch(alloc: Global, played: Move) -> Result<Vec<ValuedMove>, Memory>
     ensures { IfOk result (λ list. list.items ≡ record { played = played; value = Win 1 } ∷ []) }
 {
     let mut list = Vec::new(alloc);
@@ -90,25 +121,37 @@ pub fn one_catch(alloc: Global, played: Move) -> Result<Vec<ValuedMove>, Memory>
 
 // Those moves of the position with their values, best first.
 //
-// Error: `Memory`.
-fn moves_by_value(
+// Errors: those of `moves_by`.
+fn moves_in_order<S, V: Values<S>>(
     alloc: Global,
-    table: &Table,
+    by: &V,
+    source: &mut S,
+    family: Family,
     position: &Position,
     legal: &[Move],
-) -> Result<Vec<ValuedMove>, Memory>
-    requires whole { IsTable table.now.family table.now.values }
-    requires member { IsPositionOf table.now.family position.now.setup }
-    requires legal { AreMoves table.now.family.profile position.now.setup legal.now }
+) -> Result<Vec<ValuedMove>, Gap<V::Fault>>
+    requires stands { V.stands by.now }
+    requires family { V.family_of by.now ≡ family }
+    requires member { IsPositionOf family position.now.setup }
+    requires legal { AreMoves family.profile position.now.setup legal.now }
     requires free { ¬ CanCatch position.now.setup }
-    ensures { IfOk result (λ list. AreValuedMoves table.now.family.profile (GivenBy table.now) position.now.setup list.items) }
+    ensures moves { (held : V.Held) → V.holds source.old held
+        → IfOk result (λ list. AreSaidMoves family.profile (V.says by.now held) position.now.setup list.items) }
+    ensures fault { (held : V.Held) → V.holds source.old held
+        → IfErr result (IsGapOfMoves family.profile (V.lacks by.now held) position.now.setup) }
+    ensures held { (held : V.Held) → V.holds source.old held → V.holds source.new held }
+    ensures failed { V.has_failed source.new ≡ (V.has_failed source.old || fails (is_failing V.is_failure) result) }
 {
     let mut list = Vec::new(alloc);
     for played in legal {
-        let value = value_seen(value_to(table, position, *played));
+        let next = outcome_of(family, position, *played);
+        let value = match by.value_at(source, &next) {
+            Ok(value) => value,
+            Err(fault) => return Err(Gap::Unsaid(fault)),
+        };
         let valued = ValuedMove {
             played: *played,
-            value,
+            value: value_seen(value),
         };
         insert_by_value(&mut list, valued)?;
     }

@@ -15,6 +15,7 @@
 mod by_value;
 mod checks;
 mod fault;
+mod gap;
 mod groups;
 pub mod laws;
 mod lines;
@@ -24,14 +25,17 @@ mod probes;
 mod puzzles;
 mod shown_moves;
 mod successors;
+mod values;
 mod walks;
 
-pub use by_value::{ValuedMove, insert_by_value, one_catch, value_seen, valued_moves};
+pub use by_value::{ValuedMove, insert_by_value, moves_by, value_seen, valued_moves};
 pub use checks::{check, check_class};
 pub use fault::Fault;
+pub use gap::Gap;
 pub use groups::{Group, add_slots, groups_of, slots_between};
-pub use lines::{line, push_move, value_wanted};
+pub use lines::{line, line_by};
 pub use members::check_member;
 pub use probes::probe;
 pub use puzzles::{Puzzle, first_puzzles};
+pub use values::Values;
 pub use walks::Walk;

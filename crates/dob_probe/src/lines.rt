@@ -1,5 +1,5 @@
-// The line of a position by a table.
-ghost use Rattle.std.specs.Prelude.{◌≡◌, ◌⊎◌, ◌++◌, ◌∷◌, [], ℕ, IfOk, IfErr, MatchResult, OnOk, Err};
+// The line of a position by a table, and by whatever says values.
+ghost use Rattle.std.specs.Prelude.{◌≡◌, ◌⊎◌, ◌||◌, ◌++◌, ◌∷◌, [], ℕ, IfOk, IfErr, MatchResult, OnOk, Err};
 ghost use Rattle.dob_pieces.specs.Profiles.{IsAllowed};
 ghost use Rattle.dob_moves.specs.Statuses.{AreMoves};
 ghost use Rattle.dob_rank.specs.Families.{IsPositionOf};
@@ -7,14 +7,17 @@ ghost use Rattle.dob_rank.specs.Order.{IsPositionOfSet};
 ghost use Rattle.dob_value.specs.Values.{HasValue};
 ghost use Rattle.dob_value.specs.Follows.{IsEntry, IsConsistent};
 ghost use Rattle.dob_probe.specs.Lines.{GivenBy, IsFirstTo, IsLine, BreaksAt, value_wanted};
-ghost use Rattle.dob_probe.specs.Faults.{IsGap, IsFaultOfLine};
+ghost use Rattle.dob_probe.specs.Faults.{IsFaultOfLine};
+ghost use Rattle.dob_probe.specs.Said.{AreSingle, IsGapOfLine, IsGapTo, fails, is_failing};
 
 use crate::fault::Fault;
+use crate::gap::{Gap, fault_of};
 use crate::probes::probe;
-use crate::successors::position_after;
+use crate::values::Values;
+use dob_classes::Classes;
 use dob_moves::{Move, first_catch, moves};
 use dob_pieces::{Memory, Position};
-use dob_value::{Table, Value};
+use dob_value::{Table, Value, outcome_of};
 use std::alloc::Global;
 
 /// The line of the position: where the lion can be caught, its first catch; else from a win the first move to a loss
@@ -47,14 +50,54 @@ pub fn line(alloc: Global, table: &Table, position: &Position) -> Result<Vec<Mov
 fn line_from(
     alloc: Global,
     table: &Table,
-    mut position: Position,
-    mut value: Value,
+    position: Position,
+    value: Value,
 ) -> Result<Vec<Move>, Fault>
     requires member { IsPositionOf table.now.family position.setup }
     requires value { GivenBy table.now position.setup value }
     requires entry { IsEntry value }
     ensures line { IfOk result (λ moves. IsLine table.now.family.profile (GivenBy table.now) position.setup moves.items) }
     ensures fault { IfErr result (IsFaultOfLine table.now position.setup) }
+{
+    let mut nothing = ();
+    match line_by(
+        alloc,
+        table,
+        &mut nothing,
+        table.classes(),
+        position,
+        value,
+    ) {
+        Ok(line) => Ok(line),
+        Err(gap) => Err(fault_of(gap)),
+    }
+}
+
+/// The line of the position, as `line` gives it by a table, where it and those after it have the values that are said, and it has that one. Of each position
+/// on it the values of those that its moves lead to are asked for, up to the first one that has the value which the line needs.
+///
+/// # Errors
+///
+/// `Unsaid` if one of them has none; `Inconsistent` with the class at which the line goes on, but no move leads to the value that it needs; `Memory`.
+pub fn line_by<S, V: Values<S>>(
+    alloc: Global,
+    by: &V,
+    source: &mut S,
+    classes: &Classes,
+    mut position: Position,
+    mut value: Value,
+) -> Result<Vec<Move>, Gap<V::Fault>>
+    requires stands { V.stands by.now }
+    requires single { (held : V.Held) → AreSingle classes.now.family (V.says by.now held) }
+    requires family { V.family_of by.now ≡ classes.now.family }
+    requires member { IsPositionOf classes.now.family position.setup }
+    requires entry { IsEntry value }
+    ensures line { (held : V.Held) → V.holds source.old held → V.says by.now held position.setup value
+        → IfOk result (λ moves. IsLine classes.now.family.profile (V.says by.now held) position.setup moves.items) }
+    ensures fault { (held : V.Held) → V.holds source.old held → V.says by.now held position.setup value
+        → IfErr result (IsGapOfLine classes.now.family (V.says by.now held) (V.lacks by.now held) position.setup) }
+    ensures held { (held : V.Held) → V.holds source.old held → V.holds source.new held }
+    ensures failed { V.has_failed source.new ≡ (V.has_failed source.old || fails (is_failing V.is_failure) result) }
 {
     let mut line = Vec::new(alloc);
     loop {
@@ -65,22 +108,22 @@ fn line_from(
         let Some(wanted) = value_wanted(value) else {
             return Ok(line);
         };
-        let (played, next) = first_to(alloc, table, &position, wanted)?;
+        let (played, next) = first_to(alloc, by, source, classes, &position, wanted)?;
         push_move(&mut line, played)?;
         position = next;
         value = wanted;
     }
 }
 
-/// Writes the move behind the others.
-pub fn push_move(line: &mut Vec<Move>, played: Move) -> Result<(), Memory>
+// Writes the move behind the others.
+fn push_move(line: &mut Vec<Move>, played: Move) -> Result<(), Memory>
     ensures { OnOk result (line.new.items ≡ line.old.items ++ played ∷ []) }
 {
     Ok(line.push(played)?)
 }
 
-/// The value to which the line's next move leads from a position with that value, if there is such a move.
-pub fn value_wanted(value: Value) -> Option<Value>
+// The value to which the line's next move leads from a position with that value, if there is such a move.
+fn value_wanted(value: Value) -> Option<Value>
     requires { IsEntry value }
     ensures { result ≡ value_wanted value }
 {
@@ -93,40 +136,66 @@ pub fn value_wanted(value: Value) -> Option<Value>
 
 // The first move to a position with that value, and that position.
 //
-// Errors: `Inconsistent` with the position's class where no move leads to one, and `Memory`.
-fn first_to(
+// Errors: `Unsaid` if a position to which a move leads has no value; `Inconsistent` with the position's class where none leads to that value; `Memory`.
+fn first_to<S, V: Values<S>>(
     alloc: Global,
-    table: &Table,
+    by: &V,
+    source: &mut S,
+    classes: &Classes,
     position: &Position,
     wanted: Value,
-) -> Result<(Move, Position), Fault>
-    requires { IsPositionOf table.now.family position.now.setup }
-    ensures found { IfOk result (λ found. IsFirstTo table.now.family.profile (GivenBy table.now) position.now.setup wanted found.0 found.1.setup) }
-    ensures missing { IfErr result (IsGap table.now position.now.setup wanted) }
+) -> Result<(Move, Position), Gap<V::Fault>>
+    requires stands { V.stands by.now }
+    requires single { (held : V.Held) → AreSingle classes.now.family (V.says by.now held) }
+    requires family { V.family_of by.now ≡ classes.now.family }
+    requires member { IsPositionOf classes.now.family position.now.setup }
+    ensures found { (held : V.Held) → V.holds source.old held → IfOk result (λ found.
+        IsFirstTo classes.now.family.profile (V.says by.now held) position.now.setup wanted found.0 found.1.setup) }
+    ensures member { IfOk result (λ found. IsPositionOf classes.now.family found.1.setup) }
+    ensures entry { OnOk result (IsEntry wanted) }
+    ensures missing { (held : V.Held) → V.holds source.old held
+        → IfErr result (IsGapTo classes.now.family (V.says by.now held) (V.lacks by.now held) position.now.setup wanted) }
+    ensures held { (held : V.Held) → V.holds source.old held → V.holds source.new held }
+    ensures failed { V.has_failed source.new ≡ (V.has_failed source.old || fails (is_failing V.is_failure) result) }
 {
-    let legal = moves(alloc, table.family().profile, position)?;
-    first_among(table, position, &legal, wanted)
+    let legal = moves(alloc, classes.family.profile, position)?;
+    first_among(by, source, classes, position, &legal, wanted)
 }
 
 // The first of the moves to a position with that value, and that position.
 //
-// Error: `Inconsistent` with the position's class where none of them leads to one.
-fn first_among(
-    table: &Table,
+// Errors: `Unsaid` and `Inconsistent`, as of `first_to`.
+fn first_among<S, V: Values<S>>(
+    by: &V,
+    source: &mut S,
+    classes: &Classes,
     position: &Position,
     legal: &[Move],
     wanted: Value,
-) -> Result<(Move, Position), Fault>
-    requires member { IsPositionOf table.now.family position.now.setup }
-    requires legal { AreMoves table.now.family.profile position.now.setup legal.now }
-    ensures found { IfOk result (λ found. IsFirstTo table.now.family.profile (GivenBy table.now) position.now.setup wanted found.0 found.1.setup) }
-    ensures missing { IfErr result (IsGap table.now position.now.setup wanted) }
+) -> Result<(Move, Position), Gap<V::Fault>>
+    requires stands { V.stands by.now }
+    requires single { (held : V.Held) → AreSingle classes.now.family (V.says by.now held) }
+    requires family { V.family_of by.now ≡ classes.now.family }
+    requires member { IsPositionOf classes.now.family position.now.setup }
+    requires legal { AreMoves classes.now.family.profile position.now.setup legal.now }
+    ensures found { (held : V.Held) → V.holds source.old held → IfOk result (λ found.
+        IsFirstTo classes.now.family.profile (V.says by.now held) position.now.setup wanted found.0 found.1.setup) }
+    ensures member { IfOk result (λ found. IsPositionOf classes.now.family found.1.setup) }
+    ensures entry { OnOk result (IsEntry wanted) }
+    ensures missing { (held : V.Held) → V.holds source.old held
+        → IfErr result (IsGapTo classes.now.family (V.says by.now held) (V.lacks by.now held) position.now.setup wanted) }
+    ensures held { (held : V.Held) → V.holds source.old held → V.holds source.new held }
+    ensures failed { V.has_failed source.new ≡ (V.has_failed source.old || fails (is_failing V.is_failure) result) }
 {
     for played in legal {
-        let next = position_after(table, position, *played);
-        if table.value_of(&next) == wanted {
+        let next = outcome_of(classes.family, position, *played);
+        let value = match by.value_at(source, &next) {
+            Ok(value) => value,
+            Err(fault) => return Err(Gap::Unsaid(fault)),
+        };
+        if value == wanted {
             return Ok((*played, next));
         }
     }
-    Err(Fault::Inconsistent(table.classes().class_of(position)))
+    Err(Gap::Inconsistent(classes.class_of(position)))
 }

@@ -165,16 +165,5 @@ pub(crate) fn value_to(table: &Table, position: &Position, played: Move) -> Valu
     requires played { HasStatus table.now.family.profile position.now.setup Status.Open × CanGo table.now.family.profile position.now.setup played }
     ensures { (q : Setup) → Goes table.now.family.profile position.now.setup played q → GivenBy table.now q result }
 {
-    table.value_of(&position_after(table, position, played))
-}
-
-/// The position of the table's family to which the move leads.
-pub(crate) fn position_after(table: &Table, position: &Position, played: Move) -> Position
-    requires member { IsPositionOf table.now.family position.now.setup }
-    requires played { HasStatus table.now.family.profile position.now.setup Status.Open × CanGo table.now.family.profile position.now.setup played }
-    ensures member { IsPositionOf table.now.family result.setup }
-    ensures goes { Goes table.now.family.profile position.now.setup played result.setup }
-    ensures alone { (q : Setup) → Goes table.now.family.profile position.now.setup played q → result.setup ≡ q }
-{
-    outcome_of(table.family(), position, played)
+    table.value_of(&outcome_of(table.family(), position, played))
 }

@@ -1,17 +1,14 @@
 -- What the records of a stream say of positions, and which records are read.
-use Rattle.std.specs.Prelude.{◌≡◌, ◌⊎◌, ℕ, ◌<◌, List}
+use Rattle.std.specs.Prelude.{ℕ, ◌<◌}
 use Rattle.dob_pieces.specs.declared.profile.Family.{Family}
-use Rattle.dob_pieces.specs.declared.profile.Profile.{Profile}
 use Rattle.dob_pieces.specs.declared.setup.Setup.{Setup}
-use Rattle.dob_moves.specs.declared.game_move.Move.{Move}
-use Rattle.dob_moves.specs.Moves.{Goes}
 use Rattle.dob_rank.specs.Families.{IsInClass, classes_of}
 use Rattle.dob_value.specs.declared.value.Value.{Value}
 use Rattle.dob_dbfile.specs.declared.fault.Fault.{Fault}
 use Rattle.dob_dbfile.specs.declared.header.Format.{Format}
 use Rattle.dob_dbfile.specs.Devices.{Stream}
 use Rattle.dob_dbfile.specs.Looking.{HasRecord, HasRecordFault}
-use Rattle.dob_probe.specs.Lines.{Begins}
+use Rattle.dob_probe.specs.Said.{IsAlong, IsNext}
 
 -- the record of the position's class says that value, in a stream of that format and family
 pub record IsRecorded (stream : Stream) (format : Format) (family : Family) (position : Setup) (value : Value) : Type 0 where
@@ -26,14 +23,6 @@ pub record LacksRecord (stream : Stream) (format : Format) (family : Family) (po
   pub number : IsInClass family position class
   pub below : class < classes_of family
   pub fails : HasRecordFault stream format class fault
-
--- some move of p leads to q
-abbrev pub IsNext : Profile → Setup → Setup → Type 0
-IsNext profile p q = (move : Move) × Goes profile p move q
-
--- q is p, or some move leads to it from a position on the line of p
-abbrev pub IsAlong : Profile → (Setup → Value → Type 0) → Setup → Setup → Type 0
-IsAlong profile Has p q = (p ≡ q) ⊎ ((moves : List Move) × (r : Setup) × Begins profile Has p moves r × IsNext profile r q)
 
 -- the record of a position to which a move of p leads isn't whole
 abbrev pub LacksNext : Stream → Format → Family → Setup → Fault → Type 0

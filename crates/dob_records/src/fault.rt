@@ -1,8 +1,9 @@
 // The faults of this crate.
 ghost use Rattle.std.specs.Prelude.{◌≡◌};
+ghost use Rattle.dob_records.specs.Faults.{fault_of};
 ghost use Rattle.dob_records.specs.declared.fault.Fault.TheVariants as fault;
 
-use dob_pieces::Memory;
+use dob_probe::Gap;
 
 /// Why the records of a file give no moves or no line.
 #[derive(Clone, Copy)]
@@ -23,10 +24,13 @@ impl From<dob_dbfile::Fault> for Fault {
     }
 }
 
-impl From<Memory> for Fault {
-    ghost from_gives = { λ _ result. result ≡ fault.Memory };
-
-    fn from(_lower: Memory) -> Fault {
-        Fault::Memory
+/// The fault of a file whose records say the values.
+pub(crate) fn fault_of(gap: Gap<dob_dbfile::Fault>) -> Fault
+    ensures { result ≡ fault_of gap }
+{
+    match gap {
+        Gap::Unsaid(fault) => Fault::File(fault),
+        Gap::Inconsistent(class) => Fault::Inconsistent(class),
+        Gap::Memory => Fault::Memory,
     }
 }

@@ -1,19 +1,17 @@
 // The moves of a position with their values by the records of the positions that they lead to, best first.
 ghost use Rattle.std.specs.Prelude.{◌≡◌, ◌||◌, IfErr, IfOk};
-ghost use Rattle.dob_moves.specs.Statuses.{AreMoves, CanCatch};
 ghost use Rattle.dob_rank.specs.Families.{IsPositionOf};
 ghost use Rattle.dob_dbfile.specs.Devices.{Stream};
 ghost use Rattle.dob_probe.specs.ValuedMoves.{AreValuedMoves};
 ghost use Rattle.dob_records.specs.Faults.{IsFaultOfMoves, is_io_error};
 ghost use Rattle.dob_records.specs.Records.{IsRecorded};
 
-use crate::fault::Fault;
-use crate::values::value_after;
+use crate::fault::{Fault, fault_of};
+use crate::values::Records;
 use dob_classes::Classes;
 use dob_dbfile::{Format, PlacedSource};
-use dob_moves::{Move, first_catch, moves};
 use dob_pieces::Position;
-use dob_probe::{ValuedMove, insert_by_value, one_catch, value_seen};
+use dob_probe::{ValuedMove, moves_by};
 use std::alloc::Global;
 
 /// The moves of the position, each with its value for the side that makes it, as `valued_moves` of `dob_probe` lists them by a table. Of the file just the
@@ -36,41 +34,9 @@ pub fn moves_by_records<R: PlacedSource>(
     ensures shown { (stream : Stream) → R.shows source.old stream → R.shows source.new stream }
     ensures failed { R.has_failed source.new ≡ (R.has_failed source.old || is_io_error result) }
 {
-    if let Some(played) = first_catch(position) {
-        return Ok(one_catch(alloc, played)?);
+    let records = Records { format, classes };
+    match moves_by(alloc, &records, source, classes.family, position) {
+        Ok(list) => Ok(list),
+        Err(gap) => Err(fault_of(gap)),
     }
-    let legal = moves(alloc, classes.family.profile, position)?;
-    moves_in_order(alloc, source, format, classes, position, &legal)
-}
-
-// Those moves of the position with their values, best first.
-//
-// Errors: those of `moves_by_records`.
-fn moves_in_order<R: PlacedSource>(
-    alloc: Global,
-    source: &mut R,
-    format: Format,
-    classes: &Classes,
-    position: &Position,
-    legal: &[Move],
-) -> Result<Vec<ValuedMove>, Fault>
-    requires member { IsPositionOf classes.now.family position.now.setup }
-    requires legal { AreMoves classes.now.family.profile position.now.setup legal.now }
-    requires free { ¬ CanCatch position.now.setup }
-    ensures moves { (stream : Stream) → R.shows source.old stream → IfOk result (λ list.
-        AreValuedMoves classes.now.family.profile (IsRecorded stream format classes.now.family) position.now.setup list.items) }
-    ensures fault { (stream : Stream) → R.shows source.old stream → IfErr result (IsFaultOfMoves stream format classes.now.family position.now.setup) }
-    ensures shown { (stream : Stream) → R.shows source.old stream → R.shows source.new stream }
-    ensures failed { R.has_failed source.new ≡ (R.has_failed source.old || is_io_error result) }
-{
-    let mut list = Vec::new(alloc);
-    for played in legal {
-        let value = value_seen(value_after(source, format, classes, position, *played)?);
-        let valued = ValuedMove {
-            played: *played,
-            value,
-        };
-        insert_by_value(&mut list, valued)?;
-    }
-    Ok(list)
 }

@@ -1,20 +1,16 @@
 // The value of a position by the record of its class.
 ghost use Rattle.std.specs.Prelude.{◌≡◌, ◌||◌, IfErr, IfOk};
-ghost use Rattle.dob_pieces.specs.declared.setup.Setup.{Setup};
-ghost use Rattle.dob_moves.specs.Moves.{CanGo, Goes};
-ghost use Rattle.dob_moves.specs.Statuses.{HasStatus};
-ghost use Rattle.dob_moves.specs.declared.position_status.Status.TheVariants.{Open};
 ghost use Rattle.dob_rank.specs.Families.{IsPositionOf};
 ghost use Rattle.dob_value.specs.Follows.{IsEntry};
 ghost use Rattle.dob_dbfile.specs.Devices.{Stream};
-ghost use Rattle.dob_dbfile.specs.Faults.{is_io_error};
-ghost use Rattle.dob_records.specs.Records.{IsRecorded, LacksNext, LacksRecord};
+ghost use Rattle.dob_dbfile.specs.Faults.{is_io, is_io_error};
+ghost use Rattle.dob_records.specs.Records.{IsRecorded, LacksRecord};
 
 use dob_classes::Classes;
 use dob_dbfile::{Fault, Format, PlacedSource, read_value};
-use dob_moves::Move;
 use dob_pieces::Position;
-use dob_value::{Value, outcome_of};
+use dob_probe::Values;
+use dob_value::Value;
 
 /// The value that the record of the position's class says.
 ///
@@ -37,27 +33,33 @@ pub fn value_at<R: PlacedSource>(
     read_value(source, format, classes.class_of(position))
 }
 
-/// The value that the record of the position says to which the move of that position leads.
-///
-/// # Errors
-///
-/// The same of that position.
-pub(crate) fn value_after<R: PlacedSource>(
-    source: &mut R,
-    format: Format,
-    classes: &Classes,
-    position: &Position,
-    played: Move,
-) -> Result<Value, Fault>
-    requires member { IsPositionOf classes.now.family position.now.setup }
-    requires played { HasStatus classes.now.family.profile position.now.setup Open × CanGo classes.now.family.profile position.now.setup played }
-    ensures said { (stream : Stream) → R.shows source.old stream → IfOk result (λ value. (q : Setup)
-        → Goes classes.now.family.profile position.now.setup played q → IsRecorded stream format classes.now.family q value) }
-    ensures entry { IfOk result IsEntry }
-    ensures fault { (stream : Stream) → R.shows source.old stream → IfErr result (LacksNext stream format classes.now.family position.now.setup) }
-    ensures shown { (stream : Stream) → R.shows source.old stream → R.shows source.new stream }
-    ensures failed { R.has_failed source.new ≡ (R.has_failed source.old || is_io_error result) }
-{
-    let next = outcome_of(classes.family, position, played);
-    value_at(source, format, classes, &next)
+/// The records of a file in that format, by the classes of its family.
+#[derive(Clone, Copy)]
+pub(crate) struct Records<'a> {
+    pub(crate) format: Format,
+    pub(crate) classes: &'a Classes,
+}
+
+impl<R: PlacedSource> Values<R> for Records<'_> {
+    type Fault = Fault;
+
+    ghost Held = { Stream };
+
+    ghost holds = { λ source stream. R.shows source stream };
+
+    ghost stands = { λ _. Unit {0} };
+
+    ghost family_of = { λ by. by.classes.now.family };
+
+    ghost says = { λ by stream position value. IsRecorded stream by.format by.classes.now.family position value };
+
+    ghost lacks = { λ by stream position fault. LacksRecord stream by.format by.classes.now.family position fault };
+
+    ghost has_failed = { λ source. R.has_failed source };
+
+    ghost is_failure = { is_io };
+
+    fn value_at(&self, source: &mut R, position: &Position) -> Result<Value, Fault> {
+        value_at(source, self.format, self.classes, position)
+    }
 }

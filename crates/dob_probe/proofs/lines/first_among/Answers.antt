@@ -1,31 +1,48 @@
 -- No earlier move leads to the value that is wanted.
-use Rattle.dob_probe.proofs.Common.{rules, subst, Family, Setup, IsInClass, move_goes, GivenBy}
-use Rattle.dob_probe.proofs.Entries.{one_given}
+use Rattle.dob_probe.proofs.Common.{rules, subst, Setup, move_goes}
 use Rattle.dob_probe.proofs.Ways.{first_here, none_here, none_leads, other_value}
 use Rattle.dob_probe.proofs.lines.first_among.Goals as goal
 
-pub position_after-next-requires-clause-played : goal.position_after-next-requires-clause-played
-position_after-next-requires-clause-played c =
-    move_goes c.args.table.now.family.profile c.args.position.now.setup c.args.legal.now c.loop-played.played-index c.played-item.result
+pub outcome_of-next-requires-clause-played : goal.outcome_of-next-requires-clause-played
+outcome_of-next-requires-clause-played g c =
+    move_goes c.args.classes.now.family.profile c.args.position.now.setup c.args.legal.now c.loop-played.played-index c.played-item.result
     c.requires.legal c.loop-played-test.true c.played-item.is
 
+pub value_at-requires-clause-member : goal.value_at-requires-clause-member
+value_at-requires-clause-member g c = rw c.requires.family c.outcome_of-next.ensures.member
+
+pub returns-in-Err-clause-missing : goal.returns-in-Err-clause-missing
+returns-in-Err-clause-missing g c = λ held is. (
+  c.outcome_of-next.result.setup,
+  (c.played-item.result, c.outcome_of-next.ensures.goes),
+  c.in-Err.ensures.fault held (c.loop-played.invariant.held held is),
+)
+
 pub returns-then-eq-clause-found : goal.returns-then-eq-clause-found
-returns-then-eq-clause-found c =
-    first_here c.args.table.now.family.profile (GivenBy c.args.table.now) c.args.position.now.setup c.args.wanted c.args.legal.now c.loop-played.played-index
-    c.played-item.result c.requires.legal c.loop-played-test.true c.played-item.is c.loop-played.invariant c.position_after-next.result.setup c.value_of.result
-    c.position_after-next.ensures.goes c.value_of.ensures (search rules)
+returns-then-eq-clause-found g c = λ held is.
+    first_here c.args.classes.now.family.profile (g.V.Values.says c.args.by.now held) c.args.position.now.setup c.args.wanted
+    c.args.legal.now c.loop-played.played-index c.played-item.result c.requires.legal c.loop-played-test.true c.played-item.is
+    (c.loop-played.invariant.none held is) c.outcome_of-next.result.setup c.in-Ok.value c.outcome_of-next.ensures.goes
+    (c.in-Ok.ensures.said held (c.loop-played.invariant.held held is)) (search rules)
 
 pub loop-played-preserved : goal.loop-played-preserved
-loop-played-preserved c =
-    let table = c.args.table.now in
-    none_here table.family.profile (GivenBy table) c.args.position.now.setup c.args.wanted c.args.legal.now c.loop-played.played-index c.played-item.result
-    c.requires.legal c.loop-played-test.true c.played-item.is c.loop-played.invariant
-    (other_value table.family (GivenBy table) (one_given table) c.args.position.now.setup c.played-item.result c.value_of.result c.args.wanted c.requires.member
-    (λ q by. subst (λ (s : Setup). GivenBy table s c.value_of.result) (c.position_after-next.ensures.alone q by) c.value_of.ensures) (search rules))
+loop-played-preserved g c =
+    let family = c.args.classes.now.family in
+    record {
+      held = λ held is. c.in-Ok.ensures.held held (c.loop-played.invariant.held held is);
+      none = λ held is.
+          let Has = g.V.Values.says c.args.by.now held in
+          let said = c.in-Ok.ensures.said held (c.loop-played.invariant.held held is) in
+          none_here family.profile Has c.args.position.now.setup c.args.wanted c.args.legal.now c.loop-played.played-index c.played-item.result
+          c.requires.legal c.loop-played-test.true c.played-item.is (c.loop-played.invariant.none held is)
+          (other_value family Has (c.requires.single held) c.args.position.now.setup c.played-item.result c.in-Ok.value c.args.wanted c.requires.member
+          (λ q by. subst (λ (s : Setup). Has s c.in-Ok.value) (c.outcome_of-next.ensures.alone q by) said) (search rules));
+      failed = search rules;
+    }
 
 pub returns-clause-missing : goal.returns-clause-missing
-returns-clause-missing c = (
-  subst (λ (family : Family). IsInClass family c.args.position.now.setup c.class_of.result) c.classes.ensures.family c.class_of.ensures.class,
-  none_leads c.args.table.now.family.profile (GivenBy c.args.table.now) c.args.position.now.setup c.args.wanted c.args.legal.now c.loop-played.played-index
-      c.requires.legal c.loop-played-test.false c.loop-played.invariant,
+returns-clause-missing g c = λ held is. (
+  c.class_of.ensures.class,
+  none_leads c.args.classes.now.family.profile (g.V.Values.says c.args.by.now held) c.args.position.now.setup c.args.wanted c.args.legal.now
+      c.loop-played.played-index c.requires.legal c.loop-played-test.false (c.loop-played.invariant.none held is),
 )

@@ -1,7 +1,12 @@
--- No move below the index leads to the value that is wanted.
-use Rattle.dob_probe.specs.Lines.{GivenBy}
+-- No move below the index leads to the value that is wanted, and the source holds what it held.
+use Rattle.dob_probe.proofs.Common.{◌≡◌}
 use Rattle.dob_probe.proofs.Ways.{NoneBelow}
 use Rattle.dob_probe.proofs.lines.first_among.Given as goal
 
 abbrev pub invariant-loop-played : goal.invariant-loop-played
-invariant-loop-played l = NoneBelow l.table.family.profile (GivenBy l.table) l.position.setup l.wanted l.legal l.played-index
+invariant-loop-played g l = record {
+  held : (held : g.V.Values.Held) → g.V.Values.holds l.fn.source held → g.V.Values.holds l.source held;
+  none : (held : g.V.Values.Held) → g.V.Values.holds l.fn.source held
+      → NoneBelow l.classes.family.profile (g.V.Values.says l.by held) l.position.setup l.wanted l.legal l.played-index;
+  failed : g.V.Values.has_failed l.source ≡ g.V.Values.has_failed l.fn.source;
+}

@@ -1,29 +1,18 @@
--- A line goes on by the first move to the value wanted, and ends with a catch, with no value wanted, or with a fault.
-use Rattle.dob_probe.proofs.Common.{◌∙◌, refl, sym}
-use Rattle.std.proofs.lemmas.Result.{err_from_is_err_and}
-use Rattle.dob_probe.proofs.Ways.{on_line_more, line_ends, line_catches, gap_breaks}
+-- A table has one value for each position of its family.
+use Rattle.dob_probe.proofs.Entries.{one_given}
+use Rattle.dob_probe.proofs.Ways.{fault_of_line}
 use Rattle.dob_probe.proofs.lines.line_from.Goals as goal
 
-pub loop-catch-init : goal.loop-catch-init
-loop-catch-init c =
-    rw c.new-line.ensures.items
-    (record { started = c.requires.member; on = record { begins = refl; has = c.requires.value }; member = c.requires.member; entry = c.requires.entry })
+pub line_by-requires-clause-single : goal.line_by-requires-clause-single
+line_by-requires-clause-single c = λ held. rw c.classes.ensures.family (one_given c.args.table.now)
 
-pub returns-in-Some-clause-line : goal.returns-in-Some-clause-line
-returns-in-Some-clause-line c = rw c.in_ok-push_move.ensures (line_catches c.loop-catch.invariant.on c.in-Some.catch c.in-Some.ensures)
+pub line_by-requires-clause-member : goal.line_by-requires-clause-member
+line_by-requires-clause-member c = rw c.classes.ensures.family c.requires.member
 
-pub returns-in_default-value_wanted-clause-line : goal.returns-in_default-value_wanted-clause-line
-returns-in_default-value_wanted-clause-line c =
-    line_ends c.loop-catch.invariant.on c.in_default.ensures (sym c.value_wanted.ensures ∙ c.in_default-value_wanted.is)
+pub returns-in-Ok-clause-line : goal.returns-in-Ok-clause-line
+returns-in-Ok-clause-line c = rw c.classes.ensures.family at (c.in-Ok.ensures.line tt tt c.requires.value)
 
-pub returns-in_err-played-clause-fault : goal.returns-in_err-played-clause-fault
-returns-in_err-played-clause-fault c =
-    let p = err_from_is_err_and c.from_residual-in_err-played.result c.from_residual-in_err-played.ensures.1 in
-    rw (p.1, p.2) (gap_breaks c.loop-catch.invariant c.in_default.ensures c.in-Some-value_wanted.wanted
-    (sym c.value_wanted.ensures ∙ c.in-Some-value_wanted.is) c.in_err-played.field-0.0 c.in_err-played.ensures.missing)
-
-pub loop-catch-preserved : goal.loop-catch-preserved
-loop-catch-preserved c =
-    rw c.in_ok-push_move-2.ensures
-    (on_line_more c.loop-catch.invariant c.in_default.ensures c.in-Some-value_wanted.wanted (sym c.value_wanted.ensures ∙ c.in-Some-value_wanted.is)
-    c.in_ok-played.played c.in_ok-played.next.setup c.in_ok-played.ensures.found)
+pub returns-in-Err-clause-fault : goal.returns-in-Err-clause-fault
+returns-in-Err-clause-fault c =
+    rw c.fault_of.ensures (fault_of_line c.args.table.now c.args.position.setup c.in-Err.gap c.requires.member
+    (rw c.classes.ensures.family at (c.in-Err.ensures.fault tt tt c.requires.value)))

@@ -1,0 +1,15 @@
+-- The moves so far are listed, each with a value that is said, and the source holds what it held.
+use Rattle.dob_probe.proofs.Common.{◌≡◌, AllPairs, ComesBefore}
+use Rattle.dob_probe.proofs.ByValue.{AreListed}
+use Rattle.dob_probe.proofs.InOrder.{AreOfFirst}
+use Rattle.dob_probe.proofs.by_value.moves_in_order.Given as goal
+
+abbrev pub invariant-loop-played : goal.invariant-loop-played
+invariant-loop-played g l = record {
+  ordered : AllPairs ComesBefore l.list.items;
+  first : AreOfFirst l.legal l.played-index l.list.items;
+  held : (held : g.V.Values.Held) → g.V.Values.holds l.fn.source held → g.V.Values.holds l.source held;
+  listed : (held : g.V.Values.Held) → g.V.Values.holds l.fn.source held
+      → AreListed l.family.profile (g.V.Values.says l.by held) l.position.setup l.legal l.played-index l.list.items;
+  failed : g.V.Values.has_failed l.source ≡ g.V.Values.has_failed l.fn.source;
+}

@@ -1,0 +1,18 @@
+-- The moves so far begin the line and lead to a position with that value, whose distance falls, and the source holds what it held.
+use Rattle.dob_probe.proofs.Common.{◌≡◌, IsPositionOf, IsEntry}
+use Rattle.dob_value.specs.Bounds.{plies_of}
+use Rattle.dob_probe.proofs.Ways.{IsBegun}
+use Rattle.dob_probe.proofs.lines.line_by.Given as goal
+
+abbrev pub invariant-loop-catch : goal.invariant-loop-catch
+invariant-loop-catch g l = record {
+  member : IsPositionOf l.classes.family l.position.setup;
+  entry : IsEntry l.value;
+  held : (held : g.V.Values.Held) → g.V.Values.holds l.fn.source held → g.V.Values.holds l.source held;
+  on : (held : g.V.Values.Held) → g.V.Values.holds l.fn.source held → g.V.Values.says l.by held l.fn.position.setup l.fn.value
+      → IsBegun l.classes.family.profile (g.V.Values.says l.by held) l.fn.position.setup l.line.items l.position.setup l.value;
+  failed : g.V.Values.has_failed l.source ≡ g.V.Values.has_failed l.fn.source;
+}
+
+abbrev pub decreases-loop-catch : goal.decreases-loop-catch
+decreases-loop-catch g l = plies_of l.value
