@@ -60,14 +60,7 @@ fn line_from(
     ensures fault { IfErr result (IsFaultOfLine table.now position.setup) }
 {
     let mut nothing = ();
-    match line_by(
-        alloc,
-        table,
-        &mut nothing,
-        table.classes(),
-        position,
-        value,
-    ) {
+    match line_by(alloc, table, &mut nothing, table.classes(), position, value) {
         Ok(line) => Ok(line),
         Err(gap) => Err(fault_of(gap)),
     }
