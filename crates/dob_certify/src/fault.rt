@@ -54,13 +54,33 @@ impl From<Refusal> for Fault {
     }
 }
 
-/// Why a list isn't made.
+impl From<Memory> for Fault {
+    ghost from_gives = { λ _ result. result ≡ fault.Memory };
+
+    fn from(_lower: Memory) -> Fault {
+        Fault::Memory
+    }
+}
+
+/// Why a search for a list ends before it is done.
 #[derive(Clone, Copy)]
 pub(crate) enum Stop {
     /// No memory was left.
     Memory,
-    /// It would have more entries than it may.
+    /// The list has more entries than it may.
     Full,
+}
+
+/// A search that is full has a list, as one that is done has.
+///
+/// # Errors
+///
+/// `Memory`.
+pub(crate) fn ended(searched: Result<(), Stop>) -> Result<(), Memory> {
+    match searched {
+        Ok(()) | Err(Stop::Full) => Ok(()),
+        Err(Stop::Memory) => Err(Memory),
+    }
 }
 
 impl From<Memory> for Stop {

@@ -2,13 +2,16 @@
 //
 // The classes come by falling plies. Each has to have a move after which the lion can't be caught and each reply leads to a class that isn't lost within
 // two plies less: so the move that is chosen asks for the fewest and cheapest classes that aren't members yet.
+ghost use Rattle.std.specs.Prelude.{All, IfOk};
+ghost use Rattle.dob_certify.specs.Lists.{IsByTable};
 
-use crate::fault::Stop;
+use crate::fault::{Stop, ended};
 use crate::members::Members;
 use crate::outcomes::{Listed, Outcomes};
-use dob_certificate::{EVER, Entries};
+use dob_certificate::{EVER, Entries, ListKind};
 use dob_check::Watch;
-use dob_value::Value;
+use dob_pieces::Memory;
+use dob_value::{Table, Value};
 use std::alloc::Global;
 use std::mem;
 
@@ -26,9 +29,9 @@ const DISTANCES: usize = 64;
 
 // The members so far.
 #[derive(Drop)]
-struct Search<'a, 'b> {
+struct Search<'a> {
     alloc: Global,
-    outcomes: &'b mut Outcomes<'a>,
+    outcomes: Outcomes<'a>,
     members: Members,
     // Those whose moves haven't been looked at.
     fresh: Vec<u32>,
@@ -41,23 +44,25 @@ struct Search<'a, 'b> {
     replies: Vec<u32>,
 }
 
-/// The entries of the classes, which by the table aren't lost within `plies`, and those that they need. Where the lion can be caught a class
-/// needs no entry, and none needs one within 1 ply. The watch is called for each two plies.
+/// The entries of the classes, which by the table aren't lost within `plies`, and those that they need; where they are more than `most`, those that were
+/// found until they were. Where the lion can be caught a class needs no entry, and none needs one within 1 ply. The watch is called for each two plies.
 ///
 /// # Errors
 ///
-/// `Memory`; `Full` if there would be more than `most` entries.
+/// `Memory`.
 pub(crate) fn held_entries<W: Watch>(
     alloc: Global,
-    outcomes: &mut Outcomes<'_>,
+    table: &Table,
     roots: &[u32],
     plies: u16,
     most: u64,
     watch: &W,
-) -> Result<Entries, Stop> {
+) -> Result<Entries, Memory>
+    ensures { IfOk result (All (IsByTable table.now ListKind.Held)) }
+{
     let mut search = Search {
         alloc,
-        outcomes,
+        outcomes: Outcomes::new(alloc, table),
         members: Members::new(alloc, most),
         fresh: Vec::new(alloc),
         costs: costs(),
@@ -65,19 +70,8 @@ pub(crate) fn held_entries<W: Watch>(
         cheapest: Vec::new(alloc),
         replies: Vec::new(alloc),
     };
-    let mut plies = plies;
-    search.add_all(roots, plies)?;
-    // A round adds a class at least, and each class is added once.
-    for _ in 0..u32::MAX {
-        if search.fresh.is_empty() {
-            break;
-        }
-        let asked = plies_asked(plies);
-        search.look_at_fresh(plies, asked)?;
-        plies = asked;
-        watch.passed(1);
-    }
-    Ok(search.members.entries(alloc)?)
+    ended(search.run(roots, plies, watch))?;
+    search.members.entries(alloc, table, ListKind::Held)
 }
 
 // The plies that a class which has to hold for `plies` asks of those two plies later.
@@ -100,7 +94,24 @@ fn costs() -> [u64; DISTANCES] {
     costs
 }
 
-impl Search<'_, '_> {
+impl Search<'_> {
+    // Finds the entries of those classes and those that they need.
+    fn run<W: Watch>(&mut self, roots: &[u32], plies: u16, watch: &W) -> Result<(), Stop> {
+        let mut plies = plies;
+        self.add_all(roots, plies)?;
+        // A round adds a class at least, and each class is added once.
+        for _ in 0..u32::MAX {
+            if self.fresh.is_empty() {
+                break;
+            }
+            let asked = plies_asked(plies);
+            self.look_at_fresh(plies, asked)?;
+            plies = asked;
+            watch.passed(1);
+        }
+        Ok(())
+    }
+
     // Makes those classes members that aren't, with `plies`.
     fn add_all(&mut self, classes: &[u32], plies: u16) -> Result<(), Stop> {
         if plies < 2 {

@@ -1,8 +1,8 @@
 // Certificates made from a table of values, and the moves that a certificate gives.
 //
 // Choices:
-// - A certificate is found by a search of which nothing is proved, and is verified before it is given away: what is promised is what `verify` promises. That
-//   a small one is found is only tested.
+// - A certificate is found by a search of which only this is proved, that its lists say what the table says. It is verified before it is given away: what is
+//   promised is what `verify` promises. That a small one is found is only tested.
 // - Replies are chosen as late as possible. The classes of the lost list come by falling distance; a position waits until the distance of its shortest
 //   reply, since by then another reason may have listed a class that answers it. Then the positions with the fewest replies choose first, each the one that
 //   most could take. For the starting layout that is 176,436 entries, where the shortest reply at once takes 214,410.

@@ -4,13 +4,16 @@
 // has to be answered waits until the distance of its shortest reply is reached, since until then a class may become a member that answers it too. Then those
 // with the fewest replies choose first, and each takes the reply that most of them could take. A member gets as many plies as those whom it answers allow,
 // so that it needs fewer classes itself.
+ghost use Rattle.std.specs.Prelude.{All, IfOk};
+ghost use Rattle.dob_certify.specs.Lists.{IsByTable};
 
-use crate::fault::Stop;
+use crate::fault::{Stop, ended};
 use crate::members::Members;
 use crate::outcomes::{Listed, Outcomes};
-use dob_certificate::Entries;
+use dob_certificate::{Entries, ListKind};
 use dob_check::Watch;
-use dob_value::Value;
+use dob_pieces::Memory;
+use dob_value::{Table, Value};
 use std::alloc::Global;
 use std::mem;
 
@@ -45,9 +48,9 @@ struct Waiting {
 
 // The members so far.
 #[derive(Drop)]
-struct Search<'a, 'b> {
+struct Search<'a> {
     alloc: Global,
-    outcomes: &'b mut Outcomes<'a>,
+    outcomes: Outcomes<'a>,
     members: Members,
     // Those whose moves haven't been looked at.
     fresh: Vec<u32>,
@@ -57,41 +60,36 @@ struct Search<'a, 'b> {
     replies: Vec<u32>,
 }
 
-/// The entry of the class, which by the table is lost in `plies`, and those that it needs. The watch is called for each two plies.
+/// The entry of the class, which by the table is lost in `plies`, and those that it needs; where they are more than `most`, those that were found until they
+/// were. The watch is called for each two plies.
 ///
 /// # Errors
 ///
-/// `Memory`; `Full` if there would be more than `most` entries.
+/// `Memory`.
 pub(crate) fn lost_entries<W: Watch>(
     alloc: Global,
-    outcomes: &mut Outcomes<'_>,
+    table: &Table,
     class: u32,
     plies: u16,
     most: u64,
     watch: &W,
-) -> Result<Entries, Stop> {
-    let half = plies / 2;
+) -> Result<Entries, Memory>
+    ensures { IfOk result (All (IsByTable table.now ListKind.Lost)) }
+{
     let mut search = Search {
         alloc,
-        outcomes,
+        outcomes: Outcomes::new(alloc, table),
         members: Members::new(alloc, most),
         fresh: Vec::new(alloc),
-        waiting: waiting_to(alloc, half)?,
+        waiting: waiting_to(alloc, plies / 2)?,
         replies: Vec::new(alloc),
     };
-    if half > 0 {
-        search.add(class, plies)?;
-    }
-    for distance in (1..=half).rev() {
-        search.answer_needs(2 * distance)?;
-        search.look_at_fresh()?;
-        watch.passed(1);
-    }
-    Ok(search.members.entries(alloc)?)
+    ended(search.run(class, plies, watch))?;
+    search.members.entries(alloc, table, ListKind::Lost)
 }
 
 // None waits yet.
-fn waiting_to(alloc: Global, half: u16) -> Result<Vec<Waiting>, Stop> {
+fn waiting_to(alloc: Global, half: u16) -> Result<Vec<Waiting>, Memory> {
     let mut waiting = Vec::new(alloc);
     for _ in 0..=half {
         let needs = Vec::new(alloc);
@@ -100,7 +98,21 @@ fn waiting_to(alloc: Global, half: u16) -> Result<Vec<Waiting>, Stop> {
     Ok(waiting)
 }
 
-impl Search<'_, '_> {
+impl Search<'_> {
+    // Finds the class's entry, if it has any plies, and those that it needs.
+    fn run<W: Watch>(&mut self, class: u32, plies: u16, watch: &W) -> Result<(), Stop> {
+        let half = plies / 2;
+        if half > 0 {
+            self.add(class, plies)?;
+        }
+        for distance in (1..=half).rev() {
+            self.answer_needs(2 * distance)?;
+            self.look_at_fresh()?;
+            watch.passed(1);
+        }
+        Ok(())
+    }
+
     // Makes the class a member.
     fn add(&mut self, class: u32, plies: u16) -> Result<(), Stop> {
         self.members.insert(class, plies)?;

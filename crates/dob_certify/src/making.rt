@@ -1,19 +1,21 @@
 // A certificate of what a table says of a position.
-ghost use Rattle.std.specs.Prelude.{◌≡◌, ◌≤◌, ◌+◌, length, IfOk, IfErr, IsTrue, OnOk};
+ghost use Rattle.std.specs.Prelude.{◌≡◌, ◌≤◌, ◌+◌, ◌↔◌, All, length, IfOk, IfErr, IsTrue, OnOk};
 ghost use Rattle.dob_rank.specs.Families.{IsPositionOf};
 ghost use Rattle.dob_value.specs.declared.value.Value.{Value as Valued};
 ghost use Rattle.dob_probe.specs.Lines.{GivenBy};
+ghost use Rattle.dob_certificate.specs.Ascending.{AreAscending};
 ghost use Rattle.dob_certificate.specs.Claims.{Holds, Prove};
 ghost use Rattle.dob_certify.specs.Made.{IsMade, claim_of};
+ghost use Rattle.dob_certify.specs.Lists.{IsByTable};
 ghost use Rattle.dob_certify.specs.Faults.{IsFault};
 
-use crate::fault::{Fault, Stop};
+use crate::fault::Fault;
 use crate::held::held_entries;
 use crate::lost::lost_entries;
 use crate::outcomes::{Listed, Outcomes, number_of};
-use dob_certificate::{Certificate, Claim, EVER, Entries};
+use dob_certificate::{Certificate, Claim, EVER, Entries, ListKind};
 use dob_check::{Watch, verify};
-use dob_pieces::Position;
+use dob_pieces::{Memory, Position};
 use dob_probe::probe;
 use dob_value::{Table, Value};
 use std::alloc::Global;
@@ -58,8 +60,8 @@ pub fn rounds_of(value: Value, is_exact: bool) -> u64 {
 ///
 /// # Errors
 ///
-/// `Table` if the position isn't one of the table's (E7, E26); else `TooMany` if the lists would have more than `most` entries, or `Unproved` if those
-/// that were found don't prove the claim, as where the table isn't right; `Memory`.
+/// `Table` if the position isn't one of the table's (E7, E26); else `TooMany` if the lists that were found have more than `most` entries, which the table
+/// bears out; else `Unproved` if they don't prove the claim, as where the table isn't right; `Memory`.
 pub fn certify<R: Threads + Sync, W: Watch>(
     rt: &R,
     alloc: Global,
@@ -76,16 +78,15 @@ pub fn certify<R: Threads + Sync, W: Watch>(
 {
     let value = probe(table, position)?;
     let claim = claim_of(value, is_exact);
-    let certificate = match lists(alloc, table, position, claim, most, watch) {
-        Ok(certificate) => certificate,
-        Err(Stop::Memory) => return Err(Fault::Memory),
-        Err(Stop::Full) => return Err(Fault::TooMany(most)),
-    };
+    let certificate = lists(alloc, table, position, claim, most, watch)?;
+    if !are_few(&certificate.lost, &certificate.held, most) {
+        return Err(Fault::TooMany(most));
+    }
     verify(rt, alloc, table.classes(), &certificate, position, claim)?;
     Ok(Certified { claim, certificate })
 }
 
-// The lists for the claim, of at most `most` entries.
+// The lists for the claim; where they have more than `most` entries, as far as they were found then.
 fn lists<W: Watch>(
     alloc: Global,
     table: &Table,
@@ -93,26 +94,22 @@ fn lists<W: Watch>(
     claim: Claim,
     most: u64,
     watch: &W,
-) -> Result<Certificate, Stop>
+) -> Result<Certificate, Memory>
     requires { IsPositionOf table.now.family position.now.setup }
-    ensures { IfOk result (λ found. length found.lost + length found.held ≤ most) }
+    ensures lost { IfOk result (λ found. All (IsByTable table.now ListKind.Lost) found.lost) }
+    ensures held { IfOk result (λ found. All (IsByTable table.now ListKind.Held) found.held) }
 {
     let class = number_of(table.classes(), position);
-    let mut outcomes = Outcomes::new(alloc, table);
-    let lost = lost_list(alloc, &mut outcomes, class, claim, most, watch)?;
+    let lost = lost_list(alloc, table, class, claim, most, watch)?;
     let left = most.saturating_sub(lost.as_slice().len() as u64);
-    let held = held_list(alloc, &mut outcomes, class, claim, left, watch)?;
-    // Each search stops where it has more; what it found is counted here, whatever it did.
-    if are_few(&lost, &held, most) {
-        Ok(Certificate { lost, held })
-    } else {
-        Err(Stop::Full)
-    }
+    let held = held_list(alloc, table, class, claim, left, watch)?;
+    Ok(Certificate { lost, held })
 }
 
 // Whether the lists have at most `most` entries.
 fn are_few(lost: &Entries, held: &Entries, most: u64) -> bool
-    ensures { IsTrue result → length lost.now + length held.now ≤ most }
+    ensures few { IsTrue result ↔ length lost.now + length held.now ≤ most }
+    ensures ascending { AreAscending lost.now × AreAscending held.now }
 {
     let lost = lost.as_slice().len() as u64;
     let held = held.as_slice().len() as u64;
@@ -122,20 +119,22 @@ fn are_few(lost: &Entries, held: &Entries, most: u64) -> bool
 // The list of lost classes: the class, or one to which a move leads that is lost in time.
 fn lost_list<W: Watch>(
     alloc: Global,
-    outcomes: &mut Outcomes<'_>,
+    table: &Table,
     class: u32,
     claim: Claim,
     most: u64,
     watch: &W,
-) -> Result<Entries, Stop> {
+) -> Result<Entries, Memory>
+    ensures { IfOk result (All (IsByTable table.now ListKind.Lost)) }
+{
     match claim {
         Claim::LostWithin(plies) | Claim::Exactly(Value::Loss(plies)) => {
-            lost_entries(alloc, outcomes, class, plies, most, watch)
+            lost_entries(alloc, table, class, plies, most, watch)
         }
         Claim::WonWithin(plies) | Claim::Exactly(Value::Win(plies)) => {
             let plies = plies.saturating_sub(1);
-            match lost_outcome(alloc, outcomes, class, plies)? {
-                Some(reply) => lost_entries(alloc, outcomes, reply, plies, most, watch),
+            match lost_outcome(alloc, table, class, plies)? {
+                Some(reply) => lost_entries(alloc, table, reply, plies, most, watch),
                 None => Ok(Entries::new(alloc)),
             }
         }
@@ -146,10 +145,11 @@ fn lost_list<W: Watch>(
 // The first class to which a move leads and that is lost in `plies`.
 fn lost_outcome(
     alloc: Global,
-    outcomes: &mut Outcomes<'_>,
+    table: &Table,
     class: u32,
     plies: u16,
-) -> Result<Option<u32>, Stop> {
+) -> Result<Option<u32>, Memory> {
+    let mut outcomes = Outcomes::new(alloc, table);
     let mut classes = Vec::new(alloc);
     outcomes.list(class, Listed::All, &mut classes)?;
     for outcome in classes.iter() {
@@ -163,12 +163,15 @@ fn lost_outcome(
 // The list of the other classes, where the claim is exact: those that show that the position isn't lost sooner, or that no move wins sooner.
 fn held_list<W: Watch>(
     alloc: Global,
-    outcomes: &mut Outcomes<'_>,
+    table: &Table,
     class: u32,
     claim: Claim,
     most: u64,
     watch: &W,
-) -> Result<Entries, Stop> {
+) -> Result<Entries, Memory>
+    ensures { IfOk result (All (IsByTable table.now ListKind.Held)) }
+{
+    let mut outcomes = Outcomes::new(alloc, table);
     let mut roots = Vec::new(alloc);
     let plies = match claim {
         Claim::LostWithin(_) | Claim::WonWithin(_) => 0,
@@ -186,5 +189,5 @@ fn held_list<W: Watch>(
             EVER
         }
     };
-    held_entries(alloc, outcomes, &roots, plies, most, watch)
+    held_entries(alloc, table, &roots, plies, most, watch)
 }

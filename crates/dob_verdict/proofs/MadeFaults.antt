@@ -63,7 +63,7 @@ module _ (c : ShelfChange) (file : List ℕ) (is_exact : Bool) (most : ℕ) (wor
       → IsCertifyFault c file is_exact most words fault
   filling_certifies table is (Table f) holds = (position, named, (table, is, holds), same)
   filling_certifies table is (Certificate (Unproved r)) holds = (position, named, (table, is, holds), same)
-  filling_certifies table is (Certificate (TooMany n)) holds = (position, named, (table, is, holds.0, holds.1), same)
+  filling_certifies table is (Certificate (TooMany n)) holds = (position, named, (table, is, holds), same)
   filling_certifies table is (Certificate Unfit) holds =
       (position, named, (holds.0, record { table = table; read = is; is = holds.1 }, holds.2), same)
   filling_certifies table is Memory holds = same

@@ -7,7 +7,7 @@ use Rattle.dob_pieces.specs.declared.profile.Profile.TheVariants.{A}
 use Rattle.dob_pieces.specs.declared.setup.Setup.{Setup}
 use Rattle.dob_text.specs.PositionText.{text_of}
 use Rattle.dob_text.specs.Faults.{HasTextFault}
-use Rattle.dob_rank.specs.Families.{IsInClass, IsPositionOf, RepresentsClass}
+use Rattle.dob_rank.specs.Families.{IsInClass, RepresentsClass}
 use Rattle.dob_value.specs.Follows.{ClassTable}
 use Rattle.dob_probe.specs.declared.fault.Fault.TheVariants as table_fault
 use Rattle.dob_probe.specs.Faults as by_table
@@ -22,7 +22,7 @@ use Rattle.dob_certify.specs.declared.fault.Fault as making
 use Rattle.dob_certify.specs.declared.fault.Fault.TheVariants as making_fault
 use Rattle.dob_certify.specs.declared.making.Certified.{Certified}
 use Rattle.dob_certify.specs.Made.{IsMade}
-use Rattle.dob_certify.specs.Faults.{IsUnproved}
+use Rattle.dob_certify.specs.Faults.{IsTooMany, IsUnproved}
 use Rattle.dob_files.specs.declared.certificate_fault.CertificateFault.TheVariants.{Defect, Unproved, TooMany, Unfit}
 use Rattle.dob_files.specs.declared.fault.Fault.{Fault}
 use Rattle.dob_files.specs.declared.fault.Fault.TheVariants.{Text, File, Table, Certificate, Memory, Io}
@@ -153,23 +153,23 @@ IsUnfit said (Certificate Unfit) = ¬ Fits said
 IsUnfit said Memory = Unit {0}
 IsUnfit said _ = ⊥
 
--- a fault of making a certificate of the position, in this order: the file's; E26 before E7; more entries than there may be, or lists that don't prove the
--- claim, or a file that can't say it
+-- a fault of making a certificate of the position, in this order: the file's; E26 before E7; more entries than there may be; lists that don't prove the
+-- claim; a file that can't say it
 abbrev pub IsMakingFault : (List ℕ → Type 0) → Bool → ℕ → Setup → Fault → Type 0
 IsMakingFault Has is_exact most position (File fault) = HasFileFault Has fault
 IsMakingFault Has is_exact most position (Table fault) = (table : ClassTable) × IsFileOf Has table × by_table.IsRefusal table.family position fault
 IsMakingFault Has is_exact most position (Certificate (Unproved refusal)) =
-    (table : ClassTable) × IsFileOf Has table × IsUnproved table is_exact position refusal
+    (table : ClassTable) × IsFileOf Has table × IsUnproved table is_exact position most refusal
 IsMakingFault Has is_exact most position (Certificate (TooMany number)) =
-    (table : ClassTable) × IsFileOf Has table × IsPositionOf table.family position × (number ≡ most)
+    (table : ClassTable) × IsFileOf Has table × IsTooMany table position most number
 IsMakingFault Has is_exact most position (Certificate Unfit) = (said : Content) × IsMadeOf Has is_exact most position said × ¬ Fits said
 IsMakingFault Has is_exact most position _ = ⊥
 
 -- the same by the table that was read; or memory was refused, or the other file isn't written
 abbrev pub IsTableMakingFault : ClassTable → Bool → ℕ → Setup → Fault → Type 0
 IsTableMakingFault table is_exact most position (Table fault) = by_table.IsRefusal table.family position fault
-IsTableMakingFault table is_exact most position (Certificate (Unproved refusal)) = IsUnproved table is_exact position refusal
-IsTableMakingFault table is_exact most position (Certificate (TooMany number)) = IsPositionOf table.family position × (number ≡ most)
+IsTableMakingFault table is_exact most position (Certificate (Unproved refusal)) = IsUnproved table is_exact position most refusal
+IsTableMakingFault table is_exact most position (Certificate (TooMany number)) = IsTooMany table position most number
 IsTableMakingFault table is_exact most position (Certificate Unfit) = (said : Content) × IsSaidOf table is_exact most position said × ¬ Fits said
 IsTableMakingFault table is_exact most position Memory = Unit {0}
 IsTableMakingFault table is_exact most position Io = Unit {0}
