@@ -1,5 +1,4 @@
 -- The subcommands of the program: what each of them takes, by its row in src/rows.rt.
-use Rattle.std.specs.Borrow.{Bor}
 use Rattle.std.specs.Prelude.{ℕ, Bool, true, false, not, List, [], ◌++◌, map, find, unwrap_or}
 use Rattle.std.specs.List.{filter, list_any}
 use Rattle.std.specs.Str.{bytes_eq}
@@ -7,8 +6,7 @@ use Rattle.dob_words.specs.declared.table.Kind.{Kind}
 use Rattle.dob_words.specs.declared.table.Kind.TheVariants as kind
 use Rattle.dob_words.specs.declared.table.Need.{Need}
 use Rattle.dob_words.specs.declared.table.Need.TheVariants as need
-use Rattle.dob_words.specs.declared.rows.Subcommand.{Subcommand}
-use Rattle.dob_words.specs.declared.rows.TheConstants.{FIRST_ROWS, LAST_ROWS, MIDDLE_ROWS}
+use Rattle.dob_words.specs.declared.rows.TheConstants.{ROWS}
 
 abbrev pub Text : Type 0
 Text = List ℕ
@@ -55,28 +53,14 @@ Choice = Text × Place
 abbrev pub Row : Type 0
 Row = Text × List Choice × List Text × List Place
 
--- what rows of the table say, as the code reads them
-abbrev pub place_said : Bor Text × Kind × Need × Bor Text → Place
-place_said p = (p.0.now, p.1, p.2)
-
-abbrev pub choice_said : Bor Text × (Bor Text × Kind × Need × Bor Text) → Choice
-choice_said c = (c.0.now, place_said c.1)
-
-abbrev pub flag_said : Bor Text × Bor Text → Text
-flag_said f = f.0.now
-
--- a row, as the code reads it
-abbrev pub ReadRow : Type 0
-ReadRow =
-    Subcommand × Bor Text × Bor Text × Bor (List (Bor Text × (Bor Text × Kind × Need × Bor Text))) × Bor (List (Bor Text × Bor Text))
-    × Bor (List (Bor Text × Kind × Need × Bor Text))
-
-abbrev pub row_said : ReadRow → Row
-row_said r = (r.1.now, map choice_said r.3.now, map flag_said r.4.now, map place_said r.5.now)
-
 -- those of src/rows.rt
 abbrev pub rows : List Row
-rows = map row_said FIRST_ROWS ++ map row_said MIDDLE_ROWS ++ map row_said LAST_ROWS
+rows = map (λ r. (
+  r.1.now,
+  map (λ c. (c.0.now, (c.1.0.now, c.1.1, c.1.2))) r.3.now,
+  map (λ f. f.0.now) r.4.now,
+  map (λ p. (p.0.now, p.1, p.2)) r.5.now,
+)) ROWS.now
 
 abbrev pub is_number_kind : Kind → Bool
 is_number_kind kind.Number = true

@@ -11,10 +11,11 @@ use Rattle.clap.specs.Words.{App, Row as FoundRow, Rule, app_of, first_of, first
 use Rattle.clap.specs.declared.builder.action.ArgAction.TheVariants.{Set}
 use Rattle.clap.specs.declared.builder.value_parser.ValueParser.{ValueParser}
 use Rattle.clap.specs.declared.builder.value_parser.ValueParser.TheVariants.{Names, Unsigned}
+use Rattle.dob_words.specs.declared.rows.Subcommand.{Subcommand}
+use Rattle.dob_words.specs.declared.table.Need.{Need}
 use Rattle.dob_words.specs.declared.table.Kind.{Kind}
 use Rattle.dob_words.specs.declared.table.Kind.TheVariants as kind
 use Rattle.dob_words.specs.Forms.{Choice, Form, Place, Row, Text, forms, is_among, is_may, is_needed, labels}
-pub use Rattle.dob_words.specs.Forms.{ReadRow, choice_said, flag_said, place_said, row_said}
 use Rattle.dob_words.specs.Words.{fits, is_misplaced}
 
 -- the command is read so, and none of its arguments is one of each subcommand too
@@ -91,6 +92,25 @@ with_rules app rules = record app { top = record app.top { rules = app.top.rules
 abbrev pub row_app : ProfileNames → Row → App
 row_app profiles row =
     with_rules (with_rules (with_rules (new_app row.0) (map (choice_rule profiles) row.1)) (map flag_rule row.2)) (map (place_rule profiles) row.3)
+
+-- what rows of the table say, as the code reads them
+abbrev pub place_said : Bor Text × Kind × Need × Bor Text → Place
+place_said p = (p.0.now, p.1, p.2)
+
+abbrev pub choice_said : Bor Text × (Bor Text × Kind × Need × Bor Text) → Choice
+choice_said c = (c.0.now, place_said c.1)
+
+abbrev pub flag_said : Bor Text × Bor Text → Text
+flag_said f = f.0.now
+
+-- a row, as the code reads it
+abbrev pub ReadRow : Type 0
+ReadRow =
+    Subcommand × Bor Text × Bor Text × Bor (List (Bor Text × (Bor Text × Kind × Need × Bor Text))) × Bor (List (Bor Text × Bor Text))
+    × Bor (List (Bor Text × Kind × Need × Bor Text))
+
+abbrev pub row_said : ReadRow → Row
+row_said r = (r.1.now, map choice_said r.3.now, map flag_said r.4.now, map place_said r.5.now)
 
 -- the program without its subcommands
 abbrev pub bare_app : App

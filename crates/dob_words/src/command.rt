@@ -14,7 +14,6 @@ ghost use Rattle.std.specs.List.{list_any};
 ghost use Rattle.std.specs.Str.{bytes_eq};
 ghost use Rattle.clap.specs.Words.{App, kind_of, new_app, subcommand_rows_of};
 ghost use Rattle.dob_words.specs.Forms.{Form, Text, form_named, forms, rows};
-ghost use Rattle.dob_words.specs.declared.rows.TheConstants.{FIRST_ROWS, LAST_ROWS, MIDDLE_ROWS};
 ghost use Rattle.dob_words.specs.Lines.{IsAmong, IsCommandLine};
 ghost use Rattle.dob_words.specs.Words.{Meaning, asks, cleared, has_topic, is_topic, is_version, meaning_of, meaning_of_topic, names_subcommand, settled};
 ghost use Rattle.dob_words.specs.Shapes.{AreProfiles, Finds, HasCommandShape, HasFit, IsMetBySome, IsNamed, IsProgram, IsRead, bare_app, choice_rule, choice_said, flag_rule, flag_said, place_rule, place_said, row_app, row_said, texts_in, with_rows, with_rules};
@@ -23,7 +22,7 @@ ghost use Rattle.dob_words.specs.Readings.{AreNamed, ComesFromLine, IsReadFor, I
 mod misplaced;
 mod orders;
 
-use crate::rows::{FIRST_ROWS, LAST_ROWS, MIDDLE_ROWS, PROGRAM, Subcommand, help_of};
+use crate::rows::{PROGRAM, ROWS, Subcommand, help_of};
 use crate::table::{Choice, Flag, Kind, Need, PROFILES, Place, Row};
 use clap::error::ErrorKind;
 use clap::{Arg, ArgAction, ArgMatches, Command, Error, value_parser};
@@ -125,7 +124,7 @@ fn has_topic(words: &[&str]) -> bool
 fn names_subcommand(name: &str) -> bool
     ensures { result ≡ names_subcommand name.now }
 {
-    name == "help" || subcommand_named(&rows(), name).is_some()
+    name == "help" || subcommand_named(rows(), name).is_some()
 }
 
 // The subcommand of that name, if one of the rows is its.
@@ -157,42 +156,15 @@ fn dobutsu_command<'a>(alloc: Global) -> Result<Command<'a>, AllocError>
         names: profile_names(),
     };
     let command = bare_command(alloc)?;
-    add_subcommands(alloc, command, profiles, &rows())
+    add_subcommands(alloc, command, profiles, rows())
 }
 
 // The subcommands.
-fn rows() -> [Row; 18]
-    ensures said { map row_said result ≡ rows }
-    ensures named { AreNamed result }
+fn rows<'a>() -> &'a [Row]
+    ensures said { map row_said result.now ≡ rows }
+    ensures named { AreNamed result.now }
 {
-    let [a, b, c, d, e, f] = first_rows();
-    let [g, h, i, j, k, l] = middle_rows();
-    let [m, n, o, p, q, r] = last_rows();
-    [a, b, c, d, e, f, g, h, i, j, k, l, m, n, o, p, q, r]
-}
-
-// The first six of them.
-fn first_rows() -> [Row; 6]
-    ensures said { map row_said result ≡ map row_said FIRST_ROWS }
-    ensures named { AreNamed result }
-{
-    FIRST_ROWS
-}
-
-// The six behind them.
-fn middle_rows() -> [Row; 6]
-    ensures said { map row_said result ≡ map row_said MIDDLE_ROWS }
-    ensures named { AreNamed result }
-{
-    MIDDLE_ROWS
-}
-
-// The last six.
-fn last_rows() -> [Row; 6]
-    ensures said { map row_said result ≡ map row_said LAST_ROWS }
-    ensures named { AreNamed result }
-{
-    LAST_ROWS
+    ROWS
 }
 
 // The command with a subcommand for each row.
@@ -360,7 +332,7 @@ fn order_by<'a>(name: &str, inner: &ArgMatches<'a>) -> Option<Order<'a>>
     requires fit { HasFit (form_named name.now) inner.now }
     ensures { IsReadFor (settled (asks name.now (texts_in (form_named name.now) inner.now))) result }
 {
-    match misplaced::stream_of(&rows(), name, inner) {
+    match misplaced::stream_of(rows(), name, inner) {
         Some(_) => None,
         None => clear_order(name, inner),
     }
@@ -372,7 +344,7 @@ fn clear_order<'a>(name: &str, inner: &ArgMatches<'a>) -> Option<Order<'a>>
     requires fit { HasFit (form_named name.now) inner.now }
     ensures { IsReadFor (cleared (asks name.now (texts_in (form_named name.now) inner.now))) result }
 {
-    let subcommand = subcommand_named(&rows(), name)?;
+    let subcommand = subcommand_named(rows(), name)?;
     orders::order_for(subcommand, inner)
 }
 
@@ -410,7 +382,7 @@ fn refusal_text(alloc: Global, matches: &ArgMatches<'_>, name: &str) -> Result<S
 // The stream that is given where a file is written, if one is.
 fn stream_given<'a>(matches: &ArgMatches<'a>) -> Option<Misplaced<'a>> {
     let (name, inner) = matches.subcommand()?;
-    misplaced::stream_of(&rows(), name, inner)
+    misplaced::stream_of(rows(), name, inner)
 }
 
 // What is said where the subcommand is asked by a position and by `--each`, or by none of them.

@@ -27,8 +27,8 @@ pub enum Subcommand {
     Reply,
 }
 
-/// The first six subcommands, in the order of the help. A constant of nested rows takes seven times as long to prove with twice the rows, so there are three.
-pub const FIRST_ROWS: [Row; 6] = [
+/// The subcommands, in the order of the help.
+pub const ROWS: &[Row] = &[
     (
         Subcommand::Value,
         "value",
@@ -123,10 +123,6 @@ pub const FIRST_ROWS: [Row; 6] = [
         ],
         &[LONE_POSITION],
     ),
-];
-
-/// The six behind them.
-pub const MIDDLE_ROWS: [Row; 6] = [
     (
         Subcommand::Check,
         "check",
@@ -200,10 +196,6 @@ pub const MIDDLE_ROWS: [Row; 6] = [
         ],
         &[],
     ),
-];
-
-/// The last six.
-pub const LAST_ROWS: [Row; 6] = [
     (
         Subcommand::Zugzwangs,
         "zugzwangs",
