@@ -3,7 +3,8 @@
    bytes of the position. It asks for the value, the moves into no room, into too little and into enough, and whether the file is consistent; for the value
    and the moves by the index of the file's family too. Then the file is asked by the first n numbers of the index, by all of them with one changed, and by
    the index of each other family; and for many texts at once, that end anywhere. Last comes the position with each of its numbers changed: its text, its
-   moves into as much room, what comes of each move and of moves with each of their numbers changed, its class, and that class's position.
+   moves into as much room, what comes of each move and of moves with each of their numbers changed, its class, and that class's position. And numbers are asked
+   in the order of seeds, into as much room.
 
    All that is handed over lies against a page that nobody may touch, once behind it and once before it. What a call reads can't be written, and of what it
    writes all else must stay as it was. So a call that touches what isn't its own ends the program with status 20, whatever the library was built by. Prints
@@ -396,6 +397,45 @@ static void ask_names(void)
     }
 }
 
+/* Asks for the numbers below a count in the order of a seed, into that much room again and again: each comes once, as into room for all. */
+static void ask_order(uint64_t seed, uint64_t count, size_t room)
+{
+    uint64_t order[8], begun = 0, next = 0, seen = 0;
+    size_t all = (size_t)dobutsu_shuffled(seed, count, &begun, order, sizeof order / sizeof *order), drawn = 0, written, n;
+    do {
+        uint64_t *place = blank(&number_room, sizeof *place), *numbers = blank(&moves_room, room * sizeof *numbers);
+        *place = next;
+        written = (size_t)dobutsu_shuffled(seed, count, place, numbers, room);
+        if (!is_kept(&number_room, sizeof *place, sizeof *place) || !is_kept(&moves_room, room * sizeof *numbers, written * sizeof *numbers))
+            exit(31);
+        for (n = 0; n < written; n++, drawn++) {
+            if (drawn >= all || numbers[n] >= count || numbers[n] != order[drawn] || (seen >> numbers[n] & 1) != 0)
+                exit(31);
+            seen |= (uint64_t)1 << numbers[n];
+        }
+        next = *place;
+    } while (written == room && room > 0);
+    if (all != count || (room > 0 && drawn != all))
+        exit(31);
+}
+
+static void ask_orders(void)
+{
+    static const uint64_t seeds[] = {0, 7, UINT64_MAX}, many[] = {(uint64_t)1 << 63, UINT64_MAX};
+    size_t seed, room, n;
+    uint64_t count;
+    for (seed = 0; seed < sizeof seeds / sizeof *seeds; seed++)
+        for (count = 0; count < 8; count++)
+            for (room = 0; room < 10; room++)
+                ask_order(seeds[seed], count, room);
+    for (n = 0; n < sizeof many / sizeof *many; n++) {
+        uint64_t *place = blank(&number_room, sizeof *place), *numbers = blank(&moves_room, sizeof *numbers);
+        if (dobutsu_shuffled(7, many[n], place, numbers, 1) != 0 || !is_kept(&number_room, sizeof *place, 0)
+            || !is_kept(&moves_room, sizeof *numbers, 0))
+            exit(32);
+    }
+}
+
 /* Asks for the position, and for it with each of its numbers changed. */
 static void ask_positions(const uint8_t *bytes, size_t length, const char *text)
 {
@@ -425,6 +465,7 @@ static void ask_all(uint8_t *bytes, size_t length, const char *text)
     ask_many(bytes, length, text);
     ask_positions(bytes, length, text);
     ask_names();
+    ask_orders();
     for (n = 0; n <= length; n++)
         ask(bytes, n, text, text_len);
     for (n = 0; n < text_len; n++)

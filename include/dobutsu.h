@@ -247,6 +247,14 @@ uint32_t dobutsu_class(const DobutsuPosition *position, uint32_t profile, uint64
 uint32_t dobutsu_class_at(uint32_t chicks, uint32_t elephants, uint32_t giraffes, uint32_t profile, uint64_t first, DobutsuPosition *positions,
                           size_t positions_len);
 
+/* ---- Numbers in the order of a seed. */
+
+/* The numbers below `count`, each once, in the order that the seed makes: that in which the program's `puzzles --random` goes over as many classes. `place` is 0
+   at first. Writes the next numbers, as many as there is room for, and into `place` where the next call goes on, by the same seed and count. Answers how
+   many numbers it has written: fewer than there is room for where none is left. What stands behind them is left as it was. A `count` of 2^63 or more isn't
+   shuffled: 0 is answered, and nothing is written. `place` lies outside of `numbers`. examples/puzzles.c draws puzzles by it. */
+uint64_t dobutsu_shuffled(uint64_t seed, uint64_t count, uint64_t *place, uint64_t *numbers, size_t numbers_len);
+
 /* The text of a fault, as the program prints it: "E7 OtherSet". The class that it prints behind 21 and 30 isn't there. Answers how many bytes the text has;
    0 for a number that is none of the faults above, whose text is empty. */
 uint32_t dobutsu_fault_text(uint32_t fault, DobutsuText *text);

@@ -30,10 +30,11 @@ same=yes
 compile -O2 examples/hostile.c -o "$work/hostile" || same=no
 for name in lions_alone one_chick lions_alone_2; do "$work/hostile" "testdata/$name.db" "$position" >"$work/out" 2>&1 || same=no; done
 note "examples/hostile.c over cut and changed files and indexes: $(tail -1 "$work/out")" "$same"
-# Libraries that read past a file, past an index, before a text, past a position, and that write past the moves, past the answers, and into the file.
+# Libraries that read past a file, past an index, before a text, past a position, and that write past the moves, past the answers, past the numbers of an order,
+# and into the file.
 same=yes
-wraps=--wrap=dobutsu_probe,--wrap=dobutsu_probe_by,--wrap=dobutsu_moves,--wrap=dobutsu_probe_many,--wrap=dobutsu_write
-for planted in READ_PAST_FILE READ_PAST_INDEX READ_BEFORE_TEXT WRITE_PAST_MOVES WRITE_FILE WRITE_PAST_ANSWERS READ_PAST_POSITION; do
+wraps=--wrap=dobutsu_probe,--wrap=dobutsu_probe_by,--wrap=dobutsu_moves,--wrap=dobutsu_probe_many,--wrap=dobutsu_write,--wrap=dobutsu_shuffled
+for planted in READ_PAST_FILE READ_PAST_INDEX READ_BEFORE_TEXT WRITE_PAST_MOVES WRITE_FILE WRITE_PAST_ANSWERS READ_PAST_POSITION WRITE_PAST_NUMBERS; do
     compile -O2 -DPLANTED="$planted" -Wl,"$wraps" examples/hostile.c tests/planted.c -o "$work/planted" || same=no
     for name in lions_alone lions_alone_2; do
         status=0
@@ -103,6 +104,19 @@ for name in {A,B}_{100,111}; do
     [ -s "$work/printed" ] && cmp -s "$work/printed" "$work/printed_c" || same=no
 done
 note "examples/solve.c prints what moves and line do, by files of two sets and both profiles" "$same"
+# The puzzles of a seed are those that the program prints, and so is what is said where there are none.
+same=yes
+compile -O2 examples/puzzles.c -o "$work/puzzles" || same=no
+for name in {A,B}_{100,111}; do
+    for seed in 0 1 40 18446744073709551615; do
+        for plies_count in 3_7 5_3 9_5000 11_0; do
+            "$program" puzzles --db "$work/$name.db" --plies "${plies_count%_*}" --count "${plies_count#*_}" --random "$seed" >"$work/printed" || same=no
+            "$work/puzzles" "$work/$name.db" "${plies_count%_*}" "${plies_count#*_}" "$seed" >"$work/printed_c" 2>&1 || same=no
+            [ -s "$work/printed" ] && cmp -s "$work/printed" "$work/printed_c" || same=no
+        done
+    done
+done
+note "examples/puzzles.c prints what puzzles --random does, by files of two sets and both profiles: $(head -1 "$work/printed_c")" "$same"
 # The search finds what the file says, however deep it looks itself; and without a file each value that is forced within as many plies.
 same=yes
 compile -O2 examples/search.c -o "$work/search" || same=no

@@ -2,7 +2,7 @@
 
 #include "dobutsu.h"
 
-enum { READ_PAST_FILE = 1, READ_PAST_INDEX, WRITE_PAST_MOVES, WRITE_FILE, READ_BEFORE_TEXT, WRITE_PAST_ANSWERS, READ_PAST_POSITION };
+enum { READ_PAST_FILE = 1, READ_PAST_INDEX, WRITE_PAST_MOVES, WRITE_FILE, READ_BEFORE_TEXT, WRITE_PAST_ANSWERS, READ_PAST_POSITION, WRITE_PAST_NUMBERS };
 
 uint32_t __real_dobutsu_probe(const uint8_t *, size_t, const uint8_t *, size_t, DobutsuValue *);
 uint32_t __real_dobutsu_probe_by(const uint8_t *, size_t, const uint64_t *, size_t, const uint8_t *, size_t, DobutsuValue *);
@@ -10,6 +10,7 @@ uint32_t __real_dobutsu_moves(const uint8_t *, size_t, const uint8_t *, size_t, 
 uint64_t __real_dobutsu_probe_many(const uint8_t *, size_t, const uint64_t *, size_t, const uint8_t *, size_t, const uint64_t *, size_t, DobutsuAnswer *,
                                    size_t);
 uint32_t __real_dobutsu_write(const DobutsuPosition *, DobutsuText *);
+uint64_t __real_dobutsu_shuffled(uint64_t, uint64_t, uint64_t *, uint64_t *, size_t);
 
 static volatile uint64_t seen;
 
@@ -56,4 +57,12 @@ uint32_t __wrap_dobutsu_write(const DobutsuPosition *position, DobutsuText *text
     if (PLANTED == READ_PAST_POSITION)
         seen = ((const volatile uint8_t *)(position + 1))[0];
     return __real_dobutsu_write(position, text);
+}
+
+uint64_t __wrap_dobutsu_shuffled(uint64_t seed, uint64_t count, uint64_t *place, uint64_t *numbers, size_t numbers_len)
+{
+    uint64_t written = __real_dobutsu_shuffled(seed, count, place, numbers, numbers_len);
+    if (PLANTED == WRITE_PAST_NUMBERS && written == numbers_len)
+        numbers[numbers_len] = 0;
+    return written;
 }

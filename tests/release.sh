@@ -46,7 +46,7 @@ note "the links of the archive's pages: $(head -1 "$work/out")" "$good"
 mkdir "$work/clone" && cp -r examples include "$work/clone" && cp "$release/libdobutsu.a" "$work/clone"
 for folder in "$release" "$work/clone"; do
     good=yes
-    for example in examples/probe.c examples/search.c examples/solve.c examples/verify.c; do
+    for example in examples/probe.c examples/puzzles.c examples/search.c examples/solve.c examples/verify.c; do
         line="$(tr '\n' ' ' <"$example" | grep -o 'cc examples/[^*]* -o [a-z]*')"
         (cd "$folder" && bash -c "$line" && rm "$(basename "$example" .c)") >"$work/out" 2>&1 || good=no
     done

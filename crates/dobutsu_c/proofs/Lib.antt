@@ -10,3 +10,4 @@ mod ToldMoves  -- what is told of moves by an index or by a count
 mod Certified  -- a certificate's file whose claim isn't proved
 mod Replied  -- what a certificate says of a position
 mod Named  -- what faults are called
+mod Drawn  -- numbers in the order of a seed

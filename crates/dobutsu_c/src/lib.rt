@@ -32,6 +32,7 @@ mod probe_by;
 mod probes;
 mod readings;
 mod replies;
+mod shuffled;
 mod steps;
 mod value;
 mod version;
