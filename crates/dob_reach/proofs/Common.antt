@@ -23,7 +23,8 @@ pub use Rattle.dob_classes.proofs.OfFamilies.FamilyNumbers.{IsInClass-class_numb
 pub use Rattle.dob_value.proofs.Successors.{AreSuccessorsBelow, move_goes, moves_keep_the_family, successors_all, successors_more, successors_none}
 pub use Rattle.dob_reach.specs.Counts.{Among, HasJust}
 pub use Rattle.dob_reach.specs.Distances.{IsAway, IsReached, Met}
-pub use Rattle.dob_reach.specs.Fronts.{AreExpanded, IsExpanded, IsPartAt, IsPlace, IsSifted, one_if, opens_of, outcomes_of, part_at, part_count, parts_before}
+pub use Rattle.dob_rank.specs.Marks.{one_if}
+pub use Rattle.dob_reach.specs.Fronts.{AreExpanded, IsExpanded, IsPartAt, IsPlace, IsSifted, opens_of, outcomes_of, part_at, part_count, parts_before}
 pub use Rattle.dob_reach.specs.Leads.{IsOpen, Leads}
 pub use Rattle.dob_reach.specs.Marks.{AreMarked, HasBits, HaveBits, IsMarked, KeepsMarks, mark_of}
 pub use Rattle.dob_reach.specs.Reached.{AreReachedFrom}

@@ -21,11 +21,6 @@ pub record IsExpanded (family : Family) (words : List ℕ) (class : ℕ) (outcom
   pub opened : is_open ≡ true → IsOpen family class
   pub closed : IsOpen family class → is_open ≡ true
 
--- one where it is so
-abbrev pub one_if : Bool → ℕ
-one_if true = 1
-one_if false = 0
-
 -- the classes are classes of the family
 abbrev pub AreClasses : Family → List ℕ → Type 0
 AreClasses family classes = (class : ℕ) → Contains classes class → class < classes_of family

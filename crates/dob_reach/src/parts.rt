@@ -6,7 +6,8 @@ ghost use Rattle.dob_moves.specs.declared.position_status.Status.{Status};
 ghost use Rattle.dob_moves.specs.Moves.{CanGo, Goes};
 ghost use Rattle.dob_moves.specs.Statuses.{HasStatus};
 ghost use Rattle.dob_rank.specs.Families.{IsInClass, IsPositionOf, classes_of};
-ghost use Rattle.dob_reach.specs.Fronts.{AreClasses, AreExpanded, IsExpanded, IsPartAt, IsPlace, IsSifted, one_if, part_count};
+ghost use Rattle.dob_reach.specs.Fronts.{AreClasses, AreExpanded, IsExpanded, IsPartAt, IsPlace, IsSifted, part_count};
+ghost use Rattle.dob_rank.specs.Marks.{one_if};
 ghost use Rattle.dob_reach.specs.Marks.{HasBits};
 
 use crate::marks::Marks;

@@ -35,7 +35,6 @@ pub use Rattle.dob_dbfile.specs.declared.header.Format.{Format}
 pub use Rattle.dob_foreign.specs.Cells.{cell_number}
 pub use Rattle.dob_foreign.specs.Faults.{file_number, text_number}
 pub use Rattle.dob_foreign.specs.Texts.{IsText}
-pub use Rattle.dob_probe.proofs.InOrder.{AreOfFirst, before_next, none_first, none_ordered, one_more, same_valued}
 pub use Rattle.dob_probe.specs.ValuedMoves.{AreValuedMoves, ComesBefore, HasMoveValue, seen_from_before}
 pub use Rattle.dob_probe.specs.declared.by_value.ValuedMove.{ValuedMove}
 pub use Rattle.dob_certificate.specs.Refusals.{IsListVerdict, IsRefusal}

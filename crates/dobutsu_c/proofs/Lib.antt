@@ -5,7 +5,7 @@ mod Exact  -- one fault holds at most, and none where a value is answered
 mod ByFile  -- by the file of a value table the moves answered are right
 mod Indexed  -- what is held and asked by an index
 mod Answered  -- the answers of many calls
-mod IndexedMoves  -- the moves that are listed by an index
+mod IndexedMoves  -- the moves that are listed by an index, and why they aren't told
 mod ToldMoves  -- what is told of moves by an index or by a count
 mod Certified  -- a certificate's file whose claim isn't proved
 mod Replied  -- what a certificate says of a position

@@ -1,17 +1,16 @@
 -- The moves of a position with their values, as other languages see them.
-use Rattle.std.specs.Prelude.{◌≡◌, ◌⊎◌, ℕ, ◌<◌, ◌≤◌, List, length, get_or, Contains, AllPairs}
+use Rattle.std.specs.Prelude.{◌≡◌, ◌⊎◌, ℕ, ◌<◌, ◌≤◌, List, length, get_or}
 use Rattle.dob_pieces.specs.declared.profile.Family.{Family}
 use Rattle.dob_pieces.specs.declared.setup.Setup.{Setup}
 use Rattle.dob_moves.specs.declared.game_move.Move.{Move}
-use Rattle.dob_moves.specs.declared.position_status.Status.TheVariants.{Open}
-use Rattle.dob_moves.specs.Moves.{CanGo}
-use Rattle.dob_moves.specs.Statuses.{CanCatch, HasStatus}
 use Rattle.dob_value.specs.declared.value.Value.{Value}
 use Rattle.dob_dbfile.specs.declared.header.Format.{Format}
 use Rattle.dob_foreign.specs.declared.moves.MoveNumbers.{MoveNumbers}
 use Rattle.dob_foreign.specs.Moves.{move_numbers}
 use Rattle.dob_probe.specs.declared.by_value.ValuedMove.{ValuedMove}
-use Rattle.dob_probe.specs.ValuedMoves.{AreValuedMoves, ComesBefore, HasMoveValue, IsWinningCatch}
+use Rattle.dob_probe.specs.declared.gap.Gap.{Gap}
+use Rattle.dob_probe.specs.declared.gap.Gap.TheVariants.{Unsaid, Inconsistent, Memory}
+use Rattle.dob_probe.specs.ValuedMoves.{AreSaidMoves, AreValuedMoves}
 use Rattle.dobutsu_c.specs.declared.moves.DobutsuMove.{DobutsuMove}
 use Rattle.dobutsu_c.specs.declared.by_index.ByFault.{ByFault}
 use Rattle.dobutsu_c.specs.declared.numbering.Numbering.{Numbering}
@@ -40,16 +39,9 @@ abbrev pub AreToldMoves : List ℕ → List ℕ → List ValuedMove → Type 0
 AreToldMoves file text list = (format : Format) × (family : Family) × (setup : Setup) × IsAsked file text format family setup
     × AreValuedMoves family.profile (IsGiven file format family) setup list
 
--- What any numbers give of a position's moves: of an open position each move once, with a value that a record of the file gives what it leads to, best first and
--- equal ones in the move order; where the lion can be caught its first catch alone; else none.
-pub record AreMovesBy (file : List ℕ) (by : Numbering) (format : Format) (family : Family) (classes : ℕ) (setup : Setup) (list : List ValuedMove) : Type 0 where
-  pub sound : (valued : ValuedMove) → Contains list valued
-      → IsWinningCatch setup valued ⊎ HasMoveValue family.profile (IsGivenBy file by format family classes) setup valued
-  pub caught : CanCatch setup → length list ≡ 1
-  pub whole : (move : Move) → HasStatus family.profile setup Open → CanGo family.profile setup move
-      → (valued : ValuedMove) × Contains list valued × (valued.played ≡ move)
-  pub once : (a b : ValuedMove) → Contains list a → Contains list b → a.played ≡ b.played → a ≡ b
-  pub ordered : AllPairs ComesBefore list
+-- what any numbers give of a position's moves, each with a value that a record of the file gives what it leads to
+abbrev pub AreMovesBy : List ℕ → Numbering → Format → Family → ℕ → Setup → List ValuedMove → Type 0
+AreMovesBy file by format family classes setup list = AreSaidMoves family.profile (IsGivenBy file by format family classes) setup list
 
 abbrev pub AreToldMovesBy : List ℕ → List ℕ → Numbering → List ValuedMove → Type 0
 AreToldMovesBy file text by list = (format : Format) × (family : Family) × (classes : ℕ) × (setup : Setup)
@@ -59,3 +51,9 @@ AreToldMovesBy file text by list = (format : Format) × (family : Family) × (cl
 abbrev pub IsMovesFault : List ℕ → List ℕ → Numbering → ℕ → Type 0
 IsMovesFault file text by number = ((number ≡ 23) × (format : Format) × (family : Family) × (classes : ℕ) × (setup : Setup)
     × IsAskedBy file text by format family classes setup) ⊎ ((fault : ByFault) × HasByFault file text by fault × (number ≡ number_by fault))
+
+-- why moves aren't told, as a fault's number
+abbrev pub gap_number : Gap ByFault → ℕ
+gap_number (Unsaid fault) = number_by fault
+gap_number (Inconsistent class) = 21
+gap_number Memory = 23

@@ -1,12 +1,8 @@
 // The moves of a position with their values by the bytes of a database's file and the index of its family, best first.
-ghost use Rattle.std.specs.Prelude.{◌≡◌, ◌≢◌, ◌⊎◌, List, length, IfOk, IfErr, MatchOption, MatchResult};
+ghost use Rattle.std.specs.Prelude.{◌≡◌, ◌≢◌, ◌⊎◌, List, false, length, IfErr, MatchResult};
 ghost use Rattle.dob_pieces.specs.declared.profile.Family.{Family as AnyFamily};
 ghost use Rattle.dob_pieces.specs.declared.setup.Setup.{Setup};
-ghost use Rattle.dob_moves.specs.Moves.{Goes, CanGo};
-ghost use Rattle.dob_moves.specs.Statuses.{AreMoves, CanCatch, HasStatus};
-ghost use Rattle.dob_moves.specs.declared.position_status.Status.TheVariants.{Open};
-ghost use Rattle.dob_rank.specs.Families.{IsPositionOf};
-ghost use Rattle.dob_value.specs.Follows.{ClassTable, IsEntry, IsValueTable};
+ghost use Rattle.dob_value.specs.Follows.{ClassTable, IsValueTable};
 ghost use Rattle.dob_value.specs.Values.{HasValue};
 ghost use Rattle.dob_index.specs.Index.{IsMarked};
 ghost use Rattle.dob_dbfile.specs.declared.header.Format.{Format as AnyFormat};
@@ -15,20 +11,20 @@ ghost use Rattle.dob_probe.specs.declared.by_value.ValuedMove.{ValuedMove as Val
 ghost use Rattle.dob_probe.specs.ValuedMoves.{AreValuedMoves};
 ghost use Rattle.dobutsu_c.specs.declared.numbering.Numbering.TheVariants.{Index};
 ghost use Rattle.dobutsu_c.specs.declared.by_index.ByFault.{ByFault as AnyByFault};
+ghost use Rattle.dobutsu_c.specs.declared.by_index.ByFault.TheVariants as by_fault;
 ghost use Rattle.dobutsu_c.specs.declared.fault.Fault.{Fault as AnyFault};
 ghost use Rattle.dobutsu_c.specs.ByIndex.{IsRight, IsIndexFor, IsHeldBy, IsGivenBy, HasByFault, number_by};
 ghost use Rattle.dobutsu_c.specs.Faults.{fault_number};
-ghost use Rattle.dobutsu_c.specs.Moves.{AreMovesBy, AreToldMoves, AreToldMovesBy, AreWritten, IsMovesFault};
+ghost use Rattle.dobutsu_c.specs.Moves.{AreToldMoves, AreToldMovesBy, AreWritten, IsMovesFault, gap_number};
 ghost use Rattle.dobutsu_c.specs.Probes.{AreRead, HasProbeFault, IsTextOf};
 
-use crate::by_index::{AskedBy, ask_by, value_by};
+use crate::by_index::{ByFault, HeldBy, ask_by, value_by};
 use crate::moves::{DobutsuMove, write_moves};
 use crate::numbering::Numbering;
-use crate::numbers::{INDEX, MEMORY};
-use dob_moves::{Move, first_catch, moves};
-use dob_pieces::Memory;
-use dob_probe::{ValuedMove, insert_by_value, value_seen};
-use dob_value::{Value, outcome_of};
+use crate::numbers::{INCONSISTENT, MEMORY};
+use dob_pieces::Position;
+use dob_probe::{Gap, ValuedMove, Values, moves_by};
+use dob_value::Value;
 use std::alloc::Global;
 
 /// What `dobutsu_moves` gives of the position, by the index of the file's family as `dobutsu_index` wrote it: the same moves with the same values, by a file of
@@ -84,78 +80,68 @@ pub(crate) fn told_moves(
         Ok(asked) => asked,
         Err(fault) => return Err(fault.number()),
     };
-    match valued_moves_by(alloc, file, by, asked) {
-        Ok(Some(list)) => Ok(list),
-        Ok(None) => Err(INDEX),
-        Err(Memory) => Err(MEMORY),
+    let bytes = Bytes {
+        file,
+        by,
+        held: asked.held,
+    };
+    let mut nothing = ();
+    match moves_by(
+        alloc,
+        &bytes,
+        &mut nothing,
+        asked.held.family,
+        &asked.position,
+    ) {
+        Ok(list) => Ok(list),
+        Err(gap) => Err(number_of(gap)),
     }
 }
 
-// The moves with their values; none if the index leads outside of the file.
-//
-// Error: `Memory`.
-fn valued_moves_by(
-    alloc: Global,
-    file: &[u8],
-    by: Numbering,
-    asked: AskedBy,
-) -> Result<Option<Vec<ValuedMove>>, Memory>
-    requires held { IsHeldBy file.now by asked.held.format asked.held.family asked.held.classes }
-    requires member { IsPositionOf asked.held.family asked.position.setup }
-    ensures { IfOk result (λ found. MatchOption found (¬ IsRight by.entry asked.held.family)
-        (λ list. AreMovesBy file.now by.entry asked.held.format asked.held.family asked.held.classes asked.position.setup list.items)) }
+// The number of the fault.
+fn number_of(gap: Gap<ByFault>) -> u32
+    ensures number { result ≡ gap_number gap }
+    ensures positive { result ≢ 0 }
 {
-    if let Some(played) = first_catch(&asked.position) {
-        let mut list = Vec::new(alloc);
-        let value = Value::Win(1);
-        list.push(ValuedMove { played, value })?;
-        return Ok(Some(list));
+    match gap {
+        Gap::Unsaid(fault) => fault.number(),
+        Gap::Inconsistent(_class) => INCONSISTENT,
+        Gap::Memory => MEMORY,
     }
-    let legal = moves(alloc, asked.held.family.profile, &asked.position)?;
-    moves_in_order(alloc, file, by, asked, &legal)
 }
 
-// Those moves with their values, best first; none if the index leads outside of the file.
-//
-// Error: `Memory`.
-fn moves_in_order(
-    alloc: Global,
-    file: &[u8],
-    by: Numbering,
-    asked: AskedBy,
-    legal: &[Move],
-) -> Result<Option<Vec<ValuedMove>>, Memory>
-    requires held { IsHeldBy file.now by asked.held.format asked.held.family asked.held.classes }
-    requires member { IsPositionOf asked.held.family asked.position.setup }
-    requires legal { AreMoves asked.held.family.profile asked.position.setup legal.now }
-    requires free { ¬ CanCatch asked.position.setup }
-    ensures { IfOk result (λ found. MatchOption found (¬ IsRight by.entry asked.held.family)
-        (λ list. AreMovesBy file.now by.entry asked.held.format asked.held.family asked.held.classes asked.position.setup list.items)) }
-{
-    let mut list = Vec::new(alloc);
-    for played in legal {
-        let Some(value) = value_after(file, by, &asked, *played) else {
-            return Ok(None);
-        };
-        let valued = ValuedMove {
-            played: *played,
-            value: value_seen(value),
-        };
-        insert_by_value(&mut list, valued)?;
-    }
-    Ok(Some(list))
+// The bytes of a file, and by what the numbers of its family's classes are found.
+#[derive(Clone, Copy)]
+struct Bytes<'a> {
+    file: &'a [u8],
+    by: Numbering<'a>,
+    held: HeldBy,
 }
 
-// The value that the file gives the position to which the move leads; none if the index leads outside of the file.
-fn value_after(file: &[u8], by: Numbering, asked: &AskedBy, played: Move) -> Option<Value>
-    requires held { IsHeldBy file.now by asked.now.held.format asked.now.held.family asked.now.held.classes }
-    requires member { IsPositionOf asked.now.held.family asked.now.position.setup }
-    requires played { HasStatus asked.now.held.family.profile asked.now.position.setup Open
-        × CanGo asked.now.held.family.profile asked.now.position.setup played }
-    ensures { MatchOption result (¬ IsRight by.entry asked.now.held.family) (λ value. IsEntry value
-        × ((q : Setup) → Goes asked.now.held.family.profile asked.now.position.setup played q
-        → IsGivenBy file.now by.entry asked.now.held.format asked.now.held.family asked.now.held.classes q value)) }
-{
-    let after = outcome_of(asked.held.family, &asked.position, played);
-    value_by(file, by, asked.held, &after)
+impl Values<()> for Bytes<'_> {
+    type Fault = ByFault;
+
+    ghost Held = { Unit {0} };
+
+    ghost holds = { λ _ _. Unit {0} };
+
+    ghost stands = { λ bytes. IsHeldBy bytes.file.now bytes.by bytes.held.format bytes.held.family bytes.held.classes };
+
+    ghost family_of = { λ bytes. bytes.held.family };
+
+    ghost says = { λ bytes _ position value.
+        IsGivenBy bytes.file.now bytes.by bytes.held.format bytes.held.family bytes.held.classes position value };
+
+    ghost lacks = { λ bytes _ _ fault. (fault ≡ by_fault.Index) × ¬ IsRight bytes.by bytes.held.family };
+
+    ghost has_failed = { λ _. false };
+
+    ghost is_failure = { λ _. false };
+
+    fn value_at(&self, _source: &mut (), position: &Position) -> Result<Value, ByFault> {
+        match value_by(self.file, self.by, self.held, position) {
+            Some(value) => Ok(value),
+            None => Err(ByFault::Index),
+        }
+    }
 }
