@@ -78,8 +78,8 @@ class Browser:
             raise RuntimeError(answer["exceptionDetails"].get("exception", {}).get("description") or answer["exceptionDetails"]["text"])
         return answer["result"].get("value")
 
-    def wait(self, text):
-        end = time.time() + WAIT_SECONDS
+    def wait(self, text, seconds=WAIT_SECONDS):
+        end = time.time() + seconds
         while not self.js(text):
             if time.time() > end:
                 raise TimeoutError(text)

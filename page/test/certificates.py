@@ -354,7 +354,7 @@ def whole_game(rules):
         is_proved, path = screen.js("Game.engine().isProved"), program.folder / "spoilt.cert"
         source = pathlib.Path(__file__).resolve().parents[2] / "testdata" / f"222_{rules}.cert"
         by = "checked by proved code" if is_proved else "checked by plain JavaScript"
-        screen.give(source)
+        screen.give(source, seconds=600)  # plain JavaScript takes a minute of a processor of its own
         said = f"222_{rules}.cert certificate of set 222, rules {rules}: the second player wins the game, loss within 78; {by}"
         checks.expect(f"{rules}: the file", screen.files(), [[said, False]])
         if not is_proved:
@@ -388,7 +388,8 @@ def beside(checks, screen, program):
     screen.enter(WON)
     screen.play("Lb1-a2")
     screen.press("undo")
-    checks.expect("the page answers within a second", [screen.value(), time.time() - since < 1], ["win 5", True])
+    waited = time.time() - since  # other tests run beside this one; a page that checks by itself is silent for twenty seconds
+    checks.expect(f"the page answers soon, in {waited:.1f} s", [screen.value(), waited < 4], ["win 5", True])
     checks.expect("the check goes on", screen.js("document.getElementById('files').getAttribute('aria-busy')"), "true")
     checks.expect("the table is open beside it", screen.js("document.querySelector('#files b').textContent"), "100A.db")
     checks.expect("what stops it", screen.label("#files .work button"), "Stop checking 222_A.cert")

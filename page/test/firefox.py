@@ -115,8 +115,8 @@ class Firefox:
             raise RuntimeError(found["why"])
         return found.get("it")
 
-    def wait(self, text):
-        end = time.time() + WAIT_SECONDS
+    def wait(self, text, seconds=WAIT_SECONDS):
+        end = time.time() + seconds
         while not self.js(text):
             if time.time() > end:
                 raise TimeoutError(text)

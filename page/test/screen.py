@@ -36,8 +36,8 @@ class Screen:
         """What a function of seen.js tells."""
         return self.js(f"Seen.{name}({', '.join(map(json.dumps, about))})")
 
-    def settle(self, more="true"):
-        self.browser.wait(f"{SETTLED} && !!({more})")
+    def settle(self, more="true", **about):
+        self.browser.wait(f"{SETTLED} && !!({more})", **about)
 
     def language(self, name):
         """English, Japanese, or Japanese in kana, by the page's buttons."""
@@ -59,17 +59,17 @@ class Screen:
         self.seen("choose", select, value)
         self.settle()
 
-    def give(self, *files):
-        """Gives files, and waits until each of them is told as open or refused."""
+    def give(self, *files, **about):
+        """Gives files, and waits until each of them is told as open or refused: for so many `seconds`, where it isn't as long as for all else."""
         self.js("document.getElementById('files').textContent = ''")
         self.browser.give_files("#file", *files)
-        self.settle_files()
+        self.settle_files(**about)
 
     def is_enabled(self, button):
         return self.js(f"(it => !it.disabled && it.getAttribute('aria-disabled') !== 'true')(document.getElementById({json.dumps(button)}))")
 
-    def settle_files(self):
-        self.settle("document.querySelector('#files:not([aria-busy=true]) b') && document.querySelector('#exercise-card[aria-busy=false]')")
+    def settle_files(self, **about):
+        self.settle("document.querySelector('#files:not([aria-busy=true]) b') && document.querySelector('#exercise-card[aria-busy=false]')", **about)
 
     def base64(self, path):
         return base64.b64encode(path.read_bytes()).decode()
