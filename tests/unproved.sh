@@ -24,10 +24,9 @@ not_run() {
     note "./dobutsu --unproved $(printf '%q ' "$@"): status $status, $(head -1 "$work/err"), wanted 70, $fault" "$good"
 }
 
-# An answer, with a file by a path from another folder's root, in a line of which one is refused; and words that the program doesn't know.
+# An answer, with a file by a path from another folder's root, in a line of which one is refused. Each run compiles the program, so there are few.
 cp testdata/one_chick_2.db "$work/a = b.db"
 alike '.../.../.../LCl - -\nx\n' look --each --db="$work/a = b.db"
-alike '' solve
 # Files that aren't there, whatever they are for.
 alike '' probe --db "$work/none.db" "$position"
 # What takes longer than it may.

@@ -1,2 +1,2 @@
 -- The lemmas.
-pub mod Turned  -- what a crew's runners leave after some turns, and what went over its links
+pub mod TurnedCrews  -- what a crew's runners leave after some turns, and what went over its links

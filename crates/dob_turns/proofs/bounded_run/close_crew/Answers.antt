@@ -2,7 +2,7 @@
 use Rattle.std.proofs.Common.{map, refl}
 use Rattle.dob_run.specs.CrewClose.{slots_in, slots_out}
 use Rattle.dob_run.specs.CrewRunners.{endpoint_of}
-use Rattle.dob_turns.proofs.Turned.{left_by, rows_long}
+use Rattle.dob_turns.proofs.TurnedCrews.{left_by, rows_long}
 use Rattle.dob_turns.proofs.bounded_run.close_crew.Goals as goal
 
 pub workers_of-requires-clause-sending : goal.workers_of-requires-clause-sending

@@ -7,7 +7,7 @@ use Rattle.dob_runner.specs.declared.turn_loop.Until.TheVariants.{Turns}
 use Rattle.dob_run.proofs.CrewRunners.{outside_none, still_crew, unbegun_fault, unbegun_stops}
 use Rattle.dob_run.specs.CrewStops.{AreUnfailed, IsFirstFailed, StopsSo}
 use Rattle.dob_run.specs.Faults.{HasBuildFault}
-use Rattle.dob_turns.proofs.Turned.{carries_few, first_fault, first_stops, has_turned}
+use Rattle.dob_turns.proofs.TurnedCrews.{carries_few, first_fault, first_stops, has_turned}
 use Rattle.dob_turns.proofs.bounded_run.run_turns.Goals as goal
 
 pub returns-in_err-sizes : goal.returns-in_err-sizes
