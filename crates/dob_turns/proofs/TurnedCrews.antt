@@ -201,7 +201,7 @@ module _ {No : ℕ → Type 0} {until : Until} {family : Family} {n size capacit
   kept = AllZip-weaken (Ends No until) KeepsRunner (λ old new ends. ends.0) ran.old ended ran.ends
 
   pub first_fault : (fault : Fault) → IsFirstFailed ended fault → HasBuildFault n size capacity fault
-  first_fault (Stopped node why) first = fault_by node why first.0 first.1
+  first_fault (Stopped node why) first = fault_by ran node why first.0 first.1
   first_fault _ first = absurd first
 
   pub first_stops : (fault : Fault) → IsFirstFailed ended fault → StopsSo IsFirstFailed No until family n size capacity fault
@@ -210,7 +210,7 @@ module _ {No : ℕ → Type 0} {until : Until} {family : Family} {n size capacit
   pub has_turned : (turned : Turned) → AreUnfailed ended → HasLeft board.nodes ended turned → IsTurned family n size turned
   has_turned turned unfailed left =
       subst (λ (k : ℕ). IsTurned family k size turned) ran.opened.nodes
-      (turned_is board family size ended turned still_crew left (for_kept family size ran.old ended ran.opened.each kept unfailed))
+      (turned_is board family size ended turned (still_crew ran) left (for_kept family size ran.old ended ran.opened.each kept unfailed))
 
 -- ---- what went over its links by then
 
