@@ -1,15 +1,21 @@
 -- What lists say of a position, by its status.
-use Rattle.dob_certificate.proofs.Common.{◌-◌, ◌<◌, ◌↔◌, ◌≡◌, ◌≤◌, ◌⊎◌, Bool, IsTrue, List, arith, false, inl, inr, leb, refl, subst, sym, true, ℕ, nat_tests}
-use Rattle.dob_certificate.proofs.Common.{Family, Profile, Setup, HasStatus, Caught, Open, Stuck, Tried, HasClass, IsRepresentative, classes_of}
-use Rattle.dob_certificate.proofs.Common.{lost_not_caught, lost_not_open, HasLost, AreAllHeld, IsHoldSupported, IsSafe, IsSaidHeld, SupportsHeld, IsEntryFor}
-use Rattle.dob_certificate.proofs.Common.{AreAllAnswered, HasReply, IsAnswered, IsListedWithin, IsLossSupported, IsSaidLost, SupportsLost, Entry}
+use Rattle.dob_certificate.proofs.Common.{◌-◌, ◌<◌, ◌↔◌, ◌∙◌, ◌≡◌, ◌≤◌, ◌⊎◌, Bool, IsTrue, List, ap, arith, false, inl, inr, leb, not, refl, subst, sym, true, ℕ}
+use Rattle.dob_certificate.proofs.Common.{nat_tests, Family, Profile, Setup, HasStatus, Caught, Open, Stuck, Tried, HasClass, IsRepresentative, classes_of}
+use Rattle.dob_certificate.proofs.Common.{lost_not_caught, lost_not_open, HasLost, IsHoldSupported, IsSaidHeld, IsEntryFor, HasPlies}
+use Rattle.dob_certificate.proofs.Common.{IsListedWithin, IsLossSupported, IsSaidLost, Entry, Supports}
 use Rattle.dob_moves.specs.declared.position_status.Status.{Status}
-use Rattle.dob_certificate.proofs.Replies.{at_class, of_class}
+use Rattle.dob_certificate.specs.declared.list_kind.ListKind.{ListKind}
+use Rattle.dob_certificate.specs.declared.list_kind.ListKind.TheVariants.{Lost, Held}
+use Rattle.dob_certificate.specs.Asked.{FindsLost, FindsWon, TakesForLost, plies_later}
+use Rattle.dob_certificate.specs.Lists.{IsSupported}
+use Rattle.dob_certificate.specs.Walks.{AllLead, SomeLeads}
+use Rattle.std.specs.Prelude.{MatchBool}
+use Rattle.dob_certificate.proofs.Representatives.{at_class, of_class}
 
 -- ---- answers
 
 pub said_no : {P : Type 0} → ¬ P → IsTrue false ↔ P
-said_no not = (λ shown. absurd (cc), λ p. absurd (not p))
+said_no isnt = (λ shown. absurd (cc), λ p. absurd (isnt p))
 
 pub said_yes : {P : Type 0} → P → IsTrue true ↔ P
 said_yes p = (λ shown. p, λ _. refl)
@@ -32,13 +38,36 @@ second not_p given = (λ shown. inr (given.0 shown), λ either. elim either [ in
 also : {P Q : Type 0} {b : Bool} → P → IsTrue b ↔ Q → IsTrue b ↔ (P × Q)
 also p given = (λ shown. (p, given.0 shown), λ both. given.1 both.1)
 
--- the one entry for a position is enough, or none is
-pub listed_by : (family : Family) (entries : List Entry) (q : Setup) (Enough : Entry → Type 0) (b : Bool) (entry : Entry) → IsEntryFor family entries q entry →
-    ((other : Entry) → IsEntryFor family entries q other → entry ≡ other) → IsTrue b ↔ Enough entry →
-    IsTrue b ↔ ((e : Entry) × IsEntryFor family entries q e × Enough e)
-listed_by family entries q Enough b entry is alone enough = (
-  λ shown. (entry, is, enough.0 shown),
-  λ listed. enough.1 (subst Enough (sym (alone listed.0 listed.1)) listed.2),
+-- where a test's answer is known
+pub on_true : (P Q : Type 0) (b : Bool) → b ≡ true → MatchBool b P Q → P
+on_true P Q b is given = subst (λ (x : Bool). MatchBool x P Q) is given
+
+pub on_false : (P Q : Type 0) (b : Bool) → b ≡ false → MatchBool b P Q → Q
+on_false P Q b is given = subst (λ (x : Bool). MatchBool x P Q) is given
+
+-- the answer by a list of either kind, and what the list shows
+pub lost_told : (P : Type 0) (b : Bool) → IsTrue b ↔ P → MatchBool b P (¬ P)
+lost_told P true given = given.0 refl
+lost_told P false given = not_so false refl given
+
+pub held_told : (P : Type 0) (b : Bool) → IsTrue b ↔ P → MatchBool (not b) (¬ P) P
+held_told P true given = given.0 refl
+held_told P false given = not_so false refl given
+
+pub lost_shown : (P : Type 0) (b : Bool) → MatchBool b P (¬ P) → IsTrue b ↔ P
+lost_shown P true shown = said_yes shown
+lost_shown P false not_shown = said_no not_shown
+
+pub held_shown : (P : Type 0) (b : Bool) → MatchBool b (¬ P) P → IsTrue (not b) ↔ P
+held_shown P true not_shown = said_no not_shown
+held_shown P false shown = said_yes shown
+
+-- the plies of the one entry for a position are enough, or there is no such entry
+pub listed_by : (family : Family) (entries : List Entry) (q : Setup) (Enough : ℕ → Type 0) (b : Bool) (plies : ℕ) → HasPlies family entries q plies →
+    IsTrue b ↔ Enough plies → IsTrue b ↔ ((e : Entry) × IsEntryFor family entries q e × Enough e.plies)
+listed_by family entries q Enough b plies has enough = (
+  λ shown. (has.entry, has.is, subst Enough (sym has.plies_are) (enough.0 shown)),
+  λ listed. enough.1 (subst Enough (ap (λ (e : Entry). e.plies) (sym (has.alone listed.0 listed.1)) ∙ has.plies_are) listed.2),
 )
 
 -- ---- by the status
@@ -70,41 +99,6 @@ module _ (family : Family) (lost : List Entry) (n : ℕ) (p : Setup) {s : Status
       let goes_on = of_status family.profile p has Open is in
       second (λ over. lost_not_open family.profile p over goes_on) (also goes_on listed)
 
-  pub answered_caught : s ≡ Caught → HasStatus family.profile p s → IsTrue true ↔ IsAnswered family lost n p
-  answered_caught is has = said_yes (inl (of_status family.profile p has Caught is))
-
-  pub answered_over : (s ≡ Tried) ⊎ (s ≡ Stuck) → HasStatus family.profile p s → IsTrue false ↔ IsAnswered family lost n p
-  answered_over is has =
-      let over = over_by family.profile p has is in
-      neither (lost_not_caught family.profile p over) (λ reply. lost_not_open family.profile p over reply.goes_on)
-
-  pub answered_open : s ≡ Open → HasStatus family.profile p s → (b : Bool) → IsTrue b ↔ HasReply family lost n p → IsTrue b ↔ IsAnswered family lost n p
-  answered_open is has b reply = second (λ caught. not_both family.profile p caught (of_status family.profile p has Open is)) reply
-
-  pub loss_caught : s ≡ Caught → HasStatus family.profile p s → IsTrue false ↔ IsLossSupported family lost n p
-  loss_caught is has = grind (arith, not_both)
-
-  pub loss_over : (s ≡ Tried) ⊎ (s ≡ Stuck) → HasStatus family.profile p s → IsTrue true ↔ IsLossSupported family lost n p
-  loss_over is has = said_yes (inl (over_by family.profile p has is))
-
-  pub loss_soon : s ≡ Open → HasStatus family.profile p s → n < 2 → ¬ IsLossSupported family lost n p
-  loss_soon is has few supported = elim supported [
-    | inl over ↦ lost_not_open family.profile p over (of_status family.profile p has Open is)
-    | inr more ↦ absurd (omega (arith, few, more.0))
-  ]
-
-  pub loss_open : s ≡ Open → HasStatus family.profile p s → 2 ≤ n → (b : Bool) → IsTrue b ↔ AreAllAnswered family lost (n - 2) p
-      → IsTrue b ↔ IsLossSupported family lost n p
-  loss_open is has many b all = second (λ over. lost_not_open family.profile p over (of_status family.profile p has Open is)) (also many all)
-
--- an entry is supported where its representative shows what it has to
-pub supports_lost_by : (family : Family) (lost : List Entry) (entry : Entry) (p : Setup) → entry.class < classes_of family → IsRepresentative family p →
-    HasClass family p entry.class → (b : Bool) → IsTrue b ↔ IsLossSupported family lost entry.plies p → IsTrue b ↔ SupportsLost family lost entry
-supports_lost_by family lost entry p within is number b given = (
-  λ shown. record { within = within; supported = at_class family (IsLossSupported family lost entry.plies) p entry.class within is number (given.0 shown) },
-  λ supported. given.1 (of_class family (IsLossSupported family lost entry.plies) p entry.class within is number supported.supported),
-)
-
 -- ---- classes that aren't lost
 module _ (family : Family) (held : List Entry) (n : ℕ) (p : Setup) {s : Status} where
   pub said_held_caught : s ≡ Caught → HasStatus family.profile p s → IsTrue true ↔ IsSaidHeld family held n p
@@ -115,35 +109,89 @@ module _ (family : Family) (held : List Entry) (n : ℕ) (p : Setup) {s : Status
       let over = over_by family.profile p has is in
       neither (lost_not_caught family.profile p over) (λ other. lost_not_open family.profile p over other.0)
 
-  pub safe_caught : s ≡ Caught → HasStatus family.profile p s → IsTrue false ↔ IsSafe family held n p
-  safe_caught is has = said_no (λ safe. safe.free (of_status family.profile p has Caught is))
+-- ---- what a list of either kind finds by moves
+module _ (family : Family) (entries : List Entry) (n : ℕ) (p : Setup) {s : Status} where
+  pub won_caught : (kind : ListKind) → s ≡ Caught → HasStatus family.profile p s → FindsWon kind family entries n true p
+  won_caught Lost is has = inl (of_status family.profile p has Caught is)
+  won_caught Held is has = λ safe. safe.free (of_status family.profile p has Caught is)
 
-  -- where the game has ended there is nothing to answer
-  pub safe_over : (s ≡ Tried) ⊎ (s ≡ Stuck) → HasStatus family.profile p s → IsTrue true ↔ IsSafe family held n p
-  safe_over is has =
+  pub won_over : (kind : ListKind) → (s ≡ Tried) ⊎ (s ≡ Stuck) → HasStatus family.profile p s → FindsWon kind family entries n false p
+  won_over Lost is has =
       let over = over_by family.profile p has is in
-      said_yes (record {
+      λ answered. elim answered [ inl caught ↦ lost_not_caught family.profile p over caught | inr reply ↦ lost_not_open family.profile p over reply.goes_on ]
+  won_over Held is has =
+      let over = over_by family.profile p has is in
+      record {
         free = lost_not_caught family.profile p over;
         all_held = λ goes_on reply r goes. absurd (lost_not_open family.profile p over goes_on);
-      })
+      }
 
-  pub safe_open : s ≡ Open → HasStatus family.profile p s → (b : Bool) → IsTrue b ↔ AreAllHeld family held n p → IsTrue b ↔ IsSafe family held n p
-  safe_open is has b all = (
-    λ shown. record { free = λ caught. not_both family.profile p caught (of_status family.profile p has Open is); all_held = all.0 shown },
-    λ safe. all.1 safe.all_held,
-  )
+  pub won_open : (kind : ListKind) (b : Bool) → s ≡ Open → HasStatus family.profile p s →
+      MatchBool b (SomeLeads family.profile p (TakesForLost kind family entries n true)) (AllLead family.profile p (TakesForLost kind family entries n false)) →
+      FindsWon kind family entries n b p
+  won_open Lost true is has some =
+      inr (record { goes_on = of_status family.profile p has Open is; reply = some.move; outcome = some.outcome; goes = some.goes; said = some.fits })
+  won_open Lost false is has all = λ answered. elim answered [
+    | inl caught ↦ not_both family.profile p caught (of_status family.profile p has Open is)
+    | inr reply ↦ all reply.reply reply.outcome reply.goes reply.said
+  ]
+  won_open Held true is has some = λ safe. some.fits (safe.all_held (of_status family.profile p has Open is) some.move some.outcome some.goes)
+  won_open Held false is has all = record {
+    free = λ caught. not_both family.profile p caught (of_status family.profile p has Open is);
+    all_held = λ _. all;
+  }
 
-  pub hold_caught : s ≡ Caught → HasStatus family.profile p s → IsTrue true ↔ IsHoldSupported family held n p
-  hold_caught is has = said_yes (inl (of_status family.profile p has Caught is))
+  pub lost_caught : (kind : ListKind) → s ≡ Caught → HasStatus family.profile p s → FindsLost kind family entries n false p
+  lost_caught Lost is has =
+      let caught = of_status family.profile p has Caught is in
+      λ supported. elim supported [ inl over ↦ lost_not_caught family.profile p over caught | inr more ↦ not_both family.profile p caught more.1.goes_on ]
+  lost_caught Held is has = inl (of_status family.profile p has Caught is)
 
-  pub hold_over : (s ≡ Tried) ⊎ (s ≡ Stuck) → HasStatus family.profile p s → IsTrue false ↔ IsHoldSupported family held n p
-  hold_over is has =
+  pub lost_over : (kind : ListKind) → (s ≡ Tried) ⊎ (s ≡ Stuck) → HasStatus family.profile p s → FindsLost kind family entries n true p
+  lost_over Lost is has = inl (over_by family.profile p has is)
+  lost_over Held is has =
       let over = over_by family.profile p has is in
-      neither (lost_not_caught family.profile p over) (λ more. lost_not_open family.profile p over more.0)
+      λ supported. elim supported [ inl caught ↦ lost_not_caught family.profile p over caught | inr more ↦ lost_not_open family.profile p over more.0 ]
 
-pub supports_held_by : (family : Family) (held : List Entry) (entry : Entry) (p : Setup) → entry.class < classes_of family → IsRepresentative family p →
-    HasClass family p entry.class → (b : Bool) → IsTrue b ↔ IsHoldSupported family held entry.plies p → IsTrue b ↔ SupportsHeld family held entry
-supports_held_by family held entry p within is number b given = (
+  pub lost_soon : (kind : ListKind) → s ≡ Open → HasStatus family.profile p s → n < 2 → FindsLost kind family entries n false p
+  lost_soon Lost is has few = λ supported. elim supported [
+    | inl over ↦ lost_not_open family.profile p over (of_status family.profile p has Open is)
+    | inr more ↦ absurd (omega (arith, few, more.0))
+  ]
+  lost_soon Held is has few = inr (of_status family.profile p has Open is, λ two. absurd (omega (arith, few, two)))
+
+  pub lost_open : (kind : ListKind) (b : Bool) → s ≡ Open → HasStatus family.profile p s → 2 ≤ n →
+      MatchBool b (AllLead family.profile p (FindsWon kind family entries (plies_later kind n) true))
+      (SomeLeads family.profile p (FindsWon kind family entries (plies_later kind n) false)) →
+      FindsLost kind family entries n b p
+  lost_open Lost true is has many all = inr (many, record { goes_on = of_status family.profile p has Open is; answered = all })
+  lost_open Lost false is has many some = λ supported. elim supported [
+    | inl over ↦ lost_not_open family.profile p over (of_status family.profile p has Open is)
+    | inr more ↦ some.fits (more.1.answered some.move some.outcome some.goes)
+  ]
+  lost_open Held true is has many all = λ supported. elim supported [
+    | inl caught ↦ not_both family.profile p caught (of_status family.profile p has Open is)
+    | inr more ↦ let escape = more.1 many in all escape.step escape.outcome escape.goes escape.safe
+  ]
+  lost_open Held false is has many some =
+      inr (of_status family.profile p has Open is, λ _. record { step = some.move; outcome = some.outcome; goes = some.goes; safe = some.fits })
+
+-- ---- entries
+
+-- an entry is supported where its representative shows what it has to
+pub supports_by : (kind : ListKind) (family : Family) (entries : List Entry) (entry : Entry) (p : Setup) → entry.class < classes_of family →
+    IsRepresentative family p → HasClass family p entry.class → (b : Bool) → IsTrue b ↔ IsSupported kind family entries entry.plies p →
+    IsTrue b ↔ Supports kind family entries entry
+supports_by Lost family lost entry p within is number b given = (
+  λ shown. record { within = within; supported = at_class family (IsLossSupported family lost entry.plies) p entry.class within is number (given.0 shown) },
+  λ supported. given.1 (of_class family (IsLossSupported family lost entry.plies) p entry.class within is number supported.supported),
+)
+supports_by Held family held entry p within is number b given = (
   λ shown. record { within = within; supported = at_class family (IsHoldSupported family held entry.plies) p entry.class within is number (given.0 shown) },
   λ supported. given.1 (of_class family (IsHoldSupported family held entry.plies) p entry.class within is number supported.supported),
 )
+
+-- and an entry of no class isn't
+pub beyond : (kind : ListKind) (family : Family) (entries : List Entry) (entry : Entry) → classes_of family ≤ entry.class → ¬ Supports kind family entries entry
+beyond Lost family lost entry far supported = omega (arith, far, supported.within)
+beyond Held family held entry far supported = omega (arith, far, supported.within)

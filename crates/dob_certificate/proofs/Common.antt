@@ -1,6 +1,6 @@
 -- The names that the proofs here use most, from other crates and the definitions of this one.
 pub use Rattle.std.proofs.Common.{◌+◌, ◌-◌, ◌<◌, ◌↔◌, ◌∙◌, ◌≡◌, ◌≢◌, ◌≤◌, ◌⊎◌, Bool, Contains, Err, IfErr, IfNone, IfOk, IfSome, IsTrue, List, None, Ok, Option}
-pub use Rattle.std.proofs.Common.{Result, Some, add-one, ap, arith, false, get_or, inl, inr, leb, length, refl, rules, slice_get, subst, suc, sym, true, zero}
+pub use Rattle.std.proofs.Common.{Result, Some, add-one, ap, arith, false, get_or, inl, inr, leb, length, not, refl, rules, slice_get, subst, suc, sym, true, zero}
 pub use Rattle.std.proofs.Common.{ℕ}
 pub use Rattle.std.proofs.lemmas.Bool.{cases_lt}
 pub use Rattle.std.proofs.lemmas.Bool.Decides.{nat_tests}
@@ -16,14 +16,13 @@ pub use Rattle.dob_rank.proofs.OfFamilies.Present.{HasClasses-classes_of}
 pub use Rattle.dob_rank.specs.Families.{HasClass, IsInClass, IsRepresentative, class_setup, classes_of}
 pub use Rattle.dob_classes.proofs.OfFamilies.FamilyRepresentatives.{class_setup_only, one_class}
 pub use Rattle.dob_value.proofs.Depths.{lost_not_caught, lost_not_open, lost_stays, won_stays}
-pub use Rattle.dob_value.proofs.Successors.{move_goes}
 pub use Rattle.dob_value.specs.Values.{HasLost, HasValue, Lost, Won}
-pub use Rattle.dob_certificate.specs.Ascending.{AreAscending, class_at, entry_at}
+pub use Rattle.dob_certificate.specs.Ascending.{AreAscending, class_at, listed_entry}
 pub use Rattle.dob_certificate.specs.Claims.{Holds, Prove, ShowsDraw, ShowsLoss, ShowsWin, ShowsWon}
-pub use Rattle.dob_certificate.specs.Held.{AreAllHeld, IsHoldSupported, IsListedBeyond, IsSafe, IsSaidHeld, SupportsAllHeld, SupportsHeld, plies_asked}
-pub use Rattle.dob_certificate.specs.Listed.{IsEntryFor}
+pub use Rattle.dob_certificate.specs.Held.{IsHoldSupported, IsListedBeyond, IsSafe, IsSaidHeld, SupportsAllHeld, SupportsHeld, plies_asked}
+pub use Rattle.dob_certificate.specs.Listed.{HasPlies, IsEntryFor}
 pub use Rattle.dob_certificate.specs.Lists.{Supports}
-pub use Rattle.dob_certificate.specs.Lost.{AreAllAnswered, HasReply, IsAnswered, IsListedWithin, IsLossSupported, IsSaidLost, SupportsAllLost, SupportsLost}
+pub use Rattle.dob_certificate.specs.Lost.{IsAnswered, IsListedWithin, IsLossSupported, IsSaidLost, SupportsAllLost, SupportsLost}
 pub use Rattle.dob_certificate.specs.declared.claim.Claim.{Claim}
 pub use Rattle.dob_certificate.specs.declared.entry.Entry.{Entry}
 pub use Rattle.dob_certificate.specs.declared.entry.TheConstants.{EVER}

@@ -1,6 +1,6 @@
 -- Entries one after the other: all are supported so far, or the first that isn't is found.
 use Rattle.dob_certificate.proofs.Common.{◌+◌, ◌<◌, ◌↔◌, ◌≡◌, ◌≢◌, ◌≤◌, Bool, Contains, Err, IsTrue, List, arith, false, inr, length, refl, subst, sym, ℕ}
-use Rattle.dob_certificate.proofs.Common.{slice_get-get_or, Family, Setup, entry_at, SupportsHeld, SupportsAllLost, Entry}
+use Rattle.dob_certificate.proofs.Common.{slice_get-get_or, Family, Setup, listed_entry, SupportsHeld, SupportsAllLost, Entry}
 use borrow.Author.Count.{below_more}
 use Rattle.std.proofs.lemmas.Option.{get_or_from_slice_get, slice_get_within}
 use Rattle.dob_certificate.specs.declared.claim.Claim.{Claim as Claimed}
@@ -12,23 +12,23 @@ use Rattle.dob_certificate.proofs.Cases.{said_no}
 
 -- the entries before a place are supported
 abbrev pub AllBefore : (Entry → Type 0) → List Entry → ℕ → Type 0
-AllBefore Supported entries upto = (place : ℕ) → place < upto → Supported (entry_at entries place)
+AllBefore Supported entries upto = (place : ℕ) → place < upto → Supported (listed_entry entries place)
 
 module _ (Supported : Entry → Type 0) (entries : List Entry) where
-  pub entries_more : (upto : ℕ) → Supported (entry_at entries upto) → AllBefore Supported entries upto → AllBefore Supported entries (upto + 1)
-  entries_more upto here before = below_more (λ place. Supported (entry_at entries place)) upto before here
+  pub entries_more : (upto : ℕ) → Supported (listed_entry entries upto) → AllBefore Supported entries upto → AllBefore Supported entries (upto + 1)
+  entries_more upto here before = below_more (λ place. Supported (listed_entry entries place)) upto before here
 
   pub entries_done : (upto : ℕ) → length entries ≤ upto → AllBefore Supported entries upto → (entry : Entry) → Contains entries entry → Supported entry
   entries_done upto all before entry there =
       subst Supported (read_at entries there.0 entry there.1 there.2) (before there.0 (omega (arith, all, there.1)))
 
   -- the entry at the place is the first for which the check gives up
-  pub first_found : (place : ℕ) (why : Refusal) → place < length entries → AllBefore Supported entries place → IsEntryVerdict Supported (entry_at entries place) (Err why) →
+  pub first_found : (place : ℕ) (why : Refusal) → place < length entries → AllBefore Supported entries place → IsEntryVerdict Supported (listed_entry entries place) (Err why) →
       IsListVerdict Supported entries (Err why)
   first_found place Memory within before found = tt
   first_found place (Unsupported class) within before found = record {
     place = place;
-    entry = entry_at entries place;
+    entry = listed_entry entries place;
     there = slice_get-get_or entries place no_entry within;
     class_is = sym found.0;
     unsupported = found.1;

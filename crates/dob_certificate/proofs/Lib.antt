@@ -1,7 +1,8 @@
 -- The lemmas, in the order in which they are read.
 mod Common  -- names of other crates and of this one's definitions, for the proofs
 pub mod Orders  -- entries by ascending class
-pub mod Replies  -- what holds of each move of a list, and of each entry
+pub mod Walked  -- moves gone through by their numbers
+pub mod Representatives  -- what holds of a class's representative
 pub mod Firsts  -- the first entry that is not supported
 pub mod Bounds  -- what supported lists say of positions is so
 pub mod Cases  -- what lists say, by the position's status

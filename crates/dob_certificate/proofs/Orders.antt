@@ -1,7 +1,7 @@
 -- Items by ascending keys, as entries by ascending class: what a search finds, and that a key stands at one place at most.
 use Rattle.dob_certificate.proofs.Common.{◌+◌, ◌<◌, ◌∙◌, ◌≡◌, ◌≢◌, ◌≤◌, Contains, Err, IfErr, IfNone, IfOk, IfSome, List, None, Ok, Option, Result, Some}
 use Rattle.dob_certificate.proofs.Common.{add-one, ap, arith, get_or, inl, inr, length, subst, suc, sym, zero, ℕ, cases_lt, nat_tests}
-use Rattle.dob_certificate.proofs.Common.{IsNonDecreasingBy-from_default, Family, Setup, IsInClass, one_class, AreAscending, class_at, entry_at, IsEntryFor}
+use Rattle.dob_certificate.proofs.Common.{IsNonDecreasingBy-from_default, Family, Setup, IsInClass, one_class, AreAscending, class_at, listed_entry, IsEntryFor}
 use Rattle.dob_certificate.proofs.Common.{Entry}
 use Rattle.std.specs.List.Sorted.{IsSearchInRange, IsBinarySearchResult, IsNonDecreasingBy}
 use Rattle.std.specs.Ordering.{nat_cmp, ordering_index}
@@ -62,7 +62,7 @@ module _ {X : Type 0} (key : X → ℕ) (d : X) (xs : List X)
 -- ---- entries by ascending class
 
 -- what is read at a place is the entry there, whatever is read behind the end
-pub read_at : (entries : List Entry) (place : ℕ) (entry : Entry) → place < length entries → get_or entries place entry ≡ entry → entry_at entries place ≡ entry
+pub read_at : (entries : List Entry) (place : ℕ) (entry : Entry) → place < length entries → get_or entries place entry ≡ entry → listed_entry entries place ≡ entry
 read_at entries place entry within is = get_or_default entries place no_entry entry within ∙ is
 
 -- a class has one entry at most
@@ -72,7 +72,7 @@ one_entry entries ascending a b at_a at_b same =
     let here_b = read_at entries at_b.0 b at_b.1 at_b.2 in
     let class = λ (entry : Entry). entry.class in
     let place = one_place class no_entry entries ascending at_a.0 at_b.0 at_a.1 at_b.1 (ap class here_a ∙ same ∙ sym (ap class here_b)) in
-    sym here_a ∙ ap (entry_at entries) place ∙ here_b
+    sym here_a ∙ ap (listed_entry entries) place ∙ here_b
 
 -- no entry of a class stands in a list none of whose places has it
 pub no_place : (entries : List Entry) (class : ℕ) → ((place : ℕ) → place < length entries → class_at entries place ≢ class) →

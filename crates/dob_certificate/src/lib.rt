@@ -4,32 +4,36 @@
 // - An entry says "within", not "exactly": a class is lost within n plies if each move is answered into the list with two plies less. So entries may be
 //   loose and a list small; an exact claim takes a second list.
 // - A list says nothing of a position whose game has ended: the status decides first.
+// - Whether a list shows something is asked over two traits: `Lookup` finds a position's entry, by its class or by a rank, and `Moves` gives moves, from a
+//   list or by their places. So the page, which has no memory, asks the same.
 // - A class has one entry, by the type `Entries`: with two the smaller number could be looked up and the larger one tested.
 // - The first unsupported entry is named in the order of the lists, lost before held, whichever thread found it. The threads stand in `dob_check`, so that
 //   the library for C and the page link none.
 #![tactic(auto)]
 
+mod asking;
 mod certificate;
 mod claim;
 mod entries;
 mod entry;
-mod held;
 mod list_kind;
 mod lists;
 mod lookup;
-mod lost;
+mod moves;
 mod refusal;
 mod room;
 mod too_many;
 mod verifying;
 
+pub use asking::{LossQuestion, is_supported};
 pub use certificate::Certificate;
-pub use claim::Claim;
+pub use claim::{Claim, is_shown};
 pub use entries::Entries;
 pub use entry::{EVER, Entry};
 pub use list_kind::ListKind;
 pub use lists::{check_entry, check_list};
-pub use lookup::entry_for;
+pub use lookup::{Lookup, entry_for};
+pub use moves::Moves;
 pub use refusal::Refusal;
 pub use room::Room;
 pub use too_many::TooMany;

@@ -1,20 +1,20 @@
 // Whether a list of a certificate supports its entries.
 ghost use Rattle.std.specs.Prelude.{◌≡◌, ◌<◌, ◌↔◌, length, IfOk, IsTrue};
-ghost use Rattle.dob_certificate.specs.Ascending.{entry_at};
+ghost use Rattle.dob_certificate.specs.Ascending.{listed_entry};
 ghost use Rattle.dob_certificate.specs.Lists.{Supports};
 ghost use Rattle.dob_certificate.specs.Refusals.{IsEntryVerdict, IsListVerdict};
 
+use crate::asking::{LossQuestion, is_supported};
 use crate::entries::Entries;
 use crate::entry::Entry;
-use crate::held::supports_held;
 use crate::list_kind::ListKind;
-use crate::lost::supports_lost;
+use crate::lookup::ByClass;
 use crate::refusal::Refusal;
 use crate::room::Room;
 use dob_classes::Classes;
 use dob_pieces::Memory;
 
-// Whether a list of that kind supports the entry.
+// Whether a list of that kind supports the entry: its class is one of the family's, and its position shows what it has to.
 //
 // Error: `Memory`.
 fn supports(
@@ -26,9 +26,22 @@ fn supports(
 ) -> Result<bool, Memory>
     ensures { IfOk result (λ yes. IsTrue yes ↔ Supports kind classes.now.family entries.now entry) }
 {
-    match kind {
-        ListKind::Lost => supports_lost(room, classes, entries, entry),
-        ListKind::Held => supports_held(room, classes, entries, entry),
+    let class = entry.class as u64;
+    if class < classes.class_count() {
+        let position = classes.class_at(class);
+        is_supported(
+            &mut room.moves,
+            &mut room.replies,
+            classes.family,
+            &ByClass { classes, entries },
+            LossQuestion {
+                kind,
+                plies: entry.plies,
+            },
+            &position,
+        )
+    } else {
+        Ok(false)
     }
 }
 
@@ -45,7 +58,7 @@ pub fn check_entry(
     place: usize,
 ) -> Result<(), Refusal>
     requires { place < length entries.now }
-    ensures { IsEntryVerdict (Supports kind classes.now.family entries.now) (entry_at entries.now place) result }
+    ensures { IsEntryVerdict (Supports kind classes.now.family entries.now) (listed_entry entries.now place) result }
 {
     let entry = entries.as_slice()[place];
     let is_supported = supports(room, classes, kind, entries, entry)?;

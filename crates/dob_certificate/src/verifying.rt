@@ -7,12 +7,13 @@ ghost use Rattle.dob_certificate.specs.Held.{SupportsAllHeld};
 ghost use Rattle.dob_certificate.specs.Claims.{Holds, Prove, ShowsWon};
 ghost use Rattle.dob_certificate.specs.Refusals.{IsRefusal};
 
+use crate::asking::is_said_lost;
 use crate::certificate::Certificate;
 use crate::claim::{Claim, is_shown, shows_won};
 use crate::entries::Entries;
 use crate::list_kind::ListKind;
 use crate::lists::check_list;
-use crate::lost::is_said_lost;
+use crate::lookup::ByClass;
 use crate::refusal::Refusal;
 use crate::room::Room;
 use dob_classes::Classes;
@@ -63,7 +64,22 @@ pub fn check_claim(
     ensures proof { IfOk result (λ _. Prove classes.now.family certificate.now.lost certificate.now.held position.now.setup claim) }
     ensures refusal { IfErr result (IsRefusal classes.now.family certificate.now.lost certificate.now.held position.now.setup claim) }
 {
-    let shown = is_shown(&mut room.replies, classes, certificate, position, claim)?;
+    let lost = ByClass {
+        classes,
+        entries: &certificate.lost,
+    };
+    let held = ByClass {
+        classes,
+        entries: &certificate.held,
+    };
+    let shown = is_shown(
+        &mut room.replies,
+        classes.family,
+        &lost,
+        &held,
+        position,
+        claim,
+    )?;
     if shown { Ok(()) } else { Err(Refusal::Claim) }
 }
 
@@ -88,7 +104,11 @@ pub fn is_lost_within(
     let mut room = Room::new(alloc);
     let supported = supports_all_lost(&mut room, classes, &certificate.lost)?;
     if supported {
-        Ok(is_said_lost(classes, &certificate.lost, plies, position))
+        let lost = ByClass {
+            classes,
+            entries: &certificate.lost,
+        };
+        Ok(is_said_lost(classes.family, &lost, plies, position))
     } else {
         Ok(false)
     }
@@ -115,13 +135,11 @@ pub fn is_won_within(
     let mut room = Room::new(alloc);
     let supported = supports_all_lost(&mut room, classes, &certificate.lost)?;
     if supported {
-        shows_won(
-            &mut room.replies,
+        let lost = ByClass {
             classes,
-            &certificate.lost,
-            position,
-            plies,
-        )
+            entries: &certificate.lost,
+        };
+        shows_won(&mut room.replies, classes.family, &lost, position, plies)
     } else {
         Ok(false)
     }

@@ -9,18 +9,10 @@ use Rattle.dob_certificate.specs.declared.entry.Entry.{Entry}
 use Rattle.dob_certificate.specs.declared.list_kind.ListKind.{ListKind}
 use Rattle.dob_certificate.specs.declared.list_kind.ListKind.TheVariants.{Lost, Held}
 use Rattle.dob_certificate.specs.Claims.{Holds, Prove, Show}
-use Rattle.dob_certificate.specs.Listed.{IsEntryFor}
 use Rattle.dob_certificate.specs.Lists.{Supports}
 use Rattle.dobutsu_web.specs.declared.ranked.Listed.{Listed}
 use Rattle.dobutsu_web.specs.Asked.{IsTextAsked}
 use Rattle.dobutsu_web.specs.Ranked.{AreRanks, entry_by, entries_by}
-
--- the one entry for the position has so many plies
-pub record HasPlies (family : Family) (entries : List Entry) (q : Setup) (plies : ℕ) : Type 0 where
-  pub entry : Entry
-  pub is : IsEntryFor family entries q entry
-  pub plies_are : entry.plies ≡ plies
-  pub alone : (other : Entry) → IsEntryFor family entries q other → entry ≡ other
 
 -- a list of that kind supports each of its entries
 abbrev pub SupportsAll : ListKind → Family → List Entry → Type 0
@@ -78,7 +70,7 @@ IsAnswer answer family lost lost_plies held held_plies p claim broken =
     ⊎ ((answer ≡ 31) × AreSilent family (entries_by family lost lost_plies) (entries_by family held held_plies) p claim))
 
 -- an answer of the position, the claim and the lists that are asked
-pub record IsAnswered (text : List ℕ) (number kind plies : ℕ) (lost lost_plies held held_plies : List ℕ) (answer broken : ℕ) : Type 0 where
+pub record IsToldAnswer (text : List ℕ) (number kind plies : ℕ) (lost lost_plies held held_plies : List ℕ) (answer broken : ℕ) : Type 0 where
   pub family : Family
   pub setup : Setup
   pub claim : Claim

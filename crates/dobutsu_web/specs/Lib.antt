@@ -4,6 +4,5 @@ pub mod Values
 pub mod Steps
 pub mod Texts
 pub mod Headers
-pub mod Places
 pub mod Ranked
 pub mod Certified

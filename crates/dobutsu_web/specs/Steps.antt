@@ -7,19 +7,14 @@ use Rattle.dob_pieces.specs.declared.profile.Profile.{Profile}
 use Rattle.dob_moves.specs.AtPlaces.{IsMoveAt, IsCatchAt}
 use Rattle.dob_moves.specs.Moves.{Goes}
 use Rattle.dob_rank.specs.Numbers.{block_of}
-use Rattle.dob_foreign.specs.declared.moves.MoveNumbers.{MoveNumbers}
-use Rattle.dob_foreign.specs.Moves.{move_numbers}
-use Rattle.dobutsu_web.specs.declared.steps.DobutsuStep.{DobutsuStep}
+use Rattle.dob_foreign.specs.Moves.{shown_step}
+use Rattle.dobutsu_web.specs.declared.steps.DobutsuPlacedStep.{DobutsuPlacedStep}
 use Rattle.dobutsu_web.specs.Asked.{IsTextAsked}
 use Rattle.dobutsu_web.specs.Rows.{IsClassBy}
 
--- the numbers of a move, and the block of what it leads to
-abbrev pub with_block : MoveNumbers → ℕ → DobutsuStep
-with_block numbers block =
-    record { block = block; kind = numbers.kind; from = numbers.from; to = numbers.to; catches = numbers.catches; grows = numbers.grows }
-
-abbrev pub shown_step : Move → ℕ → DobutsuStep
-shown_step move block = with_block (move_numbers move) block
+-- a move, and the block of what it leads to
+abbrev pub placed_step : Move → ℕ → DobutsuPlacedStep
+placed_step move block = record { block = block; step = shown_step move }
 
 -- the move of an open position at that place, or the step there that catches the lion
 abbrev pub IsMoveAtPlace : Profile → Setup → ℕ → Move → Type 0
@@ -30,20 +25,20 @@ abbrev pub IsOutcomeAt : Family → Setup → ℕ → Setup → Type 0
 IsOutcomeAt family p there outcome = (move : Move) × IsMoveAt family.profile p there move × Goes family.profile p move outcome
 
 -- a move of an open position with the block of what it leads to
-abbrev pub IsShownMove : Family → Setup → ℕ → DobutsuStep → Type 0
+abbrev pub IsShownMove : Family → Setup → ℕ → DobutsuPlacedStep → Type 0
 IsShownMove family p there step = (move : Move) × (outcome : Setup) × IsMoveAt family.profile p there move × Goes family.profile p move outcome
-    × (step ≡ shown_step move (block_of family.set outcome))
+    × (step ≡ placed_step move (block_of family.set outcome))
 
 -- a step that catches the lion, which leads to no position
-abbrev pub IsShownCatch : Setup → ℕ → DobutsuStep → Type 0
-IsShownCatch p there step = (move : Move) × IsCatchAt p there move × (step ≡ shown_step move 0)
+abbrev pub IsShownCatch : Setup → ℕ → DobutsuPlacedStep → Type 0
+IsShownCatch p there step = (move : Move) × IsCatchAt p there move × (step ≡ placed_step move 0)
 
-abbrev pub IsStepShown : Family → Setup → ℕ → DobutsuStep → Type 0
+abbrev pub IsStepShown : Family → Setup → ℕ → DobutsuPlacedStep → Type 0
 IsStepShown family p there step = IsShownMove family p there step ⊎ IsShownCatch p there step
 
 -- ---- of the position that is asked for
 
-abbrev pub IsToldStep : List ℕ → ℕ → ℕ → DobutsuStep → Type 0
+abbrev pub IsToldStep : List ℕ → ℕ → ℕ → DobutsuPlacedStep → Type 0
 IsToldStep text number there step = (family : Family) × (setup : Setup) × IsTextAsked text number family setup × IsStepShown family setup there step
 
 -- no move, and no step that catches the lion, stands at that place

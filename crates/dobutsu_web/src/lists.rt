@@ -4,13 +4,9 @@ ghost use Rattle.dob_certificate.specs.Lists.{Supports};
 ghost use Rattle.dobutsu_web.specs.Ranked.{AreRanksIn, entries_in, entry_in};
 ghost use Rattle.dobutsu_web.specs.Certified.{IsFirstBroken, SupportsAll};
 
-use crate::held::is_hold_supported_at;
-use crate::ranked::Listed;
-use crate::within::is_loss_supported_at;
-use dob_certificate::ListKind;
-
-/// How many places of moves there are: each square and each kind in hand has one for every square.
-pub(crate) const PLACES: usize = 180;
+use crate::places::ByPlace;
+use crate::ranked::{Listed, position_at};
+use dob_certificate::{ListKind, LossQuestion, is_supported};
 
 // Whether a list of that kind supports the entry at that place.
 fn is_supported_at(kind: ListKind, listed: &Listed, place: usize) -> bool
@@ -18,9 +14,21 @@ fn is_supported_at(kind: ListKind, listed: &Listed, place: usize) -> bool
     requires within { place < length listed.now.ranks.now }
     ensures { IsTrue result ↔ Supports kind listed.now.family (entries_in listed.now) (entry_in listed.now place) }
 {
-    match kind {
-        ListKind::Lost => is_loss_supported_at(listed, place),
-        ListKind::Held => is_hold_supported_at(listed, place),
+    let position = position_at(listed, place);
+    let question = LossQuestion {
+        kind,
+        plies: listed.plies[place],
+    };
+    match is_supported(
+        &mut ByPlace,
+        &mut ByPlace,
+        listed.family,
+        listed,
+        question,
+        &position,
+    ) {
+        Ok(supported) => supported,
+        Err(_) => unreachable!(),
     }
 }
 

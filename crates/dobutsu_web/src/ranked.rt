@@ -2,14 +2,12 @@
 // list is searched without memory of one's own.
 ghost use Rattle.std.specs.Prelude.{◌≡◌, ◌≢◌, ◌-◌, ◌<◌, ◌≤◌, ◌↔◌, ℕ, IsTrue, MatchOption, length, slice_index};
 ghost use Rattle.std.specs.List.Sorted.{IsStrictlyIncreasing};
-ghost use Rattle.dob_certificate.specs.declared.entry.Entry.{Entry as AnyEntry};
-ghost use Rattle.dob_certificate.specs.Listed.{IsEntryFor};
 ghost use Rattle.dob_rank.specs.Families.{IsPositionOf, IsRepresentative, HasClass, size_of, rank_of};
 ghost use Rattle.dob_pieces.specs.declared.setup.Setup.{Setup as AnySetup};
 ghost use Rattle.dob_rank.specs.Order.{IsFirstOfTwo, RepresentativeOf};
 ghost use Rattle.dobutsu_web.specs.Ranked.{AreRanksIn, IsRankAt, entries_in, entry_in, ranked_setup};
-ghost use Rattle.dobutsu_web.specs.Certified.{HasPlies};
 
+use dob_certificate::Lookup;
 use dob_pieces::{Family, Position};
 use dob_rank::{rank, size, unrank};
 
@@ -88,18 +86,17 @@ pub(crate) fn position_at(listed: &Listed, place: usize) -> Position
     unrank(listed.family, u64::from(listed.ranks[place]))
 }
 
-/// The plies of the position's class, or `None` if it isn't listed.
-pub(crate) fn plies_of(listed: &Listed, position: &Position) -> Option<u16>
-    requires ranks { AreRanksIn listed.now }
-    requires member { IsPositionOf listed.now.family position.now.setup }
-    ensures { MatchOption result
-        ((entry : AnyEntry) → ¬ IsEntryFor listed.now.family (entries_in listed.now) position.now.setup entry)
-        (HasPlies listed.now.family (entries_in listed.now) position.now.setup) }
-{
-    let earlier = rank_of_earlier(listed.family, position);
-    match place_of(listed.ranks, earlier) {
-        Some(place) => Some(listed.plies[place]),
-        None => None,
+impl Lookup for Listed<'_> {
+    ghost stands = { λ listed family. (listed.family ≡ family) × AreRanksIn listed };
+
+    ghost entries_of = { λ listed. entries_in listed };
+
+    fn plies_for(&self, family: Family, position: &Position) -> Option<u16> {
+        let earlier = rank_of_earlier(family, position);
+        match place_of(self.ranks, earlier) {
+            Some(place) => Some(self.plies[place]),
+            None => None,
+        }
     }
 }
 

@@ -7,35 +7,34 @@ ghost use Rattle.dob_moves.specs.AtPlaces.{IsMoveAt};
 ghost use Rattle.dob_rank.specs.Families.{IsPositionOf};
 ghost use Rattle.dobutsu_web.specs.Asked.{IsTextAsked, IsRefused};
 ghost use Rattle.dobutsu_web.specs.Rows.{IsRightRow};
-ghost use Rattle.dobutsu_web.specs.Steps.{IsMoveAtPlace, HasNone, HasNoMove, IsShownMove, IsStepShown, IsToldStep, IsToldClassAfter, IsOutcomeAt, shown_step};
+ghost use Rattle.dobutsu_web.specs.Steps.{IsMoveAtPlace, HasNone, HasNoMove, IsShownMove, IsStepShown, IsToldStep, IsToldClassAfter, IsOutcomeAt, placed_step};
 
 use crate::asked::{Asked, ask};
 use crate::numbers::{NO_MOVE, NO_ROW};
 use crate::rows::class_below;
 use dob_classes::block_number;
-use dob_foreign::{MoveNumbers, move_numbers};
+use dob_foreign::{DobutsuStep, shown_step};
 use dob_moves::{Move, catch_at, move_at};
 use dob_value::outcome_of;
 
-/// A move: a step of a piece of that kind from one square to another, or where it comes from 12 a drop. Chick 0, elephant 1, giraffe 2, hen 3,
-/// lion 4, as the piece was before; square a1 is 0, b1 1, c1 2, a2 3 and so on to c4, 11. `catches` is 1 if a piece is caught and `grows` where
-/// a chick becomes a hen, else 0. `block` is that of the position that the move leads to, and 0 of a step that catches the lion.
+/// A move, and the block of the position that it leads to, 0 of a step that catches the lion.
 #[repr(C)]
 #[derive(Clone, Copy)]
-pub struct DobutsuStep {
+pub struct DobutsuPlacedStep {
     pub block: u64,
-    pub kind: u32,
-    pub from: u32,
-    pub to: u32,
-    pub catches: u32,
-    pub grows: u32,
+    pub step: DobutsuStep,
 }
 
 /// The move of an open position at that place of the move order, or where the enemy lion can be caught the step at that place that catches it. The
 /// place of a step is 12 times the square that it leaves and the square that it reaches, that of a drop 144, 12 times its kind and the square. It answers
 /// 0 and writes the move, 28 if there is none at that place, or a fault as `dobutsu_class` does.
 #[unsafe(no_mangle)]
-pub extern "C" fn dobutsu_move(text: &[u8], profile: u32, place: u32, step: &mut DobutsuStep) -> u32
+pub extern "C" fn dobutsu_move(
+    text: &[u8],
+    profile: u32,
+    place: u32,
+    step: &mut DobutsuPlacedStep,
+) -> u32
     ensures told { result ≡ 0 → IsToldStep text.now profile place step.new }
     ensures none { result ≡ 28 → HasNone text.now profile place }
     ensures refused { result ≢ 0 → result ≢ 28 → IsRefused text.now profile result }
@@ -104,7 +103,7 @@ pub(crate) fn move_by_place(asked: &Asked, place: usize) -> Option<Move>
 }
 
 // The step, as it is shown.
-fn step_at(asked: &Asked, place: usize) -> Option<DobutsuStep>
+fn step_at(asked: &Asked, place: usize) -> Option<DobutsuPlacedStep>
     requires { IsPositionOf asked.now.family asked.now.position.setup }
     ensures { MatchOption result
         ((m : AnyMove) → ¬ IsMoveAtPlace asked.now.family.profile asked.now.position.setup place m)
@@ -113,40 +112,27 @@ fn step_at(asked: &Asked, place: usize) -> Option<DobutsuStep>
     match move_at(asked.family.profile, &asked.position, place) {
         Some(played) => Some(step_of_move(asked, &played)),
         None => match catch_at(&asked.position, place) {
-            Some(played) => Some(shown_step(&played, 0)),
+            Some(played) => Some(placed_step(played, 0)),
             None => None,
         },
     }
 }
 
 // A move with the block of what it leads to.
-fn step_of_move(asked: &Asked, played: &Move) -> DobutsuStep
+fn step_of_move(asked: &Asked, played: &Move) -> DobutsuPlacedStep
     requires member { IsPositionOf asked.now.family asked.now.position.setup }
     requires played { (place : ℕ) × IsMoveAt asked.now.family.profile asked.now.position.setup place played.now }
     ensures { (place : ℕ) → IsMoveAt asked.now.family.profile asked.now.position.setup place played.now
         → IsShownMove asked.now.family asked.now.position.setup place result }
 {
     let outcome = outcome_of(asked.family, &asked.position, *played);
-    shown_step(played, block_number(asked.family, &outcome))
+    placed_step(*played, block_number(asked.family, &outcome))
 }
 
 // The move as it is shown.
-fn shown_step(played: &Move, block: u64) -> DobutsuStep
-    ensures { result ≡ shown_step played.now block }
+fn placed_step(played: Move, block: u64) -> DobutsuPlacedStep
+    ensures { result ≡ placed_step played block }
 {
-    let MoveNumbers {
-        kind,
-        from,
-        to,
-        catches,
-        grows,
-    } = move_numbers(*played);
-    DobutsuStep {
-        block,
-        kind,
-        from,
-        to,
-        catches,
-        grows,
-    }
+    let step = shown_step(played);
+    DobutsuPlacedStep { block, step }
 }

@@ -3,15 +3,16 @@ ghost use Rattle.std.specs.Prelude.{◌≡◌, ◌≢◌, ◌<◌, true, false};
 ghost use Rattle.dob_certificate.specs.declared.list_kind.ListKind.TheVariants as ListKind;
 ghost use Rattle.dob_rank.specs.Families.{IsPositionOf};
 ghost use Rattle.dobutsu_web.specs.Asked.{IsRefused};
-ghost use Rattle.dobutsu_web.specs.Certified.{AreOne, HasNoRanks, IsAnswer, IsAnswered, SupportsAll};
+ghost use Rattle.dobutsu_web.specs.Certified.{AreOne, HasNoRanks, IsAnswer, IsToldAnswer, SupportsAll};
 ghost use Rattle.dobutsu_web.specs.Ranked.{AreRanksIn, entries_in};
 
 use crate::asked::ask;
-use crate::claims::{claim_of, is_shown};
+use crate::claims::claim_of;
 use crate::lists::first_broken;
 use crate::numbers::{CLAIM, CLAIM_BYTE, NO_ROW, UNSUPPORTED};
+use crate::places::ByPlace;
 use crate::ranked::{Listed, are_ranks};
-use dob_certificate::{Claim, ListKind};
+use dob_certificate::{Claim, ListKind, is_shown};
 use dob_pieces::Position;
 
 /// Whether the two lists of a certificate prove what is claimed of the position of that text: a draw, a win or a loss in N plies where `kind` is 0, 1 or 2, a
@@ -32,9 +33,9 @@ pub extern "C" fn dobutsu_certified(
     held_plies: &[u16],
     broken: &mut u64,
 ) -> u32
-    ensures shown { result ≡ 0 → IsAnswered text.now profile kind plies lost_ranks.now lost_plies.now held_ranks.now held_plies.now 0 broken.new }
-    ensures broken { result ≡ 30 → IsAnswered text.now profile kind plies lost_ranks.now lost_plies.now held_ranks.now held_plies.now 30 broken.new }
-    ensures silent { result ≡ 31 → IsAnswered text.now profile kind plies lost_ranks.now lost_plies.now held_ranks.now held_plies.now 31 broken.new }
+    ensures shown { result ≡ 0 → IsToldAnswer text.now profile kind plies lost_ranks.now lost_plies.now held_ranks.now held_plies.now 0 broken.new }
+    ensures broken { result ≡ 30 → IsToldAnswer text.now profile kind plies lost_ranks.now lost_plies.now held_ranks.now held_plies.now 30 broken.new }
+    ensures silent { result ≡ 31 → IsToldAnswer text.now profile kind plies lost_ranks.now lost_plies.now held_ranks.now held_plies.now 31 broken.new }
     ensures ranks { result ≡ 29 → HasNoRanks text.now profile lost_ranks.now lost_plies.now held_ranks.now held_plies.now }
     ensures kind { result ≡ 34 → 4 < kind }
     ensures refused { result ≢ 0 → result ≢ 29 → result ≢ 30 → result ≢ 31 → result ≢ 34 → IsRefused text.now profile result }
@@ -105,7 +106,10 @@ fn answer_behind(
             *broken = lost.ranks.len() as u64 + place as u64;
             UNSUPPORTED
         }
-        None => shown_number(is_shown(lost, held, position, claim)),
+        None => match is_shown(&mut ByPlace, lost.family, lost, held, position, claim) {
+            Ok(shown) => shown_number(shown),
+            Err(_) => unreachable!(),
+        },
     }
 }
 

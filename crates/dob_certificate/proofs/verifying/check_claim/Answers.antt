@@ -7,5 +7,5 @@ returns-then-shown-clause-holds c =
     proved_claim c.args.classes.now.family c.args.certificate.now.lost c.args.certificate.now.held c.args.position.now.setup c.args.claim (record {
       lost_supported = c.requires.lost;
       held_supported = c.requires.held;
-      shown = c.in_ok-shown.ensures.0 c.if-shown.true;
+      shown = c.in_ok-shown.ensures.shown.0 c.if-shown.true;
     })

@@ -1,14 +1,14 @@
 -- Each entry is one more, or the first that isn't supported.
 use Rattle.dobutsu_web.proofs.Common.{◌<◌, arith, length, rules, subst, ℕ, not_so, Supports, entries_in, entry_in}
-use Rattle.dobutsu_web.proofs.NoMoves.{one_more}
+use borrow.Author.Count.{below_more}
 use Rattle.dobutsu_web.proofs.Ranks.{entry_from}
 use Rattle.dobutsu_web.proofs.lists.first_broken.Goals as goal
 
 pub loop-place-preserved : goal.loop-place-preserved
 loop-place-preserved c =
     let listed = c.args.listed.now in
-    one_more (λ (k : ℕ). Supports c.args.kind listed.family (entries_in listed) (entry_in listed k)) c.loop-place.place
-    (c.is_supported_at.ensures.0 (search rules)) c.loop-place.invariant
+    below_more (λ (k : ℕ). Supports c.args.kind listed.family (entries_in listed) (entry_in listed k)) c.loop-place.place
+    c.loop-place.invariant (c.is_supported_at.ensures.0 (search rules))
 
 pub returns-then-not-is_supported_at : goal.returns-then-not-is_supported_at
 returns-then-not-is_supported_at c = record {

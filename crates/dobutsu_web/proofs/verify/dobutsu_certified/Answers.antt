@@ -1,6 +1,6 @@
 -- The lists say it of the position and the claim that were read.
 use Rattle.dobutsu_web.proofs.Common.{◌≡◌, inl, inr, rules, subst, ℕ, not_so}
-use Rattle.dobutsu_web.specs.Certified.{IsAnswer, IsAnswered}
+use Rattle.dobutsu_web.specs.Certified.{IsAnswer, IsToldAnswer}
 use Rattle.dobutsu_web.proofs.verify.dobutsu_certified.Goals as goal
 
 pub returns-then-not-are_ranks-clause-ranks : goal.returns-then-not-are_ranks-clause-ranks
@@ -14,7 +14,7 @@ returns-then-not-are_ranks-2-clause-ranks c = λ _.
     (asked.family, asked.position.setup, c.in-Ok.ensures, inr (not_so c.are_ranks-2.result (search rules) c.are_ranks-2.ensures))
 
 -- the answer is one of what was asked
-answered : (c : goal.After-answer) (n : ℕ) → c.answer.result ≡ n → IsAnswered c.args.text.now c.args.profile c.args.kind c.args.plies c.args.lost_ranks.now
+answered : (c : goal.After-answer) (n : ℕ) → c.answer.result ≡ n → IsToldAnswer c.args.text.now c.args.profile c.args.kind c.args.plies c.args.lost_ranks.now
     c.args.lost_plies.now c.args.held_ranks.now c.args.held_plies.now n c.answer.new.broken
 answered c n is =
     let asked = c.in-Ok.asked in

@@ -1,0 +1,333 @@
+// What a list of either kind is asked of a position: whether it takes it for lost, by what it says; for won, by a reply; for lost, whatever is played.
+ghost use Rattle.std.specs.Prelude.{◌≡◌, ◌≤◌, ◌<◌, ◌↔◌, true, false, IfOk, OnErr, IsTrue, MatchBool};
+ghost use Rattle.dob_moves.specs.declared.position_status.Status.{Status};
+ghost use Rattle.dob_moves.specs.Statuses.{HasStatus};
+ghost use Rattle.dob_rank.specs.Families.{IsPositionOf};
+ghost use Rattle.dob_certificate.specs.Asked.{FindsLost, FindsWon, TakesForLost, plies_later};
+ghost use Rattle.dob_certificate.specs.Held.{IsListedBeyond, IsSafe, IsSaidHeld};
+ghost use Rattle.dob_certificate.specs.Lists.{IsSupported};
+ghost use Rattle.dob_certificate.specs.Lost.{IsListedWithin, IsSaidLost};
+ghost use Rattle.dob_certificate.specs.Walks.{AllLead, AreNumbered, GivenLead, SomeLeads};
+
+use crate::entry::EVER;
+use crate::list_kind::ListKind;
+use crate::lookup::Lookup;
+use crate::moves::Moves;
+use dob_moves::{Status, status};
+use dob_pieces::{Family, Memory, Position};
+use dob_value::outcome_of;
+
+/// Whether a list of that kind shows a position to be lost within `plies`: by a lost list it is lost, by a held list it isn't shown not to be.
+#[derive(Clone, Copy)]
+pub struct LossQuestion {
+    pub kind: ListKind,
+    pub plies: u16,
+}
+
+/// Whether the list says that the position is lost within `plies`, or that shows at once.
+pub(crate) fn is_said_lost<L: Lookup>(
+    family: Family,
+    lost: &L,
+    plies: u16,
+    position: &Position,
+) -> bool
+    requires list { L.stands lost.now family }
+    requires member { IsPositionOf family position.now.setup }
+    ensures { IsTrue result ↔ IsSaidLost family (L.entries_of lost.now) plies position.now.setup }
+{
+    match status(family.profile, position) {
+        Status::Caught => false,
+        Status::Tried | Status::Stuck => true,
+        Status::Open => is_listed_within(family, lost, plies, position),
+    }
+}
+
+// Whether the list has the position's class with at most `plies`.
+fn is_listed_within<L: Lookup>(family: Family, lost: &L, plies: u16, position: &Position) -> bool
+    requires list { L.stands lost.now family }
+    requires member { IsPositionOf family position.now.setup }
+    ensures { IsTrue result ↔ IsListedWithin family (L.entries_of lost.now) plies position.now.setup }
+{
+    match lost.plies_for(family, position) {
+        Some(found) => found <= plies,
+        None => false,
+    }
+}
+
+/// Whether the list says that the position isn't lost within `plies`, or that shows at once.
+pub(crate) fn is_said_held<L: Lookup>(
+    family: Family,
+    held: &L,
+    plies: u16,
+    position: &Position,
+) -> bool
+    requires list { L.stands held.now family }
+    requires member { IsPositionOf family position.now.setup }
+    ensures { IsTrue result ↔ IsSaidHeld family (L.entries_of held.now) plies position.now.setup }
+{
+    match status(family.profile, position) {
+        Status::Caught => true,
+        Status::Tried | Status::Stuck => false,
+        Status::Open => plies <= 1 || is_listed_beyond(family, held, plies, position),
+    }
+}
+
+// Whether the list has the position's class with at least `plies`.
+fn is_listed_beyond<L: Lookup>(family: Family, held: &L, plies: u16, position: &Position) -> bool
+    requires list { L.stands held.now family }
+    requires member { IsPositionOf family position.now.setup }
+    ensures { IsTrue result ↔ IsListedBeyond family (L.entries_of held.now) plies position.now.setup }
+{
+    match held.plies_for(family, position) {
+        Some(found) => plies <= found,
+        None => false,
+    }
+}
+
+// Whether the list takes the position for lost.
+fn takes_for_lost<L: Lookup>(
+    family: Family,
+    list: &L,
+    question: LossQuestion,
+    position: &Position,
+) -> bool
+    requires list { L.stands list.now family }
+    requires member { IsPositionOf family position.now.setup }
+    ensures { TakesForLost question.kind family (L.entries_of list.now) question.plies result position.now.setup }
+{
+    match question.kind {
+        ListKind::Lost => is_said_lost(family, list, question.plies, position),
+        ListKind::Held => !is_said_held(family, list, question.plies, position),
+    }
+}
+
+// Whether the move of that number leads to what is taken for lost.
+fn is_reply_at<L: Lookup, M: Moves>(
+    moves: &M,
+    family: Family,
+    list: &L,
+    question: LossQuestion,
+    position: &Position,
+    index: usize,
+) -> bool
+    requires given { AreNumbered family.profile position.now.setup (M.count_of moves.now) (M.gives moves.now family.profile position.now.setup) }
+    requires within { index < M.count_of moves.now }
+    requires list { L.stands list.now family }
+    requires member { IsPositionOf family position.now.setup }
+    ensures { MatchBool result
+        (SomeLeads family.profile position.now.setup (TakesForLost question.kind family (L.entries_of list.now) question.plies true))
+        (GivenLead family.profile position.now.setup (M.gives moves.now family.profile position.now.setup index)
+        (TakesForLost question.kind family (L.entries_of list.now) question.plies false)) }
+{
+    match moves.at(family.profile, position, index) {
+        Some(reply) => {
+            takes_for_lost(family, list, question, &outcome_of(family, position, reply))
+        }
+        None => false,
+    }
+}
+
+// Whether some move of an open position leads to what is taken for lost.
+fn has_reply<L: Lookup, M: Moves>(
+    moves: &M,
+    family: Family,
+    list: &L,
+    question: LossQuestion,
+    position: &Position,
+) -> bool
+    requires given { AreNumbered family.profile position.now.setup (M.count_of moves.now) (M.gives moves.now family.profile position.now.setup) }
+    requires list { L.stands list.now family }
+    requires member { IsPositionOf family position.now.setup }
+    requires goes_on { HasStatus family.profile position.now.setup Status.Open }
+    ensures { MatchBool result
+        (SomeLeads family.profile position.now.setup (TakesForLost question.kind family (L.entries_of list.now) question.plies true))
+        (AllLead family.profile position.now.setup (TakesForLost question.kind family (L.entries_of list.now) question.plies false)) }
+{
+    for index in 0..moves.count() {
+        if is_reply_at(moves, family, list, question, position, index) {
+            return true;
+        }
+    }
+    false
+}
+
+/// Whether the list shows the position to be won: the side to move catches the lion, or some move leads to what it takes for lost. The replies are those
+/// of any position before, and of this one behind.
+///
+/// # Errors
+///
+/// `Memory`.
+pub(crate) fn finds_won<L: Lookup, M: Moves>(
+    replies: &mut M,
+    family: Family,
+    list: &L,
+    question: LossQuestion,
+    position: &Position,
+) -> Result<bool, Memory>
+    requires list { L.stands list.now family }
+    requires member { IsPositionOf family position.now.setup }
+    ensures found { IfOk result (λ yes. FindsWon question.kind family (L.entries_of list.now) question.plies yes position.now.setup) }
+    ensures failed { OnErr result M.may_fail }
+{
+    match replies.visit(family.profile, position)? {
+        Status::Caught => Ok(true),
+        Status::Tried | Status::Stuck => Ok(false),
+        Status::Open => Ok(has_reply(replies, family, list, question, position)),
+    }
+}
+
+// Whether the move of that number, if there is one, leads to what is found to be won.
+//
+// Error: `Memory`.
+fn is_answered_at<L: Lookup, M: Moves>(
+    moves: &M,
+    replies: &mut M,
+    family: Family,
+    list: &L,
+    question: LossQuestion,
+    position: &Position,
+    index: usize,
+) -> Result<bool, Memory>
+    requires given { AreNumbered family.profile position.now.setup (M.count_of moves.now) (M.gives moves.now family.profile position.now.setup) }
+    requires within { index < M.count_of moves.now }
+    requires list { L.stands list.now family }
+    requires member { IsPositionOf family position.now.setup }
+    ensures found { IfOk result (λ yes. MatchBool yes
+        (GivenLead family.profile position.now.setup (M.gives moves.now family.profile position.now.setup index)
+        (FindsWon question.kind family (L.entries_of list.now) question.plies true))
+        (SomeLeads family.profile position.now.setup (FindsWon question.kind family (L.entries_of list.now) question.plies false))) }
+    ensures failed { OnErr result M.may_fail }
+{
+    match moves.at(family.profile, position, index) {
+        Some(played) => {
+            let outcome = outcome_of(family, position, played);
+            finds_won(replies, family, list, question, &outcome)
+        }
+        None => Ok(true),
+    }
+}
+
+// Whether each move of an open position leads to what is found to be won.
+//
+// Error: `Memory`.
+fn are_all_answered<L: Lookup, M: Moves>(
+    moves: &M,
+    replies: &mut M,
+    family: Family,
+    list: &L,
+    question: LossQuestion,
+    position: &Position,
+) -> Result<bool, Memory>
+    requires given { AreNumbered family.profile position.now.setup (M.count_of moves.now) (M.gives moves.now family.profile position.now.setup) }
+    requires list { L.stands list.now family }
+    requires member { IsPositionOf family position.now.setup }
+    requires goes_on { HasStatus family.profile position.now.setup Status.Open }
+    ensures found { IfOk result (λ yes. MatchBool yes
+        (AllLead family.profile position.now.setup (FindsWon question.kind family (L.entries_of list.now) question.plies true))
+        (SomeLeads family.profile position.now.setup (FindsWon question.kind family (L.entries_of list.now) question.plies false))) }
+    ensures failed { OnErr result M.may_fail }
+{
+    for index in 0..moves.count() {
+        let answered = is_answered_at(moves, replies, family, list, question, position, index)?;
+        if !answered {
+            return Ok(false);
+        }
+    }
+    Ok(true)
+}
+
+// What is asked of the positions two plies later: by a held list ever where ever is asked.
+fn two_plies_later(question: LossQuestion) -> LossQuestion
+    requires { 2 ≤ question.plies }
+    ensures kind { result.kind ≡ question.kind }
+    ensures plies { result.plies ≡ plies_later question.kind question.plies }
+{
+    let plies = match question.kind {
+        ListKind::Held if question.plies == EVER => EVER,
+        _ => question.plies - 2,
+    };
+    LossQuestion {
+        kind: question.kind,
+        plies,
+    }
+}
+
+// Whether the list shows the position to be lost: it has lost, or each move leads to what is found to be won two plies earlier.
+//
+// Error: `Memory`.
+fn finds_lost<L: Lookup, M: Moves>(
+    moves: &mut M,
+    replies: &mut M,
+    family: Family,
+    list: &L,
+    question: LossQuestion,
+    position: &Position,
+) -> Result<bool, Memory>
+    requires list { L.stands list.now family }
+    requires member { IsPositionOf family position.now.setup }
+    ensures found { IfOk result (λ yes. FindsLost question.kind family (L.entries_of list.now) question.plies yes position.now.setup) }
+    ensures failed { OnErr result M.may_fail }
+{
+    match moves.visit(family.profile, position)? {
+        Status::Caught => Ok(false),
+        Status::Tried | Status::Stuck => Ok(true),
+        Status::Open => {
+            if question.plies < 2 {
+                Ok(false)
+            } else {
+                let later = two_plies_later(question);
+                are_all_answered(moves, replies, family, list, later, position)
+            }
+        }
+    }
+}
+
+/// Whether the list supports an entry with `plies` of the position's class: by a lost list it finds the position lost, by a held one it doesn't.
+///
+/// # Errors
+///
+/// `Memory`.
+pub fn is_supported<L: Lookup, M: Moves>(
+    moves: &mut M,
+    replies: &mut M,
+    family: Family,
+    list: &L,
+    question: LossQuestion,
+    position: &Position,
+) -> Result<bool, Memory>
+    requires list { L.stands list.now family }
+    requires member { IsPositionOf family position.now.setup }
+    ensures supported { IfOk result (λ yes. IsTrue yes ↔ IsSupported question.kind family (L.entries_of list.now) question.plies position.now.setup) }
+    ensures failed { OnErr result M.may_fail }
+{
+    let lost = finds_lost(moves, replies, family, list, question, position)?;
+    match question.kind {
+        ListKind::Lost => Ok(lost),
+        ListKind::Held => Ok(!lost),
+    }
+}
+
+/// Whether the lion can't be caught, and each move leads to a position that is said not to be lost within `plies`.
+///
+/// # Errors
+///
+/// `Memory`.
+pub(crate) fn is_safe<L: Lookup, M: Moves>(
+    replies: &mut M,
+    family: Family,
+    held: &L,
+    plies: u16,
+    position: &Position,
+) -> Result<bool, Memory>
+    requires list { L.stands held.now family }
+    requires member { IsPositionOf family position.now.setup }
+    ensures safe { IfOk result (λ yes. IsTrue yes ↔ IsSafe family (L.entries_of held.now) plies position.now.setup) }
+    ensures failed { OnErr result M.may_fail }
+{
+    let question = LossQuestion {
+        kind: ListKind::Held,
+        plies,
+    };
+    let won = finds_won(replies, family, held, question, position)?;
+    Ok(!won)
+}
