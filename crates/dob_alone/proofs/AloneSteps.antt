@@ -224,7 +224,7 @@ module _ (node : NodeView) (steps : ℕ) (made : HasMade steps node) (item : Ite
   )
 
   -- and for few classes it doesn't go too deep
-  pub next_not_deep : classes_of node.family < 65535 → GoesTooDeep node.share item → ⊥
+  pub next_not_deep : classes_of node.family < 65535 → GoesTooDeep item (cell_at node.share item.to) → ⊥
   unfolding GoesTooDeep
   next_not_deep few deep = not_too_deep node.family 1 (alone_history hs) (alone_applied made.0) (cells_below (classes_of node.family) node.share)
       (value_of hs) (lit< tt) made.1.lawful made.1.falls 0 0 (lit< tt) (lit< tt) item waits few

@@ -8,7 +8,7 @@ use std::error::Error;
 use std::fmt;
 
 /// Why one node alone gives no table.
-#[derive(Clone, Copy, Debug, PartialEq, Eq)]
+#[derive(Clone, Copy, Debug)]
 pub enum Fault {
     /// E12: the value of a class would have a distance above the greatest that is kept.
     TooDeep,

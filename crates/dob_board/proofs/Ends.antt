@@ -5,7 +5,7 @@ use Rattle.dob_board.proofs.Names.{slice_get_within, some_at, slice_index, slice
 use Rattle.dob_board.proofs.Names.{some-ne-none, some-injective, get_elem?, State, step, keeps, Allows, Joins, at_set, set_else, BoardEvent, Token, IsPacked}
 use Rattle.dob_board.proofs.Names.{Ring, Stand, View, Halt, Ended, Failed, halt_word, posted_word, taken_word, ring_of, one, IsStand, IsNode, IsView, IsHeld, TableId, NodeSeat}
 use Rattle.dob_board.proofs.Names.{Closed, IsLaterLog, fresh, stand_of, witnessed_by, log_of, IsSeatOf, AreSeats, AreWords, IsBoardHistory, joined, nobody}
-use Rattle.dob_board.proofs.Names.{behind, closed_view, LeadsTo, IsWord, AreRead, AreAsWitnessed, Read, get_front, middle}
+use Rattle.dob_board.proofs.Names.{unseated, closed_view, LeadsTo, IsWord, AreRead, AreAsWitnessed, Read, get_front, middle}
 use Rattle.dob_board.proofs.Places.{with_at, with_here, with_else, posted_within, taken_within}
 use Rattle.dob_board.proofs.Kept.{HasSeat, nodes_set, own_node, with_views}
 use Rattle.dob_board.proofs.Allowed.{Seated, seated, Held, set_same}
@@ -218,10 +218,10 @@ one_less board n all seats fewer seat me after left seats_is after_is =
       seats_are = λ k other e. left.seats_are k other (ap (λ (xs : List NodeSeat). slice_get xs k) seats_is ∙ get_front fewer (seat ∷ []) other k e);
     }
 
-pub all_left : (board : TableId) (n : ℕ) (seats : List NodeSeat) (me : Seated) → AreSeats board n seats → me ≡ (behind n n, [])
+pub all_left : (board : TableId) (n : ℕ) (seats : List NodeSeat) (me : Seated) → AreSeats board n seats → me ≡ (unseated n n, [])
     → AreLeft board n (map stand_of seats) seats me
 all_left board n seats me are me_is =
-    let view_is : me.0 ≡ behind n n = ap (λ (x : Seated). x.0) me_is in
+    let view_is : me.0 ≡ unseated n n = ap (λ (x : Seated). x.0) me_is in
     let none : n - n ≡ 0 = omega arith in
     record {
       size_is = ap (λ (v : View). v.size) view_is;

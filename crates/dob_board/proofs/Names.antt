@@ -2,7 +2,7 @@
 pub use Rattle.atomic_table.proofs.Lists.{at_set, set_else}
 pub use Rattle.atomic_table.specs.Seated.{TableId}
 pub use Rattle.atomic_table.specs.Table.{Allows, Joins, keeps, Me, Splits, State, step}
-pub use Rattle.dob_board.specs.Boards.{AreAsWitnessed, AreRead, behind, closed_view, first_words, IsWord, joined, LeadsTo, nobody, Read}
+pub use Rattle.dob_board.specs.Boards.{AreAsWitnessed, AreRead, unseated, closed_view, first_words, IsWord, joined, LeadsTo, nobody, Read}
 pub use Rattle.dob_board.specs.Histories.{halt_told, HasHalt, HasPosted, HasToken, IsInTime, IsLaterLog, MakesEvent, Observes, Runs, token_moves_of}
 pub use Rattle.dob_board.specs.Plays.{Announced, Announcing, FailedRun, first_of, Halted, Looked, LooksAt, Met, others_of, own_stand, Passed}
 pub use Rattle.dob_board.specs.Plays.{Exchanged, Posted, Took}

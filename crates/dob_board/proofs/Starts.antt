@@ -4,7 +4,7 @@ use Rattle.std.proofs.Common.{subst, ⊎_elim, inl, inr, arith, rules, map, leng
 use Rattle.dob_board.proofs.Names.{replicate_next, sum_by-cons, sum_by_push, length-replicate, slice_set, slice_get, replicate, map-append, some, some-ne-none}
 use Rattle.dob_board.proofs.Names.{some-injective, get_elem?, Splits, at_set, BoardEvent, IsPacked, first_token, Ring, IsLawfulRing, IsStart, black_token}
 use Rattle.dob_board.proofs.Names.{IsSize, Stand, View, posted_word, taken_word, word_count, ring_of, one, Halt, Running, IsStand, token_moves_of, IsNode, IsView}
-use Rattle.dob_board.proofs.Names.{IsHeld, fresh, whole, others_of, first_of, first_words, behind, TableId, NodeSeat, stand_of, IsSeatOf, at_end}
+use Rattle.dob_board.proofs.Names.{IsHeld, fresh, whole, others_of, first_of, first_words, unseated, TableId, NodeSeat, stand_of, IsSeatOf, at_end}
 use Rattle.dob_board.proofs.Places.{with_at, with_here, with_else}
 use Rattle.dob_board.proofs.Kept.{has_all, one_is_view, knows_now, nodes_set, with_views}
 use Rattle.dob_board.proofs.Allowed.{Seated, Held}
@@ -88,12 +88,12 @@ splits n i id words views stand rest witnessed held at =
 abbrev stands_behind : ℕ → ℕ → List Stand
 stands_behind n m = replicate m (fresh n)
 
-pub others-behind : (n k : ℕ) → k < n → others_of (behind n k) ≡ behind n (suc k)
-others-behind n k within =
+pub others-unseated : (n k : ℕ) → k < n → others_of (unseated n k) ≡ unseated n (suc k)
+others-unseated n k within =
     let more : n - k ≡ suc (n - suc k) = omega arith in
     ap (λ (m : ℕ). others_of (view_from n k (stands_behind n m) [])) more
 
-pub splits_call : (key n k id : ℕ) (me : Seated) → key ≡ n → k < n → me ≡ (behind n k, []) →
+pub splits_call : (key n k id : ℕ) (me : Seated) → key ≡ n → k < n → me ≡ (unseated n k, []) →
     Splits (Held key) id me.0 (others_of me.0) (first_of me.0)
 splits_call key n k id me key_is within me_is =
     let more : n - k ≡ suc (n - suc k) = omega arith in

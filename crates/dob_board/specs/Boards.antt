@@ -18,9 +18,9 @@ use Rattle.dob_board.specs.Rule.{fresh}
 abbrev pub first_words : ℕ → ℕ → List ℕ
 first_words n word = slice_set (slice_set (replicate (word_count n) 0) 0 n) 1 word
 
--- the nodes from k on at the start, in one view
-abbrev pub behind : ℕ → ℕ → View
-behind n k = record { size = n; from = k; stands = replicate (n - k) (fresh n); witnessed = []; own = true; closed = false }
+-- the nodes from k on, which have no seat yet, in one view
+abbrev pub unseated : ℕ → ℕ → View
+unseated n k = record { size = n; from = k; stands = replicate (n - k) (fresh n); witnessed = []; own = true; closed = false }
 
 -- a seat's view, before that of the nodes that come behind it
 abbrev pub joined : View → View → View

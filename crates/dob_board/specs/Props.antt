@@ -4,7 +4,7 @@ use Rattle.std.specs.Coded.{Coded-set, coded_ℕ, coded_bool, Π_prop}
 use Rattle.dob_board.specs.declared.view.View.{View}
 use Rattle.dob_board.specs.Boards.{AreAsWitnessed}
 
-ℕ-set : IsSet ℕ
+pub ℕ-set : IsSet ℕ
 ℕ-set = Coded-set coded_ℕ
 
 Bool-set : IsSet Bool

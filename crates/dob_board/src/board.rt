@@ -2,7 +2,7 @@
 ghost use Rattle.std.specs.Prelude.{◌≡◌, ◌≤◌, ◌<◌, [], vec_len, slice_index};
 ghost use Rattle.std.specs.Arc.{arc_value};
 ghost use Rattle.dob_board.specs.Words.{word_count, halt_word};
-ghost use Rattle.dob_board.specs.Boards.{behind, AreAsWitnessed};
+ghost use Rattle.dob_board.specs.Boards.{unseated, AreAsWitnessed};
 ghost use Rattle.dob_board.specs.Props.{AreAsWitnessed-prop};
 ghost use Rattle.dob_safra.specs.Tokens.{most_nodes};
 
@@ -29,7 +29,7 @@ pub struct Board {
     pub ghost words_are: { (arc_value shared).shared.table_id.words ≡ word_count nodes },
     pub ghost key: { (arc_value shared).shared.key ≡ nodes },
     pub ghost room: { vec_len words ≡ word_count nodes },
-    pub ghost rest_is: { rest.me ≡ (behind nodes nodes, []) },
+    pub ghost rest_is: { rest.me ≡ (unseated nodes nodes, []) },
 }
 
 /// The words of a board that is closed. Only `close` makes one.

@@ -2,7 +2,7 @@
 ghost use Rattle.std.specs.Prelude.{◌≡◌, suc, [], Some, map, length, slice_get, vec_len};
 ghost use Rattle.std.specs.Arc.{arc_value};
 ghost use Rattle.dob_board.specs.Words.{word_count};
-ghost use Rattle.dob_board.specs.Boards.{behind, gathered, joined, closed_view, AreRead};
+ghost use Rattle.dob_board.specs.Boards.{unseated, gathered, joined, closed_view, AreRead};
 ghost use Rattle.dob_board.specs.Histories.{IsLaterLog};
 ghost use Rattle.dob_board.specs.Seats.{stand_of, witnessed_by, IsSeatOf, AreSeats, AreWords, IsBoardHistory};
 
@@ -39,7 +39,7 @@ fn join_all(shared: &Arc<Words>, rest: &mut Seat<(), View>, mut seats: Vec<NodeS
     requires key { (arc_value shared.now).shared.key ≡ nodes }
     requires of_board { rest.old.table_id ≡ (arc_value shared.now).shared.table_id }
     requires seats { AreSeats rest.old.table_id nodes seats.items }
-    requires rest { rest.old.me ≡ (behind nodes nodes, []) }
+    requires rest { rest.old.me ≡ (unseated nodes nodes, []) }
     ensures of_board { rest.new.table_id ≡ rest.old.table_id }
     ensures rest { rest.new.me ≡ (gathered nodes (map stand_of seats.items) rest.new.me.0.witnessed rest.new.me.0.own, []) }
     ensures witnessed { (seat : NodeSeat) → slice_get seats.items 0 ≡ Some seat → rest.new.me.0.witnessed ≡ witnessed_by seat }

@@ -8,7 +8,7 @@ use std::error::Error;
 use std::fmt;
 
 /// Why a board isn't opened.
-#[derive(Clone, Copy, Debug, PartialEq, Eq)]
+#[derive(Clone, Copy, Debug)]
 pub enum Fault {
     /// E9: the number of nodes isn't 1 to 16.
     Nodes,
@@ -48,7 +48,7 @@ impl<T: Drop> From<AllocFailed<T>> for Fault {
 }
 
 /// E22: no batch was seen posted beyond those that are taken.
-#[derive(Clone, Copy, Debug, PartialEq, Eq)]
+#[derive(Clone, Copy, PartialEq, Eq)]
 pub struct NotPosted {
     /// How many batches were seen posted.
     pub seen: u64,

@@ -1,7 +1,7 @@
 // Whether the run goes on.
 
 /// Whether the run goes on, and if not, why.
-#[derive(Clone, Copy, Debug, PartialEq, Eq)]
+#[derive(Clone, Copy, PartialEq, Eq)]
 pub enum Halt {
     /// It goes on.
     Running,

@@ -6,7 +6,7 @@ ghost use Rattle.dob_safra.specs.Laws.{IsSize};
 ghost use Rattle.dob_board.specs.declared.fault.Fault.TheVariants as fault;
 ghost use Rattle.dob_board.specs.Words.{word_count};
 ghost use Rattle.dob_board.specs.Rule.{fresh};
-ghost use Rattle.dob_board.specs.Boards.{first_words, behind};
+ghost use Rattle.dob_board.specs.Boards.{first_words, unseated};
 ghost use Rattle.dob_board.specs.Seats.{stand_of, IsSeatOf, AreSeats};
 
 use crate::counts::Counts;
@@ -85,9 +85,9 @@ fn all_seats(
     requires board { (arc_value shared.now).shared.table_id.words ≡ word_count nodes }
     requires key { (arc_value shared.now).shared.key ≡ nodes }
     requires of_board { rest.old.table_id ≡ (arc_value shared.now).shared.table_id }
-    requires rest { rest.old.me ≡ (behind nodes 0, []) }
+    requires rest { rest.old.me ≡ (unseated nodes 0, []) }
     ensures of_board { IfOk result (λ seats. rest.new.table_id ≡ rest.old.table_id) }
-    ensures rest { IfOk result (λ seats. rest.new.me ≡ (behind nodes nodes, [])) }
+    ensures rest { IfOk result (λ seats. rest.new.me ≡ (unseated nodes nodes, [])) }
     ensures seats { IfOk result (λ seats. AreSeats rest.old.table_id nodes seats.items) }
     ensures fresh { IfOk result (λ seats. map stand_of seats.items ≡ replicate nodes (fresh nodes)) }
 {
@@ -112,9 +112,9 @@ fn next_seat(
     requires board { (arc_value shared.now).shared.table_id.words ≡ word_count nodes }
     requires key { (arc_value shared.now).shared.key ≡ nodes }
     requires of_board { rest.old.table_id ≡ (arc_value shared.now).shared.table_id }
-    requires rest { rest.old.me ≡ (behind nodes node, []) }
+    requires rest { rest.old.me ≡ (unseated nodes node, []) }
     ensures of_board { IfOk result (λ seat. rest.new.table_id ≡ rest.old.table_id) }
-    ensures rest { IfOk result (λ seat. rest.new.me ≡ (behind nodes (suc node), [])) }
+    ensures rest { IfOk result (λ seat. rest.new.me ≡ (unseated nodes (suc node), [])) }
     ensures seat { IfOk result (IsSeatOf rest.old.table_id nodes node) }
     ensures fresh { IfOk result (λ seat. seat.stand ≡ fresh nodes) }
 {

@@ -38,14 +38,14 @@ pub struct TakeEnd {
 }
 
 /// An inbox didn't take the batch, which comes back: it was full.
-#[derive(Debug, Drop)]
+#[derive(Drop)]
 pub struct Full {
     pub batch: Batch,
 }
 
 /// What went through an inbox from one sender: how many batches were sent and received, and those that are left. Only the
 /// rejoining of an inbox makes one, and no other crate can change it.
-#[derive(Debug, Drop)]
+#[derive(Drop)]
 pub struct Rejoined {
     pub(crate) sent: u64,
     pub(crate) received: u64,

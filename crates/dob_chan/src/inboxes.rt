@@ -14,34 +14,34 @@ use dob_update::{Batch, Capacity};
 use std::alloc::{AllocError, Global};
 use std::sync::{Arc, Wait};
 
-/// A new inbox for `senders` senders, that holds at most `capacity` batches: the sending end of each, in order, and the taking
-/// end. `Memory` if there is none for them.
+/// A new inbox for batches of `nodes` nodes, that holds at most `capacity` of them: the sending end of each node, in order, and
+/// the taking end. `Memory` if there is none for them.
 pub fn inbox(
     alloc: Global,
-    senders: NodeCount,
+    nodes: NodeCount,
     capacity: Capacity,
 ) -> Result<(Vec<SendEnd>, TakeEnd), Memory>
-    ensures senders { IfOk result (λ ends. (senders_of ends.1 ≡ senders) × AreEndsOf ends.1 ends.0.items) }
-    ensures opened { IfOk result (λ ends. AreOpened ends.1.pass capacity senders ends.0.items) }
+    ensures senders { IfOk result (λ ends. (senders_of ends.1 ≡ nodes) × AreEndsOf ends.1 ends.0.items) }
+    ensures opened { IfOk result (λ ends. AreOpened ends.1.pass capacity nodes ends.0.items) }
     ensures nothing { IfOk result (λ ends. taken_by ends.1 ≡ []) }
 {
     let (queue, mut pass) = Inbox::ruled(alloc, capacity.get())?;
     let inbox = Arc::new(alloc, queue)?;
-    let senders = senders.get();
-    count(&inbox, &mut pass, senders);
-    let sends = open_all(alloc, &inbox, &mut pass, senders)?;
-    let taken = vec![in alloc; 0; senders]?;
+    let nodes = nodes.get();
+    count(&inbox, &mut pass, nodes);
+    let sends = open_all(alloc, &inbox, &mut pass, nodes)?;
+    let taken = vec![in alloc; 0; nodes]?;
     Ok((sends, TakeEnd { inbox, pass, taken }))
 }
 
 // Tells the taking pass, and so the passes to come, how many senders there will be.
-fn count(inbox: &Inbox, pass: &mut Pass<Batch, Note>, senders: usize)
+fn count(inbox: &Inbox, pass: &mut Pass<Batch, Note>, nodes: usize)
     requires seat { IsPassOf inbox.now pass.old }
     requires role { view pass.old ≡ taking 0 0 [] [] untold }
     ensures seat { IsPassOf inbox.now pass.new }
-    ensures role { view pass.new ≡ taking senders 0 [] [] untold }
+    ensures role { view pass.new ≡ taking nodes 0 [] [] untold }
 {
-    for _ in 0..senders {
+    for _ in 0..nodes {
         inbox.another::<Counts>(pass);
     }
 }
@@ -51,17 +51,17 @@ fn open_all(
     alloc: Global,
     inbox: &Arc<Inbox>,
     pass: &mut Pass<Batch, Note>,
-    senders: usize,
+    nodes: usize,
 ) -> Result<Vec<SendEnd>, AllocError>
     requires seat { IsPassOf (arc_value inbox.now) pass.old }
-    requires role { view pass.old ≡ taking senders 0 [] [] untold }
+    requires role { view pass.old ≡ taking nodes 0 [] [] untold }
     ensures seat { IsPassOf (arc_value inbox.now) pass.new }
-    ensures role { IfOk result (λ _. view pass.new ≡ taking senders senders [] [] untold) }
-    ensures opened { IfOk result (λ sends. (length sends.items ≡ senders) × AreOpened pass.new (ruled_capacity (arc_value inbox.now)) senders sends.items) }
+    ensures role { IfOk result (λ _. view pass.new ≡ taking nodes nodes [] [] untold) }
+    ensures opened { IfOk result (λ sends. (length sends.items ≡ nodes) × AreOpened pass.new (ruled_capacity (arc_value inbox.now)) nodes sends.items) }
 {
-    let mut sends = Vec::with_capacity(alloc, senders)?;
-    for from in 0..senders {
-        let send = open_next(inbox, pass, from, senders)?;
+    let mut sends = Vec::with_capacity(alloc, nodes)?;
+    for from in 0..nodes {
+        let send = open_next(inbox, pass, from, nodes)?;
         sends.push(send)?;
     }
     Ok(sends)
@@ -72,14 +72,14 @@ fn open_next(
     inbox: &Arc<Inbox>,
     pass: &mut Pass<Batch, Note>,
     from: usize,
-    senders: usize,
+    nodes: usize,
 ) -> Result<SendEnd, AllocError>
     requires seat { IsPassOf (arc_value inbox.now) pass.old }
-    requires role { view pass.old ≡ taking senders from [] [] untold }
-    requires within { from < senders }
+    requires role { view pass.old ≡ taking nodes from [] [] untold }
+    requires within { from < nodes }
     ensures seat { IsSamePass pass.old pass.new }
-    ensures role { IfOk result (λ _. view pass.new ≡ taking senders (suc from) [] [] untold) }
-    ensures opened { IfOk result (IsEndOpened pass.old (ruled_capacity (arc_value inbox.now)) senders from) }
+    ensures role { IfOk result (λ _. view pass.new ≡ taking nodes (suc from) [] [] untold) }
+    ensures opened { IfOk result (IsEndOpened pass.old (ruled_capacity (arc_value inbox.now)) nodes from) }
 {
     let shared = Arc::try_clone(inbox)?;
     let own = inbox.another::<Opens>(pass);

@@ -68,7 +68,7 @@ AreTaken (item ∷ items) share after history grown = (between : Share) × (long
 -- lack of memory nothing is said.
 abbrev pub IsReason : Item → Share → Cause → Type 0
 IsReason item share (Contradiction class) = (class ≡ item.to) × (¬ Fits share item)
-IsReason item share TooDeep = Fits share item × GoesTooDeep share item
+IsReason item share TooDeep = Fits share item × GoesTooDeep item (cell_at share item.to)
 IsReason item share Memory = Unit {0}
 IsReason item share Held = ⊥
 IsReason item share Counts = ⊥

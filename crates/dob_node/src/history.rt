@@ -7,7 +7,7 @@ ghost use Rattle.dob_share.specs.Owners.{owner_of, class_of_place};
 ghost use Rattle.dob_value.specs.declared.value.Value.TheVariants.{Draw};
 ghost use Rattle.dob_share.specs.declared.news.Settlement.{Settlement as Settled};
 ghost use Rattle.dob_share.specs.declared.share.Seen.{Seen};
-ghost use Rattle.dob_share.specs.Shares.{Fits, GoesTooDeep, IsSeen};
+ghost use Rattle.dob_share.specs.Shares.{Fits, GoesTooDeep, IsSeen, cell_at};
 ghost use Rattle.dob_stops.specs.declared.cause.Cause.TheVariants as cause;
 ghost use Rattle.dob_node.specs.Stores.{settlement_stored, settlements_from, starts_of};
 ghost use Rattle.dob_node.specs.Levels.{level_of};
@@ -162,7 +162,7 @@ impl History {
         requires kept { (family : Set) × AreKept family share.old.nodes share.old.id share.old self.old }
         requires entries { HasItemEntries item }
         ensures contradiction { result ≢ Err cause.Memory → (result ≡ Err (cause.Contradiction item.to)) ↔ (¬ Fits share.old item) }
-        ensures too_deep { result ≢ Err cause.Memory → (result ≡ Err cause.TooDeep) ↔ (Fits share.old item × GoesTooDeep share.old item) }
+        ensures too_deep { result ≢ Err cause.Memory → (result ≡ Err cause.TooDeep) ↔ (Fits share.old item × GoesTooDeep item (cell_at share.old item.to)) }
         ensures why { IfErr result (λ why. IsReason item share.old why) }
         ensures memory { result ≡ Err cause.Memory → self.old.room ≡ 0 }
         ensures room { OnOk result (self.old.room ≤ self.new.room + 1) }

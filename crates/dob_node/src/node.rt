@@ -39,7 +39,7 @@ impl Model for Node {
 }
 
 /// What a node has to give when it is done: the values of its own classes, in the order of the classes.
-#[derive(Debug, Drop)]
+#[derive(Drop)]
 pub struct Part {
     pub id: usize,
     pub values: Vec<Value>,

@@ -26,15 +26,13 @@ use Rattle.dob_node.specs.Stores.{HistoryView}
 use Rattle.dob_node.specs.TakenItems.{HasItemEntries, HasParities, AreKept}
 use Rattle.dob_node.specs.Outboxes.{IsOutboxTo}
 use Rattle.dob_node.specs.Nodes.{outbox_to, IsSound, IsIdle}
+use Rattle.dob_board.specs.Props.{ℕ-set}
 use Rattle.dob_runner.specs.declared.slots.Outlet.{Outlet}
 use Rattle.dob_runner.specs.declared.endpoint.Endpoint.{Endpoint}
 use Rattle.dob_runner.specs.Links.{offered}
 use Rattle.dob_runner.specs.Endpoints.{AreOut}
 use Rattle.dob_runner.specs.Knows.{AreCellsSummed, KnowsRight}
 use Rattle.dob_runner.specs.LawfulRunners.{SendsRight, IsLawfulRunner, applied_from}
-
-ℕ-set : IsSet ℕ
-ℕ-set = Coded-set coded_ℕ
 
 items_set : IsSet (List Item)
 items_set = Coded-set (coded_list item_row.the_row.coded)

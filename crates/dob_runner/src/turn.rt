@@ -104,20 +104,20 @@ impl Runner {
         ensures still { IfErr result (λ _. MovesNothing self.old.endpoint.seat self.new.endpoint.seat) }
         ensures told { GateIsTold (G.told gate.now) self.old self.new }
     {
-        if !self.enters(gate) {
+        if !self.enter(gate) {
             return Err(Cause::Held);
         }
-        let halt = self.looks();
+        let halt = self.look();
         let Halt::Running = halt else {
             return Ok(halt);
         };
         let did = self.work_and_tell(rt, classes, gate)?;
-        self.ends_turn(rt, did);
+        self.end_turn(rt, did);
         Ok(self.endpoint.seat.stand.halt)
     }
 
     // Asks the gate whether the runner may go on. One that may not gives up, and has done nothing else.
-    pub(crate) fn enters<G: Gate>(&mut self, gate: &G) -> bool
+    pub(crate) fn enter<G: Gate>(&mut self, gate: &G) -> bool
         requires { self.old.failed ≡ None }
         ensures asked { G.says gate.now self.old.endpoint.seat.node result }
         ensures on { result ≡ true → self.new ≡ self.old }
@@ -131,18 +131,18 @@ impl Runner {
     }
 
     // Looks whether the run goes on.
-    fn looks(&mut self) -> Halt
+    fn look(&mut self) -> Halt
         requires { self.old.failed ≡ None }
         ensures goes { GoesRound self.old self.new }
         ensures seen { HasSeen self.old self.new }
         ensures halt { result ≡ self.new.endpoint.seat.stand.halt }
     {
-        self.endpoint.halted()
+        self.endpoint.look_at_halt()
     }
 
     // What is left of a turn: one that did nothing looks for the token, and pauses where the runner isn't idle or hasn't got it. It
     // doesn't sleep while a batch lies in a slot.
-    fn ends_turn<R: Wait>(&mut self, rt: &R, did: bool)
+    fn end_turn<R: Wait>(&mut self, rt: &R, did: bool)
         requires { self.old.failed ≡ None }
         ensures goes { GoesRound self.old self.new }
         ensures ends { EndsTurn did self.old self.new }
@@ -151,7 +151,7 @@ impl Runner {
             self.pause.reset();
             return;
         }
-        let found = self.seeks_token();
+        let found = self.seek_token();
         self.pause.follow(rt, found, &self.endpoint);
     }
 

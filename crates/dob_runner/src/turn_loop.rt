@@ -87,7 +87,7 @@ impl Runner {
         ensures still { IfErr result (λ _. MovesNothing self.old.endpoint.seat self.new.endpoint.seat) }
         ensures told { GateIsTold (G.told gate.now) self.old self.new }
     {
-        if !self.enters(gate) {
+        if !self.enter(gate) {
             return Err(Cause::Held);
         }
         self.work_and_tell(rt, classes, gate)

@@ -51,10 +51,7 @@ impl Runner {
         let count = self.node.left_for_itself();
         match self.node.apply_every_own() {
             Ok(()) => Ok(count > 0),
-            Err(why) => {
-                fail_for(&mut self.failed, &mut self.endpoint, why);
-                Err(why)
-            }
+            Err(why) => Err(fail_for(&mut self.failed, &mut self.endpoint, why)),
         }
     }
 

@@ -13,12 +13,14 @@ use dob_classes::Classes;
 use dob_node::Cause;
 use std::sync::Wait;
 
-// Notes why a runner has failed, and says so on the board.
-pub(crate) fn fail_for(failed: &mut Option<Cause>, endpoint: &mut Endpoint, why: Cause)
-    ensures { FailsFor endpoint.old endpoint.new failed.new why }
+// Notes why a runner has failed, and says so on the board. The cause.
+pub(crate) fn fail_for(failed: &mut Option<Cause>, endpoint: &mut Endpoint, why: Cause) -> Cause
+    ensures fails { FailsFor endpoint.old endpoint.new failed.new why }
+    ensures given { result ≡ why }
 {
     *failed = Some(why);
     endpoint.fail();
+    why
 }
 
 impl Runner {
@@ -45,20 +47,14 @@ impl Runner {
         };
         match self.node.reserve(inlet.held_items()) {
             Ok(()) => {}
-            Err(refused) => {
-                fail_for(&mut self.failed, &mut self.endpoint, refused);
-                return Err(refused);
-            }
+            Err(refused) => return Err(fail_for(&mut self.failed, &mut self.endpoint, refused)),
         }
         let Some(batch) = self.endpoint.accept(from) else {
             return Ok(false);
         };
         match self.node.apply_batch(&batch) {
             Ok(()) => Ok(true),
-            Err(why) => {
-                fail_for(&mut self.failed, &mut self.endpoint, why);
-                Err(why)
-            }
+            Err(why) => Err(fail_for(&mut self.failed, &mut self.endpoint, why)),
         }
     }
 
@@ -70,10 +66,7 @@ impl Runner {
     {
         match self.node.expand(classes) {
             Ok(expanded) => Ok(expanded),
-            Err(why) => {
-                fail_for(&mut self.failed, &mut self.endpoint, why);
-                Err(why)
-            }
+            Err(why) => Err(fail_for(&mut self.failed, &mut self.endpoint, why)),
         }
     }
 
@@ -109,10 +102,7 @@ impl Runner {
         }
         let cut = match self.node.cut_for(to, self.batch_size) {
             Ok(cut) => cut,
-            Err(why) => {
-                fail_for(&mut self.failed, &mut self.endpoint, why);
-                return Err(why);
-            }
+            Err(why) => return Err(fail_for(&mut self.failed, &mut self.endpoint, why)),
         };
         let Some(batch) = cut else {
             return Ok(false);

@@ -17,7 +17,7 @@ impl Runner {
     }
 
     // Moves the token if it is idle and its node has it. Whether it has.
-    pub(crate) fn seeks_token(&mut self) -> bool
+    pub(crate) fn seek_token(&mut self) -> bool
         requires { self.old.failed ≡ None }
         ensures goes { GoesRound self.old self.new }
         ensures seeks { SeeksToken self.old self.new result }

@@ -12,7 +12,7 @@ use dob_board::Halt;
 
 impl Endpoint {
     // Whether the board's token is at the node, which knows it from then on until it passes it.
-    fn finds_token(&mut self) -> bool
+    fn find_token(&mut self) -> bool
         ensures found { IsTrue result ↔ (self.new.seat.stand.token ≢ None) }
         ensures looked { HasLooked self.old.seat self.new.seat }
         ensures keeps { HasSameLinksAndColour self.old self.new }
@@ -29,7 +29,7 @@ impl Endpoint {
         ensures links { HasSameLinks self.old self.new }
         ensures own { KnewOwnFailure self.old.seat self.new.seat.stand.halt }
     {
-        if !self.finds_token() {
+        if !self.find_token() {
             return false;
         }
         if self.seat.may_announce() {
@@ -54,7 +54,7 @@ impl Endpoint {
 
     // Whether the run goes on, as the board says now: exactly if no node has failed and no end was announced so far. It says that
     // the node itself failed only if the seat knew that.
-    pub(crate) fn halted(&mut self) -> Halt
+    pub(crate) fn look_at_halt(&mut self) -> Halt
         ensures halt { result ≡ self.new.seat.stand.halt }
         ensures keeps { HasSameLinksAndColour self.old self.new }
         ensures stays { self.old.seat.stand.halt ≢ Running → self.new.seat.stand.halt ≡ self.old.seat.stand.halt }

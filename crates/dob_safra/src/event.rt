@@ -1,7 +1,7 @@
 // What happens on the ring.
 
 /// An event that changes counts, colours or the token. Nodes are named by their numbers.
-#[derive(Clone, Copy, Debug, PartialEq, Eq)]
+#[derive(Clone, Copy)]
 pub enum RingEvent {
     /// A node posts a batch to another one.
     Post { from: usize, to: usize },

@@ -8,17 +8,17 @@
 // - A pass after the end leaves the ring lawful, so it is an event like others; that none is made is up to whoever passes the token.
 #![tactic(auto)]
 
+mod bounded;
 mod event;
 mod fault;
 pub mod laws;
-mod node_count;
 mod rules;
 mod token;
 mod word;
 
+pub use bounded::{Bounded, NodeCount};
 pub use event::RingEvent;
 pub use fault::Nodes;
-pub use node_count::NodeCount;
 pub use rules::{may_announce, passed};
 pub use token::Token;
 pub use word::{pack, unpack};

@@ -1,7 +1,7 @@
 // The token that goes round the ring.
 
 /// The token: the node that has it, its colour, and the sum of the counters of the nodes that passed it.
-#[derive(Clone, Copy, Debug, PartialEq, Eq)]
+#[derive(Clone, Copy, PartialEq, Eq)]
 pub struct Token {
     /// The node that has the token, 0 to 15.
     pub at: usize,

@@ -4,7 +4,7 @@ ghost use Rattle.dob_safra.specs.declared.token.Token.{Token};
 ghost use Rattle.dob_safra.specs.Tokens.{IsPacked, IsToken};
 
 use crate::Token;
-use crate::node_count::MAX_NODES;
+use crate::bounded::MAX_NODES;
 
 // The sum stands in the low 50 bits with this much added, so that it is never negative.
 const SUM_LIMIT: i64 = 1 << 48;

@@ -155,7 +155,7 @@ module _ (old : Share) (item : Item) (look : Option Seen) (seen : Seen) (seen_is
 
   deep_here : {A : Type 0} (r : Result A Fault) →
       ((r ≡ Err TooDeep) ↔ (CellCanTake item.was item.now (cell_in old.slots old.pool seen.place) × IsTooDeep (changed item.was item.now (cell_in old.slots old.pool seen.place)))) →
-      ((r ≡ Err TooDeep) ↔ (Fits old item × GoesTooDeep old item))
+      ((r ≡ Err TooDeep) ↔ (Fits old item × GoesTooDeep item (cell_at old item.to)))
   unfolding IsOwnOpen Fits GoesTooDeep
   deep_here r h =
       let there = rw cell_is at h in

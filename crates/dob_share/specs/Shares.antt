@@ -72,9 +72,9 @@ IsNewByOwn own n id share = (openings : List Opening) → AreOwn openings n id o
 unfoldable pub Fits : Share → Item → Type 0
 Fits share item = IsOwn share item.to × (status_at share item.to ≡ Open) × CellCanTake item.was item.now (cell_at share item.to)
 
--- the item would give the class a value whose distance is above the greatest that is kept
-unfoldable pub GoesTooDeep : Share → Item → Type 0
-GoesTooDeep share item = IsTooDeep (changed item.was item.now (cell_at share item.to))
+-- the item would give its class, which has that cell, a value whose distance is above the greatest that is kept
+unfoldable pub GoesTooDeep : Item → Cell → Type 0
+GoesTooDeep item cell = IsTooDeep (changed item.was item.now cell)
 
 -- the two shares own the same classes, and know the same status of each
 pub record SameClasses (old new : Share) : Type 0 where
@@ -106,7 +106,7 @@ HasSettled old new class (Some settlement) = (new.settled ≡ old.settled + 1) �
 -- as it was; else the cell of the item's class is changed as the item says, no other is, and it gives what the class's value makes of it.
 pub record IsApplication (old : Share) (item : Item) (result : Result (Option Settlement) Fault) (new : Share) : Type 0 where
   pub contradiction : (result ≡ Err (Contradiction item.to)) ↔ (¬ Fits old item)
-  pub too_deep : (result ≡ Err TooDeep) ↔ (Fits old item × GoesTooDeep old item)
+  pub too_deep : (result ≡ Err TooDeep) ↔ (Fits old item × GoesTooDeep item (cell_at old item.to))
   pub named : (class : ℕ) → result ≡ Err (Contradiction class) → class ≡ item.to
   pub unchanged : OnErr result (new ≡ old)
   pub classes : SameClasses old new

@@ -2,7 +2,7 @@
 use dob_value::Value;
 
 /// A change of the value of a class. `number` is its place in the history of the class's owner, counted from 0.
-#[derive(Clone, Copy, Debug, PartialEq, Eq)]
+#[derive(Clone, Copy, PartialEq, Eq)]
 pub struct Settlement {
     pub number: u64,
     pub class: u64,
@@ -12,7 +12,7 @@ pub struct Settlement {
 
 /// A settlement's news for one edge: some move of the class `to` leads into a class whose value `was` has become `now`.
 /// `number` is the settlement's.
-#[derive(Clone, Copy, Debug, PartialEq, Eq)]
+#[derive(Clone, Copy, PartialEq, Eq)]
 pub struct Item {
     pub number: u64,
     pub to: u64,

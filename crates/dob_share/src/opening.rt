@@ -5,7 +5,7 @@ ghost use Rattle.dob_moves.specs.Laws.{most_moves};
 use dob_moves::Status;
 
 /// A class's status and its number of moves, 63 at most, as each position's.
-#[derive(Clone, Copy, Debug, PartialEq, Eq)]
+#[derive(Clone, Copy)]
 pub struct Opening {
     pub status: Status,
     pub moves: u8,

@@ -84,7 +84,7 @@ fn answer<A: Abort>(
 fn answers<A: Abort>(rt: &A, share: &mut Share, changes: &[Change]) {
     for (to, was, now, expected) in changes {
         let found = answer(rt, share, *to, *was, *now);
-        assert_eq!(rt; found, *expected);
+        assert!(rt; found == *expected, "of class {to}");
     }
 }
 

@@ -5,12 +5,12 @@ pub use Rattle.std.proofs.Common.{inr, length, nat_eq, nat_lt, of_z, pos, refl, 
 pub use Rattle.std.proofs.Math.Nat.{mod-add-div', mod-eq-sub-div-mul}
 pub use Rattle.std.proofs.lemmas.Bool.{and_cases, and_parts, and_right, cases_Bool, cases_eq, cases_lt, eq-eqb, eqb-true, lt-ltb, ltb-true, ne_eqb, true≢false}
 pub use Rattle.std.proofs.lemmas.Int.{ints, to_z-of_z}
-pub use Rattle.std.proofs.lemmas.List.{append-nil, get_or-replicate, get_or_default, length-append, length-replicate, length-set, take-append-drop, take_all}
+pub use Rattle.std.proofs.lemmas.List.{append-nil, get_or_default, length-append, length-replicate, length-set, take-append-drop, take_all}
 pub use Rattle.std.proofs.lemmas.List.Elements.{All-append, All-cons, All-head, All-nil, All-tail}
 pub use Rattle.std.proofs.lemmas.Nat.{div-mul-add, mul-add-lt, same_from_place}
 pub use Rattle.std.proofs.lemmas.Option.{same_Some, slice_get-get_or, slice_get_within}
 pub use Rattle.std.specs.List.{All}
-pub use Rattle.std.specs.Prelude.{◌≤ℤ◌, MatchOption, replicate, slice_index, slice_index_or, vec_len}
+pub use Rattle.std.specs.Prelude.{◌≤ℤ◌, MatchOption, slice_index, slice_index_or, vec_len}
 pub use Rattle.dob_pieces.proofs.Elements.{at_end, get_set_other, get_set_same, read_there, some_at}
 pub use Rattle.dob_pieces.specs.declared.profile.Family.{Family}
 pub use Rattle.dob_moves.proofs.Cases.{one_status}
@@ -22,7 +22,7 @@ pub use Rattle.dob_value.specs.Follows.{IsEntry}
 pub use Rattle.dob_value.specs.declared.value.Value.TheVariants.{Draw}
 pub use Rattle.dob_unmove.specs.Edges.{predecessors}
 pub use Rattle.dob_safra.proofs.Kept.{lawful_fits, moved_kept}
-pub use Rattle.dob_safra.proofs.Sums.{sum_same, sum_zeros}
+pub use Rattle.dob_safra.proofs.Sums.{sum_same}
 pub use Rattle.dob_safra.specs.Laws.{IsRingQuiet, IsSize}
 pub use Rattle.dob_safra.specs.Rings.{AllTaken, AllWhite, CountsStay, IsLawfulRing, Moved, Ring, counter, in_flight, sum_below}
 pub use Rattle.dob_safra.specs.declared.token.Token.{Token}
@@ -67,7 +67,7 @@ unfoldable pub use Rattle.dob_world.specs.Shown.{nodes_shown, world_shown}
 pub use Rattle.dob_world.specs.Standing.{AreCutsPosted, AreInPlace, CanCount, HasAtMost, HasOpenings, IsCounted, IsLaneOf, IsLeft, IsNodeOf, IsSetting}
 pub use Rattle.dob_world.specs.Standing.{IsStanding, Stand, StandsOrStopped}
 pub use Rattle.dob_world.specs.Start.{AreEmptyLanes, AreOpenedNodes, IsEmptyLane, IsWorldStart}
-pub use Rattle.dob_world.specs.Stops.{GoesTooDeep, IsCauseOf, IsForMemory, IsLeftBy, IsStopBy, IsStopInRounds, TakesFront}
+pub use Rattle.dob_world.specs.Stops.{IsCauseOf, IsForMemory, IsLeftBy, IsStopBy, IsStopInRounds, TakesFront}
 pub use Rattle.dob_world.specs.Worlds.{AreLawful, HaveFallsIn, IsAtRest, IsLinked, IsNodeIdle, Matches, Nodes, Setting, State, WorldView, emitted_in, items_in}
 pub use Rattle.dob_world.specs.Worlds.{setting_by, value_in, waiting_batches}
 pub use Rattle.dob_world.specs.declared.detector.Detector.{Detector}

@@ -5,9 +5,10 @@ use Rattle.dob_world.proofs.Common.{sym, take, true, ℕ, cases_Bool, cases_eq, 
 use Rattle.dob_world.proofs.Common.{predecessors, moved_kept, IsSize, CountsStay, IsLawfulRing, Moved, Ring, Item, Settlement, BatchView, items_of_batches}
 use Rattle.dob_world.proofs.Common.{items_from, items_of, Fault, emitted_all, emitted_grown, emitted_more, CanApply, Applies, AppliesItems, AppliesOwn}
 use Rattle.dob_world.proofs.Common.{CanHappen, ExpandsAt, Happens, LinksStay, NodesStay, Posts, TakesBatch, EventsKeepAll, HappeningKeepsAll}
-use Rattle.dob_world.proofs.Common.{HappeningKeepsMatch, ListsAreBeginnings, OwnItemFits, TakenItemFits, HasAtMost, GoesTooDeep, IsForMemory, IsStopBy}
+use Rattle.dob_world.proofs.Common.{HappeningKeepsMatch, ListsAreBeginnings, OwnItemFits, TakenItemFits, HasAtMost, IsForMemory, IsStopBy}
 use Rattle.dob_world.proofs.Common.{AreLawful, HaveFallsIn, IsLinked, IsNodeIdle, Matches, Nodes, Setting, State, WorldView, emitted_in, items_in, value_in}
 use Rattle.dob_world.proofs.Common.{Event, Announce, Expand, Own, Pass, Post, Take}
+use Rattle.dob_share.specs.Shares.{GoesTooDeep}
 use Rattle.dob_update.proofs.BatchItems.{items_in_more}
 use Rattle.dob_node.proofs.Kept.{better_apart}
 use Rattle.dob_node.proofs.Rises.{falls_stay, not_too_deep}
@@ -85,7 +86,8 @@ module _ (k : Setting) (some : 0 < k.n) (i j : ℕ) (low_i : i < k.n) (low_j : j
   next_fits = can_apply k.family k.n old.history old.applied old.cell (value_in k.n old) some lawful i j low_i low_j item (rest, is_next)
 
   -- and doesn't go too deep for few classes
-  next_not_deep : HaveFallsIn k old → classes_of k.family < 65535 → GoesTooDeep old item → ⊥
+  next_not_deep : HaveFallsIn k old → classes_of k.family < 65535 → GoesTooDeep item (old.cell item.to) → ⊥
+  unfolding GoesTooDeep
   next_not_deep falls = not_too_deep k.family k.n old.history old.applied old.cell (value_in k.n old) some lawful falls i j low_i low_j item (rest, is_next)
 
   pub lawful_step : (new : Nodes) → Applies k i j item old new → AreLawful k new

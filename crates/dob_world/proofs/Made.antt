@@ -2,15 +2,14 @@
 -- or why its node stops.
 use Rattle.dob_world.proofs.Common.{◌++◌, ◌<◌, ◌∙◌, ◌∷◌, ◌≡◌, ◌≢◌, ◌⊎◌, List, None, [], ap, append_assoc, cond, drop, inl, inr, length, nat_lt, refl, set}
 use Rattle.dob_world.proofs.Common.{subst, sym, take, ℕ, append-nil, All-append, All-cons, All-head, All-nil, All-tail, All, one_status, HasStatus, Status}
-use Rattle.dob_world.proofs.Common.{Open, class_setup, classes_of, predecessors, Moved, Ring, Cell, CellCanTake, changed, fresh, owner_of, cell_at, status_at}
+use Rattle.dob_world.proofs.Common.{Open, class_setup, classes_of, predecessors, Moved, Ring, Cell, CellCanTake, fresh, owner_of, cell_at, status_at}
 use Rattle.dob_world.proofs.Common.{Item, Share, BatchView, OutboxView, items_of_batches, items_from, Cause, Stopped, kept_sound, outbox_same, CanApply}
 use Rattle.dob_world.proofs.Common.{HasItemFault, HasTaken, IsSound, IsUnchanged, outbox_to, HistoryView, AreKept, AreTaken, HasItemEntries, IsReason, Node}
 use Rattle.dob_world.proofs.Common.{AppliesItems, AppliesOwn, LinksStay, OtherLinksStay, Posts, Stays, TakesBatch, HasListed, HasReceivedFront, HasSentBatch}
-use Rattle.dob_world.proofs.Common.{HasTakenBatch, IsBatchTo, LaneStays, LinkView, link_of, ring_of, nodes_shown, world_shown, IsNodeOf, Stand, GoesTooDeep}
+use Rattle.dob_world.proofs.Common.{HasTakenBatch, IsBatchTo, LaneStays, LinkView, link_of, ring_of, nodes_shown, world_shown, IsNodeOf, Stand}
 use Rattle.dob_world.proofs.Common.{IsCauseOf, IsLeftBy, TakesFront, Setting, WorldView, Detector, Own, Post, Take, Lane}
 use Rattle.dob_safra.specs.declared.event.RingEvent.TheVariants as ring
-use Rattle.dob_share.specs.Steps.{IsTooDeep}
-use Rattle.dob_share.specs.Shares.{Fits, GoesTooDeep as IsShareTooDeep}
+use Rattle.dob_share.specs.Shares.{Fits, GoesTooDeep}
 use Rattle.dob_stops.specs.declared.cause.Cause.TheVariants as cause
 use Rattle.dob_world.proofs.Firsts.{some_of}
 use Rattle.dob_world.proofs.InPlace.{here, was, elsewhere, stays, stays_else, kept_of, AtLane, in_place, lane_here, lane_was, lane_else, lane_stays, set_there}
@@ -196,7 +195,7 @@ module _ {k : Setting} {nodes : List Node} {lanes : List Lane} {detector : Detec
       }
 
   pub receives_front : (why : Cause) (given : HasReceivedFront node lane after next why) →
-      GoesTooDeep (world_shown k.family k.n (set nodes j after) (set lanes place next)).nodes given.taken.item →
+      GoesTooDeep given.taken.item ((world_shown k.family k.n (set nodes j after) (set lanes place next)).nodes.cell given.taken.item.to) →
       TakesFront k i j (world_shown k.family k.n nodes lanes) (world_shown k.family k.n (set nodes j after) (set lanes place next))
   receives_front why given deep =
       let step = front_received node after lane next why given in record {
@@ -294,7 +293,7 @@ fits_by k i node share history cell item is kept statuses can same = (
 
 -- An item that fits stops its node for lack of memory, or since it goes too deep.
 reason_stop : (item : Item) (share : Share) (why : Cause) → Fits share item → IsReason item share why →
-    (why ≡ cause.Memory) ⊎ ((why ≡ cause.TooDeep) × IsShareTooDeep share item)
+    (why ≡ cause.Memory) ⊎ ((why ≡ cause.TooDeep) × GoesTooDeep item (cell_at share item.to))
 reason_stop item share cause.TooDeep fits is = inr (refl, is.1)
 reason_stop item share (cause.Contradiction class) fits is = absurd (is.1 fits)
 reason_stop item share cause.Memory fits is = inl refl
@@ -304,12 +303,6 @@ reason_stop item share _ fits is = absurd is
 memory_or : (why : Cause) → (why ≡ cause.Memory) ⊎ (why ≢ cause.Memory)
 memory_or cause.Memory = inl refl
 memory_or _ = inr (λ e. cc)
-
--- it goes too deep as much in an equal cell
-deep_there : (share : Share) (cell : ℕ → Cell) (item : Item) → cell item.to ≡ cell_at share item.to → IsShareTooDeep share item →
-    IsTooDeep (changed item.was item.now (cell item.to))
-unfolding IsShareTooDeep
-deep_there share cell item same deep = subst (λ (c : Cell). IsTooDeep (changed item.was item.now c)) (sym same) deep
 
 module _ {k : Setting} {nodes : List Node} {lanes : List Lane} {detector : Detector} {steps : ℕ} (stand : Stand k nodes lanes detector steps) where
   -- An own item stops its node for lack of memory, or since it goes too deep.
@@ -328,7 +321,7 @@ module _ {k : Setting} {nodes : List Node} {lanes : List Lane} {detector : Detec
         | inl memory ↦ inl (ap (λ (c : Cause). Stopped i c) memory)
         | inr deep ↦ inr (
           ap (λ (c : Cause). Stopped i c) deep.0,
-          record { item = item; behind = fault.behind; first = first; deep = deep_there node.share cells.cell item same deep.1 },
+          record { item = item; behind = fault.behind; first = first; deep = subst (GoesTooDeep item) (sym same) deep.1 },
         )
       ]
 
@@ -352,7 +345,7 @@ module _ {k : Setting} {nodes : List Node} {lanes : List Lane} {detector : Detec
         (chain_statuses taken.front node.share after.share node.history after.history taken.taken.taken) can same in
         elim (reason_stop item after.share why fits taken.reason) [
           | inl memory ↦ absurd (other memory)
-          | inr deep ↦ (deep.0, receives_front stand at differs after next why step (deep_there after.share cells.cell item same deep.1))
+          | inr deep ↦ (deep.0, receives_front stand at differs after next why step (subst (GoesTooDeep item) (sym same) deep.1))
         ]
 
     -- So does one of a batch, of which those before it are applied.

@@ -1,6 +1,6 @@
 -- What a world keeps from event to event, while no node has stopped and after that. For proofs, and for what its calls ask and
 -- hand on: nothing of the promise is defined here.
-use Rattle.std.specs.Prelude.{◌≡◌, ◌≢◌, ℕ, ◌+◌, ◌*◌, ◌<◌, ◌≤◌, false, pos, List, length, None, Some, MatchOption, slice_get, slice_index_or}
+use Rattle.std.specs.Prelude.{◌≡◌, ◌≢◌, ℕ, ◌+◌, ◌*◌, ◌<◌, ◌≤◌, false, List, length, None, Some, MatchOption, slice_get}
 use Rattle.std.specs.List.{All}
 use Rattle.dob_pieces.specs.declared.profile.Family.{Family}
 use Rattle.dob_moves.specs.Statuses.{HasStatus}
@@ -12,7 +12,7 @@ use Rattle.dob_node.specs.declared.node.Node.{Node}
 use Rattle.dob_node.specs.Nodes.{IsSound}
 use Rattle.dob_node.specs.Openings.{AreOpenings}
 use Rattle.dob_safra.specs.Laws.{IsSize}
-use Rattle.dob_safra.specs.Rings.{Ring, IsLawfulRing, counter}
+use Rattle.dob_safra.specs.Rings.{Ring, IsLawfulRing}
 use Rattle.dob_world.specs.declared.detector.Detector.{Detector}
 use Rattle.dob_stops.specs.declared.fault.Fault.{Fault}
 use Rattle.dob_world.specs.declared.lane.Lane.{Lane}
@@ -51,14 +51,12 @@ pub record AreInPlace (k : Setting) (nodes : List Node) (lanes : List Lane) : Ty
 abbrev pub HasOpenings : Family → Type 0
 HasOpenings family = (openings : List Opening) × AreOpenings family openings
 
--- A list has a place for each pair of nodes or for each node, and each node's counter is kept.
+-- A list has a place for each pair of nodes or for each node.
 pub record IsCounted (detector : Detector) : Type 0 where
   pub nodes : IsSize detector.nodes
   pub posted : length detector.posted.items ≡ detector.nodes * detector.nodes
   pub taken : length detector.taken.items ≡ detector.nodes * detector.nodes
   pub black : length detector.black.items ≡ detector.nodes
-  pub counters : length detector.counters.items ≡ detector.nodes
-  pub counted : (i : ℕ) → i < detector.nodes → slice_index_or detector.counters.items i (pos 0) ≡ counter detector.nodes (ring_of detector) i
 
 -- The detector is kept and lawful, and has both nodes.
 pub record CanCount (detector : Detector) (i j : ℕ) : Type 0 where

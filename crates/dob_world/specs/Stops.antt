@@ -1,8 +1,7 @@
 -- Where a node of a world stops: at which event, for which cause, and what is left of the world then.
 use Rattle.std.specs.Prelude.{◌≡◌, ℕ, ◌<◌, ◌⊎◌, List, ◌∷◌, ◌++◌, take, slice_get, Some}
 use Rattle.dob_share.specs.declared.news.Item.{Item}
-use Rattle.dob_share.specs.Cells.{changed}
-use Rattle.dob_share.specs.Steps.{IsTooDeep}
+use Rattle.dob_share.specs.Shares.{GoesTooDeep}
 use Rattle.dob_update.specs.Batches.{BatchView}
 use Rattle.dob_stops.specs.declared.cause.Cause.TheVariants as cause
 use Rattle.dob_world.specs.declared.event.Event.{Event}
@@ -14,16 +13,12 @@ use Rattle.dob_world.specs.Events.{CanHappen, AppliesItems, Stays, LinksStay, Ot
 use Rattle.dob_world.specs.Runs.{IsAfter, IsAfterSteps}
 use Rattle.dob_world.specs.Rounds.{round_length, round_event, round_front, rounds_of}
 
--- the item would give its class a value whose distance is above the greatest that is kept
-abbrev pub GoesTooDeep : Nodes → Item → Type 0
-GoesTooDeep nodes item = IsTooDeep (changed item.was item.now (nodes.cell item.to))
-
 -- The first own item of node i goes too deep.
 pub record OwnGoesTooDeep (world : WorldView) (i : ℕ) : Type 0 where
   pub item : Item
   pub behind : List Item
   pub first : world.own i ≡ item ∷ behind
-  pub deep : GoesTooDeep world.nodes item
+  pub deep : GoesTooDeep item (world.nodes.cell item.to)
 
 -- An item of the first batch that waits on the link from i to j goes too deep, once those before it are applied.
 pub record TakenGoesTooDeep (k : Setting) (world : WorldView) (i j : ℕ) : Type 0 where
@@ -36,7 +31,7 @@ pub record TakenGoesTooDeep (k : Setting) (world : WorldView) (i j : ℕ) : Type
   pub items_are : batch.items ≡ front ++ item ∷ behind
   pub between : Nodes
   pub applied : AppliesItems k i j front world.nodes between
-  pub deep : GoesTooDeep between item
+  pub deep : GoesTooDeep item (between.cell item.to)
 
 -- Node j takes the first batch that waits on the link from i up to an item that goes too deep: just the items before that one are
 -- applied, in their order, and the batch waits no more.

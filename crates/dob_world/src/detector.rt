@@ -1,7 +1,7 @@
 // What finds out that nothing is left to do: Safra's ring beside the nodes, with the batches that they posted and took.
-ghost use Rattle.std.specs.Prelude.{◌≡◌, ◌<◌, ◌^◌, ◌↔◌, true, IfOk, IsTrue};
+ghost use Rattle.std.specs.Prelude.{◌≡◌, ◌<◌, ◌^◌, ◌↔◌, ◌≤ℤ◌, neg_ℤ, pos, true, IfOk, IsTrue};
 ghost use Rattle.dob_safra.specs.declared.event.RingEvent.TheVariants.{Post, Take, Pass, Announce};
-ghost use Rattle.dob_safra.specs.Rings.{IsLawfulRing, IsStart, IsAnnounceable, Moved};
+ghost use Rattle.dob_safra.specs.Rings.{IsLawfulRing, IsStart, IsAnnounceable, Moved, counter};
 ghost use Rattle.dob_world.specs.Shown.{ring_of};
 ghost use Rattle.dob_world.specs.Standing.{IsCounted, CanCount};
 
@@ -9,14 +9,13 @@ use dob_pieces::Memory;
 use dob_safra::{NodeCount, Token, may_announce, passed};
 use std::alloc::Global;
 
-// How many batches were posted and how many of them taken, by sender and then by receiver; each node's counter and
-// whether it is black; the token; and whether the end is announced.
+// How many batches were posted and how many of them taken, by sender and then by receiver; whether each node is black; the
+// token; and whether the end is announced.
 #[derive(Drop)]
 pub(crate) struct Detector {
     pub(crate) nodes: NodeCount,
     pub(crate) posted: Vec<u64>,
     pub(crate) taken: Vec<u64>,
-    pub(crate) counters: Vec<i64>,
     pub(crate) black: Vec<bool>,
     pub(crate) token: Token,
     pub(crate) announced: bool,
@@ -31,13 +30,11 @@ impl Detector {
         let count = nodes.get();
         let posted = vec![in alloc; 0; count * count]?;
         let taken = vec![in alloc; 0; count * count]?;
-        let counters = vec![in alloc; 0; count]?;
         let black = vec![in alloc; true; count]?;
         Ok(Detector {
             nodes,
             posted,
             taken,
-            counters,
             black,
             token: Token::first(),
             announced: false,
@@ -54,7 +51,6 @@ impl Detector {
     {
         let place = from * self.nodes.get() + to;
         self.posted[place] += 1;
-        self.counters[from] += 1;
     }
 
     // The node `to` has taken a batch of the node `from`, and is black now.
@@ -66,8 +62,26 @@ impl Detector {
     {
         let place = from * self.nodes.get() + to;
         self.taken[place] += 1;
-        self.counters[to] -= 1;
         self.black[to] = true;
+    }
+
+    // The counter of the node: the batches that it posted, less those that it took.
+    fn counter(&self, node: usize) -> i64
+        requires node { node < self.now.nodes }
+        requires counted { IsCounted self.now }
+        requires lawful { IsLawfulRing self.now.nodes (ring_of self.now) }
+        ensures value { result ≡ counter self.now.nodes (ring_of self.now) node }
+        ensures low { neg_ℤ (pos (2 ^ 44)) ≤ℤ result }
+        ensures high { result ≤ℤ pos (2 ^ 44) }
+    {
+        let nodes = self.nodes.get();
+        let mut posted = 0;
+        let mut taken = 0;
+        for other in 0..nodes {
+            posted += self.posted[node * nodes + other];
+            taken += self.taken[other * nodes + node];
+        }
+        posted as i64 - taken as i64
     }
 
     // The node that has the token passes it, and is white now.
@@ -80,7 +94,7 @@ impl Detector {
         let node = self.token.at;
         self.token = passed(
             self.token,
-            self.counters[node],
+            self.counter(node),
             self.black[node],
             self.nodes.get(),
         );
@@ -89,10 +103,11 @@ impl Detector {
 
     // Whether the end may be announced, where node 0 is idle.
     pub(crate) fn may_end(&self) -> bool
-        requires { IsCounted self.now }
+        requires counted { IsCounted self.now }
+        requires lawful { IsLawfulRing self.now.nodes (ring_of self.now) }
         ensures { IsTrue result ↔ IsAnnounceable self.now.nodes (ring_of self.now) true }
     {
-        may_announce(self.token, self.counters[0], self.black[0], true)
+        may_announce(self.token, self.counter(0), self.black[0], true)
     }
 
     // The end, which may be announced, is.

@@ -6,7 +6,7 @@ ghost use Rattle.dob_world.specs.Links.{Taken, GivenBack, Handed, Nothing, LinkS
 use dob_update::Batch;
 
 /// The link held its capacity; here is the batch back.
-#[derive(Debug, Drop)]
+#[derive(Drop)]
 pub struct Full {
     pub batch: Batch,
 }

@@ -1,5 +1,5 @@
 // The parts of a world as it is opened: its nodes and its lanes.
-ghost use Rattle.std.specs.Prelude.{IfOk};
+ghost use Rattle.std.specs.Prelude.{◌*◌, IfOk};
 ghost use Rattle.dob_node.specs.Openings.{AreOpenings};
 ghost use Rattle.dob_world.specs.Start.{AreOpenedNodes, AreEmptyLanes};
 
@@ -29,16 +29,17 @@ pub(crate) fn open_nodes(
     Ok(nodes)
 }
 
-// `count` empty lanes.
+// The lanes from each node to each, empty.
 pub(crate) fn open_lanes(
     alloc: Global,
-    count: usize,
+    node_count: NodeCount,
     capacity: Capacity,
 ) -> Result<Vec<Lane>, Memory>
-    ensures { IfOk result (λ lanes. AreEmptyLanes capacity count lanes.items) }
+    ensures { IfOk result (λ lanes. AreEmptyLanes capacity (node_count * node_count) lanes.items) }
 {
+    let count = node_count.get();
     let mut lanes = Vec::new(alloc);
-    for _place in 0..count {
+    for _place in 0..count * count {
         lanes.push(Lane::open(alloc, capacity)?)?;
     }
     Ok(lanes)

@@ -11,7 +11,7 @@ use dob_pieces::Family;
 use dob_stops::Fault;
 use std::alloc::Global;
 
-/// The world of `n` nodes, with batches of at most `batch` items and links with room for `capacity` batches, after the
+/// The world of `nodes` nodes, with batches of at most `batch` items and links with room for `capacity` batches, after the
 /// events in order. Those that can't happen are skipped.
 ///
 /// # Errors
@@ -23,18 +23,18 @@ use std::alloc::Global;
 pub fn run(
     alloc: Global,
     family: Family,
-    n: usize,
+    nodes: usize,
     batch: usize,
     capacity: usize,
     events: &[Event],
 ) -> Result<World, Fault>
     requires few { length events.now ≤ 2 ^ 40 }
-    ensures run { IfOk result (λ world. HasRunEvents (setting_by family n batch capacity) events.now world) }
-    ensures memory { classes_of family < 65535 → IfErr result (λ fault. HasSettingFault (setting_by family n batch capacity) fault ⊎ IsForMemory fault) }
-    ensures fault { IfErr result (λ fault. HasSettingFault (setting_by family n batch capacity) fault
-        ⊎ HasStoppedAt (setting_by family n batch capacity) events.now fault) }
+    ensures run { IfOk result (λ world. HasRunEvents (setting_by family nodes batch capacity) events.now world) }
+    ensures memory { classes_of family < 65535 → IfErr result (λ fault. HasSettingFault (setting_by family nodes batch capacity) fault ⊎ IsForMemory fault) }
+    ensures fault { IfErr result (λ fault. HasSettingFault (setting_by family nodes batch capacity) fault
+        ⊎ HasStoppedAt (setting_by family nodes batch capacity) events.now fault) }
 {
-    let mut world = match World::open(alloc, family, n, batch, capacity) {
+    let mut world = match World::open(alloc, family, nodes, batch, capacity) {
         Ok(world) => world,
         Err(fault) => return Err(fault),
     };

@@ -1,7 +1,7 @@
 // What came of an event.
 
 /// Whether an event was done.
-#[derive(Clone, Copy, Debug, PartialEq, Eq)]
+#[derive(Clone, Copy, PartialEq, Eq)]
 pub enum Step {
     /// It could happen, and did.
     Done,

@@ -49,26 +49,26 @@ impl World {
     ghost use Rattle.dob_world.specs.Results.{HasSettingFault};
     ghost use Rattle.dob_world.specs.Headline.{AreBeginnings, Headline};
 
-    /// A world of `n` nodes before its first event, with batches of at most `batch` items and links with room for
+    /// A world of `nodes` nodes before its first event, with batches of at most `batch` items and links with room for
     /// `capacity` batches.
     ///
     /// # Errors
     ///
-    /// Tested in this order: `Nodes` if `n` isn't 1 to 16; `Sizes` if `batch` isn't 1 to 4096 or `capacity` not
+    /// Tested in this order: `Nodes` if `nodes` isn't 1 to 16; `Sizes` if `batch` isn't 1 to 4096 or `capacity` not
     /// 1 to 1024; `Memory`.
     pub fn open(
         alloc: Global,
         family: Family,
-        n: usize,
+        nodes: usize,
         batch: usize,
         capacity: usize,
     ) -> Result<World, Fault>
-        ensures setting { IfOk result (λ world. setting_of world ≡ setting_by family n batch capacity) }
+        ensures setting { IfOk result (λ world. setting_of world ≡ setting_by family nodes batch capacity) }
         ensures standing { IfOk result (λ world. IsStanding world × (world.failed ≡ None) × (world.steps ≡ 0)) }
         ensures opened { IfOk result (λ world. IsWorldStart (setting_of world) (state_of world)) }
-        ensures fault { IfErr result (λ fault. HasSettingFault (setting_by family n batch capacity) fault) }
+        ensures fault { IfErr result (λ fault. HasSettingFault (setting_by family nodes batch capacity) fault) }
     {
-        let Some(node_count) = NodeCount::new(n) else {
+        let Some(node_count) = NodeCount::new(nodes) else {
             return Err(Fault::Nodes);
         };
         let Some(batch_size) = BatchSize::new(batch) else {
@@ -80,7 +80,7 @@ impl World {
         let classes = Classes::open(alloc, family)?;
         let openings = opening(alloc, &classes, SegmentLength::longest())?;
         let nodes = open_nodes(alloc, &openings, family, node_count)?;
-        let lanes = open_lanes(alloc, n * n, capacity)?;
+        let lanes = open_lanes(alloc, node_count, capacity)?;
         let detector = Detector::open(alloc, node_count)?;
         Ok(World {
             alloc,

@@ -1,6 +1,6 @@
 -- One node more has its seat, fresh and at its place, and the rest stands for the nodes behind it.
 use Rattle.std.proofs.Common.{◌≡◌, ℕ, suc, ◌+◌, [], arith, ap, subst, ◌∙◌}
-use Rattle.dob_board.proofs.Names.{TableId, behind, IsSeatOf}
+use Rattle.dob_board.proofs.Names.{TableId, unseated, IsSeatOf}
 use Rattle.dob_board.proofs.Starts.{AreFirst, push_first}
 use Rattle.dob_board.proofs.opening.all_seats.Goals as goal
 
@@ -12,7 +12,7 @@ loop-node-preserved c =
     let board : TableId = c.args.rest.now.table_id in
     record {
       of_board = made.of_board ∙ inv.of_board;
-      behind_is = made.rest ∙ ap (λ (k : ℕ). (behind c.args.nodes k, [])) next;
+      rest_is = made.rest ∙ ap (λ (k : ℕ). (unseated c.args.nodes k, [])) next;
       first = subst (λ (k : ℕ). AreFirst board c.args.nodes k c.push.new.self.items) next
           (push_first board c.args.nodes c.loop-node.node c.loop-node.seats.items c.push.new.self.items c.in_ok-seat.seat inv.first
           (subst (λ (z : TableId). IsSeatOf z c.args.nodes c.loop-node.node c.in_ok-seat.seat) inv.of_board made.seat) made.fresh c.in_ok-push.ensures.items);

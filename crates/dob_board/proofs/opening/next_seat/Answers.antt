@@ -2,7 +2,7 @@
 use Rattle.std.proofs.Common.{rules, arith, ap, ◌∙◌, []}
 use Rattle.dob_board.proofs.Names.{View, others_of}
 use Rattle.dob_board.proofs.Allowed.{Seated}
-use Rattle.dob_board.proofs.Starts.{splits_call, others-behind}
+use Rattle.dob_board.proofs.Starts.{splits_call, others-unseated}
 use Rattle.dob_board.proofs.opening.next_seat.Goals as goal
 
 pub split_seat-seat-requires : goal.split_seat-seat-requires
@@ -15,4 +15,4 @@ split_seat-seat-requires c = (
 pub returns-clause-rest : goal.returns-clause-rest
 returns-clause-rest c =
     c.split_seat-seat.ensures.2 ∙ ap (λ (me : Seated). (others_of me.0, me.1)) c.requires.rest
-    ∙ ap (λ (v : View). (v, [])) (others-behind c.args.nodes c.args.node c.requires.within)
+    ∙ ap (λ (v : View). (v, [])) (others-unseated c.args.nodes c.args.node c.requires.within)

@@ -3,4 +3,4 @@ use Rattle.dob_chan.proofs.Common.{◌≡◌, ◌≤◌, [], IsPassOf, view, tak
 use Rattle.dob_chan.proofs.inboxes.count.Given as goal
 
 abbrev pub invariant-loop : goal.invariant-loop
-invariant-loop l = IsPassOf l.inbox l.pass × (view l.pass ≡ taking l.counter 0 [] [] untold) × (l.counter ≤ l.senders)
+invariant-loop l = IsPassOf l.inbox l.pass × (view l.pass ≡ taking l.counter 0 [] [] untold) × (l.counter ≤ l.nodes)

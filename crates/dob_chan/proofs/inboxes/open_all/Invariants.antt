@@ -3,5 +3,5 @@ use Rattle.dob_chan.proofs.Common.{◌≡◌, ◌≤◌, [], length, IsSamePass,
 use Rattle.dob_chan.proofs.inboxes.open_all.Given as goal
 
 abbrev pub invariant-loop-from : goal.invariant-loop-from
-invariant-loop-from l = IsSamePass l.initial.pass l.pass × (view l.pass ≡ taking l.senders l.from [] [] untold) × (l.from ≤ l.senders)
-    × (length l.sends.items ≡ l.from) × AreOpened l.pass (ruled_capacity l.inbox.value) l.senders l.sends.items
+invariant-loop-from l = IsSamePass l.initial.pass l.pass × (view l.pass ≡ taking l.nodes l.from [] [] untold) × (l.from ≤ l.nodes)
+    × (length l.sends.items ≡ l.from) × AreOpened l.pass (ruled_capacity l.inbox.value) l.nodes l.sends.items

@@ -5,7 +5,7 @@ use Rattle.dob_world.proofs.runs.run.Goals as goal
 
 pub loop-event-init : goal.loop-event-init
 loop-event-init c =
-    let k : Setting = setting_by c.args.family c.args.n c.args.batch c.args.capacity in
+    let k : Setting = setting_by c.args.family c.args.nodes c.args.batch c.args.capacity in
     let world = c.in-Ok.world in
     let opened = c.in-Ok.ensures in
     record {
@@ -16,7 +16,7 @@ loop-event-init c =
 
 pub loop-event-preserved : goal.loop-event-preserved
 loop-event-preserved c =
-    let k : Setting = setting_by c.args.family c.args.n c.args.batch c.args.capacity in
+    let k : Setting = setting_by c.args.family c.args.nodes c.args.batch c.args.capacity in
     let out = c.in-Ok-step.ensures in
     let step = stepped k _ c.loop-event.world c.step.new.self c.in-Ok-step.field-0 c.loop-event.invariant.run.setting (λ e. out.done (ap Ok e))
     (λ e. out.skipped (ap Ok e)) in
@@ -33,7 +33,7 @@ returns-in-Err-step-clause-memory c = λ few.
 
 pub returns-in-Err-step-clause-fault : goal.returns-in-Err-step-clause-fault
 returns-in-Err-step-clause-fault c =
-    let k : Setting = setting_by c.args.family c.args.n c.args.batch c.args.capacity in
+    let k : Setting = setting_by c.args.family c.args.nodes c.args.batch c.args.capacity in
     let run = c.loop-event.invariant.run in
     inr (run_stops k c.args.events.now c.loop-event.event-index _ c.loop-event.world c.in-Err-step.fault c.loop-event-test.true run
     (c.in-Err-step.ensures.named run.going).stop)

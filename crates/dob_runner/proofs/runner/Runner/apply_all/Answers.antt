@@ -18,7 +18,7 @@ invariant_of-self-in-Err-clause-lawful c = λ _.
     let step = c.in-Err.ensures.step in
     still_coloured r.family r.batch_size c.apply_every_own.new.self r.endpoint c.fail_for.new.endpoint
     (applied_items r.family r.batch_size step.items r.node c.apply_every_own.new.self r.endpoint (r.lawful (inl c.requires)) step.applied
-    c.in-Err.ensures.keeps.sound) c.fail_for.ensures.keeps
+    c.in-Err.ensures.keeps.sound) c.fail_for.ensures.fails.keeps
 
 pub invariant_of-self-clause-lawful : goal.invariant_of-self-clause-lawful
 invariant_of-self-clause-lawful c = λ _.
@@ -28,7 +28,8 @@ invariant_of-self-clause-lawful c = λ _.
     c.in-Ok.ensures.keeps.sound
 
 pub returns-in-Err : goal.returns-in-Err
-returns-in-Err c = broken_for c.args.self.now _ c.in-Err.why c.fail_for.ensures refl refl refl (own_reason _ c.in-Err.why c.in-Err.ensures.step.stopped)
+returns-in-Err c = rw c.fail_for.ensures.given
+    (broken_for c.args.self.now _ c.in-Err.why c.fail_for.ensures.fails refl refl refl (own_reason _ c.in-Err.why c.in-Err.ensures.step.stopped))
 
 pub returns-in-Ok : goal.returns-in-Ok
 returns-in-Ok c = record {

@@ -22,23 +22,23 @@ cut_for-requires-clause-going c = (let r = c.args.self.now in node_goes r.node.f
 pub invariant_of-self-clause-lawful : goal.invariant_of-self-clause-lawful
 invariant_of-self-clause-lawful c = λ _. (let r = c.args.self.now in
     unchanged_failed r.family r.batch_size r.node c.cut_for.new.self r.endpoint c.fail_for.new.endpoint (r.lawful (inl c.requires.unfailed))
-    c.in-Err.ensures.step.unchanged c.in-Err.ensures.keeps.sound c.fail_for.ensures.keeps)
+    c.in-Err.ensures.step.unchanged c.in-Err.ensures.keeps.sound c.fail_for.ensures.fails.keeps)
 
 -- there was something to send, and the slot was empty
 fills : (c : After-has_to_send) → c.has_to_send.result ≡ true → IsToFill c.args.self.now c.args.to c.args.small
 fills c has = (c.has_to_send.ensures.0 has, slot_there c.args.self.now.endpoint c.args.to c.index.result.now c.requires.node c.index.ensures (λ s. s ≡ None) (c.is_full.ensures.empty c.if-is_full.false))
 
 pub returns-in-Err : goal.returns-in-Err
-returns-in-Err c = broken_for c.args.self.now _ c.in-Err.why c.fail_for.ensures refl refl refl (cut_reason _ c.in-Err.why
+returns-in-Err c = rw c.fail_for.ensures.given (broken_for c.args.self.now _ c.in-Err.why c.fail_for.ensures.fails refl refl refl (cut_reason _ c.in-Err.why
     (λ counts. (let still = outbox_still c.args.self.now.node c.cut_for.new.self c.args.to c.in-Err.ensures.step.unchanged in
     let full = c.in-Err.ensures.step.counts.0 (ap (λ (w : Cause). err_of w) counts) in
     record {
       to = c.args.to;
-      other = λ same. c.requires.other (same ∙ c.fail_for.ensures.keeps.links.seat.node);
+      other = λ same. c.requires.other (same ∙ c.fail_for.ensures.fails.keeps.links.seat.node);
       left = λ none. full.0 (ap (λ (o : OutboxView). o.items) (sym still) ∙ none);
       many = subst (λ (o : OutboxView). 2 ^ 40 ≤ o.next) (sym still) full.1;
     }))
-    c.in-Err.ensures.step.why)
+    c.in-Err.ensures.step.why))
 
 -- the batch is cut from the outbox for that node
 batch_cut : (c : In-Some) → HasCut c.args.to c.args.self.now.batch_size c.in-Some.batch c.args.self.now.node c.cut_for.new.self

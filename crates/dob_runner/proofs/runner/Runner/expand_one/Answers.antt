@@ -11,7 +11,7 @@ expand-requires-clause-going c = (let r = c.args.self.now in node_goes r.node.fa
 pub invariant_of-self-in-Err-clause-lawful : goal.invariant_of-self-in-Err-clause-lawful
 invariant_of-self-in-Err-clause-lawful c = λ _. (let r = c.args.self.now in
     unchanged_failed r.family r.batch_size r.node c.expand.new.self r.endpoint c.fail_for.new.endpoint (r.lawful (inl c.requires.unfailed))
-    c.in-Err.ensures.step.unchanged c.in-Err.ensures.keeps.sound c.fail_for.ensures.keeps)
+    c.in-Err.ensures.step.unchanged c.in-Err.ensures.keeps.sound c.fail_for.ensures.fails.keeps)
 
 pub invariant_of-self : goal.invariant_of-self
 invariant_of-self c =
@@ -27,7 +27,8 @@ invariant_of-self c =
     }
 
 pub returns-in-Err : goal.returns-in-Err
-returns-in-Err c = broken_for c.args.self.now _ c.in-Err.why c.fail_for.ensures refl refl refl (memory_reason no_gate _ c.in-Err.why c.in-Err.ensures.step.memory)
+returns-in-Err c = rw c.fail_for.ensures.given
+    (broken_for c.args.self.now _ c.in-Err.why c.fail_for.ensures.fails refl refl refl (memory_reason no_gate _ c.in-Err.why c.in-Err.ensures.step.memory))
 
 pub returns-in-Ok : goal.returns-in-Ok
 returns-in-Ok c = record {

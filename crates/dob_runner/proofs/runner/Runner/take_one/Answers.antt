@@ -49,7 +49,7 @@ invariant_of-self-clause-lawful g c = λ _. (let r = c.args.self.now in
 
 pub invariant_of-self-in-Err-clause-lawful : goal.invariant_of-self-in-Err-clause-lawful
 invariant_of-self-in-Err-clause-lawful g c = λ _.
-    let fails = c.fail_for.ensures in
+    let fails = c.fail_for.ensures.fails in
     let links = fails.keeps.links in
     still_lawful c.args.self.now c.reserve.new.self c.fail_for.new.endpoint c.requires c.reserve.ensures.step.unchanged c.reserve.ensures.keeps.sound
     links.seat.node links.seat.nodes links.outlets (ap (λ (i : Inlet). worked i) links.inlet ∙ c.receive.ensures.worked) fails.keeps.colour
@@ -80,7 +80,7 @@ invariant_of-self-in-Err-apply_batch-clause-lawful g c =
     let taken : TakesOne c.args.self.now.endpoint.seat c.accept.new.self.seat c.in-Some-accept.batch.from = c.in-Some-accept.ensures.taken in
     let why = c.in-Err-apply_batch.why in
     let before = c.in-Err-apply_batch.ensures.step.before in
-    let fails = c.fail_for-in-Err-apply_batch.ensures in
+    let fails = c.fail_for-in-Err-apply_batch.ensures.fails in
     failed_first _ why c.fail_for-in-Err-apply_batch.new.endpoint.seat.stand.halt fails.cause (fails.black (ap (λ (s : Stand). s.black) taken.counted))
     (unspared_reason before.item c.apply_batch.new.self.share why before.reason
     (not_memory g (goal.at.invariant_of-self-in-Err-apply_batch-clause-lawful g c).In-Err-apply_batch))
@@ -116,9 +116,9 @@ returns-in_default-clause-step g c =
 pub returns-in-Err : goal.returns-in-Err
 returns-in-Err g c =
     let r = c.args.self.now in
-    let fails = c.fail_for.ensures in
+    let fails = c.fail_for.ensures.fails in
     let links = fails.keeps.links in
-    record {
+    rw c.fail_for.ensures.given (record {
       step = broken_by r _ _ c.in-Err.refused (kept_by r.endpoint _ refl refl c.receive.ensures.keeps) refl fails refl refl refl
           (memory_reason no_gate _ c.in-Err.refused c.in-Err.ensures.step.memory);
       refused = λ _. record {
@@ -128,7 +128,7 @@ returns-in-Err g c =
         outlets = ap (λ v. v.items) links.outlets;
         node = c.reserve.ensures.step.unchanged;
       };
-    }
+    })
 
 pub returns-in_default-accept-clause-step : goal.returns-in_default-accept-clause-step
 returns-in_default-accept-clause-step g c =
@@ -158,11 +158,11 @@ returns-clause-step g c =
     let batch = c.in-Some-accept.batch in
     let why = c.in-Err-apply_batch.why in
     let failed = c.fail_for-in-Err-apply_batch.new.endpoint in
-    let fails = c.fail_for-in-Err-apply_batch.ensures in
+    let fails = c.fail_for-in-Err-apply_batch.ensures.fails in
     let links = fails.keeps.links in
     let kept = endpoint_trans r.endpoint c.accept.new.self failed (accepted g (goal.at.returns-clause-step g c).After-accept)
     (links_kept c.accept.new.self failed links) in
-    broken_by r _ c.accept.new.self why (accepted g (goal.at.returns-clause-step g c).After-accept) c.accept.ensures.still fails refl refl refl
+    rw c.fail_for-in-Err-apply_batch.ensures.given (broken_by r _ c.accept.new.self why (accepted g (goal.at.returns-clause-step g c).After-accept) c.accept.ensures.still fails refl refl refl
     (refused_reason _ why (record {
       was = r;
       going = c.requires;
@@ -175,9 +175,9 @@ returns-clause-step g c =
           ∙ worked_more inlet c.accept.new.self.inlet batch c.in-Some-accept.ensures.worked.1
           ∙ ap (λ xs. xs ++ batch.items) (worked_again r.endpoint.inlet inlet c.receive.ensures.worked batch.from);
       before = before_since batch.items r.node c.reserve.new.self c.apply_batch.new.self why c.reserve.ensures.step.unchanged c.in-Err-apply_batch.ensures.step.before;
-    }))
+    })))
 
 pub returns-clause-refused : goal.returns-clause-refused
 returns-clause-refused g c memory =
-    let same : c.in-Err-apply_batch.why ≡ Memory = cc in
+    let same : c.in-Err-apply_batch.why ≡ Memory = cc (c.fail_for-in-Err-apply_batch.ensures.given, memory) in
     absurd (not_memory g (goal.at.returns-clause-refused g c).In-Err-apply_batch same)

@@ -1,7 +1,6 @@
--- Each counter is 0 at the start.
-use Rattle.dob_world.proofs.Common.{◌*◌, ◌∙◌, ap, false, length, pos, refl, subst, true, ℕ, length-replicate, IsSize}
+-- The lists of the start have their places.
+use Rattle.dob_world.proofs.Common.{◌*◌, ◌∙◌, ap, length, refl, subst, true, ℕ, length-replicate, IsSize}
 use Rattle.std.proofs.Common.{replicate}
-use Rattle.dob_world.proofs.Counters.{opened_counter}
 use Rattle.dob_world.proofs.detector.Detector.open.Goals as goal
 
 pub returns-clause-counted : goal.returns-clause-counted
@@ -10,16 +9,12 @@ returns-clause-counted c =
     let count = c.get-count.ensures.value in
     let posted = c.in_ok-posted.ensures.items_if_clones_equal (λ a e. e) ∙ ap (λ (k : ℕ). replicate (k * k) 0) count in
     let taken = c.in_ok-taken.ensures.items_if_clones_equal (λ a e. e) ∙ ap (λ (k : ℕ). replicate (k * k) 0) count in
-    let counters = c.in_ok-counters.ensures.items_if_clones_equal (λ a e. e) ∙ ap (λ (k : ℕ). replicate k (pos 0)) count in
     let black = c.in_ok-black.ensures.items_if_clones_equal (λ a e. e) ∙ ap (λ (k : ℕ). replicate k true) count in (
       record {
         nodes = subst (λ (k : ℕ). IsSize k) count c.get-count.ensures.size;
         posted = ap length posted ∙ length-replicate (n * n) 0;
         taken = ap length taken ∙ length-replicate (n * n) 0;
         black = ap length black ∙ length-replicate n true;
-        counters = ap length counters ∙ length-replicate n (pos 0);
-        counted = opened_counter n c.in_ok-posted.posted.items c.in_ok-taken.taken.items c.in_ok-counters.counters.items c.in_ok-black.black.items
-            c.first.result false posted taken counters;
       },
       refl,
     )

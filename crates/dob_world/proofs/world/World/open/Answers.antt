@@ -18,8 +18,7 @@ returns-clause-standing c =
     let some : 0 < n = size.0 in
     let opened : AreOpenedNodes openings k.family n n nodes =
     subst (λ st. AreOpenedNodes openings st n n nodes) (sym c.in_ok-classes.ensures.family) c.in_ok-nodes.ensures in
-    let empty : AreEmptyLanes capacity (n * n) lanes =
-    subst (λ (m : ℕ). AreEmptyLanes capacity (m * m) lanes) (sym c.in-Some.ensures.0) c.in_ok-lanes.ensures in
+    let empty : AreEmptyLanes capacity (n * n) lanes = c.in_ok-lanes.ensures in
     let setting : IsSetting k = record {
       nodes = size;
       sizes = (

@@ -2,7 +2,7 @@
 use Rattle.dob_runner.proofs.Common.{ap, inl, refl, both_ways, IsAtRest}
 use Rattle.dob_runner.proofs.Keeping.{own_before, work_same}
 use Rattle.dob_runner.proofs.Lawfuls.{recoloured, same_inlet}
-use Rattle.dob_runner.proofs.runner.Runner.seeks_token.Goals as goal
+use Rattle.dob_runner.proofs.runner.Runner.seek_token.Goals as goal
 
 pub invariant_of-self : goal.invariant_of-self
 invariant_of-self c =
