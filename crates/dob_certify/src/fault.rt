@@ -9,7 +9,7 @@ use std::error::Error;
 use std::fmt;
 
 /// Why no certificate is made.
-#[derive(Clone, Copy, Debug, PartialEq, Eq)]
+#[derive(Clone, Copy, Debug)]
 pub enum Fault {
     /// E7, E26: the position isn't one of the table's.
     Table(dob_probe::Fault),

@@ -22,7 +22,7 @@ use std::alloc::Global;
 use std::thread::Threads;
 
 /// A certificate with what it proves of a position.
-#[derive(Debug, Drop)]
+#[derive(Drop)]
 pub struct Certified {
     pub claim: Claim,
     pub certificate: Certificate,

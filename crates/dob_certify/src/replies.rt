@@ -14,7 +14,7 @@ use dob_value::outcome_of;
 use std::alloc::Global;
 
 /// What a list of lost classes says of a position.
-#[derive(Clone, Copy, Debug, PartialEq, Eq)]
+#[derive(Clone, Copy)]
 pub enum Reply {
     /// The side to move wins by this move: it catches the lion, with 0 plies, or after it the other side is lost within `plies`.
     Win { played: Move, plies: u16 },

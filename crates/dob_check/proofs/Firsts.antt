@@ -2,7 +2,7 @@
 use Rattle.dob_check.proofs.Common.{◌+◌, ◌<◌, ◌≡◌, Err, List, None, Ok, Option, Some, arith, length, subst, sym, ℕ, unwrap_or, Result}
 use Rattle.dob_certificate.specs.declared.entry.Entry.{Entry}
 use Rattle.dob_certificate.specs.declared.refusal.Refusal.{Refusal}
-use Rattle.dob_certificate.specs.Ascending.{entry_at}
+use Rattle.dob_certificate.specs.Ascending.{listed_entry}
 use Rattle.dob_certificate.specs.Refusals.{IsEntryVerdict, IsListVerdict}
 use Rattle.dob_certificate.proofs.Firsts.{entries_done, first_found}
 use Rattle.dob_check.proofs.Found.{IsFirst}
@@ -12,11 +12,11 @@ Answer = Result Unit Refusal
 
 module _ (Supported : Entry → Type 0) (entries : List Entry) where
   abbrev pub SupportedAt : ℕ → Type 0
-  SupportedAt place = Supported (entry_at entries place)
+  SupportedAt place = Supported (listed_entry entries place)
 
   -- what is answered to the entry at a place
   abbrev pub AnswersAt : ℕ → Answer → Type 0
-  AnswersAt place answer = IsEntryVerdict Supported (entry_at entries place) answer
+  AnswersAt place answer = IsEntryVerdict Supported (listed_entry entries place) answer
 
   -- what is answered of the list
   pub list_answered : (found : Option Answer) (result : Answer) → result ≡ unwrap_or found (Ok tt) → IsFirst SupportedAt AnswersAt 0 (length entries) found →

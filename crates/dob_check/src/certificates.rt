@@ -1,7 +1,7 @@
 // Whether a certificate proves what is claimed, its entries looked at by as many threads as there are processors.
 ghost use Rattle.std.specs.Prelude.{◌≡◌, ◌<◌, ℕ, length, IfOk, IfErr, OnOk, is_err};
 ghost use Rattle.dob_rank.specs.Families.{IsPositionOf};
-ghost use Rattle.dob_certificate.specs.Ascending.{entry_at};
+ghost use Rattle.dob_certificate.specs.Ascending.{listed_entry};
 ghost use Rattle.dob_certificate.specs.Lists.{Supports};
 ghost use Rattle.dob_certificate.specs.Claims.{Holds, Prove};
 ghost use Rattle.dob_certificate.specs.Refusals.{IsEntryVerdict, IsListVerdict, IsRefusal};
@@ -85,7 +85,7 @@ fn check_list<R: Threads + Sync, W: Watch + Sync>(
             || -> Room { Room::new(alloc) },
             |room: &mut Room, place: u64| -> Result<(), Refusal>
                 requires { place < length entries.now }
-                ensures verdict { IsEntryVerdict (Supports kind classes.entry.now.family entries.entry.now) (entry_at entries.entry.now place) result }
+                ensures verdict { IsEntryVerdict (Supports kind classes.entry.now.family entries.entry.now) (listed_entry entries.entry.now place) result }
                 ensures told { IsToldAt (W.told watch.entry.now) (length entries.entry.now) place }
             {
                 tell(watch, entries.as_slice().len() as u64, place);

@@ -14,8 +14,9 @@ pub use Rattle.std.specs.Int.{bit_at, bit_not}
 pub use Rattle.std.specs.List.{All, remove}
 pub use Rattle.dob_pieces.proofs.Allowed.{IsAllowed-mirrored}
 pub use Rattle.dob_pieces.proofs.Boards.{all_below, all_below-at, at-mirrored, at-turned, length-turned}
-pub use Rattle.dob_pieces.proofs.MaskBits.{IsMask-and, IsMask-or, IsMask-same, bit_if}
+pub use Rattle.dob_pieces.proofs.MaskBits.{IsMask-and, IsMask-or, IsMask-same}
 pub use Rattle.dob_pieces.proofs.Symmetries.{mirrored-mirrored}
+pub use Rattle.dob_pieces.specs.Lists.{one_if}
 pub use Rattle.dob_pieces.specs.Masks.{AreSquares, IsMask, entry_of, is_empty, is_end, is_own, is_piece}
 pub use Rattle.dob_pieces.specs.Profiles.{IsAllowed}
 pub use Rattle.dob_pieces.specs.Setups.{Cell, IsLegal, at, board_by, piece_of, setup_of, turned_cell}
@@ -50,7 +51,7 @@ pub use Rattle.dob_rank.proofs.ProfileB.FarSpots.{forms_small, none_counted, one
 pub use Rattle.dob_rank.specs.ClassRows.{marked_place}
 pub use Rattle.dob_rank.specs.Families.{HasClass, HasClasses, HasRank, IsInClass, IsPositionOf, IsRepresentative, RepresentsClass, family_of, is_present}
 unfoldable pub use Rattle.dob_rank.specs.Families.{class_number, class_setup, classes_of, is_marked, rank_of}
-pub use Rattle.dob_rank.specs.Marks.{marked, marks_below, one_if}
+pub use Rattle.dob_rank.specs.Marks.{marked, marks_below}
 pub use Rattle.dob_rank.specs.Numbers.{HasBlock, HasDigits, base_of, bases_by, block_bases, block_of, block_size, board_of, cell_of, choice, choose, count}
 pub use Rattle.dob_rank.specs.Numbers.{digits, digits_of, empty_layers, enemy_squares, forms_number, free_squares, layer, layers_by, nth, number_of, numbers_by}
 pub use Rattle.dob_rank.specs.Numbers.{on_board, order, own_squares, place_of, product, rank_of_set, settle, setup_by, setup_in, start_of, sum_below}

@@ -25,7 +25,7 @@ use dob_rank::runs::{LIONS, RunDigits, RunKind, Spot, kind_of};
 use std::alloc::Global;
 
 /// The classes of a block of a family.
-#[derive(Debug, Drop)]
+#[derive(Drop)]
 pub(crate) struct BlockClasses {
     pub(crate) family: Family,
     pub(crate) number: u64,

@@ -22,7 +22,7 @@ use dob_rank::set_ranks::position_by;
 use std::alloc::Global;
 
 /// The classes of a family, each with its number.
-#[derive(Debug, Drop)]
+#[derive(Drop)]
 pub struct Classes {
     /// The family whose classes these are.
     pub family: Family,

@@ -10,7 +10,7 @@ use dob_pieces::Memory;
 use std::alloc::Global;
 
 /// The runs of each 2^exponent-th class.
-#[derive(Debug, Drop)]
+#[derive(Drop)]
 pub(crate) struct RunIndex {
     exponent: u64,
     entries: Vec<u16>,

@@ -16,7 +16,7 @@ use dob_rank::block;
 use std::alloc::Global;
 
 /// The stretches of a run of a family.
-#[derive(Debug, Drop)]
+#[derive(Drop)]
 pub(crate) struct StretchTable {
     pub(crate) family: Family,
     pub(crate) block: u64,

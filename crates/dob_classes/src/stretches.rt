@@ -16,7 +16,7 @@ use dob_rank::runs::Spot;
 use std::alloc::Global;
 
 /// A stretch of places of a run: where it begins, how many marked places of the run are before it, and whether its own are.
-#[derive(Clone, Copy, Debug)]
+#[derive(Clone, Copy)]
 pub(crate) struct Stretch {
     pub(crate) start: u64,
     pub(crate) before: u64,

@@ -109,8 +109,7 @@ impl<T: Copy> Segments<T> {
         ensures get { slice_get self.now place ≡ Some result }
         ensures index { result ≡ slice_index_or self.now place result }
     {
-        let (number, within) = self.segment_length.split(place);
-        self.segments[number][within]
+        self[place as usize]
     }
 
     /// Appends the items one after another.

@@ -1,6 +1,6 @@
 -- The steps and drops that masks give are those of the walk over all squares.
 use Rattle.dob_moves.proofs.Common.{◌&&◌, ◌<◌, ◌∙◌, ◌∷◌, ◌≡◌, Bool, List, None, Some, [], ap, bit_and, cond, false, length, nat_lt, option_to_list, refl, true}
-use Rattle.dob_moves.proofs.Common.{ℕ, lt-ltb, is_some, IsMask-and, bit_if, IsCounting, IsQuiet, each_below, IsMask, is_empty, is_end, is_own, own_kind, leads}
+use Rattle.dob_moves.proofs.Common.{ℕ, lt-ltb, is_some, IsMask-and, one_if, IsCounting, IsQuiet, each_below, IsMask, is_empty, is_end, is_own, own_kind, leads}
 use Rattle.dob_moves.proofs.Common.{Cell, at, held, HandKind, Kind, Profile, Setup, grows_at, may_put, drops_of, put_if, put_on, steps_from, steps_if}
 use Rattle.dob_moves.proofs.Common.{Elsewhere, Move, Put, Step}
 use Rattle.dob_moves.proofs.Masked.{end_is}
@@ -35,7 +35,7 @@ steps_quiet p kind from to isnt = steps_to-is p kind from to ∙ ap (λ (b : Boo
 pub step_there : (p : Setup) (kind : Kind) (from to : ℕ) → may_step p kind from to ≡ true → steps_to p kind from to ≡ the_step p kind from to ∷ []
 step_there p kind from to is = steps_to-is p kind from to ∙ ap (λ (b : Bool). cond b (the_step p kind from to ∷ []) []) is
 
-length_if : (b : Bool) (move : Move) → length (cond b (move ∷ []) []) ≡ bit_if b
+length_if : (b : Bool) (move : Move) → length (cond b (move ∷ []) []) ≡ one_if b
 length_if true move = refl
 length_if false move = refl
 

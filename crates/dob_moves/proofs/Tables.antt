@@ -1,21 +1,10 @@
 -- The steps of each kind lead, in their order, to exactly the squares to which a step of the kind leads, ascending.
-use Rattle.dob_moves.proofs.Common.{◌&&◌, ◌++◌, ◌<◌, ◌∷◌, ◌≡◌, Bool, List, None, Option, Some, [], cond, eqb, false, option_to_list, refl, suc, true, zero, ℕ}
+use Rattle.dob_moves.proofs.Common.{◌++◌, ◌<◌, ◌∷◌, ◌≡◌, Bool, List, None, Option, Some, [], cond, false, option_to_list, refl, suc, true, zero, ℕ}
 use Rattle.dob_moves.proofs.Common.{filter-append, filter_map-append, cons_option, filter, filter_map, all_below, all_below-at, each_below, leads, at, Kind}
 use Rattle.dob_moves.proofs.Common.{Lion, Setup, step_by, step_if, step_onto, steps_by, Aim, Move}
+use Rattle.dob_pieces.proofs.Lists.{same_list, same_list-true}
 use Rattle.dob_pieces.specs.Pieces.{steps_of, square_after}
 use Rattle.std.proofs.Common.{rules}
-
-abbrev same_numbers : List ℕ → List ℕ → Bool
-same_numbers [] [] = true
-same_numbers [] (y ∷ ys) = false
-same_numbers (x ∷ xs) [] = false
-same_numbers (x ∷ xs) (y ∷ ys) = eqb x y && same_numbers xs ys
-
-same_numbers-true : (xs ys : List ℕ) → same_numbers xs ys ≡ true → xs ≡ ys
-same_numbers-true [] [] h = refl
-same_numbers-true [] (y ∷ ys) h = cc
-same_numbers-true (x ∷ xs) [] h = cc
-same_numbers-true (x ∷ xs) (y ∷ ys) h = search (rules, (same_numbers-true xs ys))
 
 -- the numbers below n
 abbrev numbers : ℕ → List ℕ
@@ -27,7 +16,7 @@ abbrev targets : Kind → ℕ → List ℕ
 targets kind from = filter_map (square_after from) (steps_of kind)
 
 abbrev targets_agree : Kind → ℕ → Bool
-targets_agree kind from = same_numbers (targets kind from) (filter (leads kind from) (numbers 12))
+targets_agree kind from = same_list (targets kind from) (filter (leads kind from) (numbers 12))
 
 targets_all : (kind : Kind) → all_below (targets_agree kind) 12 ≡ true
 unfolding leads
@@ -35,7 +24,7 @@ targets_all Lion = refl
 targets_all _ = refl
 
 targets_are : (kind : Kind) (from : ℕ) → from < 12 → targets kind from ≡ filter (leads kind from) (numbers 12)
-targets_are kind from h = same_numbers-true _ _ (all_below-at (targets_agree kind) 12 from (targets_all kind) h)
+targets_are kind from h = same_list-true _ _ (all_below-at (targets_agree kind) 12 from (targets_all kind) h)
 
 -- ---- the steps of a piece, by the square stepped to
 

@@ -2,7 +2,7 @@
 use dob_pieces::{HandKind, Kind, Square};
 
 /// A move of the side to move.
-#[derive(Clone, Copy, Debug, PartialEq, Eq)]
+#[derive(Clone, Copy, PartialEq, Eq)]
 pub enum Move {
     /// A step of a piece of that kind, as it was before the step, from one square to another; `catch` if it
     /// catches a piece, `grows` if a chick becomes a hen.

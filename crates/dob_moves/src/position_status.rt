@@ -1,7 +1,7 @@
 // What a position is before any move is made.
 
 /// The status of a position, decided in this order.
-#[derive(Clone, Copy, Debug, PartialEq, Eq)]
+#[derive(Clone, Copy, PartialEq, Eq)]
 pub enum Status {
     /// Some step of the side to move ends on the enemy lion: a win in one ply.
     Caught,

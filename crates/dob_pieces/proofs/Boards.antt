@@ -1,5 +1,5 @@
 -- Boards read, turned, mirrored and written.
-use Rattle.dob_pieces.proofs.Common.{◌&&◌, ◌+◌, ◌-◌, ◌<◌, ◌∙◌, ◌∷◌, ◌≡◌, ◌≢◌, ◌≤◌, Bool, List, None, Some, [], ap, arith, cond, length, ltb, not, refl, set}
+use Rattle.dob_pieces.proofs.Common.{◌&&◌, ◌+◌, ◌-◌, ◌<◌, ◌∙◌, ◌∷◌, ◌≡◌, ◌≢◌, ◌≤◌, Bool, List, None, Some, [], ap, arith, length, ltb, not, refl, set, one_if}
 use Rattle.dob_pieces.proofs.Common.{slice_index_or, subst, suc, sym, true, zero, ℕ, ⊎_elim, and_parts, both_ways, cases_eq, ltb-true, not-true}
 use Rattle.dob_pieces.proofs.Common.{get_or-set_other, get_or_past, length-set, fill_by_all, get_or-map-range_with_len, get_or-le-sum_by, sum_by-set, count_by}
 use Rattle.dob_pieces.proofs.Common.{sum_by, is_lion, is_side, leads, other_side, Cell, HasLions, IsLegal, at, board_by, holds_lion, mirrored, piece_of, turned}
@@ -83,9 +83,6 @@ sum-mirrored f (a ∷ b ∷ c ∷ d ∷ e ∷ i ∷ j ∷ k ∷ l ∷ m ∷ n �
 sum-mirrored f board eq = absurd (omega arith)
 
 -- ---- counts of a turned and of a mirrored board
-
-abbrev pub one_if : Bool → ℕ
-one_if b = cond b 1 0
 
 turned-holds_kind : (kind : HandKind) (cell : Cell) → holds_kind kind (turned_cell cell) ≡ holds_kind kind cell
 turned-holds_kind kind None = refl

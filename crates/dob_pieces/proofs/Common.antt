@@ -13,7 +13,7 @@ pub use Rattle.std.specs.Int.{bit_at, bit_not, trailing_zeros, w16}
 pub use Rattle.std.specs.List.{AllZip, Any, count_by, list_any, range_with_len, sum_by}
 pub use Rattle.std.specs.Prelude.{MatchResult, Result, Vec, slice_get}
 pub use mathlib.Core.Bool.{beq}
-pub use Rattle.dob_pieces.specs.Lists.{each_below, sum_below}
+pub use Rattle.dob_pieces.specs.Lists.{each_below, one_if, sum_below}
 pub use Rattle.dob_pieces.specs.Masks.{AreMasks, AreSquares, IsMask, attacks, attacks_by, entry_of, is_empty, is_end, is_own, is_piece, kind_place}
 pub use Rattle.dob_pieces.specs.Masks.{own_kind, side_place}
 pub use Rattle.dob_pieces.specs.Pieces.{is_lion, is_side, other_side}

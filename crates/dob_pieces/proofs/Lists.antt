@@ -1,7 +1,8 @@
--- Lists made piece by piece: what they contain, their parts, and their order.
+-- Lists made piece by piece: what they contain, their parts, their order, and whether two are the same.
 use Rattle.dob_pieces.proofs.Common.{◌++◌, ◌<◌, ◌∙◌, ◌∷◌, ◌≡◌, ◌≤◌, ◌⊎◌, Bool, Contains, List, [], ap, arith, cond, drop, false, inl, inr, length, refl, subst}
 use Rattle.dob_pieces.proofs.Common.{suc, sym, true, zero, ℕ, cases_eq, cases_lt, drop_at, take_at, each_below}
-use Rattle.std.proofs.Common.{take, All, AllPairs}
+use Rattle.std.proofs.Common.{◌&&◌, nat_eq, take, All, AllPairs}
+use Rattle.std.proofs.lemmas.Bool.Decides.{nat_tests}
 use Rattle.std.proofs.lemmas.List.Elements.{Contains-append_left, Contains-append_right, Contains-append_cases, All-nil, All-cons}
 use Rattle.std.proofs.lemmas.List.Kept.{AllPairs-cons}
 
@@ -101,3 +102,16 @@ module _ {X : Type 0} (place : X → ℕ) where
       AllPairs-cons (λ (a b : X). place a < place b) x xs
       (λ k d h. omega (arith, rising-after (suc (place x)) high xs r.1 k d h))
       (rising-pairs (suc (place x)) high xs r.1)
+
+-- ---- two lists of numbers compared by a test that computes
+
+abbrev pub same_list : List ℕ → List ℕ → Bool
+same_list [] [] = true
+same_list [] (y ∷ ys) = false
+same_list (x ∷ xs) [] = false
+same_list (x ∷ xs) (y ∷ ys) = nat_eq x y && same_list xs ys
+
+pub same_list-true : (xs ys : List ℕ) → same_list xs ys ≡ true → xs ≡ ys
+same_list-true [] [] h = refl
+same_list-true (x ∷ xs) (y ∷ ys) h = grind (arith, nat_tests, same_list-true xs ys, h)
+same_list-true xs ys h = absurd (let e : false ≡ true = h in cc)

@@ -1,20 +1,17 @@
 -- Sets of squares as masks: what the operations on bits make of them.
-use Rattle.dob_pieces.proofs.Common.{◌%◌, ◌&&◌, ◌-◌, ◌<◌, ◌^◌, ◌||◌, ◌∙◌, ◌≡◌, ◌≢◌, ◌≤◌, Bool, ap, arith, bit_and, bit_or, cond, false, inl, inr, not, refl}
+use Rattle.dob_pieces.proofs.Common.{◌%◌, ◌&&◌, ◌-◌, ◌<◌, ◌^◌, ◌||◌, ◌∙◌, ◌≡◌, ◌≢◌, ◌≤◌, Bool, ap, arith, bit_and, bit_or, false, inl, inr, not, refl, one_if}
 use Rattle.dob_pieces.proofs.Common.{suc, sym, true, ℕ, and_parts, cases_eq, cases_lt, le-leb, leb-true, lt-leb, bit_at, bit_not, trailing_zeros, IsMask}
 use Rattle.std.proofs.Common.{◌*◌, min, max, nat_le, rules, w16}
 use Rattle.std.proofs.lemmas.Nat.{and_le_l, or_lt}
 use Rattle.std.proofs.lemmas.Nat.Bits.{bit_at_and, bit_at_or, bit_at_not, bit_at-trailing_zeros, bit_at_clear_same, bit_at_clear_other, bit_at_above}
 use Rattle.std.proofs.lemmas.Nat.Bits.{bit_at-zero}
 
-abbrev pub bit_if : Bool → ℕ
-bit_if b = cond b 1 0
-
-min-bits : (a b : Bool) → min (bit_if a) (bit_if b) ≡ bit_if (a && b)
+min-bits : (a b : Bool) → min (one_if a) (one_if b) ≡ one_if (a && b)
 min-bits true true = refl
 min-bits false true = refl
 min-bits _ _ = refl
 
-max-bits : (a b : Bool) → max (bit_if a) (bit_if b) ≡ bit_if (a || b)
+max-bits : (a b : Bool) → max (one_if a) (one_if b) ≡ one_if (a || b)
 max-bits true true = refl
 max-bits false true = refl
 max-bits _ _ = refl
@@ -30,7 +27,7 @@ IsMask-or f g a b is are = record {
   bits = λ square lt. rw (bit_at_or a b square, is.bits square lt, are.bits square lt) (max-bits (f square) (g square));
 }
 
-without-bits : (a b : Bool) → min (bit_if a) (1 - bit_if b) ≡ bit_if (a && not b)
+without-bits : (a b : Bool) → min (one_if a) (1 - one_if b) ≡ one_if (a && not b)
 without-bits true true = refl
 without-bits false true = refl
 without-bits _ _ = refl
@@ -48,11 +45,11 @@ IsMask-without f g a b is are = record {
 pub IsMask-same : (f g : ℕ → Bool) (a : ℕ) → ((square : ℕ) → square < 12 → f square ≡ g square) → IsMask f a → IsMask g a
 IsMask-same f g a same is = grind arith
 
-from_bit : (b : Bool) → bit_if b ≡ 1 → b ≡ true
+from_bit : (b : Bool) → one_if b ≡ 1 → b ≡ true
 from_bit true e = refl
 from_bit false e = absurd (omega arith)
 
-from_no_bit : (b : Bool) → bit_if b ≡ 0 → b ≡ false
+from_no_bit : (b : Bool) → one_if b ≡ 0 → b ≡ false
 from_no_bit true e = absurd (omega arith)
 from_no_bit false e = refl
 
@@ -133,7 +130,7 @@ next_left test from mask place is some e =
     λ s ge below. ap (λ (b : Bool). b && test s) (sym (le-leb from s ge)) ∙ it.lowest s below in
     let smaller : without mask place ≤ mask = and_le_l mask (bit_not w16 (1 * 2 ^ place % 2 ^ 16)) in
     let off = bit_at_clear_same w16 mask place here in
-    let on = is.bits place lt ∙ ap bit_if it.passes in
+    let on = is.bits place lt ∙ ap one_if it.passes in
     let low = is.within in
     record {
       not_before = le;
@@ -144,9 +141,9 @@ next_left test from mask place is some e =
         within = omega (arith, smaller, low);
         bits = λ square below.
             elim (cases_eq square place) [
-              | inl same ↦ rw same (off ∙ sym (ap (λ (b : Bool). bit_if (b && test place)) (lt-leb (suc place) place (omega arith))))
+              | inl same ↦ rw same (off ∙ sym (ap (λ (b : Bool). one_if (b && test place)) (lt-leb (suc place) place (omega arith))))
               | inr apart ↦ bit_at_clear_other w16 mask place here square (omega (arith, below)) apart ∙ is.bits square below
-                  ∙ ap bit_if (cleared test from place square le apart between)
+                  ∙ ap one_if (cleared test from place square le apart between)
             ];
       };
       less = elim (cases_lt (without mask place) mask) [

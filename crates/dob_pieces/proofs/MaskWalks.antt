@@ -1,11 +1,11 @@
 -- Walks over the squares of a mask, from the lowest on, and counts of them.
 use Rattle.dob_pieces.proofs.Common.{◌++◌, ◌<◌, ◌∙◌, ◌≡◌, ◌≤◌, Bool, List, [], ap, append-nil, append_assoc, arith, count_ones, false, inl, inr, length, map}
 use Rattle.dob_pieces.proofs.Common.{refl, suc, sym, true, zero, ℕ, cases_lt, length-append, get_or-map-range_with_len, bit_mask_l, mask_l-lt, ones-mask_l}
-use Rattle.dob_pieces.proofs.Common.{trailing_zeros, w16, count_by, range_with_len, each_below, sum_below, IsMask}
+use Rattle.dob_pieces.proofs.Common.{trailing_zeros, w16, count_by, range_with_len, each_below, sum_below, IsMask, one_if}
 use Rattle.std.specs.Simd.Lanes.{mask_l}
 use Rattle.std.proofs.lemmas.List.Sums.{count_by-le-length}
 use Rattle.std.proofs.lemmas.Nat.Bits.{same_from_bits_below}
-use Rattle.dob_pieces.proofs.MaskBits.{bit_if, IsLeft, without, all_left, next_left, none_left}
+use Rattle.dob_pieces.proofs.MaskBits.{IsLeft, without, all_left, next_left, none_left}
 
 -- what gives nothing is passed
 module _ {X : Type 0} where
@@ -49,7 +49,7 @@ module _ {X : Type 0} where
 
   -- each square of the mask gives one item, and each other none
   abbrev pub IsCounting : (ℕ → Bool) → (ℕ → List X) → Type 0
-  IsCounting test g = (k : ℕ) → length (g k) ≡ bit_if (test k)
+  IsCounting test g = (k : ℕ) → length (g k) ≡ one_if (test k)
 
 -- the lowest square gone over
 module _ {X : Type 0} {test : ℕ → Bool} {g : ℕ → List X} {left place after : ℕ} {before items : List X} (w : IsWalked test g left before items)

@@ -5,7 +5,7 @@ ghost use Rattle.dob_pieces.specs.Setups.{held, with_one_more, with_one_less};
 use crate::kind::HandKind;
 
 /// How many pieces of each kind one side has in hand. A caught hen lies there as a chick.
-#[derive(Clone, Copy, Debug, PartialEq, Eq)]
+#[derive(Clone, Copy, PartialEq, Eq)]
 pub struct Hand {
     pub chicks: u8,
     pub elephants: u8,
@@ -68,7 +68,7 @@ impl Hand {
 }
 
 /// The hands of both sides.
-#[derive(Clone, Copy, Debug, PartialEq, Eq)]
+#[derive(Clone, Copy, PartialEq, Eq)]
 pub struct Hands {
     pub mover: Hand,
     pub enemy: Hand,

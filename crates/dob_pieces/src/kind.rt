@@ -4,7 +4,7 @@ ghost use Rattle.dob_pieces.specs.Pieces.{other_side, kind_in_hand, kind_on_boar
 ghost use Rattle.dob_pieces.specs.Setups.{piece_of};
 
 /// The side to move, or the other one.
-#[derive(Clone, Copy, Debug, PartialEq, Eq)]
+#[derive(Clone, Copy, PartialEq, Eq)]
 pub enum Side {
     Mover,
     Enemy,
@@ -23,7 +23,7 @@ impl Side {
 }
 
 /// A kind of piece as it stands on the board. A hen is a chick that has stepped onto its far row.
-#[derive(Clone, Copy, Debug, PartialEq, Eq)]
+#[derive(Clone, Copy, PartialEq, Eq)]
 pub enum Kind {
     Lion,
     Giraffe,
@@ -47,7 +47,7 @@ impl Kind {
 }
 
 /// A kind of piece that can lie in a hand, in the order in which hands and piece sets list them.
-#[derive(Clone, Copy, Debug, PartialEq, Eq)]
+#[derive(Clone, Copy, PartialEq, Eq)]
 pub enum HandKind {
     Chick,
     Elephant,
@@ -68,7 +68,7 @@ impl HandKind {
 }
 
 /// A piece on the board.
-#[derive(Clone, Copy, Debug, PartialEq, Eq)]
+#[derive(Clone, Copy, PartialEq, Eq)]
 pub struct Piece {
     pub side: Side,
     pub kind: Kind,

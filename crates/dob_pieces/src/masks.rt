@@ -14,7 +14,7 @@ use crate::square::Square;
 pub const ALL_SQUARES: u16 = 0b111_111_111_111;
 
 /// The squares of a setup, by what stands there. Those of a kind are the mover's.
-#[derive(Clone, Copy, Debug, PartialEq, Eq)]
+#[derive(Clone, Copy)]
 pub struct Masks {
     pub lion: u16,
     pub giraffes: u16,

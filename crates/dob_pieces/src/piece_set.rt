@@ -6,7 +6,7 @@ use std::fmt;
 
 /// How many chicks (hens counted with them), elephants and giraffes there are besides the lions, board and
 /// hands together: 0 to 2 of each.
-#[derive(Clone, Copy, Debug, PartialEq, Eq)]
+#[derive(Clone, Copy, PartialEq, Eq)]
 pub struct PieceSet {
     pub chicks: u8,
     pub elephants: u8,

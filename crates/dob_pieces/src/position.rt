@@ -13,7 +13,7 @@ use crate::square::Square;
 
 /// A position, seen from the side to move. It is legal: each side has one lion, no kind has more than two
 /// pieces (hens count as chicks, board and hands together), and the mover's lion isn't on row 4.
-#[derive(Clone, Copy, Debug, PartialEq, Eq)]
+#[derive(Clone, Copy, PartialEq, Eq)]
 pub struct Position {
     pub setup: Setup,
     pub ghost legal: { IsLegal setup },

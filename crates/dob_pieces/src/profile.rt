@@ -9,7 +9,7 @@ use std::error::Error;
 use std::fmt;
 
 /// A profile of the rules: whether a chick may be dropped on its far row, and so stand there.
-#[derive(Clone, Copy, Debug, PartialEq, Eq)]
+#[derive(Clone, Copy, PartialEq, Eq)]
 pub enum Profile {
     /// It may.
     A,
@@ -65,14 +65,14 @@ fn is_far_chick(square: Square, cell: Option<Piece>) -> bool
 }
 
 /// The positions of a piece set by a profile of the rules.
-#[derive(Clone, Copy, Debug, PartialEq, Eq)]
+#[derive(Clone, Copy, PartialEq, Eq)]
 pub struct Family {
     pub set: PieceSet,
     pub profile: Profile,
 }
 
 /// E26: a chick stands on its own far row, which in profile B is no position.
-#[derive(Clone, Copy, Debug, PartialEq, Eq)]
+#[derive(Clone, Copy, Debug)]
 pub struct FarChick;
 
 impl fmt::Display for FarChick {

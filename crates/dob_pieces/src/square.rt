@@ -5,7 +5,7 @@ ghost use Rattle.dob_pieces.specs.Squares.{column, row, turned_square, mirrored_
 use std::marker::Model;
 
 /// A square of the board, as its number: a1 is 0, b1 is 1, c1 is 2, a2 is 3, and so on to c4, which is 11.
-#[derive(Clone, Copy, Debug, PartialEq, Eq, PartialOrd, Ord)]
+#[derive(Clone, Copy, PartialEq, Eq)]
 pub struct Square {
     index: u8,
 }

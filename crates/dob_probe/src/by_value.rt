@@ -24,7 +24,7 @@ use dob_value::{Table, Value, outcome_of};
 use std::alloc::Global;
 
 /// A move with the value that the side that makes it then has.
-#[derive(Clone, Copy, Debug, PartialEq, Eq)]
+#[derive(Clone, Copy)]
 pub struct ValuedMove {
     pub played: Move,
     pub value: Value,

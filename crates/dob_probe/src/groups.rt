@@ -11,7 +11,7 @@ use dob_value::{Table, Value, code_of_value};
 use std::alloc::Global;
 
 /// The classes of one value: how many they are, and the number of the first, whose representative is an example.
-#[derive(Clone, Copy, Debug, PartialEq, Eq)]
+#[derive(Clone, Copy)]
 pub struct Group {
     pub value: Value,
     pub classes: u64,

@@ -20,7 +20,7 @@ use dob_value::{Table, Value};
 use std::alloc::Global;
 
 /// A class that is won by one move alone: its number, and that move of its representative.
-#[derive(Clone, Copy, Debug, PartialEq, Eq)]
+#[derive(Clone, Copy)]
 pub struct Puzzle {
     pub class: u64,
     pub played: Move,

@@ -17,6 +17,7 @@ unfoldable pub use Rattle.dob_pieces.specs.Setups.{mirrored, total}
 pub use Rattle.dob_pieces.specs.declared.hand.Hand.{Hand}
 pub use Rattle.dob_pieces.specs.declared.kind.HandKind.{HandKind}
 pub use Rattle.dob_pieces.specs.declared.kind.Kind.{Kind}
+pub use Rattle.dob_pieces.specs.Lists.{one_if}
 pub use Rattle.dob_pieces.specs.declared.kind.Kind.TheVariants.{Chick, Elephant, Giraffe, Hen, Lion}
 pub use Rattle.dob_pieces.specs.declared.kind.Side.{Side}
 pub use Rattle.dob_pieces.specs.declared.kind.Side.TheVariants.{Enemy, Mover}
@@ -28,7 +29,7 @@ pub use Rattle.dob_pieces.specs.declared.setup.Setup.{Setup}
 pub use Rattle.dob_lists.proofs.Sums.{same_block, sum_alike, sum_below-rises, sum_blocks, sum_parts, sum_same, sum_times}
 pub use Rattle.dob_rank.specs.Families.{HasRank, HasSize, IsPositionOf, IsRanked, family_of}
 unfoldable pub use Rattle.dob_rank.specs.Families.{classes_of, is_marked, is_present, rank_of, size_of}
-pub use Rattle.dob_rank.specs.Marks.{is_first, one_if}
+pub use Rattle.dob_rank.specs.Marks.{is_first}
 unfoldable pub use Rattle.dob_rank.specs.Marks.{marked, marks_below}
 pub use Rattle.dob_rank.specs.Masks.{all_squares, first_bit, from_mask, layer_mask, plane, plane_len, planes}
 pub use Rattle.dob_rank.specs.Numbers.{HasBlock, HasDigits, base_of, bases_by, block_bases, block_of, board_of, cell_of, choice, choose, count}

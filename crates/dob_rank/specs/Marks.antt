@@ -1,12 +1,9 @@
 -- Marked ranks.
-use Rattle.std.specs.Prelude.{ℕ, ◌&&◌, nat_lt, nat_le, Bool, true, false}
+use Rattle.std.specs.Prelude.{ℕ, ◌&&◌, nat_lt, nat_le, Bool}
+use Rattle.dob_pieces.specs.Lists.{one_if}
 use Rattle.dob_pieces.specs.declared.piece_set.PieceSet.{PieceSet}
 use Rattle.dob_pieces.specs.Setups.{mirrored}
 use Rattle.dob_rank.specs.Numbers.{sum_below, size_of_set, rank_of_set, nth}
-
-abbrev pub one_if : Bool → ℕ
-one_if true = 1
-one_if false = 0
 
 -- how many places below a bound are marked
 unfoldable pub marks_below : (ℕ → Bool) → ℕ → ℕ

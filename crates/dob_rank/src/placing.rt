@@ -52,7 +52,7 @@ pub fn among(taken: (u64, u64), places: (u64, u64)) -> (u64, u64)
 
 /// The places of the pieces of each kind among the squares that the lions leave: of two the lower first, and beyond all places where
 /// there is no piece.
-#[derive(Clone, Copy, Debug)]
+#[derive(Clone, Copy)]
 pub struct Places {
     pub chicks: (u8, u8),
     pub elephants: (u8, u8),

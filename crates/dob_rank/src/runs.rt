@@ -18,7 +18,7 @@ pub const LIONS: u64 = OWN_SQUARES * ENEMY_SQUARES;
 pub(crate) const FREE_SQUARES: u64 = 10;
 
 /// Whether the positions of a run are no later than their mirror images.
-#[derive(Clone, Copy, Debug)]
+#[derive(Clone, Copy)]
 pub enum RunKind {
     /// Each of them is the earlier one: the mover's lion is on column a, or on b with the enemy's on a.
     First,
@@ -52,7 +52,7 @@ pub struct Spot {
 
 /// The digits that the positions of a run have in common: the mover's hand, the square of the mover's lion, and that of the
 /// enemy's by its number among those that the other one leaves.
-#[derive(Clone, Copy, Debug)]
+#[derive(Clone, Copy)]
 pub struct RunDigits {
     pub hand: Hand,
     pub own: u8,

@@ -8,6 +8,7 @@ pub use Rattle.std.proofs.lemmas.List.{get_or_append_left, get_or_default, get_o
 pub use Rattle.std.proofs.lemmas.List.{take-append-drop, take_all, take_min, take_more}
 pub use Rattle.std.proofs.lemmas.List.Elements.{Contains-append_cases, Contains-append_left, Contains-append_right}
 pub use Rattle.std.proofs.lemmas.Option.{slice_get_read, slice_get_within}
+pub use Rattle.std.specs.Int.{from_bool}
 pub use Rattle.std.specs.List.{AllZip, range_with_len}
 pub use Rattle.std.specs.Prelude.{IfOk, Result, slice_get}
 pub use Rattle.rayon.proofs.ListFacts.{AllZip-weaken, IfOk-then}
@@ -23,7 +24,6 @@ pub use Rattle.dob_classes.proofs.OfFamilies.FamilyNumbers.{IsInClass-class_numb
 pub use Rattle.dob_value.proofs.Successors.{AreSuccessorsBelow, move_goes, moves_keep_the_family, successors_all, successors_more, successors_none}
 pub use Rattle.dob_reach.specs.Counts.{Among, HasJust}
 pub use Rattle.dob_reach.specs.Distances.{IsAway, IsReached, Met}
-pub use Rattle.dob_rank.specs.Marks.{one_if}
 pub use Rattle.dob_reach.specs.Fronts.{AreExpanded, IsExpanded, IsPartAt, IsPlace, IsSifted, opens_of, outcomes_of, part_at, part_count, parts_before}
 pub use Rattle.dob_reach.specs.Leads.{IsOpen, Leads}
 pub use Rattle.dob_reach.specs.Marks.{AreMarked, HasBits, HaveBits, IsMarked, KeepsMarks, mark_of}

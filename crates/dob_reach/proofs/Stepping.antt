@@ -3,7 +3,7 @@ use Rattle.dob_reach.proofs.Common.{◌*◌, ◌++◌, ◌+◌, ◌-◌, ◌<◌
 use Rattle.dob_reach.proofs.Common.{Contains-append_cases, Contains-append_left, Contains-append_right, Family, Goes, HasBits, HasStatus, HaveBits}
 use Rattle.dob_reach.proofs.Common.{IsExpanded, IsInClass, IsInClass-class_number, IsMarked, IsOpen, IsPartAt, IsSifted, KeepsMarks, Leads, List, Open, Part}
 use Rattle.dob_reach.proofs.Common.{RepresentsClass, Setup, [], ap, append-nil, append_assoc, arith, class_number-below, classes_of, drop, false, get_or}
-use Rattle.dob_reach.proofs.Common.{head_in, inl, inr, length, length-drop, length-take, min, none_in_empty, one_if, opens_of, outcomes_of, part_at}
+use Rattle.dob_reach.proofs.Common.{head_in, inl, inr, length, length-drop, length-take, min, none_in_empty, from_bool, opens_of, outcomes_of, part_at}
 use Rattle.dob_reach.proofs.Common.{part_count, parts_before, range_with_len, refl, subst, suc, sym, take, take-add, take-append-drop, take_all, take_min}
 use Rattle.dob_reach.proofs.Common.{take_more, true, zero, ℕ}
 use Rattle.dob_classes.proofs.OfFamilies.FamilyRepresentatives.{one_class, one_representative}
@@ -104,17 +104,17 @@ expanded_both {family = family} {front = front} {behind = behind} {outcomes = ou
   open_are = among_both (IsOpen family) front behind m n a.open_are b.open_are;
 }
 
-pub one_few : (is_so : Bool) → one_if is_so ≤ 1
+pub one_few : (is_so : Bool) → from_bool is_so ≤ 1
 one_few true = omega arith
 one_few false = omega arith
 
 among_bool : (family : Family) (class : ℕ) (is_open : Bool) → (is_open ≡ true → IsOpen family class) → (IsOpen family class → is_open ≡ true)
-    → Among (IsOpen family) (class ∷ []) (one_if is_open)
+    → Among (IsOpen family) (class ∷ []) (from_bool is_open)
 among_bool family class true opened closed = among_one (IsOpen family) class (opened refl)
 among_bool family class false opened closed = among_none (IsOpen family) class (λ is. let no_way = closed is in absurd (cc))
 
 expanded_one : {family : Family} {words : List ℕ} {class : ℕ} {numbers : List ℕ} {is_open : Bool} → IsExpanded family words class numbers is_open
-    → AreExpanded family words (class ∷ []) numbers (one_if is_open)
+    → AreExpanded family words (class ∷ []) numbers (from_bool is_open)
 expanded_one {family = family} {class = class} {is_open = is_open} is = record {
   sound = λ other there. (class, head_in class [], is.sound other there);
   whole = λ other step. is.whole other (subst (λ k. Leads family k other) (sym (only_one class step.0 step.1)) step.2);
@@ -122,7 +122,7 @@ expanded_one {family = family} {class = class} {is_open = is_open} is = record {
 }
 
 pub expanded_more : {family : Family} {words front outcomes more : List ℕ} {opens class : ℕ} {is_open : Bool} → AreExpanded family words front outcomes opens
-    → IsExpanded family words class more is_open → AreExpanded family words (front ++ class ∷ []) (outcomes ++ more) (opens + one_if is_open)
+    → IsExpanded family words class more is_open → AreExpanded family words (front ++ class ∷ []) (outcomes ++ more) (opens + from_bool is_open)
 expanded_more are is = expanded_both are (expanded_one is)
 
 -- marks that stay keep it

@@ -1,20 +1,16 @@
 // What classes lead to: one by one, and in parts by as many threads as there are processors.
 ghost use Rattle.std.specs.Prelude.{◌≡◌, ◌<◌, ◌≤◌, ◌-◌, ◌+◌, ◌++◌, ◌∷◌, ◌↔◌, ℕ, List, [], IfOk, OnOk, true};
 ghost use Rattle.std.specs.List.{AllZip, range_with_len};
-ghost use Rattle.dob_pieces.specs.declared.setup.Setup.{Setup};
 ghost use Rattle.dob_moves.specs.declared.position_status.Status.{Status};
-ghost use Rattle.dob_moves.specs.Moves.{CanGo, Goes};
-ghost use Rattle.dob_moves.specs.Statuses.{HasStatus};
-ghost use Rattle.dob_rank.specs.Families.{IsInClass, IsPositionOf, classes_of};
+ghost use Rattle.dob_rank.specs.Families.{classes_of};
 ghost use Rattle.dob_reach.specs.Fronts.{AreClasses, AreExpanded, IsExpanded, IsPartAt, IsPlace, IsSifted, part_count};
-ghost use Rattle.dob_rank.specs.Marks.{one_if};
 ghost use Rattle.dob_reach.specs.Marks.{HasBits};
 
 use crate::marks::Marks;
 use dob_classes::Classes;
 use dob_moves::{Move, Status, moves_into};
-use dob_pieces::{Memory, Position};
-use dob_value::outcome_of;
+use dob_pieces::Memory;
+use dob_value::class_after;
 use rayon::prelude::*;
 use std::alloc::Global;
 use std::thread::Threads;
@@ -101,16 +97,9 @@ fn part_of(alloc: Global, classes: &Classes, marks: &Marks, part: &[u32]) -> Res
     let mut opens = 0;
     for class in part {
         let is_open = push_outcomes(classes, marks, *class, &mut room, &mut outcomes)?;
-        opens += one_if(is_open);
+        opens += u64::from(is_open);
     }
     Ok(Part { outcomes, opens })
-}
-
-// One where it is so.
-fn one_if(is_so: bool) -> u64
-    ensures { result ≡ one_if is_so }
-{
-    if is_so { 1 } else { 0 }
 }
 
 // Appends the classes to which the class's moves lead, but those that are marked, and says whether it is open. The list of
@@ -129,11 +118,12 @@ fn push_outcomes(
     ensures { IfOk result (λ is_open. (more : List ℕ) × (outcomes.new.items ≡ outcomes.old.items ++ more)
         × IsExpanded classes.now.family marks.now.words.items class more is_open) }
 {
+    let _few = classes.class_count();
     let position = classes.class_at(class as u64);
     let status = moves_into(classes.family.profile, room, &position)?;
     for played in room.iter() {
         let outcome = class_after(classes, &position, *played);
-        push_unmarked(marks, outcomes, outcome)?;
+        push_unmarked(marks, outcomes, outcome as u32)?;
     }
     Ok(is_open(status))
 }
@@ -156,16 +146,4 @@ fn push_unmarked(marks: &Marks, numbers: &mut Vec<u32>, number: u32) -> Result<(
         numbers.push(number)?;
     }
     Ok(())
-}
-
-// The number of the class to which the move leads.
-fn class_after(classes: &Classes, position: &Position, played: Move) -> u32
-    requires member { IsPositionOf classes.now.family position.now.setup }
-    requires is_open { HasStatus classes.now.family.profile position.now.setup Status.Open }
-    requires can_go { CanGo classes.now.family.profile position.now.setup played }
-    ensures class { (q : Setup) → Goes classes.now.family.profile position.now.setup played q → IsInClass classes.now.family q result }
-    ensures within { result < classes_of classes.now.family }
-{
-    let _few = classes.class_count();
-    classes.class_of(&outcome_of(classes.family, position, played)) as u32
 }

@@ -8,7 +8,7 @@ use crate::search::Reached;
 use dob_value::{Table, Value};
 
 /// How many classes are won, lost and drawn for the side to move.
-#[derive(Clone, Copy, Debug, PartialEq, Eq)]
+#[derive(Clone, Copy)]
 pub struct ByValue {
     pub win: u64,
     pub loss: u64,

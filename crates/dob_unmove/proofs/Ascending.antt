@@ -1,7 +1,7 @@
 -- Ascending lists of numbers: they are distinguished by how often each number stands in them.
-use Rattle.dob_unmove.proofs.Common.{◌≢◌, ◌+◌, ◌<◌, ◌==◌, ◌∙◌, ◌∷◌, ◌≡◌, ◌≤◌, All, AllPairs, Bool, List, [], ap, arith, cond, inl, inr, refl, suc, sym, zero, ℕ}
+use Rattle.dob_unmove.proofs.Common.{◌≢◌, ◌+◌, ◌<◌, ◌==◌, ◌∙◌, ◌∷◌, ◌≡◌, ◌≤◌, All, AllPairs, List, [], ap, arith, inl, inr, refl, suc, sym, zero, ℕ}
 use Rattle.dob_unmove.proofs.Common.{cases_eq, cases_order, eq-eqb, ne_eqb, All-append, All-cons, All-contains, All-head, All-nil, All-replicate, All-tail}
-use Rattle.dob_unmove.proofs.Common.{sum_by-append, sum_by-cons, count_by, each_below, pairs-head, pairs-tail}
+use Rattle.dob_unmove.proofs.Common.{sum_by-append, sum_by-cons, count_by, each_below, pairs-head, pairs-tail, one_if}
 use Rattle.std.specs.Prelude.{replicate}
 use Rattle.std.proofs.lemmas.List.Folds.{sum_by-replicate}
 use Rattle.dob_unmove.proofs.Counting.{pairs-append}
@@ -9,9 +9,6 @@ use Rattle.dob_unmove.proofs.Counting.{pairs-append}
 -- how often the number stands in the list
 abbrev pub times : ℕ → List ℕ → ℕ
 times x xs = count_by (λ y. y == x) xs
-
-abbrev one_if : Bool → ℕ
-one_if b = cond b 1 0
 
 abbrev Ascends : List ℕ → Type 0
 Ascends xs = AllPairs (λ (a b : ℕ). a ≤ b) xs

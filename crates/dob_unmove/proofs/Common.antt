@@ -21,7 +21,7 @@ pub use Rattle.dob_pieces.proofs.MaskBits.{IsLeft, IsMask-and, IsMask-or, IsMask
 pub use Rattle.dob_pieces.proofs.Planes.{everywhere}
 pub use Rattle.dob_pieces.proofs.Symmetries.{at-image, turned-mirrored, turned-turned}
 pub use Rattle.dob_pieces.proofs.Targets.{has_bits, is_mask}
-pub use Rattle.dob_pieces.specs.Lists.{each_below}
+pub use Rattle.dob_pieces.specs.Lists.{each_below, one_if}
 pub use Rattle.dob_pieces.specs.Masks.{AreMasks, IsMask, attacks, attacks_by, is_empty, is_kind, is_own, is_piece, kind_place}
 pub use Rattle.dob_pieces.specs.Pieces.{kind_in_hand, kind_on_board}
 unfoldable pub use Rattle.dob_pieces.specs.Pieces.{leads}

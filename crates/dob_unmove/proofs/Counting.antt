@@ -1,5 +1,5 @@
 -- The numbers gathered from all ways count the moves that lead into a class.
-use Rattle.dob_unmove.proofs.Common.{◌++◌, ◌+◌, ◌-◌, ◌==◌, ◌∙◌, ◌∷◌, ◌≡◌, ◌≢◌, All, AllPairs, Bool, Contains, List, None, Option, Some, [], ap, arith, cond}
+use Rattle.dob_unmove.proofs.Common.{◌++◌, ◌+◌, ◌-◌, ◌==◌, ◌∙◌, ◌∷◌, ◌≡◌, ◌≢◌, All, AllPairs, Contains, List, None, Option, Some, [], ap, arith, one_if}
 use Rattle.dob_unmove.proofs.Common.{get_or, inl, inr, length, length-append, option_to_list, refl, subst, sym, ℕ, cases_eq, eq-eqb, ne_eqb, All-contains}
 use Rattle.dob_unmove.proofs.Common.{All-head, All-nil, All-push, All-tail, Contains-append_cases, Contains-append_left, Contains-append_right, AllPairs-cons}
 use Rattle.dob_unmove.proofs.Common.{sum_by_push, count_by, length-mirrored, length-turned, cons_cases, mirrored, turned, A, Setup, HasOutcome-is, HasOutcome}
@@ -39,9 +39,6 @@ module _ (Represents : Setup → ℕ → Type 0) (n : IsNumbering Represents) wh
   module _ (p : Setup) (class : ℕ) (stands : Represents p class) where
     abbrev number_of : List ℕ → ℕ
     number_of xs = count_by (λ x. x == class) xs
-
-    abbrev one_if : Bool → ℕ
-    one_if b = cond b 1 0
 
     module _ (q : Setup) (twelve : length q.board ≡ 12) where
       -- the moves of the ways that lead back to the class's representative

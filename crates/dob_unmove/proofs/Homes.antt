@@ -1,6 +1,6 @@
 -- Where the mover's lion of a representative stands.
-use Rattle.dob_unmove.proofs.Common.{rules, ◌&&◌, ◌++◌, ◌+◌, ◌<◌, ◌==◌, ◌||◌, ◌∙◌, ◌∷◌, ◌≡◌, ◌⊎◌, Bool, List, None, Some, [], ap, arith, cond, get_or, inl, inr}
-use Rattle.dob_unmove.proofs.Common.{length, nat_lt, refl, suc, true, zero, ℕ, cases_Bool, sum_by-cons, count_by, all_below, all_below-at, own_lion}
+use Rattle.dob_unmove.proofs.Common.{rules, ◌&&◌, ◌++◌, ◌+◌, ◌<◌, ◌==◌, ◌||◌, ◌∙◌, ◌∷◌, ◌≡◌, ◌⊎◌, Bool, List, None, Some, [], ap, arith, get_or, inl, inr}
+use Rattle.dob_unmove.proofs.Common.{length, nat_lt, refl, suc, true, zero, ℕ, cases_Bool, sum_by-cons, count_by, all_below, all_below-at, own_lion, one_if}
 use Rattle.dob_unmove.proofs.Common.{total-mirrored, within-from_piece, at-image, Cell, at, held, holds_kind, holds_lion, mirrored, piece_of, total}
 use Rattle.dob_unmove.proofs.Common.{mirrored_square, Hands, HandKind, Lion, Side, Enemy, Mover, Family, Setup, IsPositionOf, Before, Precedes, each_kind}
 use Rattle.dob_unmove.proofs.Common.{forms, key, squares, squares_from, IsPositionOf-mirrored, is_home}
@@ -12,9 +12,6 @@ use Rattle.dob_rank.specs.Families.{RepresentsClass}
 -- ---- the list of one square
 
 module _ (test : Cell → Bool) where
-  abbrev one_if : Bool → ℕ
-  one_if b = cond b 1 0
-
   counted : (c : Cell) (cs : List Cell) → count_by test (c ∷ cs) ≡ one_if (test c) + count_by test cs
   counted c cs = sum_by-cons (λ x. one_if (test x)) c cs
 

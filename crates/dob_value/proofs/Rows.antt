@@ -1,10 +1,10 @@
 -- Tables in the order of the row of classes.
 use Rattle.dob_value.proofs.Common.{◌<◌, ◌∙◌, ◌≡◌, List, Some, get_or, length, subst, sym, ℕ, length-map, get_or_from_slice_get, slice_get-get_or}
 use Rattle.dob_value.proofs.Common.{slice_get_within, All, Family, Setup, HasClasses-classes_of, HasClasses, IsPositionOf, IsRepresentative, classes_of}
-use Rattle.dob_value.proofs.Common.{value_of_code, values_of_codes, SameOutlook, AreGiven, IsEntry, IsValueTable, AreValues, HasValue, Value, Draw}
+use Rattle.dob_value.proofs.Common.{value_of_code, values_of_codes, ClassStandsFor, SameOutlook, AreGiven, IsEntry, IsValueTable, AreValues, HasValue, Value, Draw}
 use Rattle.std.specs.Prelude.{slice_get}
 use Rattle.dob_rank.specs.Order.{RepresentativeOf}
-use Rattle.dob_rank.specs.Families.{HasClass, class_setup}
+use Rattle.dob_rank.specs.Families.{HasClass, IsInClass, class_setup}
 use Rattle.dob_classes.proofs.OfFamilies.Counted.{one_count}
 pub use Rattle.dob_rank.proofs.Marked.Representatives.{IsPlaceOf, place_found}
 pub use Rattle.dob_classes.proofs.OfFamilies.FamilyRepresentatives.{class_setup_is, class_setup_only}
@@ -17,6 +17,11 @@ pub class_outlook : (family : Family) (p representative : Setup) (class classes 
 class_outlook family p representative class classes all below is represents number =
     subst (SameOutlook family.profile p) (class_setup_only family representative class classes all below (representative_is family p representative is represents) number)
     (representative_outlook family p representative is represents)
+
+-- so its class stands for it
+pub class_stands : (family : Family) (p : Setup) (class : ℕ) → class < classes_of family → IsInClass family p class → ClassStandsFor family class p
+class_stands family p class below is =
+    (below, class_outlook family p is.representative class (classes_of family) (HasClasses-classes_of family) below is.position is.stands is.before)
 
 -- ---- tables in the order of the row
 

@@ -1,14 +1,10 @@
 // The classes of a family with what the sweeps need of them: their statuses and the numbers of their successors.
 ghost use Rattle.std.specs.Prelude.{◌≡◌, ◌<◌, ◌++◌, ℕ, List, IfOk};
-ghost use Rattle.dob_pieces.specs.declared.setup.Setup.{Setup};
-ghost use Rattle.dob_moves.specs.declared.position_status.Status.{Status};
-ghost use Rattle.dob_moves.specs.Moves.{Goes, CanGo};
-ghost use Rattle.dob_moves.specs.Statuses.{HasStatus};
 ghost use Rattle.dob_rank.specs.Families.{IsPositionOf};
 ghost use Rattle.dob_rank.specs.Families.{classes_of};
 ghost use Rattle.dob_value.specs.Graphs.{ClassStandsFor, IsNode, IsGraph, status_at, successors_at};
 
-use crate::outcomes::outcome_of;
+use crate::outcomes::class_after;
 use dob_classes::Classes;
 use dob_moves::{Move, Status, moves_into};
 use dob_pieces::{Family, Memory, Position};
@@ -44,24 +40,6 @@ impl Graph {
     }
 }
 
-// The number of the position's class.
-fn number_of(classes: &Classes, position: &Position) -> usize
-    requires { IsPositionOf classes.now.family position.now.setup }
-    ensures { ClassStandsFor classes.now.family result position.now.setup }
-{
-    classes.class_of(position) as usize
-}
-
-// The number of the class to which the move leads.
-fn number_after(classes: &Classes, position: &Position, played: Move) -> usize
-    requires member { IsPositionOf classes.now.family position.now.setup }
-    requires open { HasStatus classes.now.family.profile position.now.setup Status.Open }
-    requires can_go { CanGo classes.now.family.profile position.now.setup played }
-    ensures { (q : Setup) → Goes classes.now.family.profile position.now.setup played q → ClassStandsFor classes.now.family result q }
-{
-    number_of(classes, &outcome_of(classes.family, position, played))
-}
-
 // Appends the numbers of the classes to which the position's moves lead, and gives its status. The list of legal is
 // room for its moves.
 fn push_successors(
@@ -76,8 +54,8 @@ fn push_successors(
 {
     let status = moves_into(classes.family.profile, legal, position)?;
     for played in legal.iter() {
-        let number = number_after(classes, position, *played);
-        successors.push(number)?;
+        let number = class_after(classes, position, *played);
+        successors.push(number as usize)?;
     }
     Ok(status)
 }

@@ -20,7 +20,7 @@ mod value;
 
 pub use codes::{code_of_value, value_of_code};
 pub use fault::Fault;
-pub use outcomes::outcome_of;
+pub use outcomes::{class_after, outcome_of};
 pub use position_value::{sweep_table, sweep_value};
 pub use sweep::MAX_DISTANCE;
 pub use table::Table;

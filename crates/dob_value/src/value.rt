@@ -4,7 +4,7 @@ ghost use Rattle.dob_value.specs.Bounds.{plies_of};
 ghost use Rattle.dob_value.specs.Entries.{is_win_within, is_loss_within, is_draw};
 
 /// The value of a position for the side to move, with the least number of plies in which the end can be forced.
-#[derive(Clone, Copy, Debug, PartialEq, Eq)]
+#[derive(Clone, Copy, PartialEq, Eq)]
 pub enum Value {
     Win(u16),
     Loss(u16),

@@ -7,7 +7,7 @@ use crate::pairs::Zugzwang;
 use dob_value::Value;
 
 /// How many pairs are lost by both sides, by whichever has to move, and how many by one where the other draws.
-#[derive(Clone, Copy, Debug, PartialEq, Eq)]
+#[derive(Clone, Copy)]
 pub struct PairCounts {
     pub lost_by_both: u64,
     pub loss_and_draw: u64,

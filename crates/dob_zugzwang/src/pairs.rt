@@ -15,7 +15,7 @@ use std::thread::Threads;
 
 /// A pair of classes, of a position and of its turn: whoever has to move would rather not. The lower number comes first; both are one
 /// where a class is its own turn.
-#[derive(Clone, Copy, Debug, PartialEq, Eq)]
+#[derive(Clone, Copy)]
 pub struct Zugzwang {
     pub class: u64,
     /// Its value for the side to move, at most a draw.

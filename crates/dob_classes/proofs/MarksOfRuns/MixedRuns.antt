@@ -13,7 +13,7 @@ use Rattle.dob_rank.proofs.Arithmetic.MixedRadix.{number_of-below, number_of-app
 use Rattle.dob_rank.proofs.InRuns.Lions.{image_lions, lions_of-below, mixed_lions, mirror_layers, layers-mirrored, hide-mirror, lions_layers, lions_layers-of}
 use Rattle.dob_rank.proofs.InRuns.Lions.{HasPair-from_position}
 use Rattle.dob_rank.proofs.InRuns.RunPlaces.{local_size, local_size-block, local_of-below, place_of-run, run_of-lions, hand_of, on_board-mirrored, place-parts}
-use Rattle.dob_rank.proofs.InRuns.RunPlaces.{image-parts, place_in_run, marked_by_place, unmarked_by_place, mark_of_spot, positive_locals}
+use Rattle.dob_rank.proofs.InRuns.RunPlaces.{image-parts, remainder, place_in_run, marked_by_place, unmarked_by_place, mark_of_spot, positive_locals}
 use Rattle.std.proofs.lemmas.List.{get_or-take}
 use Rattle.dob_rank.proofs.Boards.Settled.{hide, settle-choice, choice_hide_next}
 use Rattle.dob_rank.proofs.Boards.FormDigits.{AreLayers-map, cell_of-cell, forms_number_same, forms_number_other, forms_number-below}
@@ -255,9 +255,6 @@ at_spot set block run local s below there =
       local_is = both.1;
       lions_are = remainder (hand_of set s) (lions_of s) (run_of set s) run both.0 (run_of-lions set s) (lions_of-below set s there.position);
     }
-  where
-    remainder : (hand lions is run : ℕ) → is ≡ run → is ≡ hand * lion_pairs + lions → lions < lion_pairs → lions ≡ run % lion_pairs
-    remainder hand lions is run same whole below = omega arith
 
 -- its image stands in the same run, where that is mixed
 image_place : (set : PieceSet) (block run local : ℕ) (s : Setup) → local < run_size set block →

@@ -1,7 +1,7 @@
 -- Sets of squares when one square of the setup changes.
 use Rattle.dob_classes.proofs.Common.{◌%◌, ◌*◌, ◌<◌, ◌^◌, ◌∙◌, ◌≡◌, ◌≤◌, Bool, None, Some, ap, arith, bit_and, bit_or, cond, false, inl, inr, length, refl}
 use Rattle.dob_classes.proofs.Common.{rules, set, subst, sym, true, w16, ℕ, cases_Bool, cases_eq, and_le_l, or_lt, bit_at_clear_other, bit_at_clear_same}
-use Rattle.dob_classes.proofs.Common.{bit_at_set_other, bit_at_set_same, bit_at, bit_not, IsMask-same, bit_if, AreSquares, Cell, at, piece_of, Hands, Kind}
+use Rattle.dob_classes.proofs.Common.{bit_at_set_other, bit_at_set_same, bit_at, bit_not, IsMask-same, one_if, AreSquares, Cell, at, piece_of, Hands, Kind}
 use Rattle.dob_classes.proofs.Common.{Lion, Side, Enemy, Mover, Setup, AreBitboards, is_chick, is_elephant, is_enemy, is_enemy_lion, is_giraffe, is_hen}
 use Rattle.dob_classes.proofs.Common.{is_own_lion, IsWith, with_enemy, with_own, Bitboards}
 use Rattle.std.proofs.Math.Pow.{pow_mono}
@@ -33,10 +33,10 @@ module _ (before after : Setup) (square : ℕ) (cell : Cell) (lt : square < 12) 
   added passes = record {
     within = or_lt 12 mask (bit square) are.within (bit-small square lt);
     bits = λ s below. elim (cases_eq s square) [
-      | inl e ↦ subst (λ (n : ℕ). bit_at (bit_or mask (bit square)) n ≡ bit_if (test (at after n))) (sym e)
-          (bit_at_set_same w16 mask square (omega (arith, lt)) ∙ sym (ap bit_if (ap test w.here ∙ passes)))
+      | inl e ↦ subst (λ (n : ℕ). bit_at (bit_or mask (bit square)) n ≡ one_if (test (at after n))) (sym e)
+          (bit_at_set_same w16 mask square (omega (arith, lt)) ∙ sym (ap one_if (ap test w.here ∙ passes)))
       | inr apart ↦ bit_at_set_other w16 mask square (omega (arith, lt)) s apart ∙ are.bits s below
-          ∙ ap (λ (c : Cell). bit_if (test c)) (sym (w.there s below apart))
+          ∙ ap (λ (c : Cell). one_if (test c)) (sym (w.there s below apart))
     ];
   }
 
@@ -45,10 +45,10 @@ module _ (before after : Setup) (square : ℕ) (cell : Cell) (lt : square < 12) 
   gone fails = record {
     within = let le = and_le_l mask (bit_not w16 (bit square)) in let low = are.within in omega (arith, le, low);
     bits = λ s below. elim (cases_eq s square) [
-      | inl e ↦ subst (λ (n : ℕ). bit_at (bit_and mask (bit_not w16 (bit square))) n ≡ bit_if (test (at after n))) (sym e)
-          (bit_at_clear_same w16 mask square (omega (arith, lt)) ∙ sym (ap bit_if (ap test w.here ∙ fails)))
+      | inl e ↦ subst (λ (n : ℕ). bit_at (bit_and mask (bit_not w16 (bit square))) n ≡ one_if (test (at after n))) (sym e)
+          (bit_at_clear_same w16 mask square (omega (arith, lt)) ∙ sym (ap one_if (ap test w.here ∙ fails)))
       | inr apart ↦ bit_at_clear_other w16 mask square (omega (arith, lt)) s (omega (arith, below)) apart ∙ are.bits s below
-          ∙ ap (λ (c : Cell). bit_if (test c)) (sym (w.there s below apart))
+          ∙ ap (λ (c : Cell). one_if (test c)) (sym (w.there s below apart))
     ];
   }
 

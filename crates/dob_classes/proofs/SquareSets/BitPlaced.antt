@@ -1,6 +1,6 @@
 -- Sets of squares with a piece more, as either side sees them.
 use Rattle.dob_classes.proofs.Common.{◌%◌, ◌*◌, ◌-◌, ◌/◌, ◌<◌, ◌^◌, ◌∙◌, ◌∷◌, ◌≡◌, ◌≢◌, Bool, List, None, [], ap, arith, bit_or, cond, false, length, refl}
-use Rattle.dob_classes.proofs.Common.{replicate, rules, set, slice_index_or, suc, true, zero, ℕ, get_or-set_other, length-set, at-turned, bit_if, Cell, at}
+use Rattle.dob_classes.proofs.Common.{replicate, rules, set, slice_index_or, suc, true, zero, ℕ, get_or-set_other, length-set, at-turned, one_if, Cell, at}
 use Rattle.dob_classes.proofs.Common.{setup_of, turned_cell, turned, Hands, Side, Enemy, Mover, Setup, base_of, cell_of, enemy_squares, order, own_squares, put}
 use Rattle.dob_classes.proofs.Common.{Chicks, Elephants, Empty, Giraffes, AreBitboards, is_chick, is_elephant, is_enemy, is_enemy_lion, is_giraffe, is_hen}
 use Rattle.dob_classes.proofs.Common.{is_own_lion, IsWith, seen_by, seen_hands, seen_owner, seen_square, Bitboards}
@@ -36,8 +36,8 @@ seen_empty Enemy before square lt e = grind (arith, at-turned)
 
 abbrev flags_of : Cell → List ℕ
 flags_of cell =
-    bit_if (is_own_lion cell) ∷ bit_if (is_enemy_lion cell) ∷ bit_if (is_chick cell) ∷ bit_if (is_elephant cell) ∷ bit_if (is_giraffe cell)
-    ∷ bit_if (is_hen cell) ∷ bit_if (is_enemy cell) ∷ []
+    one_if (is_own_lion cell) ∷ one_if (is_enemy_lion cell) ∷ one_if (is_chick cell) ∷ one_if (is_elephant cell) ∷ one_if (is_giraffe cell)
+    ∷ one_if (is_hen cell) ∷ one_if (is_enemy cell) ∷ []
 
 abbrev pub HasFlags : Cell → ℕ → ℕ → ℕ → ℕ → ℕ → ℕ → ℕ → Type 0
 HasFlags cell own_lion enemy_lion chick elephant giraffe hen enemy =
@@ -55,7 +55,7 @@ mark_is mask mark given zero p e f = (let none : mark ≡ 0 = e ∙ ap (λ (n : 
     no_bits p = omega arith
 mark_is mask mark given (suc n) p e f = ap (bit_or mask) (e ∙ ap (λ (n : ℕ). n * 2 ^ p % 2 ^ 16) f)
 
-by_flag : (mask flag new p : ℕ) (is : Bool) → flag ≡ bit_if is → new ≡ marked flag p mask → new ≡ cond is (bit_or mask (bit p)) mask
+by_flag : (mask flag new p : ℕ) (is : Bool) → flag ≡ one_if is → new ≡ marked flag p mask → new ≡ cond is (bit_or mask (bit p)) mask
 by_flag mask flag new p true f e = e ∙ ap (λ (n : ℕ). marked n p mask) f
 by_flag mask flag new p false f e = e ∙ ap (λ (n : ℕ). marked n p mask) f
 

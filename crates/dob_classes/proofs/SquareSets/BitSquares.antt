@@ -1,6 +1,6 @@
 -- Sets of squares of a setup: its layers as masks, and the form of a piece by the sets that have its square.
 use Rattle.dob_classes.proofs.Common.{◌*◌, ◌+◌, ◌-◌, ◌/◌, ◌<◌, ◌==◌, ◌^◌, ◌∙◌, ◌∷◌, ◌≡◌, List, None, [], ap, arith, bit_and, get_or, inl, inr, length, map}
-use Rattle.dob_classes.proofs.Common.{refl, slice_index_or, suc, sym, zero, ℕ, cases_eq, eq-eqb, ne_eqb, bit_at-suc, bit_at, bit_if, AreSquares, Cell, at}
+use Rattle.dob_classes.proofs.Common.{refl, slice_index_or, suc, sym, zero, ℕ, cases_eq, eq-eqb, ne_eqb, bit_at-suc, bit_at, one_if, AreSquares, Cell, at}
 use Rattle.dob_classes.proofs.Common.{Setup, count_other, count_same, count, layer, order, form, Chicks, AreBitboards, is_enemy, is_hen, is_of, Bitboards}
 use Rattle.dob_rank.specs.declared.layers.Layer.{Layer}
 use Rattle.dob_rank.specs.Masks.{layer_mask}
@@ -12,13 +12,13 @@ halves n = omega arith
 
 -- a number whose bits are those of a layer's cells is the layer's mask
 bits_mask : (t m : ℕ) (cells : List Cell) → m < 2 ^ length cells
-    → ((k : ℕ) → k < length cells → bit_at m k ≡ bit_if (layer (slice_index_or cells k None) == t)) → m ≡ layer_mask t (map layer cells)
+    → ((k : ℕ) → k < length cells → bit_at m k ≡ one_if (layer (slice_index_or cells k None) == t)) → m ≡ layer_mask t (map layer cells)
 bits_mask t m [] lt bits = omega (arith, lt)
 bits_mask t m (cell ∷ cells) lt bits =
     let two : 2 ^ suc (length cells) ≡ 2 * 2 ^ length cells = omega arith in
     let rest = bits_mask t (m / 2) cells (omega (arith, lt, two))
     (λ k below. sym (bit_at-suc m k) ∙ bits (suc k) (omega (arith, below))) in
-    halves m ∙ ap (λ (n : ℕ). n + 2 * (m / 2)) (bits zero (omega arith)) ∙ ap (λ (n : ℕ). bit_if (layer cell == t) + 2 * n) rest
+    halves m ∙ ap (λ (n : ℕ). n + 2 * (m / 2)) (bits zero (omega arith)) ∙ ap (λ (n : ℕ). one_if (layer cell == t) + 2 * n) rest
 
 pub layer_of_squares : (of_layer : Layer) (setup : Setup) (mask : ℕ) → length setup.board ≡ 12 → AreSquares setup (is_of of_layer) mask
     → mask ≡ layer_mask (order of_layer) (map layer setup.board)
@@ -58,7 +58,7 @@ second_of_layer t cells mask less long is less_is two =
 
 -- ---- the form of a cell of a known layer
 
-chick_form : (cell : Cell) → layer cell ≡ order Chicks → 2 * bit_if (is_enemy cell) + bit_if (is_hen cell) ≡ form cell
+chick_form : (cell : Cell) → layer cell ≡ order Chicks → 2 * one_if (is_enemy cell) + one_if (is_hen cell) ≡ form cell
 chick_form = grind arith
 
 pub chick_found : (setup : Setup) (bits : Bitboards) (square enemy hen : ℕ) → square < 12 → AreBitboards setup bits → layer (at setup square) ≡ order Chicks

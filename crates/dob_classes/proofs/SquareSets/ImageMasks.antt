@@ -1,7 +1,7 @@
 -- Masks of mirror images: columns a and c exchanged.
 use Rattle.dob_classes.proofs.Common.{◌%◌, ◌&&◌, ◌*◌, ◌+◌, ◌-◌, ◌/◌, ◌<◌, ◌==◌, ◌^◌, ◌||◌, ◌∙◌, ◌≡◌, Bool, ap, arith, bit_and, bit_or, cond, false, inl, inr}
 use Rattle.dob_classes.proofs.Common.{nat_le, nat_lt, not, refl, suc, sym, true, ℕ, cases_lt, le-leb, lt-leb, and_le_l, bit_at-suc, bit_at-zero, bit_at_above}
-use Rattle.dob_classes.proofs.Common.{bit_at_cat_high, bit_at_cat_low, bit_at, all_below, all_below-at, at-mirrored, IsMask-and, IsMask-or, IsMask-same, bit_if}
+use Rattle.dob_classes.proofs.Common.{bit_at_cat_high, bit_at_cat_low, bit_at, all_below, all_below-at, at-mirrored, IsMask-and, IsMask-or, IsMask-same, one_if}
 use Rattle.dob_classes.proofs.Common.{AreSquares, IsMask, Cell, at, mirrored, column, mirrored_square, Setup}
 use Rattle.std.proofs.lemmas.Bool.{and_parts, eqb-true, lt-ltb, le-ltb}
 use Rattle.dob_pieces.proofs.Targets.{is_mask}
@@ -17,10 +17,10 @@ IsMask-up test mask is low =
       bits = λ s lt. elim (cases_lt s 2) [
         | inl first ↦
             bit_at_cat_low mask 2 0 s first ∙ bit_at-zero s
-            ∙ ap (λ b. bit_if (b && test (s - 2))) (sym (lt-leb 2 s first))
+            ∙ ap (λ b. one_if (b && test (s - 2))) (sym (lt-leb 2 s first))
         | inr more ↦
             bit_at_cat_high mask 2 0 s (omega arith) more ∙ is.bits (s - 2) (omega (arith, lt))
-            ∙ ap (λ b. bit_if (b && test (s - 2))) (sym (le-leb 2 s more))
+            ∙ ap (λ b. one_if (b && test (s - 2))) (sym (le-leb 2 s more))
       ];
     })
 
@@ -35,10 +35,10 @@ IsMask-down test mask is =
           ap (λ (n : ℕ). bit_at n s) halves ∙ sym (bit_at-suc (mask / 2) s) ∙ sym (bit_at-suc mask (suc s))
           ∙ ap (bit_at mask) (let e : suc (suc s) ≡ s + 2 = omega arith in e) in
           elim (cases_lt s 10) [
-            | inl here ↦ down ∙ is.bits (s + 2) (omega (arith, here)) ∙ ap (λ b. bit_if (b && test (s + 2))) (sym (lt-ltb s 10 here))
+            | inl here ↦ down ∙ is.bits (s + 2) (omega (arith, here)) ∙ ap (λ b. one_if (b && test (s + 2))) (sym (lt-ltb s 10 here))
             | inr past ↦
                 down ∙ bit_at_above mask 12 (s + 2) (omega (arith, within)) (omega (arith, past))
-                ∙ ap (λ b. bit_if (b && test (s + 2))) (sym (le-ltb s 10 past))
+                ∙ ap (λ b. one_if (b && test (s + 2))) (sym (le-ltb s 10 past))
           ];
     }
 

@@ -6,6 +6,7 @@ use Rattle.dob_rank.proofs.Common.{bases_by, block_bases, block_of, block_size, 
 use Rattle.dob_rank.proofs.Common.{product, rank_of_set, setup_in, size_of_set, sum_below, IsPositionOfSet, IsInRun, lion_pairs, lions_of, local_bases}
 use Rattle.dob_rank.proofs.Common.{local_of, run_bases, run_kind, run_of, run_size, run_start, runs_in, Chicks, Elephants, EnemyLion, Giraffes, OwnLion, mul-le}
 use Rattle.dob_rank.specs.declared.runs.RunKind.TheVariants.{First, Later}
+use Rattle.dob_rank.proofs.Boards.BoardMasks.{three}
 use Rattle.dob_rank.proofs.Positions.Blocks.{AreBases-by, few_in_block, block_size-small, run_bases-few, place_below_size, block_size-product, hand_bases}
 use Rattle.dob_rank.proofs.Arithmetic.MixedRadix.{digit_below, number_of-below, product-append, number_of-append}
 use Rattle.dob_rank.proofs.Positions.Digits.{HasParts-from_position, HasDigits-digits}
@@ -55,9 +56,6 @@ local_of-below set s p =
 count-mirror : (t : ℕ) (ls : List ℕ) → length ls ≡ 12 → count t (mirror_layers ls) ≡ count t ls
 count-mirror t (a ∷ b ∷ c ∷ d ∷ e ∷ i ∷ j ∷ k ∷ l ∷ m ∷ n ∷ o ∷ []) eq = omega arith
 count-mirror t ls eq = absurd (omega arith)
-
-three : (a b c d e f : ℕ) → a ≡ d → b ≡ e → c ≡ f → a ∷ b ∷ c ∷ [] ≡ d ∷ e ∷ f ∷ []
-three a b c d e f p q r = cc
 
 pub on_board-mirrored : (s : Setup) → length s.board ≡ 12 → on_board (mirrored s) ≡ on_board s
 on_board-mirrored s eq =
@@ -134,6 +132,10 @@ pub run_start-is : (set : PieceSet) (block run : ℕ) → run_start set block ru
 unfolding run_start
 run_start-is set block run = refl
 
+-- the lions of a run
+pub remainder : (hand lions is run : ℕ) → is ≡ run → is ≡ hand * lion_pairs + lions → lions < lion_pairs → lions ≡ run % lion_pairs
+remainder hand lions is run same whole below = omega arith
+
 pub stands_in : (set : PieceSet) (block run local : ℕ) → IsInRun set block run local → (s : Setup) × StandsIn set block run local s
 stands_in set block run local h =
     let place = run * run_size set block + local in
@@ -158,9 +160,6 @@ stands_in set block run local h =
   where
     from_start : (start run local : ℕ) → start + (run + local) ≡ start + run + local
     from_start start run local = omega arith
-
-    remainder : (hand lions is run : ℕ) → is ≡ run → is ≡ hand * lion_pairs + lions → lions < lion_pairs → lions ≡ run % lion_pairs
-    remainder hand lions is run same whole below = omega arith
 
 -- a position's own spot
 pub record HasSpot (set : PieceSet) (s : Setup) (of : PieceSet) (block run local : ℕ) : Type 0 where

@@ -1,11 +1,12 @@
 -- The tables of profile B are the sums that they stand for, computed for each number of chicks and each shape of the squares that the lions leave. The
 -- table of the blocks' starts is computed for each set and each block.
-use Rattle.dob_rank.proofs.Common.{◌%◌, ◌&&◌, ◌*◌, ◌+◌, ◌/◌, ◌<◌, ◌∙◌, ◌∷◌, ◌≡◌, ◌≤◌, Bool, List, [], ap, arith, false, nat_eq, nat_lt, refl, slice_index_or}
+use Rattle.dob_rank.proofs.Common.{◌%◌, ◌&&◌, ◌*◌, ◌+◌, ◌/◌, ◌<◌, ◌∙◌, ◌∷◌, ◌≡◌, ◌≤◌, Bool, List, [], ap, arith, nat_eq, nat_lt, refl, slice_index_or}
 use Rattle.dob_rank.proofs.Common.{subst, suc, sym, true, zero, ℕ, and_parts, ltb-true, all_below, all_below-at, B, marks_below, choose, enemy_squares}
 use Rattle.dob_rank.proofs.Common.{free_squares, order, own_squares, lion_pairs, choice_weight, chosen, forms_before, forms_on, free_weights, hand_size}
 use Rattle.dob_rank.proofs.Common.{lions_before, lions_in, may_have, weights_of, Chicks, forms_in, mod-eq_of_lt, sum_below, sum_same, nat_tests, ◌-◌}
 use Rattle.dob_rank.proofs.Common.{slice_index, PieceSet, Profile, A, family_of, is_present, block_bases, digits_of, product, start_of, others_forms}
 use Rattle.dob_rank.proofs.Common.{others_squares}
+use Rattle.dob_pieces.proofs.Lists.{same_list, same_list-true}
 use Rattle.dob_rank.specs.declared.far_rows.TheConstants.{SHAPE, BEFORE, LIONS_BEFORE, FORMS_BELOW}
 use Rattle.dob_rank.proofs.Boards.Settled.{hide}
 use Rattle.dob_rank.proofs.InRuns.Lions.{pair_layers, lions_layers, lions_layers-pair}
@@ -20,20 +21,9 @@ use Rattle.dob_rank.proofs.OfFamilies.FamilyRuns.{present_size, blocks_present}
 abbrev pub shape_of : ℕ → ℕ
 shape_of lions = slice_index_or SHAPE lions 0
 
-abbrev same_numbers : List ℕ → List ℕ → Bool
-same_numbers [] [] = true
-same_numbers [] (y ∷ ys) = false
-same_numbers (x ∷ xs) [] = false
-same_numbers (x ∷ xs) (y ∷ ys) = nat_eq x y && same_numbers xs ys
-
-same_lists : (xs ys : List ℕ) → same_numbers xs ys ≡ true → xs ≡ ys
-same_lists [] [] h = refl
-same_lists (x ∷ xs) (y ∷ ys) h = grind (arith, nat_tests, same_lists xs ys, h)
-same_lists xs ys h = absurd (let e : false ≡ true = h in cc)
-
 abbrev is_shape : ℕ → ℕ → Bool
 is_shape own enemy =
-    same_numbers (free_weights (forms_on B) 0 (hide (order Chicks) (pair_layers own enemy))) (weights_of (shape_of (own * enemy_squares + enemy)))
+    same_list (free_weights (forms_on B) 0 (hide (order Chicks) (pair_layers own enemy))) (weights_of (shape_of (own * enemy_squares + enemy)))
     && nat_lt (shape_of (own * enemy_squares + enemy)) 5
 
 shapes : all_below (λ own. all_below (is_shape own) enemy_squares) own_squares ≡ true
@@ -49,7 +39,7 @@ shape_at own enemy first second =
     let here = all_below-at (is_shape own) enemy_squares enemy (all_below-at (λ n. all_below (is_shape n) enemy_squares) own_squares own shapes first) second in
     let parts = and_parts _ _ here in
     record {
-      weights = ap (free_weights (forms_on B) 0) (lions_layers-pair own enemy first second) ∙ same_lists _ _ parts.0;
+      weights = ap (free_weights (forms_on B) 0) (lions_layers-pair own enemy first second) ∙ same_list-true _ _ parts.0;
       few = ltb-true (shape_of (own * enemy_squares + enemy)) 5 parts.1;
     }
 

@@ -6,6 +6,7 @@ use Rattle.dob_rank.proofs.Marked.Words.{marks_below_none}
 use Rattle.dob_rank.proofs.InRuns.RunMarks.{marks_agree}
 use Rattle.dob_rank.proofs.Boards.FormDigits.{form-below, forms_number-below, forms_number_same, forms_number_other}
 use Rattle.dob_rank.proofs.Boards.Planes.{lowest, first_square, second_square, first_found, second_found}
+use Rattle.dob_rank.proofs.ProfileB.FormSquares.{at_start, next_square, zero_more}
 use Rattle.dob_rank.proofs.ProfileB.Weights.{one_more, allowed_other, forms_weigh, lower_forms}
 
 -- ---- the allowed numbers before one
@@ -72,15 +73,6 @@ weight_none : (w : ℕ → ℕ) (t s : ℕ) (ls : List ℕ) → count t ls ≡ 0
 weight_none w t s [] none = refl
 weight_none w t s (l ∷ ls) none = grind (arith, nat_tests, weight_none w t (suc s) ls)
 
-next_square : (s k : ℕ) → suc s + k ≡ s + suc k
-next_square s k = omega arith
-
-at_start : (s : ℕ) → s + 0 ≡ s
-at_start s = omega arith
-
-at_zero : (k : ℕ) → 0 + k ≡ k
-at_zero k = omega arith
-
 weight_one : (w : ℕ → ℕ) (t s : ℕ) (ls : List ℕ) → count t ls ≡ 1 → weight w t s ls ≡ w (s + first_square t ls)
 weight_one w t s [] one = absurd (omega arith)
 weight_one w t s (l ∷ ls) one = grind (arith, nat_tests, weight_none w t (suc s) ls, weight_one w t (suc s) ls)
@@ -118,7 +110,7 @@ one_found ok base t cells mask place long is one found =
         arith,
         one,
       )),
-    ) (sym (rw (at_zero (first_square t (map layer cells))) at (number_of_one ok base t 0 cells one)))
+    ) (sym (rw (zero_more (first_square t (map layer cells))) at (number_of_one ok base t 0 cells one)))
 
 pub two_found : (ok : ℕ → ℕ → Bool) (base t : ℕ) (cells : List Cell) (mask less first forms second : ℕ) → length cells ≡ 12
     → mask ≡ layer_mask t (map layer cells) → less ≡ mask - 1 → count t (map layer cells) ≡ 2
@@ -128,4 +120,4 @@ pub two_found : (ok : ℕ → ℕ → Bool) (base t : ℕ) (cells : List Cell) (
     → first * forms + second ≡ allowed_number ok base t 0 cells
 two_found ok base t cells mask less first forms second long is less_is two first_is forms_is second_is =
     rw (first_is, forms_is, second_is, first_found t cells mask long is (omega (arith, two)), second_found t cells mask less long is less_is two)
-    (sym (rw (at_zero (first_square t (map layer cells)), at_zero (second_square t (map layer cells))) at (number_of_two ok base t 0 cells two)))
+    (sym (rw (zero_more (first_square t (map layer cells)), zero_more (second_square t (map layer cells))) at (number_of_two ok base t 0 cells two)))

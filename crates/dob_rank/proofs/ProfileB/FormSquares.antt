@@ -19,13 +19,13 @@ one_set t k [] none low = absurd (omega (arith, low))
 one_set t zero (l ∷ ls) none low = grind (arith, nat_tests)
 one_set t (suc k) (l ∷ ls) none low = grind (arith, nat_tests, one_set t k ls)
 
-next_square : (s k : ℕ) → suc s + k ≡ s + suc k
+pub next_square : (s k : ℕ) → suc s + k ≡ s + suc k
 next_square s k = omega arith
 
-at_start : (s : ℕ) → s + 0 ≡ s
+pub at_start : (s : ℕ) → s + 0 ≡ s
 at_start s = omega arith
 
-zero_more : (x : ℕ) → 0 + x ≡ x
+pub zero_more : (x : ℕ) → 0 + x ≡ x
 zero_more x = omega arith
 
 always : (b : Bool) → b && true ≡ b

@@ -17,11 +17,11 @@ overflow_add-opens c =
     let cut = length-take c.loop-class.class-index c.args.part.now in
     let one = one_few c.in_ok-is_open.is_open in
     let few = among_few (IsOpen c.args.classes.now.family) (take c.loop-class.class-index c.args.part.now) c.loop-class.opens c.loop-class.invariant.open_are in
-    omega (arith, cut, few, one, c.one_if-opens.ensures)
+    omega (arith, cut, few, one, c.from-opens.ensures)
 
 pub loop-class-preserved : goal.loop-class-preserved
 loop-class-preserved c =
-    rw (take_more c.args.part.now c.loop-class.class-index 0 c.loop-class-test.true, c.one_if-opens.ensures, c.in_ok-is_open.ensures.1)
+    rw (take_more c.args.part.now c.loop-class.class-index 0 c.loop-class-test.true, c.from-opens.ensures, c.in_ok-is_open.ensures.1)
     (expanded_more c.loop-class.invariant c.in_ok-is_open.ensures.2)
 
 pub returns : goal.returns

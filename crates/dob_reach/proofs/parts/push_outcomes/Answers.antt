@@ -20,13 +20,15 @@ loop-played-init c = (
 )
 
 pub class_after-outcome-requires : goal.class_after-outcome-requires
-class_after-outcome-requires c =
-    let goes = move_goes c.args.classes.now.family.profile c.class_at-position.result.setup c.deref-played-items.result.now c.loop-played.played-index
-    c.played-item.result (legal_are (goal.at.class_after-outcome-requires c).After-deref-played-items) c.loop-played-test.true c.played-item.is in
-    record { member = c.class_at-position.ensures.representative.0; is_open = goes.0; can_go = goes.1 }
+class_after-outcome-requires c = record {
+  member = c.class_at-position.ensures.representative.0;
+  played =
+      move_goes c.args.classes.now.family.profile c.class_at-position.result.setup c.deref-played-items.result.now c.loop-played.played-index
+      c.played-item.result (legal_are (goal.at.class_after-outcome-requires c).After-deref-played-items) c.loop-played-test.true c.played-item.is;
+}
 
 pub push_unmarked-requires : goal.push_unmarked-requires
-push_unmarked-requires c = let low = c.class_after-outcome.ensures.within in omega (arith, low, c.requires.bits)
+push_unmarked-requires c = let low = c.class_after-outcome.ensures.bound in omega (arith, low, c.requires.bits)
 
 pub loop-played-preserved : goal.loop-played-preserved
 loop-played-preserved c =

@@ -1,5 +1,6 @@
 -- Each move's number goes to the end of the list.
 use Rattle.dob_value.proofs.Common.{◌++◌, ◌∙◌, ◌∷◌, List, [], ap, append-nil, append_assoc, refl, subst, sym, ℕ, slice_get_read, AreMoves, ClassStandsFor}
+use Rattle.dob_value.proofs.Rows.{class_stands}
 use Rattle.dob_value.proofs.Successors.{move_goes, successors_none, successors_more, successors_all}
 use Rattle.dob_value.proofs.graph.push_successors.Goals as goal
 use Rattle.dob_value.proofs.graph.push_successors.Goals.{After-deref-played-items}
@@ -12,15 +13,10 @@ pub loop-played-init : goal.loop-played-init
 loop-played-init c =
     ([], sym (append-nil c.args.successors.now.items), successors_none c.args.classes.now.family.profile (ClassStandsFor c.args.classes.now.family) c.args.position.now.setup _)
 
-pub number_after-number-requires-clause-open : goal.number_after-number-requires-clause-open
-number_after-number-requires-clause-open c =
-    (move_goes _ _ _ _ c.played-item.result (legal_are (goal.at.number_after-number-requires-clause-open c).After-deref-played-items)
-    c.loop-played-test.true c.played-item.is).0
-
-pub number_after-number-requires-clause-can_go : goal.number_after-number-requires-clause-can_go
-number_after-number-requires-clause-can_go c =
-    (move_goes _ _ _ _ c.played-item.result (legal_are (goal.at.number_after-number-requires-clause-can_go c).After-deref-played-items)
-    c.loop-played-test.true c.played-item.is).1
+pub class_after-number-requires-clause-played : goal.class_after-number-requires-clause-played
+class_after-number-requires-clause-played c =
+    move_goes _ _ _ _ c.played-item.result (legal_are (goal.at.class_after-number-requires-clause-played c).After-deref-played-items)
+    c.loop-played-test.true c.played-item.is
 
 pub loop-played-preserved : goal.loop-played-preserved
 loop-played-preserved c =
@@ -29,7 +25,7 @@ loop-played-preserved c =
     let legal = c.deref-played-items.result.now in
     let index = c.loop-played.played-index in
     let played = c.played-item.result in
-    let number = c.number_after-number.result in
+    let number = c.class_after-number.result in
     let numbers : List ℕ = c.loop-played.invariant.0 in
     let here = slice_get_read legal _ index played refl c.loop-played-test.true c.played-item.is in
     let goes = move_goes c.args.classes.now.family.profile setup legal index played (legal_are (goal.at.loop-played-preserved c).After-deref-played-items)
@@ -37,7 +33,8 @@ loop-played-preserved c =
       numbers ++ number ∷ [],
       c.in_ok-push.ensures.items ∙ ap (λ xs. xs ++ number ∷ []) c.loop-played.invariant.1
           ∙ append_assoc c.args.successors.now.items numbers (number ∷ []),
-      successors_more c.args.classes.now.family.profile StandsFor setup legal index numbers played number here goes.1 c.number_after-number.ensures c.loop-played.invariant.2,
+      successors_more c.args.classes.now.family.profile StandsFor setup legal index numbers played number here goes.1
+          (λ q by. class_stands c.args.classes.now.family q number c.class_after-number.ensures.bound (c.class_after-number.ensures.class q by)) c.loop-played.invariant.2,
     )
 
 pub returns : goal.returns
