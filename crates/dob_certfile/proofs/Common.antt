@@ -15,9 +15,9 @@ pub use Rattle.dob_certificate.specs.declared.entry.Entry.{Entry}
 pub use Rattle.dob_certificate.specs.declared.list_kind.ListKind.{ListKind}
 pub use Rattle.dob_certificate.specs.declared.list_kind.ListKind.TheVariants.{Lost, Held}
 pub use Rattle.dob_certfile.specs.Format.{Content, FitEntries, FitEntry, Fits, FitsClaim, FitsPlies, bytes_of, claim_bytes, content, entry_bytes, head_bytes}
-pub use Rattle.dob_certfile.specs.Format.{plies_byte, title}
+pub use Rattle.dob_certfile.specs.Format.{plies_byte, certificate_title}
 unfoldable pub use Rattle.dob_certfile.specs.Format.{contents_of, entries_bytes}
-pub use Rattle.dob_certfile.specs.Reading.{◌>>=◌, FrontContent, HasCertFault, MayGive, are_same, byte_at, claim_at, claim_of_kind, few_at, part, plies_of}
+pub use Rattle.dob_certfile.specs.Reading.{◌>>=◌, FrontContent, HasCertFault, MayGive, byte_at, claim_at, claim_of_kind, few_at, part, plies_at}
 pub use Rattle.dob_certfile.specs.Reading.{profile_at, wants, word}
 unfoldable pub use Rattle.dob_certfile.specs.Reading.{entries_at, entry_at, family_at, file_at, front_at, number_at, seal_at, set_at}
 pub use Rattle.dob_certfile.specs.declared.defect.Defect.{Defect}

@@ -1,35 +1,21 @@
 -- What a step of reading takes from the front, bytes that are the same, and numbers that are read and written.
 use Rattle.dob_certfile.proofs.Common.{◌%◌, ◌*◌, ◌++◌, ◌+◌, ◌-◌, ◌/◌, ◌<◌, ◌↔◌, ◌∙◌, ◌∷◌, ◌≡◌, ◌≤◌, Bool, Err, List, Ok, Result, [], ap, append_assoc, arith}
 use Rattle.dob_certfile.proofs.Common.{rules, cond, drop, eqb, false, get_or, inl, inr, ltb, refl, subst, suc, sym, true, zero, ℕ, cases_Bool, eq-eqb, le-ltb}
-use Rattle.dob_certfile.proofs.Common.{lt-ltb, ltb-true, OnOk, ◌>>=◌, are_same, byte_at, wants, number_at, Defect, EntryNumber}
-use Rattle.std.specs.Prelude.{IsTrue}
+use Rattle.dob_certfile.proofs.Common.{lt-ltb, ltb-true, OnOk, ◌>>=◌, byte_at, wants, number_at, Defect, EntryNumber}
+use Rattle.std.specs.Prelude.{bytes_eq}
+use Rattle.std.proofs.lemmas.Slice.Eq.{bytes_eq-Decides}
 use Rattle.std.proofs.lemmas.Bool.{ltb-false}
 use Rattle.dob_certfile.specs.Numbers.{leb128, leb128_limit}
 
 -- ---- bytes that are the same
 
-same_self : (xs : List ℕ) → are_same xs xs ≡ true
-same_self [] = refl
-same_self (x ∷ xs) = rw (eq-eqb x x refl, same_self xs) refl
+pub same_is : (xs ys : List ℕ) → bytes_eq xs ys ≡ true → xs ≡ ys
+same_is xs ys = (bytes_eq-Decides xs ys).0
 
-same_head : (b : Bool) (rest : Bool) → cond b rest false ≡ true → (b ≡ true) × (rest ≡ true)
-same_head true rest e = (refl, e)
-same_head false rest e = absurd cc
+pub is_same : (xs ys : List ℕ) → xs ≡ ys → bytes_eq xs ys ≡ true
+is_same xs ys = (bytes_eq-Decides xs ys).1
 
-pub same_is : (xs ys : List ℕ) → are_same xs ys ≡ true → xs ≡ ys
-same_is [] [] e = refl
-same_is [] (y ∷ ys) e = absurd cc
-same_is (x ∷ xs) [] e = absurd cc
-same_is (x ∷ xs) (y ∷ ys) e = search (rules, same_head, (same_is xs ys))
-
-pub is_same : (xs ys : List ℕ) → xs ≡ ys → are_same xs ys ≡ true
-is_same xs ys e = ap (λ (zs : List ℕ). are_same xs zs) (sym e) ∙ same_self xs
-
-pub same_by : (b : Bool) (xs ys : List ℕ) → (IsTrue b ↔ (xs ≡ ys)) → b ≡ are_same xs ys
-same_by true xs ys h = sym (is_same xs ys (h.0 refl))
-same_by false xs ys h = search (rules, same_is)
-
-pub not_same : (xs ys : List ℕ) → (xs ≡ ys → ⊥) → are_same xs ys ≡ false
+pub not_same : (xs ys : List ℕ) → (xs ≡ ys → ⊥) → bytes_eq xs ys ≡ false
 not_same xs ys other = search (rules, same_is)
 
 -- ---- steps of reading

@@ -2,7 +2,8 @@
 use Rattle.dob_certfile.proofs.Common.{ListKind, Lost, Held, ◌++◌, ◌-◌, ◌<◌, ◌∙◌, ◌≡◌, ◌≤◌, ◌⊎◌, Err, List, Ok, Result, ap, append_assoc, arith, drop, inl, inr, length, refl, subst}
 use Rattle.dob_certfile.proofs.Common.{sym, take, true, ℕ, le-leb, length-append, take_at, IfErr, IfOk, little_bytes, classes_of-below, classes_of}
 use Rattle.dob_certfile.proofs.Common.{AreAscending, Entry, Content, FitEntries, Fits, bytes_of, content, head_bytes, contents_of, entries_bytes, ◌>>=◌}
-use Rattle.dob_certfile.proofs.Common.{FrontContent, HasCertFault, MayGive, are_same, entries_at, file_at, front_at, seal_at, Defect, Digest}
+use Rattle.dob_certfile.proofs.Common.{FrontContent, HasCertFault, MayGive, entries_at, file_at, front_at, seal_at, Defect, Digest}
+use Rattle.std.specs.Prelude.{bytes_eq}
 use Rattle.sha2.specs.Sha256.{sha256}
 use Rattle.sha2.proofs.Facts256.{length-sha256}
 use Rattle.dob_certfile.specs.declared.defect.ReadFault.{ReadFault}
@@ -26,7 +27,7 @@ seal_again contents rest long is =
     let ends = le-leb (length rest) 32 (omega (arith, long)) in
     let before : length (contents ++ rest) - 32 ≡ length contents = omega (arith, length-append contents rest, long) in
     let cut : take (length (contents ++ rest) - 32) (contents ++ rest) ≡ contents = ap (λ (n : ℕ). take n (contents ++ rest)) before ∙ take_at contents rest (length contents) refl in
-    let same : are_same rest (sha256 (take (length (contents ++ rest) - 32) (contents ++ rest))) ≡ true = is_same rest _ (is ∙ ap sha256 (sym cut)) in
+    let same : bytes_eq rest (sha256 (take (length (contents ++ rest) - 32) (contents ++ rest))) ≡ true = is_same rest _ (is ∙ ap sha256 (sym cut)) in
     rw (whole, ends, same) refl
 
 regroup : (o a b c d e : List ℕ) → ((((o ++ a) ++ b) ++ c) ++ d) ++ e ≡ o ++ (a ++ (b ++ (c ++ (d ++ e))))

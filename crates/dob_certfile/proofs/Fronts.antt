@@ -1,9 +1,10 @@
 -- The front that is read is the one that was written, and what was written is read again.
 use Rattle.dob_certfile.proofs.Common.{◌++◌, ◌+◌, ◌<◌, ◌∙◌, ◌∷◌, ◌≡◌, ◌≤◌, Err, List, Ok, [], ap, arith, drop, eqb, get_or, inl, inr, leb, rules, length, ltb}
 use Rattle.dob_certfile.proofs.Common.{refl, subst, suc, sym, take, zero, ℕ, cases_Bool, cases_lt, eqb-true, le-leb, leb-true, lt-ltb, ltb-true, drop_more}
-use Rattle.dob_certfile.proofs.Common.{little_bytes, little_number, Family, classes_of-below, classes_of, family_of, FitsClaim, claim_bytes, title, ◌>>=◌}
-use Rattle.dob_certfile.proofs.Common.{FrontContent, are_same, claim_at, claim_of_kind, few_at, part, profile_at, wants, word, family_at, front_at, set_at}
+use Rattle.dob_certfile.proofs.Common.{little_bytes, little_number, Family, classes_of-below, classes_of, family_of, FitsClaim, claim_bytes, certificate_title, ◌>>=◌}
+use Rattle.dob_certfile.proofs.Common.{FrontContent, claim_at, claim_of_kind, few_at, part, profile_at, wants, word, family_at, front_at, set_at}
 use Rattle.dob_certfile.proofs.Common.{EntryCount, Magic, ProfileByte, RootClass, SetByte, Truncated, Version}
+use Rattle.std.specs.Prelude.{bytes_eq}
 use Rattle.std.proofs.Common.{◌≢◌, slice_index}
 use Rattle.std.proofs.lemmas.List.{take-append-drop, drop-drop, length-drop, length-take-le, get_or-drop, get_or-take}
 use Rattle.byteorder.specs.Numbers.{little_number-reads_back}
@@ -165,7 +166,7 @@ two_cells place bytes within =
 -- ---- the whole front
 
 abbrev pub front_text : FrontContent → List ℕ → List ℕ
-front_text f rest = title ++ 1 ∷ (set_bytes f.family.set ++ profile_number f.family.profile ∷ (little_bytes 4 f.root ++ (claim_bytes f.claim
+front_text f rest = certificate_title ++ 1 ∷ (set_bytes f.family.set ++ profile_number f.family.profile ∷ (little_bytes 4 f.root ++ (claim_bytes f.claim
     ++ (little_bytes 4 f.lost_count ++ (little_bytes 4 f.held_count ++ rest)))))
 
 pub record FitsFront (f : FrontContent) : Type 0 where
@@ -177,7 +178,7 @@ pub record FitsFront (f : FrontContent) : Type 0 where
 -- what the first bytes name
 record NamesFamily (bytes : List ℕ) (family : Family) : Type 0 where
   long : 28 ≤ length bytes
-  titled : part 0 8 bytes ≡ title
+  titled : part 0 8 bytes ≡ certificate_title
   known : get_or bytes 8 0 ≡ 1
   set : part 9 4 bytes ≡ set_bytes family.set
   profile : get_or bytes 13 0 ≡ profile_number family.profile
@@ -185,15 +186,15 @@ record NamesFamily (bytes : List ℕ) (family : Family) : Type 0 where
 family_takes : (bytes : List ℕ) (family : Family) → family_at bytes ≡ Ok family → NamesFamily bytes family
 unfolding family_at
 family_takes bytes family e =
-    let a = wants_ok (leb 28 (length bytes)) Truncated (wants (are_same (part 0 8 bytes) title) Magic >>= λ titled. wants (eqb (get_or bytes 8 0) 1) Version >>= λ known. set_at (part 9 4 bytes) >>= λ set. profile_at (get_or bytes 13 0) >>= λ profile. Ok (family_of set profile)) family e in
-    let b = wants_ok (are_same (part 0 8 bytes) title) Magic (wants (eqb (get_or bytes 8 0) 1) Version >>= λ known. set_at (part 9 4 bytes) >>= λ set. profile_at (get_or bytes 13 0) >>= λ profile. Ok (family_of set profile)) family a.1 in
+    let a = wants_ok (leb 28 (length bytes)) Truncated (wants (bytes_eq (part 0 8 bytes) certificate_title) Magic >>= λ titled. wants (eqb (get_or bytes 8 0) 1) Version >>= λ known. set_at (part 9 4 bytes) >>= λ set. profile_at (get_or bytes 13 0) >>= λ profile. Ok (family_of set profile)) family e in
+    let b = wants_ok (bytes_eq (part 0 8 bytes) certificate_title) Magic (wants (eqb (get_or bytes 8 0) 1) Version >>= λ known. set_at (part 9 4 bytes) >>= λ set. profile_at (get_or bytes 13 0) >>= λ profile. Ok (family_of set profile)) family a.1 in
     let c = wants_ok (eqb (get_or bytes 8 0) 1) Version (set_at (part 9 4 bytes) >>= λ set. profile_at (get_or bytes 13 0) >>= λ profile. Ok (family_of set profile)) family b.1 in
     let s = bind_ok (set_at (part 9 4 bytes)) (λ set. profile_at (get_or bytes 13 0) >>= λ profile. Ok (family_of set profile)) family c.1 in
     let p = bind_ok (profile_at (get_or bytes 13 0)) (λ profile. Ok (family_of s.0 profile)) family s.2 in
     let long : 28 ≤ length bytes = leb-true 28 (length bytes) a.0 in
     subst (NamesFamily bytes) (ok_is (family_of s.0 p.0) family p.2) (record {
       long = long;
-      titled = same_is (part 0 8 bytes) title b.0;
+      titled = same_is (part 0 8 bytes) certificate_title b.0;
       known = eqb-true (get_or bytes 8 0) 1 c.0;
       set = set_takes (part 9 4 bytes) s.0 (part_long 9 4 bytes (omega (arith, long))) s.1;
       profile = profile_takes (get_or bytes 13 0) p.0 p.1;
@@ -215,8 +216,8 @@ front_takes bytes f fits e =
     let long : 28 ≤ length bytes = named.long in
     let claim = claim_takes (get_or bytes 18 0) (get_or bytes 19 0) c.0 c.1 in
     let parts : bytes ≡ front_text (front_made bytes family c.0) (drop 28 bytes) =
-    cut 0 8 8 bytes title (omega arith) named.titled
-    ∙ ap (λ (xs : List ℕ). title ++ xs) (cut 8 1 9 bytes (1 ∷ []) (omega arith) (one_cell 8 bytes (omega (arith, long)) ∙ ap (λ (n : ℕ). n ∷ []) named.known)
+    cut 0 8 8 bytes certificate_title (omega arith) named.titled
+    ∙ ap (λ (xs : List ℕ). certificate_title ++ xs) (cut 8 1 9 bytes (1 ∷ []) (omega arith) (one_cell 8 bytes (omega (arith, long)) ∙ ap (λ (n : ℕ). n ∷ []) named.known)
     ∙ ap (λ (xs : List ℕ). 1 ∷ xs) (cut 9 4 13 bytes (set_bytes family.set) (omega arith) named.set
     ∙ ap (λ (xs : List ℕ). set_bytes family.set ++ xs) (cut 13 1 14 bytes (profile_number family.profile ∷ []) (omega arith) (one_cell 13 bytes (omega (arith, long)) ∙ ap (λ (n : ℕ). n ∷ []) named.profile)
     ∙ ap (λ (xs : List ℕ). profile_number family.profile ∷ xs) (cut 14 4 18 bytes (little_bytes 4 (word 14 bytes)) (omega arith) (word_back (part 14 4 bytes) (part_long 14 4 bytes (omega (arith, long))) (part_fits 14 4 bytes fits))
@@ -249,7 +250,7 @@ claim_again (WonWithin plies) fits = (3, plies, refl, rw (lt-ltb plies 255 fits)
 claim_again (LostWithin plies) fits = (4, plies, refl, rw (lt-ltb plies 255 fits) refl)
 
 abbrev cells : FrontContent → ℕ → ℕ → List ℕ → List ℕ
-cells f kind plies rest = title ++ 1 ∷ (set_bytes f.family.set ++ profile_number f.family.profile ∷ (little_bytes 4 f.root ++ (kind ∷ plies ∷
+cells f kind plies rest = certificate_title ++ 1 ∷ (set_bytes f.family.set ++ profile_number f.family.profile ∷ (little_bytes 4 f.root ++ (kind ∷ plies ∷
     (little_bytes 4 f.lost_count ++ (little_bytes 4 f.held_count ++ rest)))))
 
 cells_again : (f : FrontContent) (kind plies : ℕ) (rest : List ℕ) → claim_at kind plies ≡ Ok f.claim → FitsFront f → f.root < 4294967296 → f.lost_count < 4294967296 → f.held_count < 4294967296
@@ -267,6 +268,6 @@ front_again f rest right =
     let found = claim_again f.claim right.claim in
     let again = cells_again f found.0 found.1 rest found.3 right (omega (arith, few, right.root)) (omega (arith, few, right.lost))
     (omega (arith, few, right.held)) in
-    let text : front_text f rest ≡ cells f found.0 found.1 rest = ap (λ (x : List ℕ). title ++ 1 ∷ (set_bytes f.family.set ++ profile_number f.family.profile ∷ (little_bytes 4 f.root ++ (x
+    let text : front_text f rest ≡ cells f found.0 found.1 rest = ap (λ (x : List ℕ). certificate_title ++ 1 ∷ (set_bytes f.family.set ++ profile_number f.family.profile ∷ (little_bytes 4 f.root ++ (x
     ++ (little_bytes 4 f.lost_count ++ (little_bytes 4 f.held_count ++ rest)))))) found.2 in
     (ap front_at text ∙ again.0, ap (drop 28) text ∙ again.1)

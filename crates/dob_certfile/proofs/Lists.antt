@@ -2,21 +2,21 @@
 use Rattle.dob_certfile.proofs.Common.{◌++◌, ◌+◌, ◌-◌, ◌<◌, ◌∙◌, ◌∷◌, ◌≡◌, ◌≤◌, All, Err, List, Ok, Result, [], ap, append_assoc, arith, drop, get_or, rules}
 use Rattle.dob_certfile.proofs.Common.{leb, length, ltb, refl, slice_index_or, subst, suc, sym, zero, ℕ, le-leb, leb-true, lt-ltb, ltb-true, append-nil}
 use Rattle.dob_certfile.proofs.Common.{drop_more, AreAscending, class_at, Entry, FitEntries, FitEntry, FitsPlies, entry_bytes, plies_byte, entries_bytes, ◌>>=◌}
-use Rattle.dob_certfile.proofs.Common.{ListKind, Lost, Held, byte_at, plies_of, wants, entries_at, entry_at, number_at, Defect, EntryClass, EntryOrder}
+use Rattle.dob_certfile.proofs.Common.{ListKind, Lost, Held, byte_at, plies_at, wants, entries_at, entry_at, number_at, Defect, EntryClass, EntryOrder}
 use Rattle.dob_certfile.specs.Numbers.{number_bytes}
 use Rattle.dob_certfile.proofs.Fields.{IsBytes, bind_ok, wants_ok, ok_is, Takes, Takes-then, byte_takes, number_takes, number_again}
 
 -- ---- plies
 
-plies_fit : (kind : ListKind) (byte plies : ℕ) → plies_of kind byte ≡ Ok plies → FitsPlies kind plies
+plies_fit : (kind : ListKind) (byte plies : ℕ) → plies_at kind byte ≡ Ok plies → FitsPlies kind plies
 plies_fit Lost byte plies read = grind arith
 plies_fit Held byte plies read = grind arith
 
-plies_back : (kind : ListKind) (byte plies : ℕ) → byte < 256 → plies_of kind byte ≡ Ok plies → plies_byte plies ≡ byte
+plies_back : (kind : ListKind) (byte plies : ℕ) → byte < 256 → plies_at kind byte ≡ Ok plies → plies_byte plies ≡ byte
 plies_back Lost byte plies fits read = grind arith
 plies_back Held byte plies fits read = grind arith
 
-plies_again : (kind : ListKind) (plies : ℕ) → FitsPlies kind plies → plies_of kind (plies_byte plies) ≡ Ok plies
+plies_again : (kind : ListKind) (plies : ℕ) → FitsPlies kind plies → plies_at kind (plies_byte plies) ≡ Ok plies
 plies_again Lost plies fits = grind arith
 plies_again Held plies fits = grind arith
 
@@ -34,12 +34,12 @@ pub entry_takes : (kind : ListKind) (classes least : ℕ) (bytes : List ℕ) (x 
     → Takes bytes (entry_bytes least x.0) x.1 × IsEntryFrom kind classes least x.0
 unfolding entry_at
 entry_takes kind classes least bytes x fits e =
-    let a = bind_ok (number_at 4 bytes) (λ number. wants (ltb 0 number.0) EntryOrder >>= λ above. wants (leb (least + number.0) classes) EntryClass >>= λ known. byte_at number.1 >>= λ byte. plies_of kind byte.0 >>= λ plies. Ok (made least number.0 plies byte.1)) x e in
+    let a = bind_ok (number_at 4 bytes) (λ number. wants (ltb 0 number.0) EntryOrder >>= λ above. wants (leb (least + number.0) classes) EntryClass >>= λ known. byte_at number.1 >>= λ byte. plies_at kind byte.0 >>= λ plies. Ok (made least number.0 plies byte.1)) x e in
     let number = a.0.0 in
-    let b = wants_ok (ltb 0 number) EntryOrder (wants (leb (least + number) classes) EntryClass >>= λ known. byte_at a.0.1 >>= λ byte. plies_of kind byte.0 >>= λ plies. Ok (made least number plies byte.1)) x a.2 in
-    let c = wants_ok (leb (least + number) classes) EntryClass (byte_at a.0.1 >>= λ byte. plies_of kind byte.0 >>= λ plies. Ok (made least number plies byte.1)) x b.1 in
-    let d = bind_ok (byte_at a.0.1) (λ byte. plies_of kind byte.0 >>= λ plies. Ok (made least number plies byte.1)) x c.1 in
-    let f = bind_ok (plies_of kind d.0.0) (λ plies. Ok (made least number plies d.0.1)) x d.2 in
+    let b = wants_ok (ltb 0 number) EntryOrder (wants (leb (least + number) classes) EntryClass >>= λ known. byte_at a.0.1 >>= λ byte. plies_at kind byte.0 >>= λ plies. Ok (made least number plies byte.1)) x a.2 in
+    let c = wants_ok (leb (least + number) classes) EntryClass (byte_at a.0.1 >>= λ byte. plies_at kind byte.0 >>= λ plies. Ok (made least number plies byte.1)) x b.1 in
+    let d = bind_ok (byte_at a.0.1) (λ byte. plies_at kind byte.0 >>= λ plies. Ok (made least number plies byte.1)) x c.1 in
+    let f = bind_ok (plies_at kind d.0.0) (λ plies. Ok (made least number plies d.0.1)) x d.2 in
     let first = number_takes 4 bytes a.0 fits a.1 in
     let second = byte_takes a.0.1 d.0 first.0.rest_fits d.1 in
     let some : 0 < number = ltb-true 0 number b.0 in

@@ -29,8 +29,9 @@ content file = record { family = file.family; root = file.root; claim = file.cla
 
 -- ---- the bytes
 
-abbrev pub title : List ℕ
-title = codes "DOBUCERT"
+-- what a certificate's file begins with
+abbrev pub certificate_title : List ℕ
+certificate_title = codes "DOBUCERT"
 
 -- the kind of the claim, and its plies
 abbrev pub claim_bytes : Claim → List ℕ
@@ -55,7 +56,7 @@ entries_bytes least (entry ∷ entries) = entry_bytes least entry ++ entries_byt
 
 -- what stands before the counts of entries
 abbrev pub head_bytes : Content → List ℕ
-head_bytes c = title ++ (1 ∷ (set_bytes c.family.set ++ (profile_number c.family.profile ∷ (little_bytes 4 c.root ++ claim_bytes c.claim))))
+head_bytes c = certificate_title ++ (1 ∷ (set_bytes c.family.set ++ (profile_number c.family.profile ∷ (little_bytes 4 c.root ++ claim_bytes c.claim))))
 
 -- all that stands before the digest
 unfoldable pub contents_of : Content → List ℕ

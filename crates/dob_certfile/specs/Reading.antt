@@ -1,5 +1,5 @@
 -- Reading a certificate's file from left to right, with the first fault that is met.
-use Rattle.std.specs.Prelude.{◌≡◌, ◌≤◌, ℕ, zero, suc, ◌+◌, ◌-◌, ◌*◌, List, [], ◌∷◌, length, take, drop, get_or, Bool, true, false, Result, Ok, Err, nat_eq, nat_lt, nat_le, if◌then◌else◌}
+use Rattle.std.specs.Prelude.{◌≡◌, ◌≤◌, ℕ, zero, suc, ◌+◌, ◌-◌, ◌*◌, List, [], ◌∷◌, length, take, drop, get_or, bytes_eq, Bool, true, false, Result, Ok, Err, nat_eq, nat_lt, nat_le, if◌then◌else◌}
 use Rattle.std.proofs.Common.{arith}
 use Rattle.byteorder.specs.Endian.{little_number}
 use Rattle.sha2.specs.Sha256.{sha256}
@@ -19,7 +19,7 @@ use Rattle.dob_certfile.specs.declared.defect.Defect.{Defect}
 use Rattle.dob_certfile.specs.declared.defect.Defect.TheVariants.{Truncated, Magic, Version, SetByte, ProfileByte, RootClass, ClaimByte, EntryCount, EntryNumber, EntryOrder, EntryClass, EntryPlies, Trailing, Digest}
 use Rattle.dob_certfile.specs.declared.defect.ReadFault.{ReadFault}
 use Rattle.dob_certfile.specs.declared.defect.ReadFault.TheVariants as faults
-use Rattle.dob_certfile.specs.Format.{Content, title}
+use Rattle.dob_certfile.specs.Format.{Content, certificate_title}
 
 infixl 10 ◌>>=◌
 abbrev pub ◌>>=◌ : {A B : Type 0} → Result A Defect → (A → Result B Defect) → Result B Defect
@@ -62,9 +62,9 @@ number_at (suc more) bytes = do
   if nat_lt low.0 128 then Ok low else (number_at more low.1 >>= λ high. if nat_eq high.0 0 then Err EntryNumber else Ok (low.0 - 128 + 128 * high.0, high.1))
 
 -- 255 is ever, which says nothing of what is lost
-abbrev pub plies_of : ListKind → ℕ → Result ℕ Defect
-plies_of Lost byte = if nat_lt byte 255 then Ok byte else Err EntryPlies
-plies_of Held byte = Ok (if nat_lt byte 255 then byte else EVER)
+abbrev pub plies_at : ListKind → ℕ → Result ℕ Defect
+plies_at Lost byte = if nat_lt byte 255 then Ok byte else Err EntryPlies
+plies_at Held byte = Ok (if nat_lt byte 255 then byte else EVER)
 
 -- the number is how far the class is from the one below the least
 unfoldable pub entry_at : ListKind → ℕ → ℕ → List ℕ → Result (Entry × List ℕ) Defect
@@ -73,7 +73,7 @@ entry_at kind classes least bytes = do
   above ← wants (nat_lt 0 number.0) EntryOrder
   known ← wants (nat_le (least + number.0) classes) EntryClass
   byte ← byte_at number.1
-  plies ← plies_of kind byte.0
+  plies ← plies_at kind byte.0
   Ok (record { class = least + number.0 - 1; plies = plies }, byte.1)
 
 unfoldable pub entries_at : ListKind → ℕ → ℕ → ℕ → List ℕ → Result (List Entry × List ℕ) Defect
@@ -92,12 +92,6 @@ part place count bytes = take count (drop place bytes)
 -- the number in four bytes from a place
 abbrev pub word : ℕ → List ℕ → ℕ
 word place bytes = little_number 4 (part place 4 bytes)
-
-abbrev pub are_same : List ℕ → List ℕ → Bool
-are_same [] [] = true
-are_same [] (y ∷ ys) = false
-are_same (x ∷ xs) [] = false
-are_same (x ∷ xs) (y ∷ ys) = if nat_eq x y then are_same xs ys else false
 
 -- none, one or two of a kind
 abbrev pub few_at : ℕ → Result ((n : ℕ) × (n ≤ 2)) Defect
@@ -122,7 +116,7 @@ profile_at (suc (suc n)) = Err ProfileByte
 unfoldable pub family_at : List ℕ → Result Family Defect
 family_at bytes = do
   long ← wants (nat_le 28 (length bytes)) Truncated
-  titled ← wants (are_same (part 0 8 bytes) title) Magic
+  titled ← wants (bytes_eq (part 0 8 bytes) certificate_title) Magic
   known ← wants (nat_eq (get_or bytes 8 0) 1) Version
   set ← set_at (part 9 4 bytes)
   profile ← profile_at (get_or bytes 13 0)
@@ -165,7 +159,7 @@ unfoldable pub seal_at : List ℕ → List ℕ → Result Unit Defect
 seal_at bytes rest = do
   whole ← wants (nat_le 32 (length rest)) Truncated
   ends ← wants (nat_le (length rest) 32) Trailing
-  wants (are_same rest (sha256 (take (length bytes - 32) bytes))) Digest
+  wants (bytes_eq rest (sha256 (take (length bytes - 32) bytes))) Digest
 
 unfoldable pub file_at : List ℕ → Result Content Defect
 file_at bytes = do

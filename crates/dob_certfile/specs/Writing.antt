@@ -1,18 +1,19 @@
 -- What a sink has of a file where writing stops.
-use Rattle.std.specs.Prelude.{Bool, true, false, Result, Ok, Err}
-use Rattle.dob_dbfile.specs.Sinks.{Change, IsUntouched, StopsAfter}
+use Rattle.std.specs.Prelude.{Bool, true, false}
+use Rattle.dob_dbfile.specs.declared.fault.Fault.TheVariants as file_fault
+use Rattle.dob_dbfile.specs.Sinks.{Change, IsUntouched}
+use Rattle.dob_dbfile.specs.Writing.{WriteStopsAt}
 use Rattle.dob_certfile.specs.declared.defect.WriteFault.{WriteFault}
 use Rattle.dob_certfile.specs.declared.defect.WriteFault.TheVariants.{Memory, Unfit, Io}
 use Rattle.dob_certfile.specs.Format.{Content, Fits, bytes_of}
 
--- a sink that fails has received just so many of the file's bytes; where memory is refused or no file says it nothing happens to it
-abbrev pub WriteStopsAt : Change → Content → WriteFault → Type 0
-WriteStopsAt change c (Io count) = StopsAfter change (bytes_of c) count
-WriteStopsAt change c Memory = IsUntouched change
-WriteStopsAt change c Unfit = IsUntouched change × ¬ Fits c
+-- where no file says it nothing happens to a sink; else writing stops as that of the file's bytes does
+abbrev pub IsUnwritten : Change → Content → WriteFault → Type 0
+IsUnwritten change c Unfit = IsUntouched change × ¬ Fits c
+IsUnwritten change c Memory = WriteStopsAt change (bytes_of c) file_fault.Memory
+IsUnwritten change c (Io count) = WriteStopsAt change (bytes_of c) (file_fault.Io count)
 
-abbrev pub is_io_error : {X : Type 0} → Result X WriteFault → Bool
-is_io_error (Ok x) = false
-is_io_error (Err (Io bytes)) = true
-is_io_error (Err Memory) = false
-is_io_error (Err Unfit) = false
+-- whether it is the fault of a device that failed
+abbrev pub is_io : WriteFault → Bool
+is_io (Io bytes) = true
+is_io _ = false

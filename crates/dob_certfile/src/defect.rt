@@ -9,7 +9,7 @@ use std::error::Error;
 use std::fmt;
 
 /// What is wrong with the bytes of a file: the first defect from left to right.
-#[derive(Clone, Copy, Debug, PartialEq, Eq)]
+#[derive(Clone, Copy, Debug)]
 pub enum Defect {
     /// E15: there are fewer than 28 bytes, or they end within the entries or the digest.
     Truncated,
@@ -69,7 +69,7 @@ impl fmt::Display for Defect {
 impl Error for Defect {}
 
 /// Why a file isn't read.
-#[derive(Clone, Copy, Debug, PartialEq, Eq)]
+#[derive(Clone, Copy, Debug)]
 pub enum ReadFault {
     /// E23: a growth was refused, since no memory was left for it.
     Memory,
@@ -108,7 +108,7 @@ impl<T: Drop> From<AllocFailed<T>> for ReadFault {
 }
 
 /// Why a file isn't written.
-#[derive(Clone, Copy, Debug, PartialEq, Eq)]
+#[derive(Clone, Copy, Debug)]
 pub enum WriteFault {
     /// E23: a growth was refused, since no memory was left for it.
     Memory,

@@ -1,7 +1,7 @@
 // Entries as they stand in a file.
 ghost use Rattle.std.specs.Prelude.{◌≡◌, ◌<◌, ◌≤◌, ◌++◌, ◌^◌, length, IfOk, OnOk};
 ghost use Rattle.dob_certificate.specs.Ascending.{AreAscending};
-ghost use Rattle.dob_certfile.specs.Reading.{Gives, MayGive, entry_at, entries_at, plies_of};
+ghost use Rattle.dob_certfile.specs.Reading.{Gives, MayGive, entry_at, entries_at, plies_at};
 
 use crate::defect::{Defect, ReadFault};
 use crate::numbers::{byte_of, number_of};
@@ -16,8 +16,8 @@ pub(crate) const MORE_BYTES: u32 = 4;
 // # Errors
 //
 // `EntryPlies`.
-fn plies_of(kind: ListKind, byte: u8) -> Result<u16, Defect>
-    ensures { Gives (λ plies. plies) result (plies_of kind byte) }
+fn plies_at(kind: ListKind, byte: u8) -> Result<u16, Defect>
+    ensures { Gives (λ plies. plies) result (plies_at kind byte) }
 {
     match kind {
         ListKind::Lost if byte < 255 => Ok(byte as u16),
@@ -53,7 +53,7 @@ fn entry_of(
     }
     let (byte, rest) = byte_of(rest)?;
     let class = (least + number - 1) as u32;
-    let plies = plies_of(kind, byte)?;
+    let plies = plies_at(kind, byte)?;
     Ok((Entry { class, plies }, rest))
 }
 

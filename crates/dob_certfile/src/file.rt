@@ -3,7 +3,7 @@ use dob_certificate::{Certificate, Claim};
 use dob_pieces::Family;
 
 /// A certificate with its claim and the position of the claim.
-#[derive(Debug, Drop)]
+#[derive(Drop)]
 pub struct CertificateFile {
     pub family: Family,
     /// The class of the position of the claim.

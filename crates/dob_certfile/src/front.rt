@@ -1,16 +1,16 @@
 // What stands before the entries of a certificate's file.
-ghost use Rattle.std.specs.Prelude.{◌≡◌, ◌<◌, ◌≤◌, ◌^◌, ◌++◌, ◌↔◌, ◌∷◌, [], length, take, drop, get_or, IfOk, IsTrue, OnOk};
+ghost use Rattle.std.specs.Prelude.{◌≡◌, ◌<◌, ◌≤◌, ◌^◌, ◌++◌, ◌∷◌, [], length, take, drop, get_or, bytes_eq, IfOk, OnOk};
 ghost use Rattle.byteorder.specs.Endian.{little_number};
 ghost use Rattle.dob_rank.specs.Families.{classes_of};
-ghost use Rattle.dob_certfile.specs.Format.{title};
+ghost use Rattle.dob_certfile.specs.Format.{certificate_title};
 ghost use Rattle.dob_certfile.specs.Fronts.{front_content};
-ghost use Rattle.dob_certfile.specs.Reading.{Gives, claim_at, family_at, front_at, profile_at, set_at, are_same};
+ghost use Rattle.dob_certfile.specs.Reading.{Gives, claim_at, family_at, front_at, profile_at, set_at};
 
 use crate::defect::Defect;
 use byteorder::{ByteOrder, LittleEndian};
 use dob_certificate::Claim;
 use dob_classes::count_classes;
-use dob_dbfile::set_named;
+use dob_dbfile::{are_same, set_named};
 use dob_pieces::{Family, PieceSet, Profile};
 use dob_value::Value;
 
@@ -32,16 +32,9 @@ pub(crate) struct Front {
 
 // Whether those are the title.
 fn is_title(bytes: &[u8]) -> bool
-    ensures { result ≡ are_same bytes.now title }
+    ensures { result ≡ bytes_eq bytes.now certificate_title }
 {
     are_same(bytes, b"DOBUCERT")
-}
-
-/// Whether the bytes are the same.
-pub(crate) fn are_same(left: &[u8], right: &[u8]) -> bool
-    ensures { IsTrue result ↔ (left.now ≡ right.now) }
-{
-    left == right
 }
 
 // The set of those four bytes.

@@ -10,8 +10,9 @@ ghost use Rattle.dob_certfile.specs.Reading.{Gives, HasCertFault, MayGive, entri
 use crate::defect::{Defect, ReadFault};
 use crate::entries::entries_of;
 use crate::file::CertificateFile;
-use crate::front::{FRONT_LEN, are_same, front_of};
+use crate::front::{FRONT_LEN, front_of};
 use dob_certificate::{Certificate, Entries, ListKind};
+use dob_dbfile::are_same;
 use sha2::{Digest, Sha256};
 use std::alloc::Global;
 

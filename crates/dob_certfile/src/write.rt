@@ -3,9 +3,10 @@ ghost use Rattle.std.specs.Prelude.{◌≡◌, ◌++◌, ◌<◌, ◌≤◌, ◌
 ghost use Rattle.byteorder.specs.Endian.{little_bytes};
 ghost use Rattle.dob_rank.specs.Families.{classes_of};
 ghost use Rattle.dob_certificate.specs.Ascending.{AreAscending};
+ghost use Rattle.dob_dbfile.specs.Faults.{fails};
 ghost use Rattle.dob_dbfile.specs.Sinks.{Puts, change};
 ghost use Rattle.dob_certfile.specs.Format.{FitEntries, FitEntry, Fits, FitsClaim, FitsPlies, bytes_of, claim_bytes, content, contents_of, entry_bytes, entries_bytes, head_bytes, plies_byte};
-ghost use Rattle.dob_certfile.specs.Writing.{WriteStopsAt, is_io_error};
+ghost use Rattle.dob_certfile.specs.Writing.{IsUnwritten, is_io};
 
 use crate::defect::WriteFault;
 use crate::file::CertificateFile;
@@ -33,9 +34,9 @@ pub fn write_certificate<W: Sink>(
 ) -> Result<(), WriteFault>
     requires { (W.state sink.old).has_failed ≡ false }
     ensures written { OnOk result (Puts (change (W.state sink.old) (W.state sink.new)) (bytes_of (content file.now))) }
-    ensures stopped { IfErr result (WriteStopsAt (change (W.state sink.old) (W.state sink.new)) (content file.now)) }
+    ensures stopped { IfErr result (IsUnwritten (change (W.state sink.old) (W.state sink.new)) (content file.now)) }
     ensures fits { OnOk result (Fits (content file.now)) }
-    ensures failed { (W.state sink.new).has_failed ≡ is_io_error result }
+    ensures failed { (W.state sink.new).has_failed ≡ fails is_io result }
 {
     let bytes = certificate_bytes(alloc, file)?;
     match put_all(sink, &bytes) {

@@ -3,7 +3,6 @@ pub use Rattle.std.proofs.Common.{◌∙◌, ◌∷◌, ◌≡◌, Bool, List, N
 pub use Rattle.std.proofs.Common.{sym, true≢false, ℕ}
 pub use Rattle.std.specs.Prelude.{Err, IsTrue}
 pub use Rattle.dob_pieces.specs.declared.profile.Profile.{Profile}
-pub use Rattle.dob_rank.specs.Families.{family_of}
 pub use Rattle.dob_dbfile.specs.Format.{bytes_of}
 pub use Rattle.dob_dbfile.specs.Sinks.{Change, IsSame, IsUntouched, Says, SinkState, change}
 pub use Rattle.dob_words.specs.Forms.{Text}
@@ -12,12 +11,12 @@ pub use Rattle.dob_words.specs.Words.{asks, meaning_of, number_in, profile_named
 pub use Rattle.dob_words.specs.declared.command.Reading.{Reading}
 pub use Rattle.dob_words.specs.declared.command.orders.Order.{Order}
 pub use Rattle.dob_words.specs.declared.command.orders.Order.TheVariants.{EachLine, Lines}
-pub use Rattle.dob_shelf.proofs.Shelves.{others_kept, unchanged}
-pub use Rattle.dob_shelf.specs.Shelves.{HasJust, SameFiles, ShelfChange, ShelfState, shelf_change}
+pub use Rattle.dob_shelf.proofs.Shelves.{unchanged}
+pub use Rattle.dob_shelf.specs.Shelves.{ShelfChange, ShelfState, shelf_change}
 pub use Rattle.dob_files.proofs.Endings.{answered, answered_by}
 pub use Rattle.dob_files.specs.Endings.{AnswersOver, Ending, TellsOneFault}
 pub use Rattle.dob_query.specs.Program.{AnswersValue}
-pub use Rattle.dob_query.specs.Probes.{AnswersProbe, AnswersProbeRight}
+pub use Rattle.dob_query.specs.ByTable.{AnswersProbe, AnswersProbeRight}
 pub use Rattle.dob_files.specs.Tables.{HasValueFile}
 pub use Rattle.dob_files.specs.Telling.{AnswersLines, PutsAll, PutsText, StopsText, TellsOver}
 pub use Rattle.dob_files.specs.declared.fault.Fault.{Fault}

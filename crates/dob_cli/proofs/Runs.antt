@@ -5,7 +5,7 @@ use Rattle.dob_cli.proofs.Common.{AnswersOver, Ending, TellsOneFault, AnswersLin
 use Rattle.dob_files.specs.declared.fault.Fault.TheVariants.{Io}
 use Rattle.dob_words.specs.declared.command.Reading.TheVariants as reading
 use Rattle.dob_files.specs.Endings.{AnswersHelp, AnswersUsage, AnswersVersion, Tells, TellsMemory, version_line}
-use Rattle.dob_cli.specs.Orders.{AnswersOrder, AreEachAsked, AreLinesFor, IsEachAskedFault, IsFaultFor, KeepsFiles, question_of}
+use Rattle.dob_cli.specs.Orders.{AnswersOrder, AreEachAsked, AreLinesFor, IsEachAskedFault, IsFaultFor, KeepsFiles}
 use Rattle.dob_cli.specs.Runs.{Does, LeavesShelf, Ran}
 use Rattle.std.proofs.Math.Bool.{or-false}
 use Rattle.dob_cli.proofs.Orders.{order_right}
@@ -69,7 +69,7 @@ usage_same e (inr told) = memory_same e told
 -- what was told of what was read
 read_same : (c : ShelfChange) (r : Reading) (e : Ending) → Does c r e → IsSame e.out × IsSame e.err
 read_same c (reading.Order (Lines o)) e does = over_same c (AreLinesFor c o) (IsFaultFor c o) e does.answers
-read_same c (reading.Order (EachLine f a)) e does = lines_same c (AreEachAsked (question_of a) (c.before.has f.now)) (IsEachAskedFault (question_of a) c f.now) e does.answers
+read_same c (reading.Order (EachLine f a)) e does = lines_same c (AreEachAsked a (c.before.has f.now)) (IsEachAskedFault a c f.now) e does.answers
 read_same c (reading.Help _) e does = help_same e does.0
 read_same c reading.Version e does = version_same e does.0
 read_same c (reading.Usage _) e does = usage_same e does.0

@@ -4,7 +4,7 @@ use Rattle.dob_words.specs.Words.{Text, build, meaning_of, number_in, probe, pro
 use Rattle.dob_files.specs.Endings.{Ending}
 use Rattle.dob_query.specs.Program.{AnswersValue}
 use Rattle.dob_shelf.specs.Shelves.{ShelfChange, ShelfState, shelf_change}
-use Rattle.dob_query.specs.Probes.{AnswersProbe, AnswersProbeRight}
+use Rattle.dob_query.specs.ByTable.{AnswersProbe, AnswersProbeRight}
 use Rattle.dob_build.specs.Builds.{AnswersBuild}
 use Rattle.dob_cli.specs.Orders.{ByValueFile}
 use Rattle.dob_cli.specs.Runs.{Ran}

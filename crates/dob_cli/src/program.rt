@@ -1,34 +1,31 @@
 // The program: from its words to what it prints and its exit status.
-ghost use Rattle.std.specs.Prelude.{◌≡◌, ◌≢◌, ℕ, List, IfOk, IfErr, drop, map, string_bytes};
+ghost use Rattle.std.specs.Prelude.{◌≡◌, ◌≢◌, IfOk, IfErr, drop, map, string_bytes};
 ghost use Rattle.std.specs.IoError.{error_kind};
 ghost use Rattle.std.specs.declared.io.ErrorKind.TheVariants.{OutOfMemory};
 ghost use Rattle.std.specs.Vec.Iter.{into_iter_items};
 ghost use Rattle.dob_dbfile.specs.Sinks.{Says, change};
 ghost use Rattle.dob_cli.specs.Runs.{LeavesShelf, Ran, RanOver, TellsNoText, contents};
-ghost use Rattle.dob_cli.specs.Orders.{AnswersByLines, AnswersEachLine, AnswersOrder, GivesAsked, GivesEachLine, GivesLinesFor, KeepsFiles, KeepsFilesFor, form_of, line_form, question_of, reach_of, search_of, way_of};
+ghost use Rattle.dob_cli.specs.Orders.{AnswersEachLine, AnswersOrder, KeepsFiles, KeepsFilesFor, AreAskedLines, AreEachAsked, AreLinesFor, IsAskedFault, IsEachAskedFault, IsFaultFor};
 ghost use Rattle.dob_shelf.specs.Shelves.{Changes, Leaving, SameFiles};
-ghost use Rattle.dob_files.specs.Endings.{TellsAs, TellsFaultAs, TellsMemory, TellsOneFault, ended};
+ghost use Rattle.dob_files.specs.Endings.{TellsAs, TellsFaultAs, TellsMemory, TellsOneFault, ended, GivesLines};
 ghost use Rattle.dob_files.specs.Faults.{AreFaultLines};
-ghost use Rattle.dob_files.specs.Telling.{status_of_lines};
+ghost use Rattle.dob_files.specs.Telling.{status_of_lines, TellsOver};
 ghost use Rattle.dob_files.specs.declared.fault.Fault.TheVariants.{Memory};
 
 use dob_build::answer_build;
 use dob_dbfile::{Lent, Sink, put_all, write_all};
 use dob_files::{Fault, Lines};
 use dob_lines::Console;
-use dob_pieces::Profile;
-use dob_probe::Walk;
 use dob_query::{
-    LineForm, Question, answer_count, answer_each, answer_line, answer_probe, answer_question,
-    answer_question_each, answer_show, answer_value,
+    answer_count, answer_each, answer_line, answer_probe, answer_question, answer_question_each,
+    answer_show, answer_value,
 };
 use dob_shelf::Shelf;
 use dob_survey::{
-    PuzzleSearch, ReachSearch, StatsForm, answer_check, answer_migrate, answer_puzzles,
-    answer_reach, answer_stats, answer_zugzwangs,
+    answer_check, answer_migrate, answer_puzzles, answer_reach, answer_stats, answer_zugzwangs,
 };
 use dob_verdict::{answer_certify, answer_reply, answer_verify};
-use dob_words::command::{Asked, LinesOrder, Order, Reading, read_words};
+use dob_words::command::{Asked, LinesOrder, Order, Question, Reading, read_words};
 use std::alloc::{AllocError, Global};
 use std::env::Args;
 use std::io::{self, Write};
@@ -99,7 +96,7 @@ pub fn run_over<'a, S: Shelf, O: Sink, E: Sink>(
     }
 }
 
-// Does what is ordered.
+// Does what is ordered: prints the lines that answer it, or of each line of standard input what it is answered.
 fn run_order<S: Shelf, O: Sink, E: Sink>(
     rt: &(impl Threads + Wait + Sync + Console),
     alloc: Global,
@@ -112,26 +109,11 @@ fn run_order<S: Shelf, O: Sink, E: Sink>(
         (ended result (change (O.state out.old) (O.state out.new)) (change (E.state err.old) (E.state err.new)))) }
 {
     match order {
-        Order::Lines(order) => run_lines(rt, alloc, order, shelf, out, err),
+        Order::Lines(order) => match answer(rt, alloc, order, shelf) {
+            Ok(lines) => tell(alloc, 0, lines.as_str(), shelf, out, err),
+            Err(fault) => tell_fault(alloc, fault, shelf, err),
+        },
         Order::EachLine { file, asked } => run_each(alloc, file, asked, shelf, out, err),
-    }
-}
-
-// Prints the lines that answer what is ordered.
-fn run_lines<S: Shelf, O: Sink, E: Sink>(
-    rt: &(impl Threads + Wait + Sync + Console),
-    alloc: Global,
-    order: LinesOrder<'_>,
-    shelf: &mut S,
-    out: &mut O,
-    err: &mut E,
-) -> u8
-    ensures { Leaving (KeepsFilesFor order.entry) S.state shelf.old shelf.new (λ c. AnswersByLines c order.entry
-        (ended result (change (O.state out.old) (O.state out.new)) (change (E.state err.old) (E.state err.new)))) }
-{
-    match answer(rt, alloc, order, shelf) {
-        Ok(lines) => tell(alloc, 0, lines.as_str(), shelf, out, err),
-        Err(fault) => tell_fault(alloc, fault, shelf, err),
     }
 }
 
@@ -161,11 +143,13 @@ fn tell_each<S: Shelf, O: Sink>(
     file: &str,
     asked: Asked,
 ) -> Result<bool, Fault>
-    ensures { Leaving SameFiles S.state shelf.old shelf.new (λ c. GivesEachLine file.now asked result c (change (O.state out.old) (O.state out.new))) }
+    ensures { Leaving SameFiles S.state shelf.old shelf.new (λ c. TellsOver c
+        (AreEachAsked asked (c.before.has file.now)) (IsEachAskedFault asked c file.now) (change (O.state out.old) (O.state out.new)) result) }
 {
-    match question_of(asked) {
-        None => answer_each(alloc, shelf, out, file),
-        Some(question) => answer_question_each(alloc, shelf, out, file, question),
+    match asked {
+        Asked::Probe => answer_each(alloc, shelf, out, file),
+        Asked::Line(form) => answer_question_each(alloc, shelf, out, file, Question::Line(form)),
+        Asked::Records(question) => answer_question_each(alloc, shelf, out, file, question),
     }
 }
 
@@ -183,21 +167,17 @@ fn answer<S: Shelf>(
     order: LinesOrder<'_>,
     shelf: &mut S,
 ) -> Lines
-    ensures { Leaving (KeepsFilesFor order.entry) S.state shelf.old shelf.new (GivesLinesFor order.entry result) }
+    ensures { Leaving (KeepsFilesFor order.entry) S.state shelf.old shelf.new (λ c.
+        GivesLines c (AreLinesFor c order.entry) (IsFaultFor c order.entry) result) }
 {
     match order {
         LinesOrder::Value { profile, position } => answer_value(alloc, profile, position),
         LinesOrder::Count { profile, set } => answer_count(alloc, profile, set),
         LinesOrder::Reach {
-            profile,
+            search,
             file,
-            has_levels,
-            is_watched,
             position,
-        } => {
-            let search = reach_of(profile, has_levels, is_watched);
-            answer_reach(rt, alloc, shelf, search, file, position)
-        }
+        } => answer_reach(rt, alloc, shelf, search, file, position),
         LinesOrder::Build(order) => answer_build(rt, alloc, shelf, order),
         LinesOrder::Ask {
             file,
@@ -210,23 +190,9 @@ fn answer<S: Shelf>(
             picture,
             position,
         } => answer_show(alloc, shelf, file, picture, position),
-        LinesOrder::Stats {
-            file,
-            is_csv,
-            is_json,
-        } => answer_stats(rt, alloc, shelf, file, form_of(is_csv, is_json)),
+        LinesOrder::Stats { file, form } => answer_stats(rt, alloc, shelf, file, form),
         LinesOrder::Zugzwangs { file, listed } => answer_zugzwangs(rt, alloc, shelf, file, listed),
-        LinesOrder::Puzzles {
-            file,
-            plies,
-            count,
-            from,
-            seed,
-            is_numbered,
-        } => {
-            let search = search_of(plies, count, from, seed, is_numbered);
-            answer_puzzles(alloc, shelf, file, search)
-        }
+        LinesOrder::Puzzles { file, search } => answer_puzzles(alloc, shelf, file, search),
         LinesOrder::Migrate { file, out } => answer_migrate(alloc, shelf, file, out),
         LinesOrder::Certify(order) => answer_certify(rt, alloc, shelf, order),
         LinesOrder::Verify { file, is_watched } => answer_verify(
@@ -244,106 +210,13 @@ fn answer_asked<S: Shelf>(
     asked: Asked,
     position: &str,
 ) -> Lines
-    ensures { Leaving SameFiles S.state shelf.old shelf.new (GivesAsked file.now asked position.now result) }
-{
-    match way_of(asked) {
-        Way::Probe => answer_probe(alloc, shelf, file, position),
-        Way::Line(form) => answer_line(alloc, shelf, file, form, position),
-        Way::Records(question) => answer_question(alloc, shelf, file, question, position),
-    }
-}
-
-// How a file is asked for a position: for its value or its line by the whole table, or by records.
-#[derive(Clone, Copy)]
-enum Way {
-    Probe,
-    Line(LineForm),
-    Records(Question),
-}
-
-// How a file is asked that.
-fn way_of(asked: Asked) -> Way
-    ensures { result ≡ way_of asked }
+    ensures { Leaving SameFiles S.state shelf.old shelf.new (λ c.
+        GivesLines c (AreAskedLines asked (c.before.has file.now) position.now) (IsAskedFault asked (c.before.has file.now) position.now) result) }
 {
     match asked {
-        Asked::Probe => Way::Probe,
-        Asked::Best => Way::Records(Question::Best),
-        Asked::Look { is_json: false } => Way::Records(Question::Look),
-        Asked::Look { is_json: true } => Way::Records(Question::ValueObject),
-        Asked::Moves { is_json: false } => Way::Records(Question::Moves),
-        Asked::Moves { is_json: true } => Way::Records(Question::MovesObject),
-        Asked::Line {
-            is_numbered,
-            by_records: false,
-            is_json,
-        } => Way::Line(line_form(is_numbered, is_json)),
-        Asked::Line {
-            is_numbered,
-            by_records: true,
-            is_json,
-        } => Way::Records(Question::Line(line_form(is_numbered, is_json))),
-    }
-}
-
-// The question that records answer of each line; none where the whole table does. A line is asked of the records.
-fn question_of(asked: Asked) -> Option<Question>
-    ensures { result ≡ question_of asked }
-{
-    match way_of(asked) {
-        Way::Probe => None,
-        Way::Line(form) => Some(Question::Line(form)),
-        Way::Records(question) => Some(question),
-    }
-}
-
-// How a line is told: as JSON, also where its moves are to be numbered.
-fn line_form(is_numbered: bool, is_json: bool) -> LineForm
-    ensures { result ≡ line_form is_numbered is_json }
-{
-    match (is_numbered, is_json) {
-        (_, true) => LineForm::Object,
-        (true, false) => LineForm::Numbered,
-        (false, false) => LineForm::Plain,
-    }
-}
-
-// How statistics are told.
-fn form_of(is_csv: bool, is_json: bool) -> StatsForm
-    ensures { result ≡ form_of is_csv is_json }
-{
-    match (is_csv, is_json) {
-        (_, true) => StatsForm::Objects,
-        (true, false) => StatsForm::Csv,
-        (false, false) => StatsForm::Lines,
-    }
-}
-
-// How it is looked for what can be reached.
-fn reach_of(profile: Profile, has_levels: bool, is_watched: bool) -> ReachSearch
-    ensures { result ≡ reach_of profile has_levels is_watched }
-{
-    ReachSearch {
-        profile,
-        has_levels,
-        is_watched,
-    }
-}
-
-// Which puzzles are looked for.
-fn search_of(
-    plies: u64,
-    count: u64,
-    from: Option<u64>,
-    seed: Option<u64>,
-    is_numbered: bool,
-) -> PuzzleSearch
-    ensures { result ≡ search_of plies count from seed is_numbered }
-{
-    PuzzleSearch {
-        plies,
-        count,
-        walk: Walk { seed, behind: from },
-        is_numbered,
+        Asked::Probe => answer_probe(alloc, shelf, file, position),
+        Asked::Line(form) => answer_line(alloc, shelf, file, form, position),
+        Asked::Records(question) => answer_question(alloc, shelf, file, question, position),
     }
 }
 

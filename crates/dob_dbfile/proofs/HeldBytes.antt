@@ -1,5 +1,5 @@
 -- What the bytes of a file that is held show of the whole of it, and what its first bytes show.
-use Rattle.dob_dbfile.proofs.Common.{◌<◌, ◌≡◌, ◌≤◌, List, ap, arith, inl, inr, length, refl, subst, take, ℕ, Family, whole, CountsClasses, HasHeaderFault}
+use Rattle.dob_dbfile.proofs.Common.{◌<◌, ◌≡◌, ◌≤◌, List, ap, arith, inl, inr, length, refl, subst, sym, take, take_all, ℕ, Family, whole, CountsClasses, HasHeaderFault}
 use Rattle.dob_dbfile.proofs.Common.{HasReadFault, IsHeaderShort, file_len, HasFrontFault, Fault, Format}
 use Rattle.dob_dbfile.proofs.Headers.{by_fault, counts_lifts, fault_lifts, header_short}
 use Rattle.std.proofs.lemmas.List.{length-take}
@@ -16,12 +16,6 @@ refused bytes = by_fault bytes (HasReadFault (whole bytes)) (λ wrong. wrong) (�
 pub no_digest : (bytes : List ℕ) (given : Fault) → HasHeaderFault bytes given → given ≡ fault.Digest → ⊥
 no_digest bytes = by_fault bytes (λ given. given ≡ fault.Digest → ⊥) (λ wrong is. cc) (λ wrong is. cc) (λ wrong is. cc) (λ wrong is. cc)
 
--- so is one of bytes that are too few for a header
-pub front_refused_whole : (bytes : List ℕ) (given : Fault) → HasFrontFault (whole bytes) given → HasReadFault (whole bytes) given
-front_refused_whole bytes fault.Truncated wrong = (inl wrong.0, refl)
-front_refused_whole bytes (fault.Io count) wrong = cc
-front_refused_whole bytes given wrong = refused bytes given wrong
-
 -- where the header is right, how many bytes there are shows whether the file is cut or goes on
 module _ (bytes : List ℕ) (format : Format) (family : Family) (counts : CountsClasses format family bytes) where
   pub cut_off : length bytes < file_len format family → HasReadFault (whole bytes) fault.Truncated
@@ -31,6 +25,10 @@ module _ (bytes : List ℕ) (format : Format) (family : Family) (counts : Counts
   goes_on long = (format, family, (counts, omega (arith, long)), λ is. let le : length bytes ≤ file_len format family = is.1 in omega (arith, le, long))
 
 -- ---- what the first bytes of a file and its length show of the whole
+
+-- all bytes are a front of themselves
+pub all_front : (bytes : List ℕ) → IsFrontOf bytes (length bytes) bytes
+all_front bytes = record { long = refl; begins = sym (take_all (length bytes) bytes (omega arith)); enough = inr refl }
 
 -- the first bytes are no more than all
 no_more : (front file : List ℕ) → front ≡ take (length front) file → length front ≤ length file

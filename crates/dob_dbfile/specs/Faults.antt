@@ -18,9 +18,10 @@ abbrev pub is_io : Fault → Bool
 is_io (Io bytes) = true
 is_io _ = false
 
-abbrev pub is_io_error : {X : Type 0} → Result X Fault → Bool
-is_io_error (Ok x) = false
-is_io_error (Err fault) = is_io fault
+-- whether a call gave a fault of which the test says so
+abbrev pub fails : {X F : Type 0} → (F → Bool) → Result X F → Bool
+fails test (Ok x) = false
+fails test (Err fault) = test fault
 
 -- ---- the header, each test with those before it
 

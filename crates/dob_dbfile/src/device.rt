@@ -5,11 +5,11 @@ ghost use Rattle.dob_dbfile.specs.Devices.{Stream, after, broken, GivesFirst};
 ghost use Rattle.dob_dbfile.specs.Sinks.{SinkState, AddsFlush};
 
 /// A device didn't do what it was asked, and no byte was moved by that call.
-#[derive(Clone, Copy, Debug, PartialEq, Eq)]
+#[derive(Clone, Copy, PartialEq, Eq)]
 pub struct Failed;
 
 /// A device failed after that many bytes of what was to be moved.
-#[derive(Clone, Copy, Debug, PartialEq, Eq)]
+#[derive(Clone, Copy)]
 pub struct FailedAfter {
     pub bytes: usize,
 }

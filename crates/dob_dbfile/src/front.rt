@@ -1,7 +1,7 @@
 // Reading what stands before the records.
 ghost use Rattle.std.specs.Prelude.{◌≡◌, ◌≢◌, ◌⊎◌, ◌||◌, length, take, IfOk, IfErr, OnOk};
 ghost use Rattle.dob_dbfile.specs.Devices.{Stream, after};
-ghost use Rattle.dob_dbfile.specs.Faults.{CountsClasses, NamesClasses, NamesSet, header_len, is_io_error};
+ghost use Rattle.dob_dbfile.specs.Faults.{CountsClasses, NamesClasses, NamesSet, fails, header_len, is_io};
 ghost use Rattle.dob_dbfile.specs.Looking.{HasFrontFault};
 ghost use Rattle.dob_dbfile.specs.Reading.{TakesBytes};
 
@@ -39,7 +39,7 @@ pub(crate) fn read_header<R: Source>(
         → IfErr result (λ given. (given ≡ Fault.Memory) ⊎ HasFrontFault stream given) }
     ensures memory { (stream : Stream) → R.gives source.old stream → IfErr result (λ given. given ≡ Fault.Memory → NamesClasses stream.bytes) }
     ensures shown { (stream : Stream) → R.shows source.old stream → R.shows source.new stream }
-    ensures failed { R.has_failed source.new ≡ (R.has_failed source.old || is_io_error result) }
+    ensures failed { R.has_failed source.new ≡ (R.has_failed source.old || fails is_io result) }
 {
     let (format, set) = read_front(source, &mut room[..FRONT_LEN])?;
     fill(source, &mut room[FRONT_LEN..format.header_len()], FRONT_LEN)?;
@@ -54,7 +54,7 @@ fn read_front<R: Source>(source: &mut R, room: &mut [u8]) -> Result<(Format, Pie
     ensures named { IfOk result (λ named. NamesSet named.0 named.1 room.new) }
     ensures fault { (stream : Stream) → R.gives source.old stream → IfErr result (HasFrontFault stream) }
     ensures shown { (stream : Stream) → R.shows source.old stream → R.shows source.new stream }
-    ensures failed { R.has_failed source.new ≡ (R.has_failed source.old || is_io_error result) }
+    ensures failed { R.has_failed source.new ≡ (R.has_failed source.old || fails is_io result) }
 {
     fill(source, room, 0)?;
     front_named(room)

@@ -24,7 +24,7 @@ pub(crate) const HEADER_LEN: usize = 21;
 const COUNT_LEN: usize = 8;
 
 /// The formats of a file.
-#[derive(Clone, Copy, Debug, PartialEq, Eq)]
+#[derive(Clone, Copy, PartialEq, Eq)]
 pub enum Format {
     /// It begins with `DOBUTSU1` and says no profile: its tables are of profile A. It is read, and not written.
     First,

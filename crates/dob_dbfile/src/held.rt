@@ -1,5 +1,6 @@
-// A file whose bytes the caller holds or has mapped: what it says of itself, and the record of one class. No memory is taken.
-ghost use Rattle.std.specs.Prelude.{◌≡◌, ◌≢◌, ◌⊎◌, ◌+◌, ◌*◌, ◌^◌, ◌≤◌, ◌<◌, length, take, drop, Some, Err, IfOk, IfErr, IfSome, IsErrOf, ◌↔◌};
+// A file whose bytes the caller holds or has mapped, or of which the first bytes and the length are known: what it says of itself, and the record of one class.
+// No memory is taken.
+ghost use Rattle.std.specs.Prelude.{◌≡◌, ◌≢◌, ◌+◌, ◌*◌, ◌^◌, ◌≤◌, ◌↔◌, ℕ, List, length, take, drop, Some, IfOk, IfErr, IfSome, IsErrOf};
 ghost use Rattle.dob_pieces.specs.declared.profile.Family.{Family as AnyFamily};
 ghost use Rattle.dob_rank.specs.Families.{classes_of};
 ghost use Rattle.dob_value.specs.Follows.{IsEntry};
@@ -8,6 +9,7 @@ ghost use Rattle.dob_dbfile.specs.declared.header.Format.{Format as AnyFormat};
 ghost use Rattle.dob_dbfile.specs.Devices.{whole};
 ghost use Rattle.dob_dbfile.specs.Format.{count_bytes};
 ghost use Rattle.dob_dbfile.specs.Faults.{CountsClasses, NamesFamily, HasReadFault, HasHeaderFault, IsHeaderShort, IsNoLonger, count_place, file_len, header_len};
+ghost use Rattle.dob_dbfile.specs.Fronts.{IsFrontOf};
 ghost use Rattle.dob_dbfile.specs.Looking.{HasFrontFault, HasRecord, place_of};
 
 use crate::fault::Fault;
@@ -28,38 +30,49 @@ pub fn held_family(bytes: &[u8]) -> Result<(Format, Family), Fault>
     ensures named { IfOk result (λ held. IsNoLonger held.0 held.1 (whole bytes.now)) }
     ensures fault { (fault : AnyFault) → IsErrOf result fault ↔ (HasReadFault (whole bytes.now) fault × (fault ≢ Fault.Digest)) }
 {
-    held_whole(bytes)
+    front_family(bytes, bytes.len() as u64)
 }
 
-// As above, where a fault is one that holds.
-fn held_whole(bytes: &[u8]) -> Result<(Format, Family), Fault>
-    ensures named { IfOk result (λ held. IsNoLonger held.0 held.1 (whole bytes.now)) }
-    ensures fault { IfErr result (HasReadFault (whole bytes.now)) }
+/// The format and the family of a file of `size` bytes that begins with those of `front`, the first 21 or all of a shorter file: what `held_family` says of the
+/// whole.
+///
+/// # Errors
+///
+/// Those of `held_family`.
+pub fn front_family(front: &[u8], size: u64) -> Result<(Format, Family), Fault>
+    ensures named { (file : List ℕ) → IsFrontOf front.now size file → IfOk result (λ held. IsNoLonger held.0 held.1 (whole file)) }
+    ensures fault { (file : List ℕ) → IsFrontOf front.now size file → IfErr result (HasReadFault (whole file)) }
     ensures known { IfErr result (λ given. given ≢ Fault.Digest) }
 {
-    let (format, family) = held_header(bytes)?;
-    let wanted = file_len(format, family);
-    if bytes.len() < wanted {
+    let (format, family) = held_header(front)?;
+    let wanted = file_len(format, family) as u64;
+    if size < wanted {
         Err(Fault::Truncated)
-    } else if wanted < bytes.len() {
+    } else if wanted < size {
         Err(Fault::Trailing)
     } else {
         Ok((format, family))
     }
 }
 
-/// How many bytes a file of that format and family has.
-pub(crate) fn file_len(format: Format, family: Family) -> usize
+/// How many bytes stand before the records of a file of that format.
+pub fn header_len(format: Format) -> u64
+    ensures { result ≡ header_len format }
+{
+    format.header_len() as u64
+}
+
+// How many bytes a file of that format and family has.
+fn file_len(format: Format, family: Family) -> usize
     ensures { result ≡ file_len format family }
 {
     let records = RECORD_LEN * count_classes(family) as usize;
     format.header_len() + records + DIGEST_LEN
 }
 
-/// What the header says.
-pub(crate) fn held_header(bytes: &[u8]) -> Result<(Format, Family), Fault>
+// What the header says.
+fn held_header(bytes: &[u8]) -> Result<(Format, Family), Fault>
     ensures counted { IfOk result (λ held. CountsClasses held.0 held.1 bytes.now) }
-    ensures fault { IfErr result (HasReadFault (whole bytes.now)) }
     ensures front { IfErr result (HasFrontFault (whole bytes.now)) }
     ensures known { IfErr result (λ given. given ≢ Fault.Digest) }
 {

@@ -11,13 +11,13 @@
 // - The tests of a header speak of the bytes that come, and each also of those before it (`dob_dbfile/proofs/Headers.antt`).
 #![tactic(auto)]
 
+mod bytes;
 mod device;
 mod digest;
 mod fault;
 mod front;
 mod header;
 mod held;
-mod held_front;
 mod held_source;
 pub mod laws;
 mod look;
@@ -29,12 +29,12 @@ mod std_device;
 mod transfer;
 mod write;
 
+pub use bytes::are_same;
 pub use device::{Failed, FailedAfter, PlacedSource, Sink, Source};
 pub use digest::{FileHasher, digest_of};
 pub use fault::Fault;
 pub use header::{Format, set_named};
-pub use held::{held_counted, held_family, held_value};
-pub use held_front::{front_family, header_len};
+pub use held::{front_family, header_len, held_counted, held_family, held_value};
 pub use held_source::HeldSource;
 pub use look::{read_classes, read_value};
 pub use mem_sink::MemSink;

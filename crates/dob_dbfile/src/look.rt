@@ -2,7 +2,7 @@
 ghost use Rattle.std.specs.Prelude.{◌≡◌, ◌⊎◌, ◌<◌, ◌||◌, ◌^◌, false, IfErr, IfOk};
 ghost use Rattle.dob_value.specs.Follows.{IsEntry};
 ghost use Rattle.dob_dbfile.specs.Devices.{Stream};
-ghost use Rattle.dob_dbfile.specs.Faults.{CountsClasses, NamesClasses, is_io_error};
+ghost use Rattle.dob_dbfile.specs.Faults.{CountsClasses, NamesClasses, fails, is_io};
 ghost use Rattle.dob_dbfile.specs.Looking.{HasFrontFault, HasRecord, HasRecordFault};
 
 use crate::device::{Failed, PlacedSource, Source};
@@ -28,7 +28,7 @@ pub fn read_classes<R: Source>(alloc: Global, source: &mut R) -> Result<(Format,
         → IfErr result (λ given. (given ≡ Fault.Memory) ⊎ HasFrontFault stream given) }
     ensures memory { (stream : Stream) → R.gives source.old stream → IfErr result (λ given. given ≡ Fault.Memory → NamesClasses stream.bytes) }
     ensures shown { (stream : Stream) → R.shows source.old stream → R.shows source.new stream }
-    ensures failed { R.has_failed source.new ≡ is_io_error result }
+    ensures failed { R.has_failed source.new ≡ fails is_io result }
 {
     let mut room = [0; HEADER_LEN];
     let Header { format, classes } = read_header(alloc, source, &mut room)?;
@@ -52,7 +52,7 @@ pub fn read_value<R: PlacedSource>(
     ensures entry { IfOk result IsEntry }
     ensures fault { (stream : Stream) → R.shows source.old stream → IfErr result (HasRecordFault stream format class) }
     ensures shown { (stream : Stream) → R.shows source.old stream → R.shows source.new stream }
-    ensures failed { R.has_failed source.new ≡ (R.has_failed source.old || is_io_error result) }
+    ensures failed { R.has_failed source.new ≡ (R.has_failed source.old || fails is_io result) }
 {
     let place = format.header_len() + RECORD_LEN * class as usize;
     match source.seek(place as u64) {

@@ -6,7 +6,7 @@ use crate::device::{Failed, Sink};
 use std::alloc::Global;
 
 /// A sink that keeps its bytes in memory. Where no memory is left for them it fails.
-#[derive(Debug, Drop)]
+#[derive(Drop)]
 pub struct MemSink {
     bytes: Vec<u8>,
     flushes: Vec<usize>,

@@ -5,7 +5,7 @@ ghost use Rattle.dob_dbfile.specs.Devices.{GivesFirst, Stream, after, broken, wh
 use crate::device::{Failed, PlacedSource, Source};
 
 /// A source that gives bytes from memory.
-#[derive(Debug, Drop)]
+#[derive(Drop)]
 pub struct MemSource {
     bytes: Vec<u8>,
     start: usize,

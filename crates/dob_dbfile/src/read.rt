@@ -1,14 +1,15 @@
 // Reading a table from a file.
-ghost use Rattle.std.specs.Prelude.{◌≡◌, ◌≢◌, ◌⊎◌, ◌↔◌, ℕ, List, ◌+◌, ◌*◌, ◌%◌, ◌^◌, ◌<◌, ◌≤◌, ◌||◌, [], false, length, All, IfOk};
-ghost use Rattle.std.specs.Prelude.{IfErr, IsTrue, OnOk, MatchResult};
+ghost use Rattle.std.specs.Prelude.{◌≡◌, ◌≢◌, ◌⊎◌, ℕ, List, ◌+◌, ◌*◌, ◌%◌, ◌^◌, ◌<◌, ◌≤◌, ◌||◌, [], false, length, All, IfOk};
+ghost use Rattle.std.specs.Prelude.{IfErr, OnOk, MatchResult};
 ghost use Rattle.dob_value.specs.Follows.{ClassTable, IsTable};
 ghost use Rattle.dob_dbfile.specs.declared.fault.Fault.{Fault as AnyFault};
 ghost use Rattle.sha2.specs.Hashers.{Holds256};
 ghost use Rattle.dob_dbfile.specs.Devices.{Stream, after, whole};
 ghost use Rattle.dob_dbfile.specs.Format.{IsFile};
-ghost use Rattle.dob_dbfile.specs.Faults.{is_io_error, NamesClasses, HasReadFault, PassesAll};
+ghost use Rattle.dob_dbfile.specs.Faults.{NamesClasses, HasReadFault, PassesAll, fails, is_io};
 ghost use Rattle.dob_dbfile.specs.Reading.{TakesBytes, GivesFewer, IsNoEnd, ReadsCodes, HashesNext, EndsWith, IsDigest, HasDigestFault, HasRestFault};
 
+use crate::bytes::are_same;
 use crate::device::{Failed, Source};
 use crate::fault::Fault;
 use crate::front::{Header, read_header};
@@ -51,7 +52,7 @@ pub fn read_table<R: Source>(alloc: Global, source: &mut R) -> Result<Table, Fau
     ensures memory { (stream : Stream) → R.gives source.old stream → IfErr result (λ given. given ≡ Fault.Memory → NamesClasses stream.bytes) }
     // What is read is a table, also if nothing is known of the source.
     ensures table { IfOk result (λ table. IsTable table.family table.values) }
-    ensures failed { R.has_failed source.new ≡ is_io_error result }
+    ensures failed { R.has_failed source.new ≡ fails is_io result }
 {
     read_file(alloc, source)
 }
@@ -65,7 +66,7 @@ fn read_file<R: Source>(alloc: Global, source: &mut R) -> Result<Table, Fault>
     ensures fault { (stream : Stream) → R.gives source.old stream
         → IfErr result (λ given. (given ≡ Fault.Memory) ⊎ HasReadFault stream given) }
     ensures memory { (stream : Stream) → R.gives source.old stream → IfErr result (λ given. given ≡ Fault.Memory → NamesClasses stream.bytes) }
-    ensures failed { R.has_failed source.new ≡ is_io_error result }
+    ensures failed { R.has_failed source.new ≡ fails is_io result }
 {
     let mut room = [0; HEADER_LEN];
     let Header { format, classes } = read_header(alloc, source, &mut room)?;
@@ -82,7 +83,7 @@ pub(crate) fn fill<R: Source>(source: &mut R, room: &mut [u8], before: usize) ->
     ensures cut { (stream : Stream) → R.gives source.old stream → IfErr result (GivesFewer (length room.new) before stream) }
     ensures known { IfErr result (λ given. given ≢ Fault.Memory) }
     ensures shown { (stream : Stream) → R.shows source.old stream → R.shows source.new stream }
-    ensures failed { R.has_failed source.new ≡ (R.has_failed source.old || is_io_error result) }
+    ensures failed { R.has_failed source.new ≡ (R.has_failed source.old || fails is_io result) }
 {
     match read_full(source, room) {
         Ok(count) if count == room.len() => Ok(()),
@@ -104,7 +105,7 @@ fn read_codes<R: Source>(
     ensures fit { IfOk result (λ codes. All (λ code. code < 65536) codes) }
     ensures read { (stream : Stream) → R.gives source.old stream → IfOk result (λ codes. EndsWith header.now codes stream) }
     ensures fault { (stream : Stream) → R.gives source.old stream → IfErr result (HasRestFault header.now count stream) }
-    ensures failed { R.has_failed source.new ≡ (R.has_failed source.old || is_io_error result) }
+    ensures failed { R.has_failed source.new ≡ (R.has_failed source.old || fails is_io result) }
 {
     let mut hasher = Sha256::new();
     hasher.update(header);
@@ -119,7 +120,7 @@ fn expect_digest<R: Source>(source: &mut R, hasher: Sha256, before: usize) -> Re
     ensures is { (stream : Stream) (message : List ℕ) → R.gives source.old stream → Holds256 hasher message → OnOk result (IsDigest message stream) }
     ensures fault { (stream : Stream) (message : List ℕ) → R.gives source.old stream → Holds256 hasher message
         → IfErr result (HasDigestFault message before stream) }
-    ensures failed { R.has_failed source.new ≡ (R.has_failed source.old || is_io_error result) }
+    ensures failed { R.has_failed source.new ≡ (R.has_failed source.old || fails is_io result) }
 {
     let mut digest = [0; DIGEST_LEN];
     fill(source, &mut digest, before)?;
@@ -129,13 +130,6 @@ fn expect_digest<R: Source>(source: &mut R, hasher: Sha256, before: usize) -> Re
     } else {
         Err(Fault::Digest)
     }
-}
-
-// Whether the bytes are the same.
-fn are_same(left: &[u8], right: &[u8]) -> bool
-    ensures { IsTrue result ↔ (left.now ≡ right.now) }
-{
-    left == right
 }
 
 // The codes of the next records; `before` bytes of the file have come already. Memory is taken as they come.
@@ -154,7 +148,7 @@ fn read_records<R: Source>(
         → IfOk result (λ codes. ReadsCodes stream (2 * count) [] codes × R.gives source.new (after (2 * count) stream)) }
     ensures hashed { (stream : Stream) → R.gives source.old stream → OnOk result (HashesNext stream (2 * count) hasher.old hasher.new) }
     ensures cut { (stream : Stream) → R.gives source.old stream → IfErr result (GivesFewer (2 * count) before stream) }
-    ensures failed { R.has_failed source.new ≡ (R.has_failed source.old || is_io_error result) }
+    ensures failed { R.has_failed source.new ≡ (R.has_failed source.old || fails is_io result) }
 {
     let mut codes = Segments::new(alloc, SegmentLength::longest());
     let mut buffer = piece_room(alloc)?;
@@ -189,7 +183,7 @@ fn read_piece<R: Source>(
         → OnOk result (ReadsCodes stream (length room.old) codes.old codes.new × R.gives source.new (after (length room.old) stream)) }
     ensures hashed { (stream : Stream) → R.gives source.old stream → OnOk result (HashesNext stream (length room.old) hasher.old hasher.new) }
     ensures cut { (stream : Stream) → R.gives source.old stream → IfErr result (GivesFewer (length room.old) (before + 2 * length codes.old) stream) }
-    ensures failed { R.has_failed source.new ≡ (R.has_failed source.old || is_io_error result) }
+    ensures failed { R.has_failed source.new ≡ (R.has_failed source.old || fails is_io result) }
 {
     fill(source, room, before + RECORD_LEN * codes.len() as usize)?;
     hasher.update(&*room);
@@ -201,7 +195,7 @@ fn read_piece<R: Source>(
 fn expect_end<R: Source>(source: &mut R, before: usize) -> Result<(), Fault>
     ensures end { (stream : Stream) → R.gives source.old stream → OnOk result (stream ≡ whole []) }
     ensures fault { (stream : Stream) → R.gives source.old stream → IfErr result (IsNoEnd before stream) }
-    ensures failed { R.has_failed source.new ≡ (R.has_failed source.old || is_io_error result) }
+    ensures failed { R.has_failed source.new ≡ (R.has_failed source.old || fails is_io result) }
 {
     let mut byte = [0];
     match source.read(&mut byte) {

@@ -8,7 +8,7 @@ use std::io::{Read, Seek, SeekFrom, Write};
 /// A reader or a writer of the standard library as a device. Of a reader's bytes nothing is known, and of a writer's
 /// exactly what the writer says. Every error is a failure, one that asks for another try included, and so is a `write`
 /// that takes nothing.
-#[derive(Debug, Drop)]
+#[derive(Drop)]
 pub struct Std<T> {
     inner: T,
     has_failed: bool,

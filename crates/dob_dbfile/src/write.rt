@@ -3,7 +3,7 @@ ghost use Rattle.std.specs.Prelude.{◌≡◌, ◌+◌, ◌*◌, ◌≤◌, ◌<
 ghost use Rattle.dob_value.specs.Follows.{IsTable};
 ghost use Rattle.dob_dbfile.specs.Format.{bytes_of, digest_of, header_in, records};
 ghost use Rattle.dob_dbfile.specs.declared.header.Format.TheVariants.{Second};
-ghost use Rattle.dob_dbfile.specs.Faults.{is_io_error};
+ghost use Rattle.dob_dbfile.specs.Faults.{fails, is_io};
 ghost use Rattle.dob_dbfile.specs.Sinks.{Puts, Writes, change};
 ghost use Rattle.dob_dbfile.specs.Writing.{WriteStopsAt, StopsBehind};
 
@@ -26,7 +26,7 @@ pub fn write_table<W: Sink>(alloc: Global, table: &Table, sink: &mut W) -> Resul
     requires { (W.state sink.old).has_failed ≡ false }
     ensures written { OnOk result (Puts (change (W.state sink.old) (W.state sink.new)) (bytes_of table.now)) }
     ensures stopped { IfErr result (WriteStopsAt (change (W.state sink.old) (W.state sink.new)) (bytes_of table.now)) }
-    ensures failed { (W.state sink.new).has_failed ≡ is_io_error result }
+    ensures failed { (W.state sink.new).has_failed ≡ fails is_io result }
 {
     let digest = digest_of(alloc, table)?;
     write_digested(alloc, table, &digest, sink)
@@ -47,7 +47,7 @@ pub fn write_digested<W: Sink>(
     requires digest { digest.now ≡ digest_of table.now }
     ensures written { OnOk result (Puts (change (W.state sink.old) (W.state sink.new)) (bytes_of table.now)) }
     ensures stopped { IfErr result (WriteStopsAt (change (W.state sink.old) (W.state sink.new)) (bytes_of table.now)) }
-    ensures failed { (W.state sink.new).has_failed ≡ is_io_error result }
+    ensures failed { (W.state sink.new).has_failed ≡ fails is_io result }
 {
     let mut piece = header_piece(alloc, table.family(), table.class_count())?;
     match put_file(table, digest, sink, &mut piece) {

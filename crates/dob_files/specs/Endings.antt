@@ -60,13 +60,13 @@ AnswersOver c AreLines Holds = Answers (λ lines. AreLines lines × FailsWhere c
 
 -- A call over a shelf that changes so gave what is right, and no call of the shelf failed; or it gave a fault that holds, and one failed just
 -- where it is a device's.
-abbrev pub IsAnswered : {X : Type 0} → ShelfChange → (X → Type 0) → (Fault → Type 0) → Result X Fault → Type 0
-IsAnswered c Is Holds (Ok x) = Is x × FailsWhere c false
-IsAnswered c Is Holds (Err fault) = Holds fault × FailsWhere c (is_io fault)
+abbrev pub GivesOver : {X : Type 0} → ShelfChange → (X → Type 0) → (Fault → Type 0) → Result X Fault → Type 0
+GivesOver c Is Holds (Ok x) = Is x × FailsWhere c false
+GivesOver c Is Holds (Err fault) = Holds fault × FailsWhere c (is_io fault)
 
 -- the same of a text that has such lines
 abbrev pub GivesLines : {X : Type 0} → ShelfChange → (List ℕ → Type 0) → (Fault → Type 0) → Result (String X) Fault → Type 0
-GivesLines c AreLines Holds result = IsAnswered c (λ text. AreLines (string_bytes text)) Holds result
+GivesLines c AreLines Holds result = GivesOver c (λ text. AreLines (string_bytes text)) Holds result
 
 -- the text on standard output and that status; or a beginning of it, and the fault of a failing output
 abbrev pub TellsAs : ℕ → List ℕ → Ending → Type 0

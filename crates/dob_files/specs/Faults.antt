@@ -1,5 +1,5 @@
 -- The program's faults as they are printed, and their exit statuses.
-use Rattle.std.specs.Prelude.{◌≡◌, ◌⊎◌, ℕ, Bool, true, false, List, [], ◌∷◌, ◌++◌, Result, Ok, Err, codes}
+use Rattle.std.specs.Prelude.{◌≡◌, ◌⊎◌, ℕ, Bool, true, false, List, [], ◌∷◌, ◌++◌, codes}
 use Rattle.dob_pieces.specs.Faults.{memory_text, set_fault_text}
 use Rattle.dob_text.specs.Faults as position
 use Rattle.dob_value.specs.Faults as value_texts
@@ -7,14 +7,15 @@ use Rattle.dob_value.specs.declared.fault.Fault as value
 use Rattle.dob_value.specs.declared.fault.Fault.TheVariants as value_fault
 use Rattle.dob_dbfile.specs.FaultTexts as file
 use Rattle.dob_dbfile.specs.Faults as reading
+use Rattle.dob_dbfile.specs.declared.fault.Fault.{Fault as FileFault}
 use Rattle.dob_dbfile.specs.declared.fault.Fault.TheVariants as file_fault
 use Rattle.dob_stops.specs.Faults as run
 use Rattle.dob_stops.specs.declared.fault.Fault.TheVariants as run_fault
 use Rattle.dob_probe.specs.Faults as table
 use Rattle.dob_probe.specs.declared.fault.Fault.TheVariants as table_fault
+use Rattle.dob_probe.specs.declared.gap.Gap.{Gap}
+use Rattle.dob_probe.specs.declared.gap.Gap.TheVariants as gap
 use Rattle.dob_pieces.specs.Bytes.{line_feed}
-use Rattle.dob_records.specs.declared.fault.Fault as records
-use Rattle.dob_records.specs.declared.fault.Fault.TheVariants as records_fault
 use Rattle.dob_shelf.specs.declared.shelf.ShelfFault as shelf
 use Rattle.dob_shelf.specs.declared.shelf.ShelfFault.TheVariants as shelf_fault
 use Rattle.dob_certificate.specs.Refusals as lists
@@ -66,10 +67,6 @@ is_io _ = false
 abbrev pub AreFaultLines : Fault → List ℕ → Type 0
 AreFaultLines fault lines = (lines ≡ fault_line fault) ⊎ ((is_io fault ≡ true) × (cause : List ℕ) × (lines ≡ caused_lines fault cause))
 
-abbrev pub is_io_error : {X : Type 0} → Result X Fault → Bool
-is_io_error (Ok x) = false
-is_io_error (Err fault) = is_io fault
-
 -- 3 where no memory was left or a distance is above what a file says, 1 where the certificate is refused, or is none
 abbrev pub status_of_certificate : CertificateFault → ℕ
 status_of_certificate (Unproved refusal.Memory) = 3
@@ -105,10 +102,10 @@ fault_of_shelf shelf_fault.Memory = Memory
 fault_of_shelf shelf_fault.Failed = Io
 
 -- a fault of asking the records of a file
-abbrev pub fault_of_records : records.Fault → Fault
-fault_of_records (records_fault.File fault) = File fault
-fault_of_records (records_fault.Inconsistent class) = Table (table_fault.Inconsistent class)
-fault_of_records records_fault.Memory = Memory
+abbrev pub fault_of_records : Gap FileFault → Fault
+fault_of_records (gap.Unsaid fault) = File fault
+fault_of_records (gap.Inconsistent class) = Table (table_fault.Inconsistent class)
+fault_of_records gap.Memory = Memory
 
 -- a fault of reading a certificate, of believing its lists
 abbrev pub fault_of_reading : ReadFault → Fault

@@ -4,19 +4,20 @@ use Rattle.std.specs.Prelude.{Err, Ok, Result, String, string_bytes}
 use Rattle.dob_dbfile.specs.Sinks.{Change, TakesPiece}
 use Rattle.dob_value.specs.Follows.{ClassTable}
 use Rattle.dob_dbfile.specs.declared.fault.Fault.TheVariants as file_fault
+use Rattle.dob_dbfile.specs.Faults.{fails}
 use Rattle.dob_dbfile.specs.Format.{bytes_of}
 use Rattle.dob_files.specs.declared.fault.Fault.{Fault}
 use Rattle.dob_files.specs.declared.fault.Fault.TheVariants.{File, Memory, Io}
 use Rattle.dob_shelf.specs.Shelves.{FailsWhere, HasJust, SameFiles, ShelfChange}
-use Rattle.dob_files.specs.Endings.{IsAnswered}
-use Rattle.dob_files.specs.Faults.{is_io, is_io_error}
+use Rattle.dob_files.specs.Endings.{GivesOver}
+use Rattle.dob_files.specs.Faults.{is_io}
 
 -- A sink that had received none so far was filled with just these bytes, and the lines to be told are these; or the fault holds. The sink failed
 -- just where that is a device's.
 pub record FillsSink {X : Type 0} (Fits : List ℕ → List ℕ → Type 0) (Holds : Fault → Type 0) (filled : Result (String X) Fault) (c : Change) : Type 0 where
   pub whole : IfOk filled (λ lines. (bytes : List ℕ) × Fits (string_bytes lines) bytes × TakesPiece c bytes)
   pub fault : IfErr filled Holds
-  pub failed : c.after.has_failed ≡ is_io_error filled
+  pub failed : c.after.has_failed ≡ fails is_io filled
 
 -- the lines and the bytes are these
 abbrev pub AreThese : List ℕ → List ℕ → List ℕ → List ℕ → Type 0
@@ -47,6 +48,6 @@ LeavesFiles c Holds fault = (Holds fault ⊎ IsShelfFault fault) × SameFiles c.
 -- told; or keeping it failed, and each file has what it had, as where it wasn't filled.
 abbrev pub KeepsFilled : {X : Type 0} → List ℕ → Option (List ℕ) → Result (String X) Fault → Result (String X) Fault → ShelfChange → Type 0
 KeepsFilled name received (Ok lines) result c =
-    IsAnswered c (λ told. (told ≡ lines) × ((bytes : List ℕ) → IsTrue c.before.tells → received ≡ Some bytes → HasJust name bytes c.after.has))
+    GivesOver c (λ told. (told ≡ lines) × ((bytes : List ℕ) → IsTrue c.before.tells → received ≡ Some bytes → HasJust name bytes c.after.has))
     (λ fault. IsShelfFault fault × SameFiles c.before.has c.after.has) result
 KeepsFilled name received (Err fault) result c = (result ≡ Err fault) × SameFiles c.before.has c.after.has × FailsWhere c (is_io fault)

@@ -8,7 +8,7 @@ use dob_certificate::{Refusal, TooMany};
 use std::fmt;
 
 /// Why a certificate proves nothing, why there is none, or why it gives no reply.
-#[derive(Clone, Copy, Debug, PartialEq, Eq)]
+#[derive(Clone, Copy, Debug)]
 pub enum CertificateFault {
     /// E15 to E20, E27, E32 to E38, E42: the file isn't a certificate's.
     Defect(Defect),

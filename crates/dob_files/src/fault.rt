@@ -10,7 +10,7 @@ use std::error::Error;
 use std::fmt;
 
 /// Why the program refuses what it is asked, or fails at it.
-#[derive(Clone, Copy, Debug, PartialEq, Eq)]
+#[derive(Clone, Copy, Debug)]
 pub enum Fault {
     /// E1 to E6, E26: the text isn't a position's of the profile.
     Text(TextFault),
@@ -148,18 +148,18 @@ impl From<dob_probe::Fault> for Fault {
     }
 }
 
-impl From<dob_records::Fault> for Fault {
+impl From<dob_probe::Gap<dob_dbfile::Fault>> for Fault {
     ghost use Rattle.dob_files.specs.Faults.{fault_of_records};
 
     ghost from_gives = { λ given result. result ≡ fault_of_records given };
 
-    fn from(given: dob_records::Fault) -> Fault {
+    fn from(given: dob_probe::Gap<dob_dbfile::Fault>) -> Fault {
         match given {
-            dob_records::Fault::File(fault) => Fault::File(fault),
-            dob_records::Fault::Inconsistent(class) => Fault::Table(dob_probe::Fault::Inconsistent(
+            dob_probe::Gap::Unsaid(fault) => Fault::File(fault),
+            dob_probe::Gap::Inconsistent(class) => Fault::Table(dob_probe::Fault::Inconsistent(
                 class,
             )),
-            dob_records::Fault::Memory => Fault::Memory,
+            dob_probe::Gap::Memory => Fault::Memory,
         }
     }
 }

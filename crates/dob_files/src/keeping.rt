@@ -1,9 +1,10 @@
 // Files that are filled and kept.
 ghost use Rattle.std.specs.Prelude.{◌≡◌, false, string_bytes};
+ghost use Rattle.dob_dbfile.specs.Faults.{fails};
 ghost use Rattle.dob_dbfile.specs.Format.{bytes_of, digest_of};
 ghost use Rattle.dob_dbfile.specs.Sinks.{change};
 ghost use Rattle.dob_shelf.specs.Shelves.{Leaving, SameOthers};
-ghost use Rattle.dob_files.specs.Faults.{is_io_error};
+ghost use Rattle.dob_files.specs.Faults.{is_io};
 ghost use Rattle.dob_files.specs.Keeping.{AreThese, FillsSink, IsShelfFault, IsWritingFault, KeepsFilled};
 
 use crate::fault::{Fault, Lines};
@@ -14,7 +15,7 @@ use std::alloc::Global;
 
 /// Keeps the file of the sink that the shelf made for the name, if it was filled, and gives it up if not. The lines that go with it.
 pub fn keep_filled<S: Shelf>(shelf: &mut S, name: &str, sink: S::Dst, filled: Lines) -> Lines
-    requires { (S.Dst.state sink).has_failed ≡ is_io_error filled }
+    requires { (S.Dst.state sink).has_failed ≡ fails is_io filled }
     ensures { Leaving (SameOthers name.now) S.state shelf.old shelf.new (KeepsFilled name.now (S.Dst.state sink).received filled result) }
 {
     match filled {

@@ -3,7 +3,7 @@ ghost use Rattle.std.specs.Prelude.{MatchResult};
 ghost use Rattle.dob_pieces.specs.declared.profile.Profile.TheVariants.{A};
 ghost use Rattle.dob_text.specs.Faults.{HasTextFault};
 ghost use Rattle.dob_shelf.specs.Shelves.{Leaving, SameFiles};
-ghost use Rattle.dob_files.specs.Endings.{IsAnswered};
+ghost use Rattle.dob_files.specs.Endings.{GivesOver};
 ghost use Rattle.dob_files.specs.Tables.{AreAsked, IsPositionFault, IsTextOf};
 
 use crate::fault::Fault;
@@ -22,7 +22,7 @@ pub fn file_and_position<S: Shelf>(
     text: &str,
 ) -> Result<(Table, Position), Fault>
     ensures { Leaving SameFiles S.state shelf.old shelf.new (λ c.
-        IsAnswered c (λ asked. AreAsked (c.before.has file.now) text.now asked.0 asked.1.setup) (IsPositionFault (c.before.has file.now) text.now) result) }
+        GivesOver c (λ asked. AreAsked (c.before.has file.now) text.now asked.0 asked.1.setup) (IsPositionFault (c.before.has file.now) text.now) result) }
 {
     let position = position_named(text)?;
     let table = open(alloc, shelf, file)?;

@@ -1,6 +1,6 @@
 // The table of a database file.
 ghost use Rattle.dob_shelf.specs.Shelves.{Leaving, SameFiles};
-ghost use Rattle.dob_files.specs.Endings.{IsAnswered};
+ghost use Rattle.dob_files.specs.Endings.{GivesOver};
 ghost use Rattle.dob_files.specs.Tables.{IsFileOf, IsOpeningFault};
 ghost use Rattle.std.specs.Prelude.{◌≡◌};
 
@@ -13,7 +13,7 @@ use std::alloc::Global;
 /// The table of the file.
 pub fn open<S: Shelf>(alloc: Global, shelf: &mut S, file: &str) -> Result<Table, Fault>
     ensures opened { Leaving SameFiles S.state shelf.old shelf.new (λ c.
-        IsAnswered c (IsFileOf (c.before.has file.now)) (IsOpeningFault (c.before.has file.now)) result) }
+        GivesOver c (IsFileOf (c.before.has file.now)) (IsOpeningFault (c.before.has file.now)) result) }
     ensures told { (S.state shelf.new).tells ≡ (S.state shelf.old).tells }
     ensures input { (S.state shelf.new).input ≡ (S.state shelf.old).input }
 {

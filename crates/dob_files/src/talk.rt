@@ -1,9 +1,10 @@
 // The lines of standard input and what they come to: each is answered and told before the next one is waited for.
 ghost use Rattle.std.specs.Prelude.{◌≡◌, ◌||◌, ◌++◌, ℕ, List, [], Bool, false, IfErr, IfOk, OnErr, OnOk, string_bytes};
+ghost use Rattle.dob_dbfile.specs.Faults.{fails};
 ghost use Rattle.dob_dbfile.specs.Sinks.{Stops, change};
 ghost use Rattle.dob_files.specs.declared.fault.Fault.{Fault as TheFault};
 ghost use Rattle.dob_files.specs.declared.fault.Fault.TheVariants.{Io};
-ghost use Rattle.dob_files.specs.Faults.{is_io, is_io_error};
+ghost use Rattle.dob_files.specs.Faults.{is_io};
 ghost use Rattle.dob_files.specs.Telling.{EndsLines, HearsLine, PutsText, TellsEach, TellsOf, Told, told_of};
 ghost use Rattle.dob_shelf.specs.Shelves.{SameFiles};
 
@@ -37,7 +38,7 @@ pub trait Answerer {
         ensures ended { IfErr result (ends self.old) }
         ensures before { (line : List ℕ) (told : Told) → answers self.new line told → answers self.old line told }
         ensures ending { (fault : TheFault) → ends self.new fault → ends self.old fault }
-        ensures failed { has_failed self.new ≡ (has_failed self.old || is_io_error result) };
+        ensures failed { has_failed self.new ≡ (has_failed self.old || fails is_io result) };
 }
 
 /// What is told of some lines, and whether one of them, or of those before, was refused.
@@ -154,7 +155,7 @@ fn hear_next<T: Answerer, S: Shelf>(
     ensures ending { (fault : TheFault) → T.ends by.new fault → T.ends by.old fault }
     ensures files { SameFiles (S.state shelf.old).has (S.state shelf.new).has }
     ensures failed { ((S.state shelf.new).has_failed || T.has_failed by.new)
-        ≡ (((S.state shelf.old).has_failed || T.has_failed by.old) || is_io_error result) }
+        ≡ (((S.state shelf.old).has_failed || T.has_failed by.old) || fails is_io result) }
 {
     if !shelf.next_line(line)? {
         return Ok(false);

@@ -11,7 +11,7 @@ mod values;
 
 pub use cells::{cell_number, cell_of};
 pub use faults::{file_number, position_number, text_number};
-pub use moves::{MoveNumbers, move_numbers};
+pub use moves::{DobutsuStep, shown_step};
 pub use profiles::{profile_number, profile_of};
 pub use statuses::status_number;
 pub use texts::{DobutsuText, position_text, written};

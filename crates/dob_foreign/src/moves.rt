@@ -1,15 +1,16 @@
 // A move as numbers.
 ghost use Rattle.std.specs.Prelude.{◌≡◌, ◌≤◌};
-ghost use Rattle.dob_foreign.specs.Moves.{flag, hand_number, kind_number, move_numbers};
+ghost use Rattle.dob_foreign.specs.Moves.{flag, kind_number, shown_step};
 
 use dob_moves::Move;
-use dob_pieces::{HandKind, Kind, Square};
+use dob_pieces::{Kind, Square};
 
-/// A step of a piece of that kind from one square to another, or where it comes from 12 a drop. Chick 0, elephant 1, giraffe 2, hen 3, lion 4, as the
-/// piece was before; square a1 is 0, b1 1, c1 2, a2 3 and so on to c4, 11. `catches` is 1 if a piece is caught and `grows` if a chick becomes a
-/// hen, else 0.
+/// A move: a step of a piece of that kind from one square to another, or where it comes from 12 a drop. Chick 0, elephant 1, giraffe 2, hen 3, lion 4, as the
+/// piece was before; square a1 is 0, b1 1, c1 2, a2 3 and so on to c4, 11. `catches` is 1 if a piece is caught and `grows` if a chick becomes a hen,
+/// else 0.
+#[repr(C)]
 #[derive(Clone, Copy)]
-pub struct MoveNumbers {
+pub struct DobutsuStep {
     pub kind: u32,
     pub from: u32,
     pub to: u32,
@@ -17,9 +18,9 @@ pub struct MoveNumbers {
     pub grows: u32,
 }
 
-/// The numbers of the move.
-pub fn move_numbers(played: Move) -> MoveNumbers
-    ensures { result ≡ move_numbers played }
+/// The move as it is shown.
+pub fn shown_step(played: Move) -> DobutsuStep
+    ensures { result ≡ shown_step played }
 {
     match played {
         Move::Step {
@@ -28,15 +29,15 @@ pub fn move_numbers(played: Move) -> MoveNumbers
             to,
             catch,
             grows,
-        } => MoveNumbers {
+        } => DobutsuStep {
             kind: kind_number(kind),
             from: square_number(from),
             to: square_number(to),
             catches: u32::from(catch),
             grows: u32::from(grows),
         },
-        Move::Put { kind, to } => MoveNumbers {
-            kind: hand_number(kind),
+        Move::Put { kind, to } => DobutsuStep {
+            kind: kind_number(kind.on_board()),
             from: HAND,
             to: square_number(to),
             catches: 0,
@@ -66,16 +67,5 @@ pub(crate) fn kind_number(kind: Kind) -> u32
         Kind::Giraffe => 2,
         Kind::Hen => 3,
         Kind::Lion => 4,
-    }
-}
-
-// The number of a kind in hand.
-fn hand_number(kind: HandKind) -> u32
-    ensures { result ≡ hand_number kind }
-{
-    match kind {
-        HandKind::Chick => 0,
-        HandKind::Elephant => 1,
-        HandKind::Giraffe => 2,
     }
 }

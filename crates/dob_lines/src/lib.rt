@@ -12,6 +12,7 @@ mod objects;
 mod played;
 mod progress;
 mod tally;
+mod texts;
 mod valued_moves;
 mod values;
 
@@ -19,5 +20,6 @@ pub use objects::{group_object, line_object, moves_object, value_object};
 pub use played::{moves_lines, played_drawing};
 pub use progress::{Console, Progress, tell_need};
 pub use tally::lines_of;
+pub use texts::joined;
 pub use valued_moves::{best_move_line, move_lines};
 pub use values::line_of;

@@ -1,7 +1,8 @@
 // The lines that tell moves with their values: all of them, or the first.
-ghost use Rattle.std.specs.Prelude.{◌≡◌, ◌++◌, IfOk, OnOk, flat_map, string_bytes};
+ghost use Rattle.std.specs.Prelude.{◌≡◌, IfOk, flat_map, string_bytes};
 ghost use Rattle.dob_lines.specs.ValuedMoves.{best_move_line, valued_move_line, move_lines};
 
+use crate::texts::joined;
 use crate::values::line_of;
 use dob_pieces::Memory;
 use dob_probe::ValuedMove;
@@ -33,20 +34,7 @@ pub fn best_move_line(alloc: Global, legal: &[ValuedMove]) -> Result<String, Mem
 fn some_lines(alloc: Global, legal: &[ValuedMove]) -> Result<String, Memory>
     ensures { IfOk result (λ lines. string_bytes lines ≡ flat_map valued_move_line legal.now) }
 {
-    let mut lines = String::new(alloc);
-    for valued in legal {
-        push_valued_move(alloc, &mut lines, *valued)?;
-    }
-    Ok(lines)
-}
-
-// Writes the line of the move at the end.
-fn push_valued_move(alloc: Global, lines: &mut String, valued: ValuedMove) -> Result<(), Memory>
-    ensures { OnOk result (string_bytes lines.new ≡ string_bytes lines.old ++ valued_move_line valued) }
-{
-    let line = valued_move_line(alloc, valued)?;
-    lines.push_str(line.as_str())?;
-    Ok(())
+    joined(alloc, legal, |valued| valued_move_line(alloc, valued))
 }
 
 // The line of the move.

@@ -1,19 +1,20 @@
 -- The faults of the records, of the header and of opening the file are those of asking it, and by the file of a value table the answer is right.
 use Rattle.dob_query.proofs.Common.{◌≡◌, List, inr, subst, sym, ℕ, IfOk, Result, Family, Profile, Setup, ClassTable, HasValue, Value, Stream, whole}
-use Rattle.dob_query.proofs.Common.{CountsClasses, Format, IsRefusal, IsRecorded, ShelfChange, AnswersOver, Ending, IsAnswered, AnswersQuestionRight}
-use Rattle.dob_query.proofs.Common.{AreAnswerLines, AreRightAnswerLines, IsAnswerOf, IsAskFault, IsAskingFault, IsFaultOfAsking, IsOfNamed, IsRecordsFault}
-use Rattle.dob_query.proofs.Common.{IsToldBy, HasValueFile, IsTextOf, Fault, File, Memory, Table, Question, Best, Look, Moves, MovesObject, ValueObject}
-use Rattle.dob_moves.specs.declared.game_move.Move.{Move as GameMove}
+use Rattle.dob_query.proofs.Common.{CountsClasses, Format, IsRefusal, IsRecorded, ShelfChange, AnswersOver, Ending, GivesOver, AnswersQuestionRight}
+use Rattle.dob_query.proofs.Common.{AreAnswerLines, AreRightAnswerLines, IsAnswerOf, IsAskFault, IsAskingFault, IsFaultOfAsking, IsOfNamed, IsPositionFault, IsPositionOf, IsRecordsFault}
+use Rattle.dob_query.proofs.Common.{IsToldBy, HasValueFile, IsTextOf, Fault, File, Memory, Table, Question, Moves, OfValue}
+use Rattle.dob_pieces.specs.Profiles.{IsAllowed}
+use Rattle.dob_value.specs.Follows.{IsTable, IsValueTable}
+use Rattle.dob_dbfile.specs.Format.{IsFile}
 use Rattle.dob_dbfile.proofs.Looked.{table_family}
-use Rattle.dob_probe.specs.Lines.{GivenBy, IsLine}
-use Rattle.dob_probe.specs.ValuedMoves.{AreValuedMoves}
-use Rattle.dob_probe.specs.declared.by_value.ValuedMove.{ValuedMove}
+use Rattle.dob_probe.specs.Lines.{GivenBy}
 use Rattle.dob_probe.specs.declared.fault.Fault as probing
 use Rattle.dob_probe.specs.declared.fault.Fault.TheVariants as table_fault
 use Rattle.dob_probe.proofs.Best.{lines_are_best}
 use Rattle.dob_probe.proofs.ByValue.{valued_rightly}
 use Rattle.dob_records.proofs.Tabled.{given_by_record, line_by, listed_by, record_of_given}
-use Rattle.dob_files.proofs.TableFaults.{over_weaker}
+use Rattle.dob_files.proofs.TableFaults.{over_weaker, right_table}
+use Rattle.dob_query.specs.ByTable.{AnswersTableRight, AreTableLines}
 use Rattle.std.proofs.Common.{arith}
 
 -- what each of the bytes that a file may have gives of an Ok value, all of them give of it
@@ -23,7 +24,7 @@ ok_each Has P result each = grind (arith, each)
 
 -- where what is right is right in another way, and each fault that holds too
 pub answered_weaker : {X : Type 0} (c : ShelfChange) (Is Other : X → Type 0) (Holds Also : Fault → Type 0) (result : Result X Fault)
-    → ((x : X) → Is x → Other x) → ((fault : Fault) → Holds fault → Also fault) → IsAnswered c Is Holds result → IsAnswered c Other Also result
+    → ((x : X) → Is x → Other x) → ((fault : Fault) → Holds fault → Also fault) → GivesOver c Is Holds result → GivesOver c Other Also result
 answered_weaker c Is Other Holds Also result right fault is = grind (arith, right, fault)
 
 -- ---- faults of asking a source
@@ -64,51 +65,67 @@ module _ (question : Question) (Has : List ℕ → Type 0) (p : Setup) where
 
 -- ---- by the file of a value table
 
-module _ (Has : List ℕ → Type 0) (profile : Profile) (file : HasValueFile Has profile) (p : Setup) where
+-- what the records of a table's file tell the table tells
+module _ (table : ClassTable) (bytes : List ℕ) (format : Format) (is : IsTable table.family table.values) (file : IsFile bytes table)
+    (named : CountsClasses format table.family bytes) (p : Setup) where
+  abbrev Recorded : Setup → Value → Type 0
+  Recorded = IsRecorded (whole bytes) format table.family
+
+  there : (q : Setup) (v : Value) → Recorded q v → GivenBy table q v
+  there = given_by_record table bytes format is file named
+
+  back : (q : Setup) (v : Value) → GivenBy table q v → Recorded q v
+  back = record_of_given table bytes format is file named
+
+  told_by_table : (question : Question) (lines : List ℕ) → IsToldBy question table.family.profile Recorded p lines
+      → IsToldBy question table.family.profile (GivenBy table) p lines
+  told_by_table (OfValue form) lines told = (told.0, there p told.0 told.1, told.2)
+  told_by_table (Moves form) lines told = (told.0, listed_by table.family.profile Recorded (GivenBy table) there back p told.0 told.1, told.2)
+  told_by_table line lines told =
+      (told.0, told.1, there p told.0 told.2, line_by table.family.profile Recorded (GivenBy table) there back told.1 p told.3, told.4)
+
+-- what a value table tells is right
+told_rightly : (table : ClassTable) → IsValueTable table.family table.values → (p : Setup) → IsPositionOf table.family p → (question : Question)
+    (lines : List ℕ) → IsToldBy question table.family.profile (GivenBy table) p lines
+    → IsToldBy question table.family.profile (HasValue table.family.profile) p lines
+told_rightly table right p member (OfValue form) lines told = (told.0, right.values_are p told.0 member told.1, told.2)
+told_rightly table right p member (Moves form) lines told = (told.0, valued_rightly table right p member told.0 told.1, told.2)
+told_rightly table right p member line lines told =
+    (told.0, told.1, right.values_are p told.0 member told.2, lines_are_best table p told.1 right member told.3, told.4)
+
+-- by the rules of its profile
+module _ (profile : Profile) (table : ClassTable) (right : IsValueTable table.family table.values) (rules : table.family.profile ≡ profile) (p : Setup)
+    (member : IsPositionOf table.family p) where
+  table_allowed : IsAllowed profile p
+  table_allowed = subst (λ (by : Profile). IsAllowed by p) rules member.allowed
+
+  table_told : (question : Question) (lines : List ℕ) → IsToldBy question table.family.profile (GivenBy table) p lines
+      → IsToldBy question profile (HasValue profile) p lines
+  table_told question lines told =
+      subst (λ (by : Profile). IsToldBy question by (HasValue by) p lines) rules (told_rightly table right p member question lines told)
+
+module _ (Has : List ℕ → Type 0) (profile : Profile) (file : HasValueFile Has profile) (p : Setup) (question : Question) (lines : List ℕ)
+    (told : (bytes : List ℕ) → Has bytes → IsAnswerOf question (whole bytes) p lines) where
   abbrev table : ClassTable
   table = file.table
 
-  -- what holds of the moves and of the line by the records holds by definition
-  moves_right : (format : Format) (list : List ValuedMove) → IsOfNamed (whole file.bytes) p format table.family
-      → AreValuedMoves table.family.profile (IsRecorded (whole file.bytes) format table.family) p list → AreValuedMoves profile (HasValue profile) p list
-  moves_right format list by are =
-      let given = listed_by table.family.profile (IsRecorded (whole file.bytes) format table.family) (GivenBy table)
-      (given_by_record table file.bytes format file.right.table file.file by.named) (record_of_given table file.bytes format file.right.table file.file by.named)
-      p list are in
-      subst (λ (rules : Profile). AreValuedMoves rules (HasValue rules) p list) file.rules (valued_rightly table file.right p by.member list given)
+  abbrev answer : IsAnswerOf question (whole file.bytes) p lines
+  answer = told file.bytes file.has
 
-  value_right : (format : Format) (value : Value) → IsOfNamed (whole file.bytes) p format table.family
-      → IsRecorded (whole file.bytes) format table.family p value → HasValue profile p value
-  value_right format value by says =
-      subst (λ (rules : Profile). HasValue rules p value) file.rules
-      (file.right.values_are p value by.member (given_by_record table file.bytes format file.right.table file.file by.named p value says))
+  same : answer.family ≡ table.family
+  same = table_family table file.bytes answer.format answer.family file.right.table file.file answer.by.named
 
-  play_right : (format : Format) (value : Value) (moves : List GameMove) → IsOfNamed (whole file.bytes) p format table.family
-      → IsRecorded (whole file.bytes) format table.family p value
-      → IsLine table.family.profile (IsRecorded (whole file.bytes) format table.family) p moves → HasValue profile p value × IsLine profile (HasValue profile) p moves
-  play_right format value moves by says line =
-      let there = given_by_record table file.bytes format file.right.table file.file by.named in
-      let given = line_by table.family.profile (IsRecorded (whole file.bytes) format table.family) (GivenBy table) there
-      (record_of_given table file.bytes format file.right.table file.file by.named) moves p line in
-      subst (λ (rules : Profile). HasValue rules p value × IsLine rules (HasValue rules) p moves) file.rules
-      (file.right.values_are p value by.member (there p value says), lines_are_best table p moves file.right by.member given)
+  by : IsOfNamed (whole file.bytes) p answer.format table.family
+  by = subst (IsOfNamed (whole file.bytes) p answer.format) same answer.by
 
-  told_right : (question : Question) (format : Format) (lines : List ℕ) → IsOfNamed (whole file.bytes) p format table.family
-      → IsToldBy question table.family.profile (IsRecorded (whole file.bytes) format table.family) p lines → IsToldBy question profile (HasValue profile) p lines
-  told_right Look format lines by told = (told.0, value_right format told.0 by told.1, told.2)
-  told_right ValueObject format lines by told = (told.0, value_right format told.0 by told.1, told.2)
-  told_right Moves format lines by told = (told.0, moves_right format told.0 by told.1, told.2)
-  told_right Best format lines by told = (told.0, moves_right format told.0 by told.1, told.2)
-  told_right MovesObject format lines by told = (told.0, moves_right format told.0 by told.1, told.2)
-  told_right line format lines by told = let right = play_right format told.0 told.1 by told.2 told.3 in (told.0, told.1, right.0, right.1, told.4)
+  pub answer_allowed : IsAllowed profile p
+  answer_allowed = table_allowed profile table file.right file.rules p by.member
 
-  pub answer_right : (question : Question) (lines : List ℕ) → ((bytes : List ℕ) → Has bytes → IsAnswerOf question (whole bytes) p lines)
-      → IsToldBy question profile (HasValue profile) p lines
-  answer_right question lines told =
-      let answer = told file.bytes file.has in
-      let one : answer.family ≡ table.family = table_family table file.bytes answer.format answer.family file.right.table file.file answer.by.named in
-      told_right question answer.format lines (subst (IsOfNamed (whole file.bytes) p answer.format) one answer.by)
-      (subst (λ (family : Family). IsToldBy question family.profile (IsRecorded (whole file.bytes) answer.format family) p lines) one answer.told)
+  pub answer_right : IsToldBy question profile (HasValue profile) p lines
+  answer_right =
+      table_told profile table file.right file.rules p by.member question lines
+      (told_by_table table file.bytes answer.format file.right.table file.file by.named p question lines
+      (subst (λ (family : Family). IsToldBy question family.profile (IsRecorded (whole file.bytes) answer.format family) p lines) same answer.told))
 
 pub question_right : (c : ShelfChange) (profile : Profile) (question : Question) (name words : List ℕ) (e : Ending) → HasValueFile (c.before.has name) profile
     → AnswersOver c (AreAnswerLines question (c.before.has name) words) (IsAskFault question (c.before.has name) words) e → AnswersQuestionRight c profile question name words e
@@ -117,5 +134,19 @@ question_right c profile question name words e file =
     (λ lines told. record {
       position = told.position;
       named = told.named;
+      allowed = answer_allowed (c.before.has name) profile file told.position question lines told.told;
       told = answer_right (c.before.has name) profile file told.position question lines told.told;
+    })
+
+-- so does what is told by the whole table
+pub table_right : (c : ShelfChange) (profile : Profile) (question : Question) (name words : List ℕ) (e : Ending) → HasValueFile (c.before.has name) profile
+    → AnswersOver c (AreTableLines question (c.before.has name) words) (IsPositionFault (c.before.has name) words) e
+    → AnswersTableRight question c profile name words e
+table_right c profile question name words e file =
+    over_weaker c (AreTableLines question (c.before.has name) words) (AreRightAnswerLines question profile words) (IsPositionFault (c.before.has name) words) e
+    (λ lines told. let is = right_table (c.before.has name) profile file told.table told.file in record {
+      position = told.position;
+      named = told.named;
+      allowed = table_allowed profile told.table is.0 is.1 told.position told.member;
+      told = table_told profile told.table is.0 is.1 told.position told.member question lines told.told;
     })

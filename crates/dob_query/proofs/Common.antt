@@ -20,17 +20,17 @@ pub use Rattle.dob_records.specs.Records.{IsRecorded}
 pub use Rattle.dob_shelf.proofs.Shelves.{others_kept}
 pub use Rattle.dob_shelf.specs.Shelves.{FailsWhere, Files, SameFiles, ShelfChange, ShelfState, shelf_change}
 pub use Rattle.dob_lines.specs.Tallies.{count_line}
-pub use Rattle.dob_files.specs.Endings.{AnswersOver, Ending, IsAnswered}
+pub use Rattle.dob_files.specs.Endings.{AnswersOver, Ending, GivesOver}
 pub use Rattle.dob_files.specs.Faults.{fault_of_value, is_io}
 pub use Rattle.dob_files.specs.Keeping.{IsShelfFault}
 pub use Rattle.dob_files.specs.Tables.{HasValueFile, IsFileOf, IsOpeningFault, IsPositionFault, IsTextOf}
 pub use Rattle.dob_files.specs.Telling.{AnswersLines, EndsLines, TellsOf}
 pub use Rattle.dob_files.specs.declared.fault.Fault.{Fault}
 pub use Rattle.dob_files.specs.declared.fault.Fault.TheVariants.{File, Memory, Table}
+pub use Rattle.dob_words.specs.declared.command.orders.Question.{Question}
+pub use Rattle.dob_words.specs.declared.command.orders.Question.TheVariants.{Moves, Value as OfValue}
 pub use Rattle.dob_query.specs.Each.{AnswersEachRight, AreEachLines, IsAnswer, IsEachFault, IsGivenTo, IsToldValue, answer_line}
-pub use Rattle.dob_query.specs.Program.{IsFaultOf, IsValueLineOf, IsValueOf}
+pub use Rattle.dob_query.specs.Program.{IsFaultOf, IsValueOf}
 pub use Rattle.dob_query.specs.Questions.{AnswersQuestionRight, AreAnswerLines, AreRightAnswerLines, GivesWhole, IsAnswerBy, IsAnswerOf, IsAskFault}
 pub use Rattle.dob_query.specs.Questions.{IsAskingFault, IsFaultOfAsking, IsOfNamed, IsRecordsFault, IsToldBy, LacksFor}
-pub use Rattle.dob_query.specs.Shows.{AnswersShowRight, AreDrawn, AreRightShowLines, AreShowLines, IsDrawingFault, IsShowFault}
-pub use Rattle.dob_query.specs.declared.questions.Question.{Question}
-pub use Rattle.dob_query.specs.declared.questions.Question.TheVariants.{Best, Draw, Look, Moves, MovesObject, ValueObject}
+pub use Rattle.dob_query.specs.Shows.{AnswersShowRight, AreDrawn, AreRightShowLines, AreShowLines, IsDrawingFault, IsShowFault, drawn_line}

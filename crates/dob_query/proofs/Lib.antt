@@ -1,8 +1,7 @@
 -- The lemmas, in the order in which they are read.
 mod Common  -- names of other crates and of this one's definitions, for the proofs
-pub mod Valued  -- the faults of finding a value, and by a value table's file the value told is right
+pub mod Valued  -- the faults of finding a value and of a line, and by a value table's file a value given is right
 pub mod EachRight  -- what ends all lines is what is owed, and by a value table's file the values told are right
 pub mod Asking  -- the faults of the records, of the header and of opening the file are those of asking it, and by a value table's file the answer is right
-pub mod Played  -- the faults of a line by a table are the file's, and by a value table's file the line told is right
 pub mod Placed  -- what lines come to by the records of a source is what is owed for asking for each
 pub mod Shown  -- the faults of asking a file and of keeping a picture are those of showing, and by a value table's file a drawing is right

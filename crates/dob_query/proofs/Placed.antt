@@ -1,15 +1,15 @@
 -- What the lines of standard input come to by the records of a source is what is owed for asking for each, and right by the file of a value table.
 use Rattle.dob_query.proofs.Common.{◌≡◌, Bool, List, Option, inl, inr, refl, subst, sym, true, ℕ, Err, IfErr, IfOk, Ok, Result, String, is_err, Family}
 use Rattle.dob_query.proofs.Common.{Profile, Setup, IsPositionOf, Stream, whole, CountsClasses, Format, IsRefusal, IsRecorded, ShelfChange, Ending}
-use Rattle.dob_query.proofs.Common.{GivesWhole, IsRecordsFault, IsToldBy, LacksFor, HasValueFile, IsTextOf, AnswersLines, EndsLines, Fault, File, Table}
-use Rattle.dob_query.proofs.Common.{Question, Look, ValueObject}
+use Rattle.dob_query.proofs.Common.{AreRightAnswerLines, GivesWhole, IsRecordsFault, IsToldBy, LacksFor, HasValueFile, IsTextOf, AnswersLines, EndsLines, Fault, File, Table}
+use Rattle.dob_query.proofs.Common.{Question, OfValue}
 use Rattle.std.specs.Prelude.{string_bytes}
 use Rattle.dob_probe.specs.declared.fault.Fault as probing
 use Rattle.dob_dbfile.specs.declared.fault.Fault.TheVariants as file_fault
 use Rattle.dob_probe.specs.declared.fault.Fault.TheVariants as table_fault
-use Rattle.dob_query.specs.QuestionsEach.{AnswersLine, AnswersLineRight, AnswersQuestionEachRight, ArePlaceLines, EndsRecords, GivesRecordAnswer}
+use Rattle.dob_query.specs.QuestionsEach.{AnswersLine, AnswersQuestionEachRight, ArePlaceLines, EndsRecords, GivesRecordAnswer}
 use Rattle.dob_query.specs.QuestionsEach.{IsPlaceAnswer, IsPlacesFault, IsRecordAnswer, IsRecordEnd, TellsRecords, end_of, ended_lines, ends_all}
-use Rattle.dob_query.proofs.Asking.{answer_right}
+use Rattle.dob_query.proofs.Asking.{answer_allowed, answer_right}
 use Rattle.dob_files.proofs.EachLine.{lines_weaker, tells_are}
 use Rattle.std.proofs.Common.{arith}
 
@@ -70,10 +70,6 @@ pub record_weaker : (question : Question) (Shows Fewer : Stream → Type 0) → 
     → IsRecordAnswer question Fewer format family line answer
 record_weaker question Shows Fewer shows format family line answer is = grind (arith, shows)
 
--- a fault of one kind is of another one
-pub err_weaker : {X : Type 0} (P Q : Fault → Type 0) (r : Result X Fault) → ((fault : Fault) → P fault → Q fault) → IfErr r P → IfErr r Q
-err_weaker P Q r weaker is = grind (arith, weaker)
-
 -- ---- what a line came to
 
 module _ (question : Question) (Shows : Stream → Type 0) (format : Format) (family : Family) (line : List ℕ) (position : Setup) where
@@ -92,8 +88,7 @@ module _ (question : Question) (Shows : Stream → Type 0) (format : Format) (fa
   -- a device that fails is the source
   lacks_io : (q : Question) → question ≡ q → (stream : Stream) (bytes : ℕ) → (position : Setup) → LacksFor q stream format family position (file_fault.Io bytes)
       → stream.fails ≡ true
-  lacks_io Look same stream bytes position lacks = lacks.fails.1
-  lacks_io ValueObject same stream bytes position lacks = lacks.fails.1
+  lacks_io (OfValue form) same stream bytes position lacks = lacks.fails.1
   lacks_io q same stream bytes position lacks = lacks.2.fails.1
 
   -- and what ends all is that it failed, or memory
@@ -118,9 +113,14 @@ lines_end_records Gives Shows Later later known fault (inr ends) = grind arith
 
 right_answer : (question : Question) (Has : List ℕ → Type 0) (profile : Profile) → HasValueFile Has profile → (line : List ℕ) (answer : Result (List ℕ) Fault)
     → IsPlaceAnswer (AnswersLine question (GivesWhole Has)) question (GivesWhole Has) line answer
-    → IsPlaceAnswer (AnswersLineRight question profile) question (GivesWhole Has) line answer
+    → IsPlaceAnswer (AreRightAnswerLines question profile) question (GivesWhole Has) line answer
 right_answer question Has profile file line (Ok lines) is =
-    (is.0, is.1, answer_right Has profile file is.0 question lines (λ bytes has. is.2 (whole bytes) (bytes, has, refl)))
+    let told = λ (bytes : List ℕ) (has : Has bytes). is.2 (whole bytes) (bytes, has, refl) in record {
+      position = is.0;
+      named = is.1;
+      allowed = answer_allowed Has profile file is.0 question lines told;
+      told = answer_right Has profile file is.0 question lines told;
+    }
 right_answer question Has profile file line (Err fault) is = is
 
 pub question_each_right : (c : ShelfChange) (profile : Profile) (question : Question) (name : List ℕ) (e : Ending) → HasValueFile (c.before.has name) profile
@@ -128,8 +128,8 @@ pub question_each_right : (c : ShelfChange) (profile : Profile) (question : Ques
     → AnswersQuestionEachRight c profile question name e
 question_each_right c profile question name e file =
     lines_weaker c (ArePlaceLines (AnswersLine question (GivesWhole (c.before.has name))) question (c.before.has name))
-    (ArePlaceLines (AnswersLineRight question profile) question (c.before.has name)) (IsPlacesFault c name) e
+    (ArePlaceLines (AreRightAnswerLines question profile) question (c.before.has name)) (IsPlacesFault c name) e
     (tells_are (Result (List ℕ) Fault) (ended_lines (end_of question)) is_err
     (IsPlaceAnswer (AnswersLine question (GivesWhole (c.before.has name))) question (GivesWhole (c.before.has name)))
-    (IsPlaceAnswer (AnswersLineRight question profile) question (GivesWhole (c.before.has name)))
+    (IsPlaceAnswer (AreRightAnswerLines question profile) question (GivesWhole (c.before.has name)))
     (right_answer question (c.before.has name) profile file))

@@ -1,13 +1,13 @@
 -- The faults of asking a file and of keeping a picture are those of showing, and by the file of a value table a drawing is right.
-use Rattle.dob_query.proofs.Common.{AnswersOver, AnswersShowRight, AreRightShowLines, AreShowLines, Draw, Ending, Fault, Files, HasValueFile}
-use Rattle.dob_query.proofs.Common.{IsAskingFault, IsDrawingFault, IsShelfFault, IsShowFault, IsTextOf, List, Option, Profile, SameFiles, Setup, ShelfChange}
+use Rattle.dob_query.proofs.Common.{AnswersOver, AnswersShowRight, AreRightShowLines, AreShowLines, Ending, Fault, Files, HasValueFile}
+use Rattle.dob_query.proofs.Common.{IsAskingFault, IsDrawingFault, IsShelfFault, IsShowFault, IsTextOf, List, Option, Profile, SameFiles, Setup, ShelfChange, drawn_line}
 use Rattle.dob_query.proofs.Common.{ShelfState, Some, arith, inr, refl, ℕ}
 use Rattle.dob_files.proofs.Kept.{of_shelf_fault, same_chain}
 use Rattle.dob_files.proofs.TableFaults.{over_weaker}
 use Rattle.dob_query.proofs.Asking.{answer_right}
 
 -- a fault of asking the file
-pub asking_draws : (Has : Files) (file : List ℕ) (position : Setup) (fault : Fault) → IsAskingFault Draw (Has file) position fault
+pub asking_draws : (Has : Files) (file : List ℕ) (position : Setup) (fault : Fault) → IsAskingFault drawn_line (Has file) position fault
     → IsDrawingFault Has (Some file) position fault
 asking_draws Has file position fault holds = grind arith
 
@@ -29,6 +29,6 @@ module _ (c : ShelfChange) (profile : Profile) (file : List ℕ) (e : Ending) (r
       (λ lines told. record {
         position = told.position;
         named = told.named;
-        drawn = answer_right (c.before.has file) profile right told.position Draw lines told.drawn;
+        drawn = answer_right (c.before.has file) profile right told.position drawn_line lines told.drawn;
         kept = told.kept;
       })

@@ -7,7 +7,6 @@ use Rattle.dob_pieces.specs.Bytes.{line_feed}
 use Rattle.dob_text.specs.Faults.{HasTextFault}
 use Rattle.dob_value.specs.declared.value.Value.{Value}
 use Rattle.dob_value.specs.Follows.{ClassTable}
-use Rattle.dob_dbfile.specs.Sinks.{Change}
 use Rattle.dob_probe.specs.Lines.{GivenBy}
 use Rattle.dob_probe.specs.Faults.{IsRefusal}
 use Rattle.dob_files.specs.declared.fault.Fault.{Fault}
@@ -16,7 +15,7 @@ use Rattle.dob_files.specs.Faults.{fault_text}
 use Rattle.dob_files.specs.Endings.{Ending}
 use Rattle.dob_query.specs.Program.{IsValueOf}
 use Rattle.dob_lines.specs.Values.{value_line}
-use Rattle.dob_files.specs.Telling.{AnswersLines, TellsLinesOf, TellsOne, TellsOver, Told}
+use Rattle.dob_files.specs.Telling.{AnswersLines, TellsLinesOf, TellsOne, Told}
 use Rattle.dob_shelf.specs.Shelves.{ShelfChange}
 use Rattle.dob_files.specs.Tables.{HasFileFault, IsFileOf, IsShut, IsTextOf}
 
@@ -67,10 +66,7 @@ IsEachFault c file Memory = Unit {0}
 IsEachFault c file Io = IsShut (c.before.has file) ⊎ (c.before.input ≡ None)
 IsEachFault c file _ = ⊥
 
--- ---- what the call gives, and what the program does
-
-abbrev pub GivesEach : List ℕ → Result Bool Fault → ShelfChange → Change → Type 0
-GivesEach file result c out = TellsOver c (AreEachLines IsGivenTo (c.before.has file)) (IsEachFault c file) out result
+-- ---- what the program does
 
 -- what the program answers where a value printed is the one that the line's position has by definition, by the rules of the profile
 abbrev pub AnswersEachRight : ShelfChange → Profile → List ℕ → Ending → Type 0

@@ -1,8 +1,7 @@
-pub mod Program
-pub mod Probes
-pub mod Each
 pub mod Questions
-pub mod Plays
+pub mod Program
+pub mod Each
+pub mod ByTable
 pub mod QuestionsEach
 pub mod Shows
 pub mod Sizes

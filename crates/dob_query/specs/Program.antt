@@ -1,5 +1,5 @@
 -- What the program owes where it is asked for the value of a position.
-use Rattle.std.specs.Prelude.{◌≡◌, ℕ, List}
+use Rattle.std.specs.Prelude.{ℕ, List}
 use Rattle.dob_pieces.specs.declared.profile.Profile.{Profile}
 use Rattle.dob_pieces.specs.declared.setup.Setup.{Setup}
 use Rattle.dob_pieces.specs.Profiles.{IsAllowed}
@@ -9,11 +9,11 @@ use Rattle.dob_text.specs.Faults.{HasTextFault}
 use Rattle.dob_value.specs.declared.value.Value.{Value}
 use Rattle.dob_value.specs.Values.{HasValue}
 use Rattle.dob_value.specs.Rosters.{SomeTooDeep, HasSamePieces}
-use Rattle.dob_lines.specs.Values.{value_line}
 use Rattle.dob_files.specs.declared.fault.Fault.{Fault}
 use Rattle.dob_files.specs.declared.fault.Fault.TheVariants.{Text, TooDeep, Memory}
 use Rattle.dob_files.specs.Endings.{AnswersOver, Ending}
 use Rattle.dob_shelf.specs.Shelves.{ShelfChange}
+use Rattle.dob_query.specs.Questions.{AreRightAnswerLines, plain_value}
 
 -- the text is that of a position of the profile, whose value this is by definition
 pub record IsValueOf (profile : Profile) (text : List ℕ) (value : Value) : Type 0 where
@@ -22,10 +22,6 @@ pub record IsValueOf (profile : Profile) (text : List ℕ) (value : Value) : Typ
   pub allowed : IsAllowed profile position
   pub spelled : Spells text position
   pub right : HasValue profile position value
-
--- the bytes are the line of the value that the text's position has by the rules of the profile
-abbrev pub IsValueLineOf : Profile → List ℕ → List ℕ → Type 0
-IsValueLineOf profile text line = (value : Value) × IsValueOf profile text value × (line ≡ value_line value)
 
 -- The fault is given only where it is the text's first one, E26 behind all others, or memory failed.
 abbrev pub IsFaultOf : Profile → List ℕ → Fault → Type 0
@@ -37,4 +33,4 @@ IsFaultOf profile text _ = ⊥
 
 -- what the program does where it is asked for the value of the position that a text names, by the rules of a profile
 abbrev pub AnswersValue : ShelfChange → Profile → List ℕ → Ending → Type 0
-AnswersValue c profile text = AnswersOver c (IsValueLineOf profile text) (IsFaultOf profile text)
+AnswersValue c profile text = AnswersOver c (AreRightAnswerLines plain_value profile text) (IsFaultOf profile text)

@@ -4,6 +4,7 @@ use Rattle.dob_pieces.specs.declared.profile.Family.{Family}
 use Rattle.dob_pieces.specs.declared.profile.Profile.{Profile}
 use Rattle.dob_pieces.specs.declared.profile.Profile.TheVariants.{A}
 use Rattle.dob_pieces.specs.declared.setup.Setup.{Setup}
+use Rattle.dob_pieces.specs.Profiles.{IsAllowed}
 use Rattle.dob_text.specs.Faults as text
 use Rattle.dob_moves.specs.declared.game_move.Move.{Move as GameMove}
 use Rattle.dob_rank.specs.Families.{IsPositionOf}
@@ -13,30 +14,38 @@ use Rattle.dob_dbfile.specs.declared.fault.Fault as file
 use Rattle.dob_dbfile.specs.declared.fault.Fault.TheVariants as file_fault
 use Rattle.dob_dbfile.specs.declared.header.Format.{Format}
 use Rattle.dob_dbfile.specs.Devices.{Stream, whole}
-use Rattle.dob_dbfile.specs.Faults.{CountsClasses}
+use Rattle.dob_dbfile.specs.Faults.{CountsClasses, fails}
 use Rattle.dob_dbfile.specs.Looking.{HasFrontFault}
 use Rattle.dob_probe.specs.declared.by_value.ValuedMove.{ValuedMove}
 use Rattle.dob_probe.specs.declared.fault.Fault as probing
 use Rattle.dob_probe.specs.declared.fault.Fault.TheVariants as table_fault
 use Rattle.dob_probe.specs.Faults.{IsRefusal}
 use Rattle.dob_probe.specs.Lines.{IsLine}
+use Rattle.dob_probe.specs.Said.{BreaksBy}
 use Rattle.dob_probe.specs.ValuedMoves.{AreValuedMoves}
-use Rattle.dob_records.specs.Faults.{BreaksBy}
 use Rattle.dob_records.specs.Records.{IsRecorded, LacksAlong, LacksNext, LacksRecord}
 use Rattle.dob_files.specs.declared.fault.Fault.{Fault}
 use Rattle.dob_files.specs.declared.fault.Fault.TheVariants.{Text, File, Table, Memory, Io}
-use Rattle.dob_query.specs.declared.questions.LineForm.{LineForm}
-use Rattle.dob_query.specs.declared.questions.LineForm.TheVariants.{Numbered, Object, Plain}
-use Rattle.dob_query.specs.declared.questions.Question.{Question}
-use Rattle.dob_query.specs.declared.questions.Question.TheVariants.{Look, Moves, Best, Line, Draw, ValueObject, MovesObject}
-use Rattle.dob_files.specs.Endings.{AnswersOver, Ending, GivesLines}
-use Rattle.dob_files.specs.Faults.{is_io_error}
+use Rattle.dob_words.specs.declared.command.orders.LineForm.{LineForm}
+use Rattle.dob_words.specs.declared.command.orders.LineForm.TheVariants as line_form
+use Rattle.dob_words.specs.declared.command.orders.MovesForm.{MovesForm}
+use Rattle.dob_words.specs.declared.command.orders.MovesForm.TheVariants as moves_form
+use Rattle.dob_words.specs.declared.command.orders.Question.{Question}
+use Rattle.dob_words.specs.declared.command.orders.Question.TheVariants as ask
+use Rattle.dob_words.specs.declared.command.orders.ValueForm.{ValueForm}
+use Rattle.dob_words.specs.declared.command.orders.ValueForm.TheVariants as value_form
+use Rattle.dob_files.specs.Endings.{AnswersOver, Ending}
+use Rattle.dob_files.specs.Faults.{is_io}
 use Rattle.dob_lines.specs.Objects.{line_object, moves_object, value_object}
 use Rattle.dob_lines.specs.Values.{value_line}
 use Rattle.dob_lines.specs.Played.{moves_lines, played_drawing}
 use Rattle.dob_files.specs.Tables.{IsShut, IsTextOf}
 use Rattle.dob_lines.specs.ValuedMoves.{best_move_line, move_lines}
 use Rattle.dob_shelf.specs.Shelves.{ShelfChange}
+
+-- the question that `value` and `probe` answer
+abbrev pub plain_value : Question
+plain_value = ask.Value value_form.Plain
 
 -- ---- the answer, where Has says which value a position has
 
@@ -53,21 +62,29 @@ abbrev pub TellsPlay : (Value → List GameMove → List ℕ) → Profile → (S
 TellsPlay tell profile Has p lines =
     (value : Value) × (moves : List GameMove) × Has p value × IsLine profile Has p moves × (lines ≡ tell value moves)
 
+-- the lines that tell that value of the position
+abbrev pub value_told : ValueForm → Setup → Value → List ℕ
+value_told value_form.Plain p = value_line
+value_told value_form.Object p = value_object p
+
+-- the lines that tell such moves of it
+abbrev pub moves_told : MovesForm → Setup → List ValuedMove → List ℕ
+moves_told moves_form.Plain p = move_lines
+moves_told moves_form.Best p = best_move_line
+moves_told moves_form.Object p = moves_object p
+
 -- the lines that tell such moves, the line of a position of that value
 abbrev pub line_told : LineForm → Setup → Value → List GameMove → List ℕ
-line_told Plain p = moves_lines false
-line_told Numbered p = moves_lines true
-line_told Object p = line_object p
+line_told line_form.Plain p = moves_lines false
+line_told line_form.Numbered p = moves_lines true
+line_told line_form.Object p = line_object p
+line_told line_form.Drawn p = played_drawing p
 
 -- the lines answer the question of the position
 abbrev pub IsToldBy : Question → Profile → (Setup → Value → Type 0) → Setup → List ℕ → Type 0
-IsToldBy Look profile Has p = TellsValue value_line Has p
-IsToldBy Moves profile Has p = TellsMoves move_lines profile Has p
-IsToldBy Best profile Has p = TellsMoves best_move_line profile Has p
-IsToldBy (Line form) profile Has p = TellsPlay (line_told form p) profile Has p
-IsToldBy Draw profile Has p = TellsPlay (played_drawing p) profile Has p
-IsToldBy ValueObject profile Has p = TellsValue (value_object p) Has p
-IsToldBy MovesObject profile Has p = TellsMoves (moves_object p) profile Has p
+IsToldBy (ask.Value form) profile Has p = TellsValue (value_told form p) Has p
+IsToldBy (ask.Moves form) profile Has p = TellsMoves (moves_told form p) profile Has p
+IsToldBy (ask.Line form) profile Has p = TellsPlay (line_told form p) profile Has p
 
 -- the stream's header names the family and the format, and the position is of that family
 pub record IsOfNamed (stream : Stream) (position : Setup) (format : Format) (family : Family) : Type 0 where
@@ -85,23 +102,14 @@ pub record IsAnswerOf (question : Question) (stream : Stream) (position : Setup)
 
 -- a record that the question needs isn't whole
 abbrev pub LacksFor : Question → Stream → Format → Family → Setup → file.Fault → Type 0
-LacksFor Look = LacksRecord
-LacksFor Moves = LacksNext
-LacksFor Best = LacksNext
-LacksFor (Line form) = LacksAlong
-LacksFor Draw = LacksAlong
-LacksFor ValueObject = LacksRecord
-LacksFor MovesObject = LacksNext
+LacksFor (ask.Value form) = LacksRecord
+LacksFor (ask.Moves form) = LacksNext
+LacksFor (ask.Line form) = LacksAlong
 
 -- where it asks for the line, that breaks off at the class
 abbrev pub BreaksFor : Question → Stream → Format → Family → Setup → ℕ → Type 0
-BreaksFor Look stream format family p class = ⊥
-BreaksFor Moves stream format family p class = ⊥
-BreaksFor Best stream format family p class = ⊥
-BreaksFor (Line form) stream format family p class = BreaksBy family (IsRecorded stream format family) p class
-BreaksFor Draw stream format family p class = BreaksBy family (IsRecorded stream format family) p class
-BreaksFor ValueObject stream format family p class = ⊥
-BreaksFor MovesObject stream format family p class = ⊥
+BreaksFor (ask.Line form) stream format family p class = BreaksBy family (IsRecorded stream format family) p class
+BreaksFor _ stream format family p class = ⊥
 
 -- a fault of answering by the records of a source that shows these streams, in that format and family
 abbrev pub IsRecordsFault : Question → (Stream → Type 0) → Format → Family → Setup → Fault → Type 0
@@ -118,7 +126,7 @@ pub record GivesTold {X : Type 0} (question : Question) (Showed Shows : Stream �
   pub ok : (stream : Stream) → Showed stream
       → IfOk result (λ lines. IsToldBy question family.profile (IsRecorded stream format family) p (string_bytes lines))
   pub shown : (stream : Stream) → Showed stream → Shows stream
-  pub failed : has_failed ≡ (had_failed || is_io_error result)
+  pub failed : has_failed ≡ (had_failed || fails is_io result)
 
 -- the header names a family that refuses the position
 abbrev pub IsRefusedBy : Stream → Setup → probing.Fault → Type 0
@@ -153,10 +161,11 @@ pub record AreAnswerLines (question : Question) (Has : List ℕ → Type 0) (wor
   pub named : IsTextOf words position
   pub told : IsAnswerBy question Has position lines
 
--- the lines answer it by the values that positions have by definition and the rules of the profile
+-- the lines answer it by the values that positions have by definition and the rules of the profile, which allow the position
 pub record AreRightAnswerLines (question : Question) (profile : Profile) (words lines : List ℕ) : Type 0 where
   pub position : Setup
   pub named : IsTextOf words position
+  pub allowed : IsAllowed profile position
   pub told : IsToldBy question profile (HasValue profile) position lines
 
 -- a fault of asking the file for the position, or of opening it
@@ -170,11 +179,7 @@ IsAskFault question Has words (Text fault) = text.HasTextFault A words fault
 IsAskFault question Has words Memory = Unit {0}
 IsAskFault question Has words fault = (position : Setup) × IsTextOf words position × IsAskingFault question Has position fault
 
--- ---- what the call gives, and what the program does
-
-abbrev pub GivesAnswer : {X : Type 0} → Question → List ℕ → List ℕ → Result (String X) Fault → ShelfChange → Type 0
-GivesAnswer question file words result c =
-    GivesLines c (AreAnswerLines question (c.before.has file) words) (IsAskFault question (c.before.has file) words) result
+-- ---- what the program does
 
 -- the same, where the lines say what is right by definition and the rules of the profile
 abbrev pub AnswersQuestionRight : ShelfChange → Profile → Question → List ℕ → List ℕ → Ending → Type 0

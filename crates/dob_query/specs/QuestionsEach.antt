@@ -7,10 +7,8 @@ use Rattle.dob_pieces.specs.declared.setup.Setup.{Setup}
 use Rattle.dob_pieces.specs.Bytes.{line_feed}
 use Rattle.dob_text.specs.Faults.{HasTextFault}
 use Rattle.dob_rank.specs.Families.{IsPositionOf}
-use Rattle.dob_value.specs.Values.{HasValue}
 use Rattle.dob_dbfile.specs.declared.fault.Fault.TheVariants as file_fault
 use Rattle.dob_dbfile.specs.Devices.{Stream}
-use Rattle.dob_dbfile.specs.Sinks.{Change}
 use Rattle.dob_dbfile.specs.declared.header.Format.{Format}
 use Rattle.dob_dbfile.specs.Faults.{CountsClasses}
 use Rattle.dob_dbfile.specs.Looking.{HasFrontFault}
@@ -19,13 +17,15 @@ use Rattle.dob_probe.specs.Faults.{IsRefusal}
 use Rattle.dob_records.specs.Records.{IsRecorded}
 use Rattle.dob_files.specs.declared.fault.Fault.{Fault}
 use Rattle.dob_files.specs.declared.fault.Fault.TheVariants.{Text, File, Table, Memory, Io}
-use Rattle.dob_query.specs.declared.questions.Question.{Question}
-use Rattle.dob_query.specs.declared.questions.LineForm.TheVariants as line_form
-use Rattle.dob_query.specs.declared.questions.Question.TheVariants.{Moves, Line, ValueObject, MovesObject}
-use Rattle.dob_files.specs.Telling.{AnswersLines, TellsLinesOf, TellsOne, TellsOver, Told}
+use Rattle.dob_words.specs.declared.command.orders.LineForm.TheVariants as line_form
+use Rattle.dob_words.specs.declared.command.orders.MovesForm.TheVariants as moves_form
+use Rattle.dob_words.specs.declared.command.orders.Question.{Question}
+use Rattle.dob_words.specs.declared.command.orders.Question.TheVariants as ask
+use Rattle.dob_words.specs.declared.command.orders.ValueForm.TheVariants as value_form
+use Rattle.dob_files.specs.Telling.{AnswersLines, TellsLinesOf, TellsOne, Told}
 use Rattle.dob_files.specs.Endings.{Ending}
 use Rattle.dob_files.specs.Faults.{fault_text, is_io}
-use Rattle.dob_query.specs.Questions.{GivesWhole, IsAnswerOf, IsFaultOfAsking, IsOfNamed, IsRecordsFault, IsToldBy, LacksFor}
+use Rattle.dob_query.specs.Questions.{AreRightAnswerLines, GivesWhole, IsAnswerOf, IsFaultOfAsking, IsOfNamed, IsRecordsFault, IsToldBy, LacksFor}
 use Rattle.dob_files.specs.Tables.{IsShut, IsTextOf}
 use Rattle.dob_shelf.specs.Shelves.{ShelfChange}
 
@@ -45,11 +45,11 @@ plain_end end = (end, λ fault. fault_text fault ++ (line_feed ∷ end))
 
 -- an empty line where an answer may have more lines than one; a fault is an object where answers are
 abbrev pub end_of : Question → End
-end_of Moves = plain_end (line_feed ∷ [])
-end_of (Line line_form.Numbered) = plain_end (line_feed ∷ [])
-end_of (Line line_form.Object) = ([], fault_object)
-end_of ValueObject = ([], fault_object)
-end_of MovesObject = ([], fault_object)
+end_of (ask.Moves moves_form.Plain) = plain_end (line_feed ∷ [])
+end_of (ask.Line line_form.Numbered) = plain_end (line_feed ∷ [])
+end_of (ask.Line line_form.Object) = ([], fault_object)
+end_of (ask.Value value_form.Object) = ([], fault_object)
+end_of (ask.Moves moves_form.Object) = ([], fault_object)
 end_of _ = plain_end []
 
 -- what a call gave, as bytes
@@ -72,10 +72,6 @@ TellsAnswersOf question = TellsLinesOf (Result (List ℕ) Fault) (ended_lines (e
 abbrev pub AnswersLine : Question → (Stream → Type 0) → List ℕ → List ℕ → Type 0
 AnswersLine question Gives line lines =
     (position : Setup) × IsTextOf line position × ((stream : Stream) → Gives stream → IsAnswerOf question stream position lines)
-
--- the same by the values that positions have by definition and the rules of the profile
-abbrev pub AnswersLineRight : Question → Profile → List ℕ → List ℕ → Type 0
-AnswersLineRight question profile line lines = (position : Setup) × IsTextOf line position × IsToldBy question profile (HasValue profile) position lines
 
 -- The fault is the line's first, as a text; or, where it is a position's, why the family of the header refuses that one, or that a record which the question
 -- needs isn't whole, or that the line breaks off.
@@ -162,13 +158,9 @@ EndsRecords Gives Shows known _ = ⊥
 abbrev pub IsToldOf : Question → (Stream → Type 0) → Format → Family → List ℕ → Told → Type 0
 IsToldOf question Shows format family = TellsOne (ended_lines (end_of question)) is_err (IsRecordAnswer question Shows format family)
 
--- ---- what the call gives, and what the program does
-
-abbrev pub GivesQuestionEach : Question → List ℕ → Result Bool Fault → ShelfChange → Change → Type 0
-GivesQuestionEach question file result c out =
-    TellsOver c (ArePlaceLines (AnswersLine question (GivesWhole (c.before.has file))) question (c.before.has file)) (IsPlacesFault c file) out result
+-- ---- what the program does
 
 -- the same, where each answer says what is right by definition and the rules of the profile
 abbrev pub AnswersQuestionEachRight : ShelfChange → Profile → Question → List ℕ → Ending → Type 0
 AnswersQuestionEachRight c profile question file =
-    AnswersLines c (ArePlaceLines (AnswersLineRight question profile) question (c.before.has file)) (IsPlacesFault c file)
+    AnswersLines c (ArePlaceLines (AreRightAnswerLines question profile) question (c.before.has file)) (IsPlacesFault c file)

@@ -13,15 +13,21 @@ use Rattle.dob_files.specs.Endings.{AnswersOver, Ending, GivesLines}
 use Rattle.dob_shelf.specs.Shelves.{Files, HasJust, SameFiles, SameOthers, ShelfChange}
 use Rattle.dob_files.specs.Keeping.{IsShelfFault}
 use Rattle.dob_files.specs.Tables.{IsTextOf}
-use Rattle.dob_query.specs.declared.questions.Question.TheVariants.{Draw}
+use Rattle.dob_words.specs.declared.command.orders.LineForm.TheVariants.{Drawn}
+use Rattle.dob_words.specs.declared.command.orders.Question.{Question}
+use Rattle.dob_words.specs.declared.command.orders.Question.TheVariants.{Line}
 use Rattle.dob_query.specs.Questions.{IsAnswerBy, IsAskingFault, IsToldBy}
+
+-- what a file is asked for it
+abbrev pub drawn_line : Question
+drawn_line = Line Drawn
 
 -- ---- lines
 
 -- the lines draw the position, by the file of that name where one is named
 abbrev pub AreDrawn : Files → Option (List ℕ) → Setup → List ℕ → Type 0
 AreDrawn Has None position lines = lines ≡ drawing_of position
-AreDrawn Has (Some file) position lines = IsAnswerBy Draw (Has file) position lines
+AreDrawn Has (Some file) position lines = IsAnswerBy drawn_line (Has file) position lines
 
 -- where a picture is asked for, the file of that name has just these bytes on a shelf that tells its bytes
 abbrev pub IsKept : ShelfChange → Option (List ℕ) → List ℕ → Type 0
@@ -39,7 +45,7 @@ pub record AreShowLines (c : ShelfChange) (file picture : Option (List ℕ)) (wo
 pub record AreRightShowLines (c : ShelfChange) (profile : Profile) (picture : Option (List ℕ)) (words lines : List ℕ) : Type 0 where
   pub position : Setup
   pub named : IsTextOf words position
-  pub drawn : IsToldBy Draw profile (HasValue profile) position lines
+  pub drawn : IsToldBy drawn_line profile (HasValue profile) position lines
   pub kept : IsKept c picture (picture_of position)
 
 -- ---- faults
@@ -47,7 +53,7 @@ pub record AreRightShowLines (c : ShelfChange) (profile : Profile) (picture : Op
 -- a fault of asking the file that is named, if one is
 abbrev pub IsFaultBy : Files → Option (List ℕ) → Setup → Fault → Type 0
 IsFaultBy Has None position fault = ⊥
-IsFaultBy Has (Some file) position fault = IsAskingFault Draw (Has file) position fault
+IsFaultBy Has (Some file) position fault = IsAskingFault drawn_line (Has file) position fault
 
 -- a fault of drawing a position, by the file that is named if one is: the file's, or memory failed
 abbrev pub IsDrawingFault : Files → Option (List ℕ) → Setup → Fault → Type 0
@@ -71,9 +77,6 @@ abbrev pub KeepsPicture : {X : Type 0} → List ℕ → Setup → List ℕ → R
 KeepsPicture name position lines result c =
     GivesLines c (λ told. (told ≡ lines) × (IsTrue c.before.tells → HasJust name (picture_of position) c.after.has))
     (λ fault. IsShelfFault fault × SameFiles c.before.has c.after.has) result
-
-abbrev pub GivesShow : {X : Type 0} → Option (List ℕ) → Option (List ℕ) → List ℕ → Result (String X) Fault → ShelfChange → Type 0
-GivesShow file picture words result c = GivesLines c (AreShowLines c file picture words) (IsShowFault c file picture words) result
 
 -- ---- what the program does
 

@@ -1,9 +1,10 @@
 // The answers to the lines of standard input, by the table of a database file.
 ghost use Rattle.std.specs.Prelude.{◌≡◌, false, IfOk, string_bytes};
 ghost use Rattle.dob_dbfile.specs.Sinks.{change};
-ghost use Rattle.dob_query.specs.Each.{GivesEach, IsAnswer, IsGivenTo, IsToldValue, answer_line};
+ghost use Rattle.dob_query.specs.Each.{IsAnswer, IsGivenTo, IsToldValue, answer_line, AreEachLines, IsEachFault};
 ghost use Rattle.dob_files.specs.declared.fault.Fault.TheVariants.{Memory as OutOfMemory};
 ghost use Rattle.dob_shelf.specs.Shelves.{Leaving, SameFiles};
+ghost use Rattle.dob_files.specs.Telling.{TellsOver};
 
 use dob_dbfile::Sink;
 use dob_files::{Answerer, Fault, LineAnswers, open, position_on, tell_each};
@@ -21,7 +22,8 @@ pub fn answer_each<S: Shelf, O: Sink>(
     out: &mut O,
     file: &str,
 ) -> Result<bool, Fault>
-    ensures { Leaving SameFiles S.state shelf.old shelf.new (λ c. GivesEach file.now result c (change (O.state out.old) (O.state out.new))) }
+    ensures { Leaving SameFiles S.state shelf.old shelf.new (λ c. TellsOver c
+        (AreEachLines IsGivenTo (c.before.has file.now)) (IsEachFault c file.now) (change (O.state out.old) (O.state out.new)) result) }
 {
     let table = open(alloc, shelf, file)?;
     tell_each(alloc, &mut ByTable { table }, shelf, out)

@@ -6,20 +6,18 @@
 // - `line` reads the whole file, as `probe` does; `line --each` asks the records, since each of its lines needs but a few of them.
 #![tactic(auto)]
 
+mod by_table;
 mod counts;
 mod each;
-mod plays;
-mod probes;
 mod questions;
 mod questions_each;
 mod shows;
 mod values;
 
+pub use by_table::{answer_line, answer_probe};
 pub use counts::answer_count;
 pub use each::answer_each;
-pub use plays::answer_line;
-pub use probes::answer_probe;
-pub use questions::{LineForm, Question, answer_question};
+pub use questions::answer_question;
 pub use questions_each::answer_question_each;
 pub use shows::answer_show;
 pub use values::answer_value;

@@ -1,12 +1,13 @@
-// What is asked of a position, how its line is told, and the answer by the header and the records of a database file that it needs.
+// The answer to a question of a position by the header and the records of a database file that it needs, and how that is told.
 ghost use Rattle.std.specs.Prelude.{◌≡◌, false, IfErr, IfOk, string_bytes};
 ghost use Rattle.dob_rank.specs.Families.{IsPositionOf};
 ghost use Rattle.dob_dbfile.specs.Devices.{Stream};
+ghost use Rattle.dob_dbfile.specs.Faults.{fails};
 ghost use Rattle.dob_shelf.specs.Shelves.{Leaving, SameFiles};
 ghost use Rattle.dob_files.specs.Endings.{GivesLines};
-ghost use Rattle.dob_files.specs.Faults.{is_io_error};
-ghost use Rattle.dob_query.specs.declared.questions.Question.TheVariants.{Look, Moves, Best, Line, Draw, ValueObject, MovesObject};
-ghost use Rattle.dob_query.specs.Questions.{GivesAnswer, GivesTold, IsAnswerBy, IsAnswerOf, IsAskingFault, IsFaultOfAsking, IsRecordsFault, line_told};
+ghost use Rattle.dob_files.specs.Faults.{is_io};
+ghost use Rattle.dob_words.specs.declared.command.orders.Question.TheVariants as ask;
+ghost use Rattle.dob_query.specs.Questions.{GivesTold, IsAnswerBy, IsAnswerOf, IsAskingFault, IsFaultOfAsking, IsRecordsFault, line_told, moves_told, value_told, AreAnswerLines, IsAskFault};
 
 use dob_classes::Classes;
 use dob_dbfile::{Format, PlacedSource, read_classes};
@@ -17,41 +18,12 @@ use dob_lines::{
 };
 use dob_moves::Move;
 use dob_pieces::{Memory, Position};
-use dob_probe::check_member;
+use dob_probe::{ValuedMove, check_member};
 use dob_records::{line_by_records, moves_by_records, value_at};
 use dob_shelf::Shelf;
 use dob_value::Value;
+use dob_words::command::{LineForm, MovesForm, Question, ValueForm};
 use std::alloc::Global;
-
-/// What is asked of a position.
-#[derive(Clone, Copy)]
-pub enum Question {
-    /// Its value.
-    Look,
-    /// Its moves with their values.
-    Moves,
-    /// The first of these.
-    Best,
-    /// Its line, told in that form.
-    Line(LineForm),
-    /// Its drawing, with its value and its line.
-    Draw,
-    /// Its value, as a JSON object.
-    ValueObject,
-    /// Its moves with their values, as one.
-    MovesObject,
-}
-
-/// How a line is told.
-#[derive(Clone, Copy)]
-pub enum LineForm {
-    /// Its moves, all on one line.
-    Plain,
-    /// Each move on a line with its number.
-    Numbered,
-    /// The position's value and its line, as a JSON object.
-    Object,
-}
 
 /// The lines that answer the question of the position that the text names, by the header of the file and the records that it needs. The file is
 /// opened only if the text is a position's.
@@ -62,7 +34,8 @@ pub fn answer_question<S: Shelf>(
     question: Question,
     text: &str,
 ) -> Lines
-    ensures { Leaving SameFiles S.state shelf.old shelf.new (GivesAnswer question file.now text.now result) }
+    ensures { Leaving SameFiles S.state shelf.old shelf.new (λ c.
+        GivesLines c (AreAnswerLines question (c.before.has file.now) text.now) (IsAskFault question (c.before.has file.now) text.now) result) }
 {
     let position = position_named(text)?;
     answer_of(alloc, shelf, file, question, &position)
@@ -98,7 +71,7 @@ fn ask<R: PlacedSource>(
     ensures ok { (stream : Stream) → R.gives source.old stream → R.shows source.old stream
         → IfOk result (λ lines. IsAnswerOf question stream position.now.setup (string_bytes lines)) }
     ensures fault { IfErr result (IsFaultOfAsking question (λ stream. R.gives source.old stream × R.shows source.old stream) position.now.setup) }
-    ensures failed { R.has_failed source.new ≡ is_io_error result }
+    ensures failed { R.has_failed source.new ≡ fails is_io result }
 {
     let (format, classes) = read_classes(alloc, source)?;
     check_member(classes.family, position)?;
@@ -120,69 +93,50 @@ pub(crate) fn answer_by_records<R: PlacedSource>(
     ensures fault { IfErr result (IsRecordsFault question (R.shows source.old) format classes.now.family position.now.setup) }
 {
     match question {
-        Question::Look => told_value(alloc, source, format, classes, position),
-        Question::Moves => told_moves(alloc, source, format, classes, position),
-        Question::Best => told_best(alloc, source, format, classes, position),
-        Question::Line(form) => told_line(alloc, source, format, classes, form, position),
-        Question::Draw => told_drawing(alloc, source, format, classes, position),
-        Question::ValueObject => told_value_object(alloc, source, format, classes, position),
-        Question::MovesObject => told_moves_object(alloc, source, format, classes, position),
+        Question::Value(form) => told_value(alloc, source, format, classes, form, position),
+        Question::Moves(form) => told_moves(alloc, source, format, classes, form, position),
+        Question::Line(form) => told_play(alloc, source, format, classes, form, position),
     }
 }
 
-// The value.
+// What is told of the value.
 fn told_value<R: PlacedSource>(
     alloc: Global,
     source: &mut R,
     format: Format,
     classes: &Classes,
+    form: ValueForm,
     position: &Position,
 ) -> Lines
     requires { IsPositionOf classes.now.family position.now.setup }
-    ensures told { GivesTold Look (R.shows source.old) (R.shows source.new) (R.has_failed source.old) (R.has_failed source.new)
+    ensures told { GivesTold (ask.Value form) (R.shows source.old) (R.shows source.new) (R.has_failed source.old) (R.has_failed source.new)
         format classes.now.family position.now.setup result }
-    ensures fault { IfErr result (IsRecordsFault Look (R.shows source.old) format classes.now.family position.now.setup) }
+    ensures fault { IfErr result (IsRecordsFault (ask.Value form) (R.shows source.old) format classes.now.family position.now.setup) }
 {
     let value = value_at(source, format, classes, position)?;
-    Ok(line_of(alloc, value)?)
+    Ok(value_told(alloc, form, position, value)?)
 }
 
-// The moves with their values.
+// What is told of the moves with their values.
 fn told_moves<R: PlacedSource>(
     alloc: Global,
     source: &mut R,
     format: Format,
     classes: &Classes,
+    form: MovesForm,
     position: &Position,
 ) -> Lines
     requires { IsPositionOf classes.now.family position.now.setup }
-    ensures told { GivesTold Moves (R.shows source.old) (R.shows source.new) (R.has_failed source.old) (R.has_failed source.new)
+    ensures told { GivesTold (ask.Moves form) (R.shows source.old) (R.shows source.new) (R.has_failed source.old) (R.has_failed source.new)
         format classes.now.family position.now.setup result }
-    ensures fault { IfErr result (IsRecordsFault Moves (R.shows source.old) format classes.now.family position.now.setup) }
+    ensures fault { IfErr result (IsRecordsFault (ask.Moves form) (R.shows source.old) format classes.now.family position.now.setup) }
 {
     let legal = moves_by_records(alloc, source, format, classes, position)?;
-    Ok(move_lines(alloc, &legal)?)
+    Ok(moves_told(alloc, form, position, &legal)?)
 }
 
-// The first of them.
-fn told_best<R: PlacedSource>(
-    alloc: Global,
-    source: &mut R,
-    format: Format,
-    classes: &Classes,
-    position: &Position,
-) -> Lines
-    requires { IsPositionOf classes.now.family position.now.setup }
-    ensures told { GivesTold Best (R.shows source.old) (R.shows source.new) (R.has_failed source.old) (R.has_failed source.new)
-        format classes.now.family position.now.setup result }
-    ensures fault { IfErr result (IsRecordsFault Best (R.shows source.old) format classes.now.family position.now.setup) }
-{
-    let legal = moves_by_records(alloc, source, format, classes, position)?;
-    Ok(best_move_line(alloc, &legal)?)
-}
-
-// The line.
-fn told_line<R: PlacedSource>(
+// What is told of the line.
+fn told_play<R: PlacedSource>(
     alloc: Global,
     source: &mut R,
     format: Format,
@@ -191,12 +145,43 @@ fn told_line<R: PlacedSource>(
     position: &Position,
 ) -> Lines
     requires { IsPositionOf classes.now.family position.now.setup }
-    ensures told { GivesTold (Line form) (R.shows source.old) (R.shows source.new) (R.has_failed source.old) (R.has_failed source.new)
+    ensures told { GivesTold (ask.Line form) (R.shows source.old) (R.shows source.new) (R.has_failed source.old) (R.has_failed source.new)
         format classes.now.family position.now.setup result }
-    ensures fault { IfErr result (IsRecordsFault (Line form) (R.shows source.old) format classes.now.family position.now.setup) }
+    ensures fault { IfErr result (IsRecordsFault (ask.Line form) (R.shows source.old) format classes.now.family position.now.setup) }
 {
     let (value, moves) = line_by_records(alloc, source, format, classes, position)?;
     Ok(line_told(alloc, form, position, value, &moves)?)
+}
+
+// The lines that tell that value of the position.
+fn value_told(
+    alloc: Global,
+    form: ValueForm,
+    position: &Position,
+    value: Value,
+) -> Result<String, Memory>
+    ensures { IfOk result (λ lines. string_bytes lines ≡ value_told form position.now.setup value) }
+{
+    match form {
+        ValueForm::Plain => line_of(alloc, value),
+        ValueForm::Object => value_object(alloc, position, value),
+    }
+}
+
+// The lines that tell these moves of the position.
+fn moves_told(
+    alloc: Global,
+    form: MovesForm,
+    position: &Position,
+    legal: &[ValuedMove],
+) -> Result<String, Memory>
+    ensures { IfOk result (λ lines. string_bytes lines ≡ moves_told form position.now.setup legal.now) }
+{
+    match form {
+        MovesForm::Plain => move_lines(alloc, legal),
+        MovesForm::Best => best_move_line(alloc, legal),
+        MovesForm::Object => moves_object(alloc, position, legal),
+    }
 }
 
 /// The lines that tell these moves, the line of a position of that value.
@@ -213,56 +198,6 @@ pub(crate) fn line_told(
         LineForm::Plain => moves_lines(alloc, false, value, moves),
         LineForm::Numbered => moves_lines(alloc, true, value, moves),
         LineForm::Object => line_object(alloc, position, value, moves),
+        LineForm::Drawn => played_drawing(alloc, position, value, moves),
     }
-}
-
-// The drawing, with the value and the line.
-fn told_drawing<R: PlacedSource>(
-    alloc: Global,
-    source: &mut R,
-    format: Format,
-    classes: &Classes,
-    position: &Position,
-) -> Lines
-    requires { IsPositionOf classes.now.family position.now.setup }
-    ensures told { GivesTold Draw (R.shows source.old) (R.shows source.new) (R.has_failed source.old) (R.has_failed source.new)
-        format classes.now.family position.now.setup result }
-    ensures fault { IfErr result (IsRecordsFault Draw (R.shows source.old) format classes.now.family position.now.setup) }
-{
-    let (value, moves) = line_by_records(alloc, source, format, classes, position)?;
-    Ok(played_drawing(alloc, position, value, &moves)?)
-}
-
-// The value, as an object.
-fn told_value_object<R: PlacedSource>(
-    alloc: Global,
-    source: &mut R,
-    format: Format,
-    classes: &Classes,
-    position: &Position,
-) -> Lines
-    requires { IsPositionOf classes.now.family position.now.setup }
-    ensures told { GivesTold ValueObject (R.shows source.old) (R.shows source.new) (R.has_failed source.old) (R.has_failed source.new)
-        format classes.now.family position.now.setup result }
-    ensures fault { IfErr result (IsRecordsFault ValueObject (R.shows source.old) format classes.now.family position.now.setup) }
-{
-    let value = value_at(source, format, classes, position)?;
-    Ok(value_object(alloc, position, value)?)
-}
-
-// The moves with their values, as an object.
-fn told_moves_object<R: PlacedSource>(
-    alloc: Global,
-    source: &mut R,
-    format: Format,
-    classes: &Classes,
-    position: &Position,
-) -> Lines
-    requires { IsPositionOf classes.now.family position.now.setup }
-    ensures told { GivesTold MovesObject (R.shows source.old) (R.shows source.new) (R.has_failed source.old) (R.has_failed source.new)
-        format classes.now.family position.now.setup result }
-    ensures fault { IfErr result (IsRecordsFault MovesObject (R.shows source.old) format classes.now.family position.now.setup) }
-{
-    let legal = moves_by_records(alloc, source, format, classes, position)?;
-    Ok(moves_object(alloc, position, &legal)?)
 }

@@ -1,20 +1,23 @@
 // The answers to the lines of standard input, each by the records of a database file that it needs, whatever the file's size.
 ghost use Rattle.std.specs.Prelude.{◌≡◌, ◌||◌, Ok, false, true, IfOk, MatchResult, string_bytes};
 ghost use Rattle.dob_dbfile.specs.Devices.{Stream};
+ghost use Rattle.dob_dbfile.specs.Faults.{fails};
 ghost use Rattle.dob_dbfile.specs.Sinks.{change};
-ghost use Rattle.dob_files.specs.Faults.{is_io, is_io_error};
-ghost use Rattle.dob_query.specs.QuestionsEach.{EndsRecords, GivesQuestionEach, GivesRecordAnswer, IsRecordEnd, IsToldOf, TellsRecords};
+ghost use Rattle.dob_files.specs.Faults.{is_io};
+ghost use Rattle.dob_query.specs.QuestionsEach.{EndsRecords, GivesRecordAnswer, IsRecordEnd, IsToldOf, TellsRecords, AnswersLine, ArePlaceLines, IsPlacesFault};
 ghost use Rattle.dob_query.specs.QuestionsEach.{bytes_of, end_of, ended_lines, ends_all, ends_all_in, fault_object};
-ghost use Rattle.dob_files.specs.Telling.{TellsEach};
+ghost use Rattle.dob_files.specs.Telling.{TellsEach, TellsOver};
 ghost use Rattle.dob_shelf.specs.Shelves.{Leaving, SameFiles};
+ghost use Rattle.dob_query.specs.Questions.{GivesWhole};
 
-use crate::questions::{LineForm, Question, answer_by_records};
+use crate::questions::answer_by_records;
 use dob_classes::Classes;
 use dob_dbfile::{Format, PlacedSource, Sink, read_classes};
 use dob_files::{Answerer, Fault, LineAnswers, Lines, position_on, tell_each};
 use dob_pieces::Memory;
 use dob_probe::check_member;
 use dob_shelf::Shelf;
+use dob_words::command::{LineForm, MovesForm, Question, ValueForm};
 use std::alloc::Global;
 
 /// Tells the answer to the question of the position of each line of standard input, by the records of the file that it needs, and whether one of them was
@@ -27,7 +30,9 @@ pub fn answer_question_each<S: Shelf, O: Sink>(
     file: &str,
     question: Question,
 ) -> Result<bool, Fault>
-    ensures { Leaving SameFiles S.state shelf.old shelf.new (λ c. GivesQuestionEach question file.now result c (change (O.state out.old) (O.state out.new))) }
+    ensures { Leaving SameFiles S.state shelf.old shelf.new (λ c. TellsOver c
+        (ArePlaceLines (AnswersLine question (GivesWhole (c.before.has file.now))) question (c.before.has file.now)) (IsPlacesFault c file.now)
+        (change (O.state out.old) (O.state out.new)) result) }
 {
     let source = shelf.find(file)?;
     let (source, told) = told_by(alloc, shelf, out, source, question);
@@ -113,7 +118,7 @@ fn answer_at<R: PlacedSource>(
 ) -> Lines
     ensures answer { GivesRecordAnswer question (R.shows source.old) format classes.now.family line.now result }
     ensures shown { (stream : Stream) → R.shows source.old stream → R.shows source.new stream }
-    ensures failed { R.has_failed source.new ≡ (R.has_failed source.old || is_io_error result) }
+    ensures failed { R.has_failed source.new ≡ (R.has_failed source.old || fails is_io result) }
 {
     let position = position_on(line)?;
     check_member(classes.family, &position)?;
@@ -151,7 +156,7 @@ fn end_of(question: Question) -> &'static str
     ensures { result.now ≡ (end_of question).0 }
 {
     match question {
-        Question::Moves | Question::Line(LineForm::Numbered) => "\n",
+        Question::Moves(MovesForm::Plain) | Question::Line(LineForm::Numbered) => "\n",
         _ => "",
     }
 }
@@ -174,9 +179,10 @@ fn fault_lines(alloc: Global, fault: Fault, question: Question) -> Result<String
     ensures { IfOk result (λ lines. string_bytes lines ≡ (end_of question).1 fault) }
 {
     match question {
-        Question::ValueObject | Question::MovesObject | Question::Line(LineForm::Object) =>
-            fault_object(alloc, fault),
-        Question::Moves | Question::Line(LineForm::Numbered) => {
+        Question::Value(ValueForm::Object)
+        | Question::Moves(MovesForm::Object)
+        | Question::Line(LineForm::Object) => fault_object(alloc, fault),
+        Question::Moves(MovesForm::Plain) | Question::Line(LineForm::Numbered) => {
             Ok(format!(in alloc; "{fault}\n\n")?)
         }
         _ => Ok(format!(in alloc; "{fault}\n")?),

@@ -1,15 +1,16 @@
 // A position drawn for a reader who is new to the game, by a database file with its value and its line, and as a picture.
 ghost use Rattle.std.specs.Prelude.{◌≡◌, string_bytes};
-ghost use Rattle.dob_files.specs.Endings.{IsAnswered};
+ghost use Rattle.dob_files.specs.Endings.{GivesOver, GivesLines};
 ghost use Rattle.dob_words.specs.Readings.{text_given};
 ghost use Rattle.dob_shelf.specs.Shelves.{Leaving, SameFiles, SameOthers};
-ghost use Rattle.dob_query.specs.Shows.{AreDrawn, IsDrawingFault, KeepsButPicture, GivesShow, KeepsPicture};
+ghost use Rattle.dob_query.specs.Shows.{AreDrawn, IsDrawingFault, KeepsButPicture, KeepsPicture, AreShowLines, IsShowFault};
 
-use crate::questions::{Question, answer_of};
+use crate::questions::answer_of;
 use dob_files::{Lines, fill, keep_filled, position_named};
 use dob_pieces::Position;
 use dob_shelf::Shelf;
 use dob_text::{draw_position, picture_position};
+use dob_words::command::{LineForm, Question};
 use std::alloc::Global;
 
 /// The lines that draw the position that the text names. Where a database file is named they give its value and its line too,
@@ -21,8 +22,9 @@ pub fn answer_show<S: Shelf>(
     picture: Option<&str>,
     text: &str,
 ) -> Lines
-    ensures { Leaving (KeepsButPicture (text_given picture.entry)) S.state shelf.old shelf.new
-        (GivesShow (text_given file.entry) (text_given picture.entry) text.now result) }
+    ensures { Leaving (KeepsButPicture (text_given picture.entry)) S.state shelf.old shelf.new (λ c. GivesLines c
+        (AreShowLines c (text_given file.entry) (text_given picture.entry) text.now)
+        (IsShowFault c (text_given file.entry) (text_given picture.entry) text.now) result) }
 {
     let position = position_named(text)?;
     let lines = drawn_lines(alloc, shelf, file, &position)?;
@@ -40,13 +42,19 @@ fn drawn_lines<S: Shelf>(
     position: &Position,
 ) -> Lines
     ensures answered { Leaving SameFiles S.state shelf.old shelf.new (λ c.
-        IsAnswered c (λ lines. AreDrawn c.before.has (text_given file.entry) position.now.setup (string_bytes lines))
+        GivesOver c (λ lines. AreDrawn c.before.has (text_given file.entry) position.now.setup (string_bytes lines))
         (IsDrawingFault c.before.has (text_given file.entry) position.now.setup) result) }
     ensures told { (S.state shelf.new).tells ≡ (S.state shelf.old).tells }
 {
     match file {
         None => Ok(draw_position(alloc, position)?),
-        Some(file) => answer_of(alloc, shelf, file, Question::Draw, position),
+        Some(file) => answer_of(
+            alloc,
+            shelf,
+            file,
+            Question::Line(LineForm::Drawn),
+            position,
+        ),
     }
 }
 

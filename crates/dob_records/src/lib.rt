@@ -2,12 +2,10 @@
 // is asked, and not with the file. Neither other records nor the digest are looked at: `dob_probe` answers by whole tables.
 #![tactic(auto)]
 
-mod fault;
 mod lines;
 mod listing;
 mod values;
 
-pub use fault::Fault;
 pub use lines::line_by_records;
 pub use listing::moves_by_records;
 pub use values::value_at;

@@ -3,7 +3,7 @@ ghost use Rattle.std.specs.Prelude.{◌≡◌, ◌||◌, IfErr, IfOk};
 ghost use Rattle.dob_rank.specs.Families.{IsPositionOf};
 ghost use Rattle.dob_value.specs.Follows.{IsEntry};
 ghost use Rattle.dob_dbfile.specs.Devices.{Stream};
-ghost use Rattle.dob_dbfile.specs.Faults.{is_io, is_io_error};
+ghost use Rattle.dob_dbfile.specs.Faults.{fails, is_io};
 ghost use Rattle.dob_records.specs.Records.{IsRecorded, LacksRecord};
 
 use dob_classes::Classes;
@@ -28,7 +28,7 @@ pub fn value_at<R: PlacedSource>(
     ensures entry { IfOk result IsEntry }
     ensures fault { (stream : Stream) → R.shows source.old stream → IfErr result (LacksRecord stream format classes.now.family position.now.setup) }
     ensures shown { (stream : Stream) → R.shows source.old stream → R.shows source.new stream }
-    ensures failed { R.has_failed source.new ≡ (R.has_failed source.old || is_io_error result) }
+    ensures failed { R.has_failed source.new ≡ (R.has_failed source.old || fails is_io result) }
 {
     read_value(source, format, classes.class_of(position))
 }

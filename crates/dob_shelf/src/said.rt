@@ -5,7 +5,7 @@ use std::fs::OpenFile;
 use std::io::{self, Read, Seek, SeekFrom, Write};
 
 /// Which device it is.
-#[derive(Clone, Copy, Debug, PartialEq, Eq)]
+#[derive(Clone, Copy)]
 pub enum Place {
     /// A file.
     File,

@@ -10,7 +10,7 @@ use std::collections::BTreeMap;
 use std::io;
 
 /// Why a shelf opens or makes no file. The files keep their bytes then.
-#[derive(Clone, Copy, Debug, PartialEq, Eq)]
+#[derive(Clone, Copy, PartialEq, Eq)]
 pub enum ShelfFault {
     /// A growth was refused, since no memory was left for it.
     Memory,

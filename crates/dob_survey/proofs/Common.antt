@@ -29,5 +29,5 @@ pub use Rattle.dob_files.specs.declared.fault.Fault.{Fault}
 pub use Rattle.dob_files.specs.declared.fault.Fault.TheVariants.{Memory, Table}
 pub use Rattle.dob_survey.specs.Migrations.{AreMigrateLines, IsMigrateFault}
 pub use Rattle.dob_survey.specs.Puzzles.{AnswersPuzzlesRight, ArePuzzleLines, IsPuzzlesFault, line_of_puzzle, puzzle_lines}
-pub use Rattle.dob_survey.specs.Stats.{AnswersStatsRight, AreStatsLines, IsStatsFault, group_text, longest_of, with_group, with_value}
+pub use Rattle.dob_survey.specs.Stats.{AnswersStatsRight, AreStatsLines, group_text, longest_of, with_group, with_value}
 pub use Rattle.dob_survey.specs.Zugzwangs.{AnswersZugzwangsRight, AreOfTable, AreZugzwangLines, IsOfTable, first_pairs, pair_line, zugzwang_lines}

@@ -1,5 +1,5 @@
 -- The lines of distances, one more at a time.
-use Rattle.dob_survey.proofs.Common.{◌++◌, ◌+◌, ◌-◌, ◌≡◌, List, ap, arith, get_or, suc, ℕ}
+use Rattle.dob_survey.proofs.Common.{◌++◌, ◌+◌, ◌≡◌, List, ap, arith, get_or, suc, ℕ}
 use Rattle.dob_survey.specs.Reaches.{level_line, level_lines}
 
 -- one distance more

@@ -1,5 +1,5 @@
 -- The faults of reading a file, of making the other one and of keeping it are those of migrating.
-use Rattle.dob_survey.proofs.Common.{◌-◌, ◌≡◌, AreMigrateLines, AreThese, Bool, ClassTable, Fault, HasJust, IsFileOf, IsFillingFault, IsMigrateFault, IsTrue}
+use Rattle.dob_survey.proofs.Common.{◌≡◌, AreMigrateLines, AreThese, Bool, ClassTable, Fault, HasJust, IsFileOf, IsFillingFault, IsMigrateFault, IsTrue}
 use Rattle.dob_survey.proofs.Common.{LeavesFiles, List, SameFiles, ShelfChange, ShelfState, String, codes, count_line, inl, inr, length, string_bytes, subst}
 use Rattle.dob_survey.proofs.Common.{sym, ℕ}
 use Rattle.dob_dbfile.specs.Format.{bytes_of as table_bytes}

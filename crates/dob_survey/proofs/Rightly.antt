@@ -1,12 +1,12 @@
 -- By the file of a value table what is told of it is right: counts, puzzles, pairs, and what can be reached.
 use Rattle.dob_survey.proofs.Common.{List, Option, Some, ℕ, Profile, ClassTable, ShelfChange, AnswersOver, Ending, AnswersPuzzlesRight, ArePuzzleLines}
 use Rattle.dob_survey.proofs.Common.{IsPuzzlesFault, AnswersStatsRight, AreStatsLines}
-use Rattle.dob_survey.proofs.Common.{IsStatsFault, HasValueFile, IsFileOf, IsOpeningFault, IsPositionFault, IsRightFileOf, AnswersZugzwangsRight}
+use Rattle.dob_survey.proofs.Common.{HasValueFile, IsFileOf, IsOpeningFault, IsPositionFault, IsRightFileOf, AnswersZugzwangsRight}
 use Rattle.dob_survey.proofs.Common.{AreZugzwangLines}
 use Rattle.dob_survey.specs.Reaches.{AnswersReachRight, AreReachLinesBy, AreReachLinesFor, IsReachFaultFor}
-use Rattle.dob_survey.specs.declared.puzzles.PuzzleSearch.{PuzzleSearch}
-use Rattle.dob_survey.specs.declared.reaches.ReachSearch.{ReachSearch}
-use Rattle.dob_survey.specs.declared.stats.StatsForm.{StatsForm}
+use Rattle.dob_words.specs.declared.command.orders.PuzzleSearch.{PuzzleSearch}
+use Rattle.dob_words.specs.declared.command.orders.ReachSearch.{ReachSearch}
+use Rattle.dob_words.specs.declared.command.orders.StatsForm.{StatsForm}
 use Rattle.dob_files.proofs.TableFaults.{over_weaker, right_table}
 
 module _ (c : ShelfChange) (profile : Profile) (file : List ℕ) (e : Ending) (right : HasValueFile (c.before.has file) profile) where
@@ -20,9 +20,9 @@ module _ (c : ShelfChange) (profile : Profile) (file : List ℕ) (e : Ending) (r
   right_file : (table : ClassTable) → Is table → IsRight table
   right_file table is = let so = right_table (c.before.has file) profile right table is in record { file = is; right = so.0; rules = so.1 }
 
-  pub stats_right : (form : StatsForm) → AnswersOver c (AreStatsLines Is form) (IsStatsFault (c.before.has file)) e → AnswersStatsRight c profile file form e
+  pub stats_right : (form : StatsForm) → AnswersOver c (AreStatsLines Is form) (IsOpeningFault (c.before.has file)) e → AnswersStatsRight c profile file form e
   stats_right form =
-      over_weaker c (AreStatsLines Is form) (AreStatsLines IsRight form) (IsStatsFault (c.before.has file)) e (λ lines told. record {
+      over_weaker c (AreStatsLines Is form) (AreStatsLines IsRight form) (IsOpeningFault (c.before.has file)) e (λ lines told. record {
         table = told.table;
         is = right_file told.table told.is;
         groups = told.groups;

@@ -1,17 +1,13 @@
 -- What the program owes where it is asked whether a database file's table is the value table.
-use Rattle.std.specs.Prelude.{◌++◌, ◌+◌, ◌-◌, ◌∷◌, ◌≡◌, List, Result, String, [], codes, ℕ}
-use Rattle.dob_files.specs.Endings.{GivesLines}
+use Rattle.std.specs.Prelude.{◌++◌, ◌+◌, ◌∷◌, ◌≡◌, List, [], codes, ℕ}
 use Rattle.dob_files.specs.Tables.{HasFileFault, IsFileOf, IsShut}
 use Rattle.dob_files.specs.declared.fault.Fault.{Fault}
 use Rattle.dob_files.specs.declared.fault.Fault.TheVariants.{File, Io, Memory, Table}
 use Rattle.dob_pieces.specs.Bytes.{line_feed}
 use Rattle.dob_probe.specs.Checks.{IsFirstBroken}
-use Rattle.dob_shelf.specs.Shelves.{ShelfChange}
 use Rattle.dob_value.specs.Follows.{ClassTable, IsValueTable}
-use Rattle.dob_dbfile.specs.FaultTexts as file
 use Rattle.dob_probe.specs.Faults as table
 use Rattle.dob_probe.specs.declared.fault.Fault.TheVariants as table_fault
-use Rattle.dob_value.specs.declared.fault.Fault as value
 
 -- the line that says that a table is consistent
 abbrev pub consistent_line : List ℕ
@@ -32,7 +28,3 @@ IsCheckFault Has (Table table_fault.Memory) = Unit {0}
 IsCheckFault Has Memory = Unit {0}
 IsCheckFault Has Io = IsShut Has
 IsCheckFault Has _ = ⊥
-
--- what the call gives
-abbrev pub GivesCheck : {X : Type 0} → List ℕ → Result (String X) Fault → ShelfChange → Type 0
-GivesCheck file result c = GivesLines c (IsCheckLine (c.before.has file)) (IsCheckFault (c.before.has file)) result

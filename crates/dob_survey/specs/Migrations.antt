@@ -1,5 +1,5 @@
 -- What the program owes where it is asked to write a database file anew, in the format of today.
-use Rattle.std.specs.Prelude.{◌≡◌, ◌⊎◌, ℕ, IsTrue, List, codes, length, Result, String}
+use Rattle.std.specs.Prelude.{◌≡◌, ◌⊎◌, ℕ, IsTrue, List, codes, length}
 use Rattle.dob_value.specs.Follows.{ClassTable}
 use Rattle.dob_dbfile.specs.Format.{bytes_of}
 use Rattle.dob_files.specs.declared.fault.Fault.{Fault}
@@ -7,7 +7,6 @@ use Rattle.dob_shelf.specs.Shelves.{HasJust, ShelfChange}
 use Rattle.dob_lines.specs.Tallies.{count_line}
 use Rattle.dob_files.specs.Keeping.{IsFillingFault, LeavesFiles}
 use Rattle.dob_files.specs.Tables.{IsFileOf, IsOpeningFault}
-use Rattle.dob_files.specs.Endings.{GivesLines}
 
 -- The line says how many classes the table has that the file had before, and under the other name the shelf has just that table's file in
 -- the second format, where it tells its bytes. The two names may be one.
@@ -25,7 +24,3 @@ IsRewritingFault Has fault = (table : ClassTable) × IsFileOf Has table × IsFil
 -- Each file has what it had.
 abbrev pub IsMigrateFault : ShelfChange → List ℕ → Fault → Type 0
 IsMigrateFault c file = LeavesFiles c (λ fault. IsOpeningFault (c.before.has file) fault ⊎ IsRewritingFault (c.before.has file) fault)
-
--- what the call gives
-abbrev pub GivesMigrate : {X : Type 0} → List ℕ → List ℕ → Result (String X) Fault → ShelfChange → Type 0
-GivesMigrate file out result c = GivesLines c (AreMigrateLines c file out) (IsMigrateFault c file) result

@@ -1,5 +1,5 @@
 -- What the program owes where it is asked for puzzles of a database file.
-use Rattle.std.specs.Prelude.{◌≡◌, ◌≤◌, ◌%◌, ℕ, Bool, false, if◌then◌else◌, List, [], ◌∷◌, ◌++◌, codes, flat_map, Result, String}
+use Rattle.std.specs.Prelude.{◌≡◌, ◌≤◌, ◌%◌, ℕ, Bool, false, if◌then◌else◌, List, [], ◌∷◌, ◌++◌, codes, flat_map}
 use Rattle.std.specs.Fmt.{decimal}
 use Rattle.dob_pieces.specs.declared.profile.Family.{Family}
 use Rattle.dob_pieces.specs.declared.profile.Profile.{Profile}
@@ -12,12 +12,13 @@ use Rattle.dob_rank.specs.Families.{class_setup}
 use Rattle.dob_value.specs.Follows.{ClassTable}
 use Rattle.dob_probe.specs.declared.puzzles.Puzzle.{Puzzle}
 use Rattle.dob_probe.specs.Puzzles.{ArePuzzles}
-use Rattle.dob_survey.specs.declared.puzzles.PuzzleSearch.{PuzzleSearch}
+use Rattle.dob_probe.specs.declared.walks.Walk.{Walk}
+use Rattle.dob_words.specs.declared.command.orders.PuzzleSearch.{PuzzleSearch}
 use Rattle.dob_files.specs.declared.fault.Fault.{Fault}
 use Rattle.dob_files.specs.declared.fault.Fault.TheVariants.{PuzzlePlies, Memory}
-use Rattle.dob_files.specs.Endings.{AnswersOver, Ending, GivesLines}
+use Rattle.dob_files.specs.Endings.{AnswersOver, Ending}
 use Rattle.dob_shelf.specs.Shelves.{ShelfChange}
-use Rattle.dob_files.specs.Tables.{IsFileOf, IsOpeningFault, IsRightFileOf}
+use Rattle.dob_files.specs.Tables.{IsOpeningFault, IsRightFileOf}
 
 -- a puzzle is won in so many plies: an odd number, and not at once
 abbrev pub IsPuzzleLength : ℕ → Type 0
@@ -41,13 +42,17 @@ abbrev pub puzzle_lines : Family → Bool → List Puzzle → List ℕ
 puzzle_lines family is_numbered [] = codes "none" ++ line_feed ∷ []
 puzzle_lines family is_numbered puzzles = flat_map (line_of_puzzle family is_numbered) puzzles
 
+-- over which classes they are looked for, and in which order
+abbrev pub walk_of : PuzzleSearch → Walk
+walk_of search = record { seed = search.seed; behind = search.from }
+
 -- the lines give the first puzzles of the walk over such a table, at most so many
 pub record ArePuzzleLines (Is : ClassTable → Type 0) (search : PuzzleSearch) (lines : List ℕ) : Type 0 where
   pub proper : IsPuzzleLength search.plies
   pub table : ClassTable
   pub is : Is table
   pub puzzles : List Puzzle
-  pub first : ArePuzzles table search.walk search.plies search.count puzzles
+  pub first : ArePuzzles table (walk_of search) search.plies search.count puzzles
   pub same : lines ≡ puzzle_lines table.family search.is_numbered puzzles
 
 -- A fault of asking for puzzles: no puzzle has so many plies, which comes before the file is looked for; or one of opening the file, or
@@ -56,11 +61,6 @@ abbrev pub IsPuzzlesFault : (List ℕ → Type 0) → ℕ → Fault → Type 0
 IsPuzzlesFault Has plies PuzzlePlies = ¬ IsPuzzleLength plies
 IsPuzzlesFault Has plies Memory = Unit {0}
 IsPuzzlesFault Has plies fault = IsPuzzleLength plies × IsOpeningFault Has fault
-
--- what the call gives
-abbrev pub GivesPuzzles : {X : Type 0} → List ℕ → PuzzleSearch → Result (String X) Fault → ShelfChange → Type 0
-GivesPuzzles file search result c =
-    GivesLines c (ArePuzzleLines (IsFileOf (c.before.has file)) search) (IsPuzzlesFault (c.before.has file) search.plies) result
 
 -- what the program answers where the values of the table are right by the rules of the profile
 abbrev pub AnswersPuzzlesRight : ShelfChange → Profile → List ℕ → PuzzleSearch → Ending → Type 0

@@ -1,5 +1,5 @@
 -- What the program owes where it is asked what a game from a position can reach.
-use Rattle.std.specs.Prelude.{◌≡◌, ℕ, zero, suc, ◌-◌, Bool, true, false, List, [], ◌∷◌, ◌++◌, Option, None, Some, codes, length, slice_index_or, Result, String}
+use Rattle.std.specs.Prelude.{◌≡◌, ℕ, zero, suc, ◌-◌, Bool, true, false, List, [], ◌∷◌, ◌++◌, Option, None, Some, codes, length, slice_index_or}
 use Rattle.std.specs.Fmt.{decimal}
 use Rattle.dob_pieces.specs.declared.profile.Family.{Family}
 use Rattle.dob_pieces.specs.declared.profile.Profile.{Profile}
@@ -14,8 +14,8 @@ use Rattle.dob_reach.specs.Reached.{AreReachedFrom}
 use Rattle.dob_reach.specs.Values.{AreCountedFrom}
 use Rattle.dob_files.specs.declared.fault.Fault.{Fault}
 use Rattle.dob_files.specs.declared.fault.Fault.TheVariants.{Text, Memory}
-use Rattle.dob_survey.specs.declared.reaches.ReachSearch.{ReachSearch}
-use Rattle.dob_files.specs.Endings.{AnswersOver, Ending, GivesLines}
+use Rattle.dob_words.specs.declared.command.orders.ReachSearch.{ReachSearch}
+use Rattle.dob_files.specs.Endings.{AnswersOver, Ending}
 use Rattle.dob_lines.specs.Tallies.{count_line}
 use Rattle.dob_files.specs.Tables.{IsFileOf, IsPositionFault, IsRightFileOf, IsTextOf}
 use Rattle.dob_shelf.specs.Shelves.{Files, ShelfChange}
@@ -96,10 +96,7 @@ abbrev pub IsReachFaultFor : Files → ReachSearch → Option (List ℕ) → Lis
 IsReachFaultFor Has search None words = IsReachFault search.profile words
 IsReachFaultFor Has search (Some file) words = IsPositionFault (Has file) words
 
--- ---- what the call gives, and what the program does
-
-abbrev pub GivesReach : {X : Type 0} → ReachSearch → Option (List ℕ) → List ℕ → Result (String X) Fault → ShelfChange → Type 0
-GivesReach search file words result c = GivesLines c (AreReachLinesFor c.before.has search file words) (IsReachFaultFor c.before.has search file words) result
+-- ---- what the program does
 
 -- what the program answers by a file whose values are right by the rules of the profile
 abbrev pub AnswersReachRight : ShelfChange → Profile → List ℕ → ReachSearch → List ℕ → Ending → Type 0

@@ -1,5 +1,5 @@
 -- What the program owes where it is asked for the statistics of a database file.
-use Rattle.std.specs.Prelude.{◌≡◌, ℕ, List, [], ◌∷◌, ◌++◌, Option, None, Some, codes, flat_map, fold, Result, String}
+use Rattle.std.specs.Prelude.{◌≡◌, ℕ, List, [], ◌∷◌, ◌++◌, Option, None, Some, codes, flat_map, fold}
 use Rattle.std.specs.Fmt.{decimal}
 use Rattle.dob_pieces.specs.declared.profile.Profile.{Profile}
 use Rattle.dob_pieces.specs.declared.setup.Setup.{Setup}
@@ -12,14 +12,13 @@ use Rattle.dob_value.specs.Follows.{ClassTable}
 use Rattle.dob_probe.specs.declared.groups.Group.{Group}
 use Rattle.dob_probe.specs.Statistics.{AreGroups}
 use Rattle.dob_survey.specs.declared.stats.Longest.{Longest}
-use Rattle.dob_survey.specs.declared.stats.StatsForm.{StatsForm}
-use Rattle.dob_survey.specs.declared.stats.StatsForm.TheVariants as forms
+use Rattle.dob_words.specs.declared.command.orders.StatsForm.{StatsForm}
+use Rattle.dob_words.specs.declared.command.orders.StatsForm.TheVariants as forms
 use Rattle.dob_lines.specs.Objects.{group_object}
 use Rattle.dob_lines.specs.Tallies.{class_lines}
-use Rattle.dob_files.specs.declared.fault.Fault.{Fault}
-use Rattle.dob_files.specs.Endings.{AnswersOver, Ending, GivesLines}
+use Rattle.dob_files.specs.Endings.{AnswersOver, Ending}
 use Rattle.dob_shelf.specs.Shelves.{ShelfChange}
-use Rattle.dob_files.specs.Tables.{IsFileOf, IsOpeningFault, IsRightFileOf}
+use Rattle.dob_files.specs.Tables.{IsOpeningFault, IsRightFileOf}
 
 -- a value and how many classes have it, with a text between them, as `win 3,12`
 abbrev pub value_row : List ℕ → Value → ℕ → List ℕ
@@ -97,15 +96,7 @@ pub record AreStatsLines (Is : ClassTable → Type 0) (form : StatsForm) (lines 
   pub grouped : AreGroups table.values groups
   pub told : AreStatsFor form table groups lines
 
--- the fault is one of opening the file, or memory failed
-abbrev pub IsStatsFault : (List ℕ → Type 0) → Fault → Type 0
-IsStatsFault Has fault = IsOpeningFault Has fault
-
--- what the call gives
-abbrev pub GivesStats : {X : Type 0} → List ℕ → StatsForm → Result (String X) Fault → ShelfChange → Type 0
-GivesStats file form result c = GivesLines c (AreStatsLines (IsFileOf (c.before.has file)) form) (IsStatsFault (c.before.has file)) result
-
 -- what the program answers where the values that are counted are right by the rules of the profile
 abbrev pub AnswersStatsRight : ShelfChange → Profile → List ℕ → StatsForm → Ending → Type 0
 AnswersStatsRight c profile file form =
-    AnswersOver c (AreStatsLines (IsRightFileOf (c.before.has file) profile) form) (IsStatsFault (c.before.has file))
+    AnswersOver c (AreStatsLines (IsRightFileOf (c.before.has file) profile) form) (IsOpeningFault (c.before.has file))

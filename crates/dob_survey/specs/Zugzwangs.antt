@@ -1,5 +1,5 @@
 -- What the program owes where it is asked for the zugzwangs of a database file.
-use Rattle.std.specs.Prelude.{◌≡◌, ◌<◌, ℕ, List, [], ◌∷◌, ◌++◌, Option, None, Some, Contains, codes, flat_map, length, take, Result, String}
+use Rattle.std.specs.Prelude.{◌≡◌, ◌<◌, ℕ, List, [], ◌∷◌, ◌++◌, Option, None, Some, Contains, codes, flat_map, length, take}
 use Rattle.std.specs.Fmt.{decimal}
 use Rattle.dob_pieces.specs.declared.profile.Family.{Family}
 use Rattle.dob_pieces.specs.declared.profile.Profile.{Profile}
@@ -14,10 +14,9 @@ use Rattle.dob_zugzwang.specs.declared.counts.PairCounts.{PairCounts}
 use Rattle.dob_zugzwang.specs.declared.pairs.Zugzwang.{Zugzwang}
 use Rattle.dob_zugzwang.specs.Counts.{AreCounts}
 use Rattle.dob_zugzwang.specs.Pairs.{ArePairs}
-use Rattle.dob_files.specs.declared.fault.Fault.{Fault}
-use Rattle.dob_files.specs.Endings.{AnswersOver, Ending, GivesLines}
+use Rattle.dob_files.specs.Endings.{AnswersOver, Ending}
 use Rattle.dob_lines.specs.Tallies.{count_line}
-use Rattle.dob_files.specs.Tables.{IsFileOf, IsOpeningFault, IsRightFileOf}
+use Rattle.dob_files.specs.Tables.{IsOpeningFault, IsRightFileOf}
 use Rattle.dob_shelf.specs.Shelves.{ShelfChange}
 
 -- ---- lines
@@ -74,11 +73,7 @@ IsOfTable table pair = pair.class < length table.values
 abbrev pub AreOfTable : ClassTable → List Zugzwang → Type 0
 AreOfTable table pairs = (pair : Zugzwang) → Contains pairs pair → IsOfTable table pair
 
--- ---- what the call gives, and what the program does
-
-abbrev pub GivesZugzwangs : {X : Type 0} → List ℕ → Option ℕ → Result (String X) Fault → ShelfChange → Type 0
-GivesZugzwangs file listed result c =
-    GivesLines c (AreZugzwangLines (IsFileOf (c.before.has file)) listed) (IsOpeningFault (c.before.has file)) result
+-- ---- what the program does
 
 -- what the program answers where the values of the table are right by the rules of the profile
 abbrev pub AnswersZugzwangsRight : ShelfChange → Profile → List ℕ → Option ℕ → Ending → Type 0

@@ -3,7 +3,8 @@ ghost use Rattle.std.specs.Prelude.{◌≡◌, IfOk, IfErr, string_bytes};
 ghost use Rattle.dob_value.specs.Follows.{IsConsistent, IsValueTable};
 ghost use Rattle.dob_probe.specs.Faults.{IsFaultOfCheck};
 ghost use Rattle.dob_shelf.specs.Shelves.{Leaving, SameFiles};
-ghost use Rattle.dob_survey.specs.Checks.{GivesCheck, consistent_line};
+ghost use Rattle.dob_survey.specs.Checks.{consistent_line, IsCheckFault, IsCheckLine};
+ghost use Rattle.dob_files.specs.Endings.{GivesLines};
 
 use dob_check::check_watched;
 use dob_files::{Lines, open};
@@ -23,7 +24,8 @@ pub fn answer_check<S: Shelf>(
     file: &str,
     is_watched: bool,
 ) -> Lines
-    ensures { Leaving SameFiles S.state shelf.old shelf.new (GivesCheck file.now result) }
+    ensures { Leaving SameFiles S.state shelf.old shelf.new (λ c.
+        GivesLines c (IsCheckLine (c.before.has file.now)) (IsCheckFault (c.before.has file.now)) result) }
 {
     let table = open(alloc, shelf, file)?;
     check_table(rt, alloc, &table, is_watched)?;

@@ -17,7 +17,7 @@ mod zugzwangs;
 
 pub use checks::answer_check;
 pub use migrations::answer_migrate;
-pub use puzzles::{PuzzleSearch, answer_puzzles};
-pub use reaches::{ReachSearch, answer_reach};
-pub use stats::{StatsForm, answer_stats};
+pub use puzzles::answer_puzzles;
+pub use reaches::answer_reach;
+pub use stats::answer_stats;
 pub use zugzwangs::answer_zugzwangs;

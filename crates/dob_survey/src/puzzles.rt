@@ -2,8 +2,10 @@
 ghost use Rattle.std.specs.Prelude.{◌≡◌, ◌++◌, ◌∷◌, ◌<◌, ◌↔◌, [], Contains, IfOk, IsTrue, OnOk, codes, flat_map, length, string_bytes};
 ghost use Rattle.std.specs.Fmt.{decimal};
 ghost use Rattle.dob_pieces.specs.Bytes.{line_feed};
-ghost use Rattle.dob_survey.specs.Puzzles.{IsPuzzleLength, line_of_puzzle, puzzle_line, puzzle_lines, puzzle_text, GivesPuzzles};
+ghost use Rattle.dob_survey.specs.Puzzles.{IsPuzzleLength, line_of_puzzle, puzzle_line, puzzle_lines, puzzle_text, ArePuzzleLines, IsPuzzlesFault};
 ghost use Rattle.dob_shelf.specs.Shelves.{Leaving, SameFiles};
+ghost use Rattle.dob_files.specs.Endings.{GivesLines};
+ghost use Rattle.dob_files.specs.Tables.{IsFileOf};
 
 use dob_files::{Fault, Lines, open};
 use dob_moves::Move;
@@ -12,20 +14,8 @@ use dob_probe::{Puzzle, Walk, first_puzzles};
 use dob_shelf::Shelf;
 use dob_text::{write_move, write_position};
 use dob_value::Table;
+use dob_words::command::PuzzleSearch;
 use std::alloc::Global;
-
-/// Which puzzles are looked for, and how they are printed.
-#[derive(Clone, Copy)]
-pub struct PuzzleSearch {
-    /// In how many plies they are won.
-    pub plies: u64,
-    /// How many of them, at most.
-    pub count: u64,
-    /// Over which classes, and in which order.
-    pub walk: Walk,
-    /// Whether the number of its class stands before each.
-    pub is_numbered: bool,
-}
 
 /// The lines that give the first puzzles of the file's table that are looked for.
 pub fn answer_puzzles<S: Shelf>(
@@ -34,13 +24,18 @@ pub fn answer_puzzles<S: Shelf>(
     file: &str,
     search: PuzzleSearch,
 ) -> Lines
-    ensures { Leaving SameFiles S.state shelf.old shelf.new (GivesPuzzles file.now search result) }
+    ensures { Leaving SameFiles S.state shelf.old shelf.new (λ c. GivesLines c
+        (ArePuzzleLines (IsFileOf (c.before.has file.now)) search) (IsPuzzlesFault (c.before.has file.now) search.plies) result) }
 {
     if !is_puzzle_length(search.plies) {
         return Err(Fault::PuzzlePlies);
     }
     let table = open(alloc, shelf, file)?;
-    let puzzles = first_puzzles(alloc, &table, search.walk, search.plies, search.count)?;
+    let walk = Walk {
+        seed: search.seed,
+        behind: search.from,
+    };
+    let puzzles = first_puzzles(alloc, &table, walk, search.plies, search.count)?;
     Ok(puzzle_lines(alloc, &table, search.is_numbered, &puzzles)?)
 }
 

@@ -3,7 +3,7 @@ ghost use Rattle.std.specs.Prelude.{◌≡◌, ◌<◌, ◌+◌, ◌++◌, IfErr
 ghost use Rattle.dob_pieces.specs.Profiles.{IsAllowed};
 ghost use Rattle.dob_rank.specs.Families.{IsPositionOf, class_number};
 ghost use Rattle.dob_reach.specs.Reached.{AreReachedFrom};
-ghost use Rattle.dob_survey.specs.Reaches.{AreReachLines, AreReachLinesBy, IsReachFault, GivesReach, level_line, level_lines, levels_asked, number_lines, reach_lines, value_lines, value_text};
+ghost use Rattle.dob_survey.specs.Reaches.{AreReachLines, AreReachLinesBy, IsReachFault, level_line, level_lines, levels_asked, number_lines, reach_lines, value_lines, value_text, AreReachLinesFor, IsReachFaultFor};
 ghost use Rattle.dob_files.specs.Endings.{GivesLines};
 ghost use Rattle.dob_files.specs.Tables.{IsFileOf, IsPositionFault};
 ghost use Rattle.dob_words.specs.Readings.{text_given};
@@ -17,19 +17,9 @@ use dob_probe::check_member;
 use dob_reach::{ByValue, Reached, Watch, reach};
 use dob_shelf::Shelf;
 use dob_text::read_position;
+use dob_words::command::ReachSearch;
 use std::alloc::Global;
 use std::thread::Threads;
-
-/// How it is looked for what can be reached.
-#[derive(Clone, Copy)]
-pub struct ReachSearch {
-    /// The rules, where no file says them.
-    pub profile: Profile,
-    /// Whether there is a line for each distance.
-    pub has_levels: bool,
-    /// Whether lines on the console say how far it is.
-    pub is_watched: bool,
-}
 
 // Says on the console's standard error how many classes have which distance, if it is watched.
 #[derive(Drop)]
@@ -58,7 +48,9 @@ pub fn answer_reach<S: Shelf>(
     file: Option<&str>,
     text: &str,
 ) -> Lines
-    ensures { Leaving SameFiles S.state shelf.old shelf.new (GivesReach search (text_given file.entry) text.now result) }
+    ensures { Leaving SameFiles S.state shelf.old shelf.new (λ c. GivesLines c
+        (AreReachLinesFor c.before.has search (text_given file.entry) text.now)
+        (IsReachFaultFor c.before.has search (text_given file.entry) text.now) result) }
 {
     match file {
         None => by_rules(rt, alloc, search, text),

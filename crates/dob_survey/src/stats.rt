@@ -1,28 +1,22 @@
 // How many classes of a database file's table have which value, and examples of the longest win and the longest loss.
-ghost use Rattle.std.specs.Prelude.{◌≡◌, ◌++◌, ◌<◌, IfOk, IfSome, OnOk, flat_map, length, string_bytes};
+ghost use Rattle.std.specs.Prelude.{◌≡◌, ◌<◌, IfOk, IfSome, flat_map, length, string_bytes};
 ghost use Rattle.dob_probe.specs.Statistics.{AreGroups};
 ghost use Rattle.dob_shelf.specs.Shelves.{Leaving, SameFiles};
-ghost use Rattle.dob_lines.specs.Objects.{group_object};
-ghost use Rattle.dob_survey.specs.Stats.{AreStatsFor, AreStatsOf, IsLongestLine, csv_lines, distance_line, group_text, longest_of, longest_text, value_row, with_group, GivesStats};
+ghost use Rattle.dob_survey.specs.Stats.{AreStatsFor, AreStatsOf, IsLongestLine, csv_lines, distance_line, group_text, longest_of, longest_text, value_row, with_group, AreStatsLines};
+ghost use Rattle.dob_files.specs.Endings.{GivesLines};
+ghost use Rattle.dob_files.specs.Tables.{IsFileOf, IsOpeningFault};
 
 use dob_check::statistics;
 use dob_files::{Lines, open};
-use dob_lines::{group_object, lines_of};
+use dob_lines::{group_object, joined, lines_of};
 use dob_pieces::Memory;
 use dob_probe::Group;
 use dob_shelf::Shelf;
 use dob_text::write_position;
 use dob_value::{Table, Value};
+use dob_words::command::StatsForm;
 use std::alloc::Global;
 use std::thread::Threads;
-
-/// How statistics are told: as lines, as lines of two fields for scripts, or as JSON objects.
-#[derive(Clone, Copy)]
-pub enum StatsForm {
-    Lines,
-    Csv,
-    Objects,
-}
 
 /// The last group of wins and the last of losses, if there are any.
 #[derive(Clone, Copy)]
@@ -40,7 +34,8 @@ pub fn answer_stats<S: Shelf>(
     file: &str,
     form: StatsForm,
 ) -> Lines
-    ensures { Leaving SameFiles S.state shelf.old shelf.new (GivesStats file.now form result) }
+    ensures { Leaving SameFiles S.state shelf.old shelf.new (λ c.
+        GivesLines c (AreStatsLines (IsFileOf (c.before.has file.now)) form) (IsOpeningFault (c.before.has file.now)) result) }
 {
     let table = open(alloc, shelf, file)?;
     let groups = statistics(rt, alloc, &table)?;
@@ -61,7 +56,7 @@ fn told_lines(
     match form {
         StatsForm::Lines => stats_lines(rt, alloc, table, groups),
         StatsForm::Csv => csv_lines(alloc, groups),
-        StatsForm::Objects => object_lines(alloc, groups),
+        StatsForm::Objects => group_lines(alloc, form, groups),
     }
 }
 
@@ -69,18 +64,8 @@ fn told_lines(
 fn csv_lines(alloc: Global, groups: &[Group]) -> Result<String, Memory>
     ensures { IfOk result (λ lines. string_bytes lines ≡ csv_lines groups.now) }
 {
-    let mut lines = "value,classes\n".to_string(alloc)?;
-    push_groups(alloc, &mut lines, StatsForm::Csv, groups)?;
-    Ok(lines)
-}
-
-// An object for each group.
-fn object_lines(alloc: Global, groups: &[Group]) -> Result<String, Memory>
-    ensures { IfOk result (λ lines. string_bytes lines ≡ flat_map group_object groups.now) }
-{
-    let mut lines = String::new(alloc);
-    push_groups(alloc, &mut lines, StatsForm::Objects, groups)?;
-    Ok(lines)
+    let rows = group_lines(alloc, StatsForm::Csv, groups)?;
+    Ok(format!(in alloc; "value,classes\n{rows}")?)
 }
 
 // The lines about the table, by its groups.
@@ -94,42 +79,21 @@ fn stats_lines(
     ensures { IfOk result (λ lines. AreStatsOf table.now groups.now (string_bytes lines)) }
 {
     let mut lines = lines_of(rt, alloc, table)?;
-    push_groups(alloc, &mut lines, StatsForm::Lines, groups)?;
+    let distances = group_lines(alloc, StatsForm::Lines, groups)?;
     let longest = longest_of(groups);
     let win = longest_line(alloc, table, longest.win)?;
     let loss = longest_line(alloc, table, longest.loss)?;
+    lines.push_str(distances.as_str())?;
     lines.push_str(win.as_str())?;
     lines.push_str(loss.as_str())?;
     Ok(lines)
 }
 
-// Writes the lines of the groups at the end.
-fn push_groups(
-    alloc: Global,
-    lines: &mut String,
-    form: StatsForm,
-    groups: &[Group],
-) -> Result<(), Memory>
-    ensures { OnOk result (string_bytes lines.new ≡ string_bytes lines.old ++ flat_map (group_text form) groups.now) }
+// The lines of the groups, in one of the three ways.
+fn group_lines(alloc: Global, form: StatsForm, groups: &[Group]) -> Result<String, Memory>
+    ensures { IfOk result (λ lines. string_bytes lines ≡ flat_map (group_text form) groups.now) }
 {
-    for group in groups {
-        push_group(alloc, lines, form, *group)?;
-    }
-    Ok(())
-}
-
-// Writes the line of the group at the end.
-fn push_group(
-    alloc: Global,
-    lines: &mut String,
-    form: StatsForm,
-    group: Group,
-) -> Result<(), Memory>
-    ensures { OnOk result (string_bytes lines.new ≡ string_bytes lines.old ++ group_text form group) }
-{
-    let line = group_text(alloc, form, group)?;
-    lines.push_str(line.as_str())?;
-    Ok(())
+    joined(alloc, groups, |group| group_text(alloc, form, group))
 }
 
 // The line of the group, in one of the three ways.

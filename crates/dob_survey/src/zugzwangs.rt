@@ -1,12 +1,15 @@
 // Zugzwangs of a database file: how many pairs of classes there are in which whoever has to move would rather not, and the first ones.
-ghost use Rattle.std.specs.Prelude.{◌≡◌, ◌++◌, ◌∷◌, [], IfOk, IfSome, OnOk, codes, flat_map, string_bytes};
+ghost use Rattle.std.specs.Prelude.{◌≡◌, ◌++◌, ◌∷◌, [], IfOk, IfSome, codes, flat_map, string_bytes};
 ghost use Rattle.dob_pieces.specs.Bytes.{line_feed};
 ghost use Rattle.dob_zugzwang.specs.Counts.{AreCounts};
 ghost use Rattle.dob_zugzwang.specs.Pairs.{ArePairs};
-ghost use Rattle.dob_survey.specs.Zugzwangs.{AreOfTable, GivesZugzwangs, IsOfTable, count_text, deepest_line, first_pairs, pair_line, pair_text, value_words, zugzwang_lines};
+ghost use Rattle.dob_survey.specs.Zugzwangs.{AreOfTable, IsOfTable, count_text, deepest_line, first_pairs, pair_line, pair_text, value_words, zugzwang_lines, AreZugzwangLines};
 ghost use Rattle.dob_shelf.specs.Shelves.{Leaving, SameFiles};
+ghost use Rattle.dob_files.specs.Endings.{GivesLines};
+ghost use Rattle.dob_files.specs.Tables.{IsFileOf, IsOpeningFault};
 
 use dob_files::{Lines, open};
+use dob_lines::joined;
 use dob_pieces::{Memory, Position};
 use dob_shelf::Shelf;
 use dob_text::write_position;
@@ -24,7 +27,8 @@ pub fn answer_zugzwangs<S: Shelf>(
     file: &str,
     listed: Option<u64>,
 ) -> Lines
-    ensures { Leaving SameFiles S.state shelf.old shelf.new (GivesZugzwangs file.now listed result) }
+    ensures { Leaving SameFiles S.state shelf.old shelf.new (λ c.
+        GivesLines c (AreZugzwangLines (IsFileOf (c.before.has file.now)) listed) (IsOpeningFault (c.before.has file.now)) result) }
 {
     let table = open(alloc, shelf, file)?;
     let pairs = zugzwangs(rt, alloc, &table)?;
@@ -104,21 +108,7 @@ fn pair_lines(alloc: Global, table: &Table, pairs: &[Zugzwang]) -> Result<String
     requires { AreOfTable table.now pairs.now }
     ensures { IfOk result (λ lines. string_bytes lines ≡ flat_map (pair_line table.now.family) pairs.now) }
 {
-    let mut lines = String::new(alloc);
-    for pair in pairs {
-        push_pair(alloc, &mut lines, table, *pair)?;
-    }
-    Ok(lines)
-}
-
-// Writes the line of the pair at the end.
-fn push_pair(alloc: Global, lines: &mut String, table: &Table, pair: Zugzwang) -> Result<(), Memory>
-    requires { IsOfTable table.now pair }
-    ensures { OnOk result (string_bytes lines.new ≡ string_bytes lines.old ++ pair_line table.now.family pair) }
-{
-    let line = pair_line(alloc, table, pair)?;
-    lines.push_str(line.as_str())?;
-    Ok(())
+    joined(alloc, pairs, |pair| pair_line(alloc, table, pair))
 }
 
 // The line of the pair.

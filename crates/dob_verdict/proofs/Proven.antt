@@ -6,9 +6,10 @@ use Rattle.dob_certfile.specs.declared.defect.Defect.{Defect as AnyDefect}
 use Rattle.dob_certfile.specs.declared.defect.ReadFault.{ReadFault}
 use Rattle.dob_certfile.specs.declared.defect.ReadFault.TheVariants as reading
 use Rattle.dob_files.specs.declared.certificate_fault.CertificateFault.TheVariants.{Unproved}
-use Rattle.dob_verdict.specs.Certificates.{AreBytes, GivesVerify, IsBytesFault, IsCertificateFile, IsReadingFault, IsVerdict, IsVerdictFault, IsVerifyFault}
+use Rattle.dob_verdict.specs.Certificates.{AreBytes, IsBytesFault, IsCertificateFile, IsReadingFault, IsVerdict, IsVerdictFault, IsVerifyFault, IsVerifyLine}
+use Rattle.dob_files.specs.Endings.{GivesLines}
 use Rattle.dob_files.specs.Faults.{fault_of_reading}
-use Rattle.dob_verdict.specs.Replying.{GivesReply, IsReplyFault, IsReplyFaultOf, IsToldReply}
+use Rattle.dob_verdict.specs.Replying.{IsReplyFault, IsReplyFaultOf, IsReplyLine, IsToldReply}
 use Rattle.dob_files.proofs.TableFaults.{is_shut}
 use Rattle.dob_shelf.specs.declared.shelf.ShelfFault.TheVariants as shelf_fault
 use Rattle.std.proofs.Common.{arith}
@@ -49,7 +50,7 @@ verdict_fails said before after fault holds failed = grind arith
 
 -- what is given for a certificate is given for its file
 pub verified : {X : Type 0} (c : ShelfChange) (file : List ℕ) (result : Result (String X) Fault) (said : Content) → IsCertificateFile (c.before.has file) said
-    → FailsWhere c false → IfOk result (λ line. IsVerdict said (string_bytes line)) → IfErr result (IsVerdictFault said) → GivesVerify file result c
+    → FailsWhere c false → IfOk result (λ line. IsVerdict said (string_bytes line)) → IfErr result (IsVerdictFault said) → GivesLines c (IsVerifyLine (c.before.has file)) (IsVerifyFault (c.before.has file)) result
 verified c file (Ok line) said is failed ok err = ((said, is, ok), failed)
 verified c file (Err fault) said is failed ok err =
     (verdict_verifies (c.before.has file) said is fault err, verdict_fails said c.before.has_failed c.after.has_failed fault err failed)
@@ -71,7 +72,7 @@ module _ (Has : List ℕ → Type 0) (words : List ℕ) (position : Setup) (name
 -- what is given for a certificate is given for its file
 pub replied : {X : Type 0} (c : ShelfChange) (file words : List ℕ) (position : Setup) → IsTextOf words position → (result : Result (String X) Fault)
     → (said : Content) → IsCertificateFile (c.before.has file) said → FailsWhere c false
-    → IfOk result (λ line. IsToldReply said position (string_bytes line)) → IfErr result (IsReplyFault said position) → GivesReply file words result c
+    → IfOk result (λ line. IsToldReply said position (string_bytes line)) → IfErr result (IsReplyFault said position) → GivesLines c (IsReplyLine (c.before.has file) words) (IsReplyFaultOf (c.before.has file) words) result
 replied c file words position named (Ok line) said is failed ok err =
     (record { said = said; read = is; position = position; named = named; told = ok }, failed)
 replied c file words position named (Err fault) said is failed ok err = (

@@ -1,5 +1,5 @@
 -- What the program owes where it is asked for certificates: for one that it makes, and for what one proves.
-use Rattle.std.specs.Prelude.{◌≡◌, ◌⊎◌, ℕ, Bool, IsTrue, List, [], ◌∷◌, ◌++◌, Option, codes, length, unwrap_or, Result, String}
+use Rattle.std.specs.Prelude.{◌≡◌, ◌⊎◌, ℕ, Bool, IsTrue, List, [], ◌∷◌, ◌++◌, Option, codes, length, unwrap_or}
 use Rattle.std.specs.Fmt.{decimal}
 use Rattle.dob_pieces.specs.Bytes.{line_feed, space}
 use Rattle.dob_pieces.specs.declared.profile.Family.{Family}
@@ -9,7 +9,6 @@ use Rattle.dob_text.specs.PositionText.{text_of}
 use Rattle.dob_text.specs.Faults.{HasTextFault}
 use Rattle.dob_rank.specs.Families.{IsInClass, RepresentsClass}
 use Rattle.dob_value.specs.Follows.{ClassTable}
-use Rattle.dob_probe.specs.declared.fault.Fault.TheVariants as table_fault
 use Rattle.dob_probe.specs.Faults as by_table
 use Rattle.dob_certificate.specs.declared.claim.Claim.{Claim}
 use Rattle.dob_certificate.specs.declared.claim.Claim.TheVariants.{Exactly, LostWithin, WonWithin}
@@ -26,7 +25,6 @@ use Rattle.dob_certify.specs.Faults.{IsTooMany, IsUnproved}
 use Rattle.dob_files.specs.declared.certificate_fault.CertificateFault.TheVariants.{Defect, Unproved, TooMany, Unfit}
 use Rattle.dob_files.specs.declared.fault.Fault.{Fault}
 use Rattle.dob_files.specs.declared.fault.Fault.TheVariants.{Text, File, Table, Certificate, Memory, Io}
-use Rattle.dob_files.specs.Endings.{GivesLines}
 use Rattle.dob_lines.specs.Values.{value_line}
 use Rattle.dob_lines.specs.Tallies.{count_line}
 use Rattle.dob_files.specs.Tables.{HasFileFault, IsFileOf, IsShut, IsTextOf}
@@ -104,9 +102,6 @@ IsVerifyLine Has line = (said : Content) × IsCertificateFile Has said × IsVerd
 abbrev pub IsVerifyFault : (List ℕ → Type 0) → Fault → Type 0
 IsVerifyFault Has (Certificate (Unproved refusal)) = (said : Content) × IsCertificateFile Has said × IsDisproved said refusal
 IsVerifyFault Has fault = IsReadingFault Has fault
-
-abbrev pub GivesVerify : {X : Type 0} → List ℕ → Result (String X) Fault → ShelfChange → Type 0
-GivesVerify file result c = GivesLines c (IsVerifyLine (c.before.has file)) (IsVerifyFault (c.before.has file)) result
 
 -- ---- a certificate that is made
 
@@ -189,7 +184,3 @@ IsCertifyFault c file is_exact most words Io = (position : Setup) × IsTextOf wo
     × (IsShut (c.before.has file) ⊎ ((table : ClassTable) × IsFileOf (c.before.has file) table)) × SameFiles c.before.has c.after.has
 IsCertifyFault c file is_exact most words fault = (position : Setup) × IsTextOf words position
     × IsMakingFault (c.before.has file) is_exact most position fault × SameFiles c.before.has c.after.has
-
-abbrev pub GivesCertify : {X : Type 0} → List ℕ → List ℕ → Bool → Option ℕ → List ℕ → Result (String X) Fault → ShelfChange → Type 0
-GivesCertify file out is_exact most words result c =
-    GivesLines c (AreCertifyLines c file out is_exact (most_entries most) words) (IsCertifyFault c file is_exact (most_entries most) words) result

@@ -1,5 +1,5 @@
 -- What the program owes where it is asked for the move that a certificate gives.
-use Rattle.std.specs.Prelude.{◌≡◌, ◌⊎◌, ℕ, ◌+◌, false, List, [], ◌∷◌, ◌++◌, Option, Some, None, codes, Result, String}
+use Rattle.std.specs.Prelude.{◌≡◌, ◌⊎◌, ℕ, ◌+◌, false, List, [], ◌∷◌, ◌++◌, Option, Some, None, codes}
 use Rattle.std.specs.Fmt.{decimal}
 use Rattle.dob_pieces.specs.Bytes.{line_feed}
 use Rattle.dob_pieces.specs.declared.profile.Profile.TheVariants.{A}
@@ -21,9 +21,7 @@ use Rattle.dob_files.specs.declared.certificate_fault.CertificateFault.TheVarian
 use Rattle.dob_files.specs.declared.fault.Fault.{Fault}
 use Rattle.dob_files.specs.declared.fault.Fault.TheVariants.{Text, Table, Certificate, Memory}
 use Rattle.dob_verdict.specs.Certificates.{IsCertificateFile, IsReadingFault}
-use Rattle.dob_files.specs.Endings.{GivesLines}
 use Rattle.dob_files.specs.Tables.{IsTextOf}
-use Rattle.dob_shelf.specs.Shelves.{ShelfChange}
 
 -- ---- lines
 
@@ -79,6 +77,3 @@ abbrev pub IsReplyFaultOf : (List ℕ → Type 0) → List ℕ → Fault → Typ
 IsReplyFaultOf Has words (Text fault) = HasTextFault A words fault
 IsReplyFaultOf Has words fault = (position : Setup) × IsTextOf words position
     × (IsReadingFault Has fault ⊎ ((said : Content) × IsCertificateFile Has said × IsReplyFault said position fault))
-
-abbrev pub GivesReply : {X : Type 0} → List ℕ → List ℕ → Result (String X) Fault → ShelfChange → Type 0
-GivesReply file words result c = GivesLines c (IsReplyLine (c.before.has file) words) (IsReplyFaultOf (c.before.has file) words) result

@@ -6,8 +6,8 @@ ghost use Rattle.dob_certificate.specs.Claims.{Holds, Prove};
 ghost use Rattle.dob_certificate.specs.Refusals.{IsRefusal};
 ghost use Rattle.dob_certfile.specs.Format.{Fits, content};
 ghost use Rattle.dob_shelf.specs.Shelves.{Leaving, SameFiles};
-ghost use Rattle.dob_files.specs.Endings.{IsAnswered};
-ghost use Rattle.dob_verdict.specs.Certificates.{AreBytes, GivesVerify, IsBytesFault, IsCertificateFile, IsReadingFault, IsVerdict, IsVerdictFault, claim_line, claim_text};
+ghost use Rattle.dob_files.specs.Endings.{GivesOver, GivesLines};
+ghost use Rattle.dob_verdict.specs.Certificates.{AreBytes, IsBytesFault, IsCertificateFile, IsReadingFault, IsVerdict, IsVerdictFault, claim_line, claim_text, IsVerifyFault, IsVerifyLine};
 
 use dob_certfile::{CertificateFile, read_certificate};
 use dob_certificate::{Claim, Refusal};
@@ -29,7 +29,8 @@ pub fn answer_verify<S: Shelf>(
     file: &str,
     is_watched: bool,
 ) -> Lines
-    ensures { Leaving SameFiles S.state shelf.old shelf.new (GivesVerify file.now result) }
+    ensures { Leaving SameFiles S.state shelf.old shelf.new (λ c.
+        GivesLines c (IsVerifyLine (c.before.has file.now)) (IsVerifyFault (c.before.has file.now)) result) }
 {
     let certificate = open_certificate(alloc, shelf, file)?;
     verdict(rt, alloc, &certificate, is_watched)
@@ -90,7 +91,7 @@ pub(crate) fn open_certificate<S: Shelf>(
     file: &str,
 ) -> Result<CertificateFile, Fault>
     ensures { Leaving SameFiles S.state shelf.old shelf.new (λ c.
-        IsAnswered c (λ certificate. IsCertificateFile (c.before.has file.now) (content certificate)) (IsReadingFault (c.before.has file.now)) result) }
+        GivesOver c (λ certificate. IsCertificateFile (c.before.has file.now) (content certificate)) (IsReadingFault (c.before.has file.now)) result) }
 {
     let bytes = bytes_named(alloc, shelf, file)?;
     Ok(read_certificate(alloc, &bytes)?)
@@ -99,7 +100,7 @@ pub(crate) fn open_certificate<S: Shelf>(
 // The bytes of the file.
 fn bytes_named<S: Shelf>(alloc: Global, shelf: &mut S, file: &str) -> Result<Vec<u8>, Fault>
     ensures { Leaving SameFiles S.state shelf.old shelf.new (λ c.
-        IsAnswered c (λ bytes. AreBytes (c.before.has file.now) bytes.items) (IsBytesFault (c.before.has file.now)) result) }
+        GivesOver c (λ bytes. AreBytes (c.before.has file.now) bytes.items) (IsBytesFault (c.before.has file.now)) result) }
 {
     let mut source = shelf.find(file)?;
     let read = read_all(alloc, &mut source);

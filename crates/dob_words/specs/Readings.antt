@@ -9,10 +9,17 @@ use Rattle.dob_words.specs.Words.{Meaning, asks, help, is_number, number_in, pro
 use Rattle.dob_words.specs.Shapes.{ReadRow}
 use Rattle.dob_words.specs.declared.command.orders.Asked.{Asked}
 use Rattle.dob_words.specs.declared.command.orders.Asked.TheVariants as ask
+use Rattle.dob_words.specs.declared.command.orders.LineForm.{LineForm}
+use Rattle.dob_words.specs.declared.command.orders.LineForm.TheVariants as line
 use Rattle.dob_words.specs.declared.command.orders.LinesOrder.{LinesOrder}
 use Rattle.dob_words.specs.declared.command.orders.LinesOrder.TheVariants as lines
+use Rattle.dob_words.specs.declared.command.orders.MovesForm.TheVariants as moves
 use Rattle.dob_words.specs.declared.command.orders.Order.{Order}
 use Rattle.dob_words.specs.declared.command.orders.Order.TheVariants as order
+use Rattle.dob_words.specs.declared.command.orders.Question.TheVariants as question
+use Rattle.dob_words.specs.declared.command.orders.StatsForm.{StatsForm}
+use Rattle.dob_words.specs.declared.command.orders.StatsForm.TheVariants as stats
+use Rattle.dob_words.specs.declared.command.orders.ValueForm.TheVariants as value
 use Rattle.dob_words.specs.declared.command.Reading.{Reading}
 use Rattle.dob_words.specs.declared.command.Reading.TheVariants as reading
 use Rattle.dob_words.specs.declared.rows.Subcommand.{Subcommand}
@@ -51,23 +58,24 @@ form_for s = form_named (name_of s)
 -- the subcommand that asks this
 abbrev pub subcommand_asked : Asked → Subcommand
 subcommand_asked ask.Probe = subcommand.Probe
-subcommand_asked (ask.Look _) = subcommand.Look
-subcommand_asked (ask.Moves _) = subcommand.Moves
-subcommand_asked ask.Best = subcommand.Best
-subcommand_asked (ask.Line _ _ _) = subcommand.Line
+subcommand_asked (ask.Line _) = subcommand.Line
+subcommand_asked (ask.Records (question.Value _)) = subcommand.Look
+subcommand_asked (ask.Records (question.Moves moves.Best)) = subcommand.Best
+subcommand_asked (ask.Records (question.Moves _)) = subcommand.Moves
+subcommand_asked (ask.Records (question.Line _)) = subcommand.Line
 
 -- the subcommand that the order is for
 abbrev pub subcommand_of : LinesOrder → Subcommand
 subcommand_of (lines.Value _ _) = subcommand.Value
 subcommand_of (lines.Count _ _) = subcommand.Count
-subcommand_of (lines.Reach _ _ _ _ _) = subcommand.Reach
+subcommand_of (lines.Reach _ _ _) = subcommand.Reach
 subcommand_of (lines.Build _) = subcommand.Build
 subcommand_of (lines.Ask _ asked _) = subcommand_asked asked
 subcommand_of (lines.Check _ _) = subcommand.Check
 subcommand_of (lines.Show _ _ _) = subcommand.Show
-subcommand_of (lines.Stats _ _ _) = subcommand.Stats
+subcommand_of (lines.Stats _ _) = subcommand.Stats
 subcommand_of (lines.Zugzwangs _ _) = subcommand.Zugzwangs
-subcommand_of (lines.Puzzles _ _ _ _ _ _) = subcommand.Puzzles
+subcommand_of (lines.Puzzles _ _) = subcommand.Puzzles
 subcommand_of (lines.Migrate _ _) = subcommand.Migrate
 subcommand_of (lines.Certify _) = subcommand.Certify
 subcommand_of (lines.Verify _ _) = subcommand.Verify
@@ -77,19 +85,33 @@ abbrev pub name_of_order : Order → Text
 name_of_order (order.Lines o) = name_of (subcommand_of o)
 name_of_order (order.EachLine file asked) = name_of (subcommand_asked asked)
 
+-- how a line is told, by the texts of `--numbered` and `--json`: as JSON, also where its moves are to be numbered
+abbrev pub line_form : Option Text → Option Text → LineForm
+line_form numbered (Some _) = line.Object
+line_form (Some _) None = line.Numbered
+line_form None None = line.Plain
+
+-- how statistics are told, by those of `--csv` and `--json`: as JSON, also where they are to be for scripts
+abbrev pub stats_form : Option Text → Option Text → StatsForm
+stats_form csv (Some _) = stats.Objects
+stats_form (Some _) None = stats.Csv
+stats_form None None = stats.Lines
+
 -- the flags `--numbered`, `--records` and `--json` are given where that is asked
 abbrev pub IsFlaggedBy : Asked → Option Text → Option Text → Option Text → Type 0
-IsFlaggedBy (ask.Look is_json) numbered records json = is_json ≡ is_some json
-IsFlaggedBy (ask.Moves is_json) numbered records json = is_json ≡ is_some json
-IsFlaggedBy (ask.Line is_numbered by_records is_json) numbered records json =
-    (is_numbered ≡ is_some numbered) × (by_records ≡ is_some records) × (is_json ≡ is_some json)
+IsFlaggedBy (ask.Records (question.Value value.Plain)) numbered records json = json ≡ None
+IsFlaggedBy (ask.Records (question.Value value.Object)) numbered records json = is_some json ≡ true
+IsFlaggedBy (ask.Records (question.Moves moves.Plain)) numbered records json = json ≡ None
+IsFlaggedBy (ask.Records (question.Moves moves.Object)) numbered records json = is_some json ≡ true
+IsFlaggedBy (ask.Records (question.Line form)) numbered records json = (is_some records ≡ true) × (form ≡ line_form numbered json)
+IsFlaggedBy (ask.Line form) numbered records json = (records ≡ None) × (form ≡ line_form numbered json)
 IsFlaggedBy _ numbered records json = Unit {0}
 
--- the texts of what is asked, by those of FILE, `--numbered`, `--records`, `--each`, `--json` and POSITION
-abbrev pub texts_asked : Asked → Option Text → Option Text → Option Text → Option Text → Option Text → Option Text → List (Option Text)
-texts_asked (ask.Look _) file numbered records each json position = file ∷ each ∷ json ∷ position ∷ []
-texts_asked (ask.Moves _) file numbered records each json position = file ∷ each ∷ json ∷ position ∷ []
-texts_asked (ask.Line _ _ _) file numbered records each json position = file ∷ numbered ∷ records ∷ each ∷ json ∷ position ∷ []
+-- the texts that the subcommand asks by, by those of FILE, `--numbered`, `--records`, `--each`, `--json` and POSITION
+abbrev pub texts_asked : Subcommand → Option Text → Option Text → Option Text → Option Text → Option Text → Option Text → List (Option Text)
+texts_asked subcommand.Look file numbered records each json position = file ∷ each ∷ json ∷ position ∷ []
+texts_asked subcommand.Moves file numbered records each json position = file ∷ each ∷ json ∷ position ∷ []
+texts_asked subcommand.Line file numbered records each json position = file ∷ numbered ∷ records ∷ each ∷ json ∷ position ∷ []
 texts_asked _ file numbered records each json position = file ∷ each ∷ position ∷ []
 
 -- the text that may be left out
@@ -102,25 +124,24 @@ HasLinesTexts texts (lines.Value profile position) =
     (rules : Option Text) × (rules ∷ Some position.now ∷ [] ≡ texts) × (profile ≡ profile_named rules)
 HasLinesTexts texts (lines.Count profile set) =
     (rules : Option Text) × (Some set.now ∷ rules ∷ [] ≡ texts) × (profile ≡ profile_named rules)
-HasLinesTexts texts (lines.Reach profile file has_levels is_watched position) =
-    (rules levels flag : Option Text) × (text_given file ∷ rules ∷ levels ∷ flag ∷ Some position.now ∷ [] ≡ texts) × (profile ≡ profile_named rules)
-    × (has_levels ≡ is_some levels) × (is_watched ≡ is_some flag)
+HasLinesTexts texts (lines.Reach search file position) =
+    (rules levels flag : Option Text) × (text_given file ∷ rules ∷ levels ∷ flag ∷ Some position.now ∷ [] ≡ texts) × (search.profile ≡ profile_named rules)
+    × (search.has_levels ≡ is_some levels) × (search.is_watched ≡ is_some flag)
 HasLinesTexts texts (lines.Build build) =
     (n rules flag : Option Text) × (Some build.set.now ∷ n ∷ Some build.file.now ∷ rules ∷ flag ∷ [] ≡ texts) × IfSome n (λ t. is_number t ≡ true)
     × (build.nodes ≡ option_map number_in n) × (build.profile ≡ profile_named rules) × (build.is_watched ≡ is_some flag)
 HasLinesTexts texts (lines.Ask file asked position) =
-    (numbered records json : Option Text) × (texts_asked asked (Some file.now) numbered records None json (Some position.now) ≡ texts)
+    (numbered records json : Option Text) × (texts_asked (subcommand_asked asked) (Some file.now) numbered records None json (Some position.now) ≡ texts)
     × IsFlaggedBy asked numbered records json
 HasLinesTexts texts (lines.Check file is_watched) = (flag : Option Text) × (Some file.now ∷ flag ∷ [] ≡ texts) × (is_watched ≡ is_some flag)
 HasLinesTexts texts (lines.Show file picture position) = text_given file ∷ text_given picture ∷ Some position.now ∷ [] ≡ texts
-HasLinesTexts texts (lines.Stats file is_csv is_json) =
-    (csv json : Option Text) × (Some file.now ∷ csv ∷ json ∷ [] ≡ texts) × (is_csv ≡ is_some csv) × (is_json ≡ is_some json)
+HasLinesTexts texts (lines.Stats file form) = (csv json : Option Text) × (Some file.now ∷ csv ∷ json ∷ [] ≡ texts) × (form ≡ stats_form csv json)
 HasLinesTexts texts (lines.Zugzwangs file listed) =
     (n : Option Text) × (Some file.now ∷ n ∷ [] ≡ texts) × IfSome n (λ t. is_number t ≡ true) × (listed ≡ option_map number_in n)
-HasLinesTexts texts (lines.Puzzles file plies count from seed is_numbered) =
+HasLinesTexts texts (lines.Puzzles file search) =
     (d n : Text) × (f s flag : Option Text) × (Some file.now ∷ Some d ∷ Some n ∷ f ∷ s ∷ flag ∷ [] ≡ texts) × (is_number d ≡ true)
-    × (plies ≡ number_in d) × (is_number n ≡ true) × (count ≡ number_in n) × (from ≡ option_map number_in f) × (seed ≡ option_map number_in s)
-    × (is_numbered ≡ is_some flag)
+    × (search.plies ≡ number_in d) × (is_number n ≡ true) × (search.count ≡ number_in n) × (search.from ≡ option_map number_in f)
+    × (search.seed ≡ option_map number_in s) × (search.is_numbered ≡ is_some flag)
 HasLinesTexts texts (lines.Migrate file out) = Some file.now ∷ Some out.now ∷ [] ≡ texts
 HasLinesTexts texts (lines.Certify made) =
     (n exact flag : Option Text) × (Some made.file.now ∷ Some made.out.now ∷ n ∷ exact ∷ flag ∷ Some made.position.now ∷ [] ≡ texts)
@@ -131,7 +152,7 @@ HasLinesTexts texts (lines.Reply file position) = Some file.now ∷ Some positio
 abbrev pub HasTexts : List (Option Text) → Order → Type 0
 HasTexts texts (order.Lines o) = HasLinesTexts texts o
 HasTexts texts (order.EachLine file asked) =
-    (numbered records json : Option Text) × (each : Text) × (texts_asked asked (Some file.now) numbered records (Some each) json None ≡ texts)
+    (numbered records json : Option Text) × (each : Text) × (texts_asked (subcommand_asked asked) (Some file.now) numbered records (Some each) json None ≡ texts)
     × IsFlaggedBy asked numbered records json
 
 -- the order is for this subcommand and these texts

@@ -8,14 +8,14 @@
 // - in dob_cli a case in the definitions of specs/Orders.antt and an arm of `answer` in program.rt, with a line in its Answers.antt where the prover doesn't
 //   find what the arm owes, as it finds that of `verify`; where the answer speaks of values and a value table's file makes it right, that in
 //   `AnswersLinesRight` and `rightly` of proofs/Orders.antt.
-// What is asked of a position by a file, as `best --db FILE POSITION`, is a variant of `Asked` instead, and of `--each` too.
-ghost use Rattle.std.specs.Prelude.{◌≡◌, [], IfOk, IfSome, List, Option, codes, false, is_some, map, true};
+// What is asked of a position by a file, as `best --db FILE POSITION`, is a form of a `Question` instead, and asked by `--each` too.
+ghost use Rattle.std.specs.Prelude.{◌≡◌, [], IfOk, IfSome, List, Option, false, is_some, map, true};
 ghost use Rattle.std.specs.List.{list_any};
 ghost use Rattle.std.specs.Str.{bytes_eq};
 ghost use Rattle.clap.specs.Words.{App, kind_of, new_app, subcommand_rows_of};
 ghost use Rattle.dob_words.specs.Forms.{Form, Text, form_named, forms, rows};
 ghost use Rattle.dob_words.specs.Lines.{IsAmong, IsCommandLine};
-ghost use Rattle.dob_words.specs.Words.{Meaning, asks, cleared, has_topic, is_topic, is_version, meaning_of, meaning_of_topic, names_subcommand, settled};
+ghost use Rattle.dob_words.specs.Words.{Meaning, asks, has_topic, is_topic, is_version, meaning_of, meaning_of_topic, names_subcommand, settled};
 ghost use Rattle.dob_words.specs.Shapes.{AreProfiles, Finds, HasCommandShape, HasFit, IsMetBySome, IsNamed, IsProgram, IsRead, bare_app, choice_rule, choice_said, flag_rule, flag_said, place_rule, place_said, row_app, row_said, texts_in, with_rows, with_rules};
 ghost use Rattle.dob_words.specs.Readings.{AreNamed, ComesFromLine, IsReadFor, IsReadingOf, IsReadingOfKind, name_of};
 
@@ -27,7 +27,10 @@ use crate::table::{Choice, Flag, Kind, Need, PROFILES, Place, Row};
 use clap::error::ErrorKind;
 use clap::{Arg, ArgAction, ArgMatches, Command, Error, value_parser};
 use misplaced::Misplaced;
-pub use orders::{Asked, BuildOrder, CertifyOrder, LinesOrder, Order};
+pub use orders::{
+    Asked, BuildOrder, CertifyOrder, LineForm, LinesOrder, MovesForm, Order, PuzzleSearch,
+    Question, ReachSearch, StatsForm, ValueForm,
+};
 use std::alloc::{AllocError, Global};
 
 /// What the words come to.
@@ -334,18 +337,11 @@ fn order_by<'a>(name: &str, inner: &ArgMatches<'a>) -> Option<Order<'a>>
 {
     match misplaced::stream_of(rows(), name, inner) {
         Some(_) => None,
-        None => clear_order(name, inner),
+        None => {
+            let subcommand = subcommand_named(rows(), name)?;
+            orders::order_for(subcommand, inner)
+        }
     }
-}
-
-// The same, if no file is to be written to a stream.
-fn clear_order<'a>(name: &str, inner: &ArgMatches<'a>) -> Option<Order<'a>>
-    requires named { IsNamed name.now forms }
-    requires fit { HasFit (form_named name.now) inner.now }
-    ensures { IsReadFor (cleared (asks name.now (texts_in (form_named name.now) inner.now))) result }
-{
-    let subcommand = subcommand_named(rows(), name)?;
-    orders::order_for(subcommand, inner)
 }
 
 // The first word, if there is one.

@@ -64,7 +64,7 @@ pub const ROWS: &[Row] = &[
         &[
             (
                 "levels",
-                "A line for each distance, as `2 17`, behind the others",
+                "A line for each distance, as `2 17`, after the others",
             ),
             PROGRESS,
         ],
@@ -208,7 +208,7 @@ pub const ROWS: &[Row] = &[
                     "N",
                     Kind::Number,
                     Need::May,
-                    "The first N of them, a line each, behind the others",
+                    "The first N of them, a line each, after the others",
                 ),
             ),
         ],
@@ -240,7 +240,7 @@ pub const ROWS: &[Row] = &[
                     "CLASS",
                     Kind::Number,
                     Need::May,
-                    "Only those behind the class of this number, which itself isn't printed",
+                    "Only those after the class of this number, which itself isn't printed",
                 ),
             ),
             (
@@ -360,7 +360,7 @@ pub(crate) const PROGRAM: &str =
     "`dobutsu value --help` says how a position is written and what the rules A and B are, `dobutsu count --help` how a
 piece set is.
 
-A fault is one line on standard error; below that of E24 a second one, behind two spaces, says which file or stream failed and
+A fault is one line on standard error; below that of E24 a second one, after two spaces, says which file or stream failed and
 why, where that is known. The status is 1, and 3 for E12, E14, E23, E24 and E40:
 
   E1 Shape         the text isn't fifteen bytes with `/` at 3, 7 and 11, then twice a space and a word
@@ -369,7 +369,7 @@ why, where that is known. The status is 1, and 3 for E12, E14, E23, E24 and E40:
   E4 Lions         a side hasn't just one lion
   E5 Count         there are more than two pieces of a kind, hens counted as chicks
   E6 FarLion       the lion of the side to move stands on row 4
-  E7 OtherSet      the position's piece set isn't the file's
+  E7 OtherSet      the position's piece set isn't the file's: ask the file of its own set
   E9 Nodes         there aren't 1 to 16 nodes
   E12 TooDeep      of `value`: a distance would be above 65534 plies
   E14 Stopped node N: CAUSE
@@ -388,10 +388,10 @@ why, where that is known. The status is 1, and 3 for E12, E14, E23, E24 and E40:
   E25 SetText      the piece set isn't three digits, each 0, 1 or 2
   E26 FarChick     by rules B, or of a file of rules B: a chick stands on its own far row. So
                    `dobutsu value --rules B \"C.l/.../.../L.. - -\"` is refused
-  E27 ProfileByte  byte 12 of the file says other rules than A and B
-  E30 to E41       of `certify`, `verify` and `reply`: `dobutsu verify --help` has them
+  E27 ProfileByte  byte 12 of the file, or byte 13 of a certificate, names neither rules A nor B
+  E30 to E42       of `certify`, `verify` and `reply`: `dobutsu verify --help` has them
 
-A usage error ends with status 2.";
+A usage error ends with status 2. `dobutsu --version` prints the version.";
 
 const VALUE: &str =
     "A position: four rows of three letters, row 4 (the far row of the side to move) first, joined
@@ -427,7 +427,7 @@ Example: dobutsu count --set 100 prints `positions 4158` and `classes 2124`, and
 const REACH: &str =
     "What a game that begins with POSITION can come to. A class is a position with its mirror image, seen by the side to move; it goes
 on from open classes alone, and counts those that have ended too: where the lion can be captured, has arrived, or no move is left.
-That each of the two positions of a class is reached isn't said.
+Whether one or both of a class's two positions are reached isn't said.
 
 Answers: `classes N`, how many classes are reached, that of POSITION among them; `open N`, how many of them are open; `depth D`,
 in how many plies the furthest is reached. With `--db FILE` also `win N`, `loss N` and `draw N`, how many of them have which value for
@@ -435,7 +435,7 @@ the side to move: the rules are those of the file, and POSITION has to be of its
 `PLY N` for each distance from POSITION, how many classes are reached in so many plies and in no fewer.
 
 It takes a bit of memory for each class of the piece set, and 4 bytes for each of the classes of two distances that follow
-each other: 0.4 GB for the whole game, where it runs for minutes.
+each other: 0.4 GB for the whole game, with `--db` 1.5 GB. That runs for minutes.
 
 With `--progress` it says on standard error, before each distance, how many classes it has, as `ply 2: 17 classes`.
 
@@ -451,7 +451,7 @@ The file has 2 bytes a class and 53 more, and its build takes some 9 bytes of me
 `dobutsu count --set 111` gives the classes of a set: 765360 of three pieces, which take a second or two.
 The whole game, `222`, has 588021930, which take some minutes, 5 GB of memory and 1.2 GB of disk.
 
-The table is written to FILE with `.part` behind it, and takes the place of FILE when it is whole and on
+The table is written to FILE with `.part` after it, and takes the place of FILE when it is whole and on
 the disk: until then FILE is as it was, whatever happens. Another run that is to write FILE meanwhile is refused.
 A pipe, a device or a link is written where it is.
 
@@ -474,7 +474,7 @@ it contains.
 
 With `--each` in place of POSITION the positions come from standard input, one on each line, and each line is
 answered by a line, in the same order. One that is refused is answered by its fault, as `E2 Letter`, and the
-next by its own answer. The file is read once, so that this is the way to ask for many positions.
+next by its own answer. The file is read and tested once, before the first answer.
 
 Answers: `win D`, `loss D` or `draw`, where D is the distance in plies. With `--each` the status is 0 where
 all lines were answered, and 1 where one was refused.
@@ -501,10 +501,10 @@ file is too long or too short.
 
 With `--each` in place of POSITION the positions come from standard input, one on each line, and each line is answered in the
 same order, as `dobutsu look --help` says, and by records, as if `--records` were given. With `--numbered` too an empty line stands
-behind each answer.
+after each answer.
 
 Answers: the moves, `draw` where neither side can force an end, or `end` where the side to move has
-lost already. With `--numbered` each move stands on a line of its own behind its number, as `1. La2-a3`. With `--each` the status
+lost already. With `--numbered` each move stands on a line of its own after its number, as `1. La2-a3`. With `--each` the status
 is 0 where all lines were answered, and 1 where one was refused.
 
 With `--json`: an object on a line, with `position`, `value`, `plies` and `moves`, whose objects are as `dobutsu moves --help` says, without
@@ -563,7 +563,7 @@ Of the file only its first 21 bytes are read, and 2 bytes for each move, for any
 isn't read, and damage isn't found: `dobutsu check` tests it all.
 
 With `--each` in place of POSITION the positions come from standard input, one on each line, and each line is answered in the
-same order by its moves, or by its fault as `E2 Letter`, with an empty line behind them. The file is opened once.
+same order by its moves, or by its fault as `E2 Letter`, and then by an empty line. The file is opened once.
 
 Answers: `MOVE win D`, `MOVE loss D` or `MOVE draw`; where the other side's lion can be captured, just that
 capture, `MOVE win 1`; and `end` where the side to move has lost already. With `--each` the status is 0 where all lines were
@@ -571,7 +571,7 @@ answered, and 1 where one was refused.
 
 With `--json`: an object on a line, with `position` and `moves`, a list of objects with `move`, `kind` (`chick`, `hen`, `elephant`, `giraffe` or
 `lion`, as it was before the move), `from` (`null` for a drop), `to`, `catch` (`true` or `false`), `value` and `plies`. The fault of a line
-is an object too, as `dobutsu look --help` says, and no empty line stands behind them.
+is an object too, as `dobutsu look --help` says, and no empty line stands after them.
 
 Example: dobutsu moves --db 000.db \"..l/.../L../... - -\" prints `La2-a3 win 3` first.";
 
@@ -610,16 +610,16 @@ in pairs, a position and its turn, each with its mirror images counted once. If 
 answers are correct.
 
 Answers: `lost by both N`, the pairs in which whoever has to move loses; `loss and draw N`, those in which one side loses where it has to
-move, and the other draws; and `deepest POSITION  loss D  loss D`, where there are pairs lost by both: the one whose shorter loss is
-the longest, of such ones that whose longer loss is, and of these the first in the file. The values are that of POSITION for the side
-to move, and that of its turn for the other side. With `--list N` then a line `POSITION  VALUE  VALUE` for each of the first N pairs in the
-order of the file, of either kind; POSITION is the one of the two that stands first there.
+move, and the other draws; and `deepest POSITION  loss D  loss D`, where there are pairs lost by both. Of two pairs the deeper is the
+one whose shorter loss is longer; if these are equal, whose longer loss is; then the first in the file. The values are that of
+POSITION for the side to move, and that of its turn for the other side. With `--list N` then a line `POSITION  VALUE  VALUE` for each
+of the first N pairs in the order of the file, of either kind; POSITION is the one of the two that stands first there.
 
 Example: dobutsu zugzwangs --db 010.db, of one elephant, prints `lost by both 1`, `loss and draw 11` and
 `deepest .../.l./.../LE. - -  loss 4  loss 8`.";
 
 const PUZZLES: &str =
-    "Exercises for a class: positions in which the side to move wins, with exactly one fastest winning move. All other moves are
+    "Exercises for a lesson: positions in which the side to move wins, with exactly one fastest winning move. All other moves are
 slower, or don't win. D counts the plies of both sides up to the capture of the lion or the lion's safe arrival, so `3` is: move,
 answer, win. If `dobutsu check` passes the file, its answers are correct.
 
@@ -627,9 +627,9 @@ Answers: a line for each position, `POSITION  MOVE`, its text, two spaces and th
 them; or `none`. Of a position and its mirror image only the one that stands first is printed. `dobutsu show POSITION` draws it,
 and `dobutsu line --numbered --db FILE POSITION` plays it to its end. A D that is even or below 3 is a usage error (status 2).
 
-With `--numbered` the number of its class and two spaces stand before each. With `--from CLASS` only those behind the class of this
+With `--numbered` the number of its class and two spaces stand before each. With `--from CLASS` only those after the class of this
 number are printed, never its own: with the number of the last one it goes on where the last call ended, so that no position comes
-twice. Behind a number that no class has there is none.
+twice. After the last class, or a number that no class has, it prints `none`.
 
 With `--random SEED` the classes are shuffled by the number SEED, in the same way on each machine, so that each such position is as
 likely as any other to come next. No two of the positions that one call prints then have as many pieces of each kind on the board and the
@@ -643,7 +643,7 @@ const MIGRATE: &str =
 values, in the second format: its title is `DOBUTSU2`, its byte 12 says the rules, and it has 2 bytes a class and 53
 more. A file of the first format is one of rules A. A damaged file is refused, and OUT stays as it was.
 
-OUT may be FILE itself: it is written to OUT with `.part` behind it, which takes the place of OUT when it is whole and on
+OUT may be FILE itself: it is written to OUT with `.part` after it, which takes the place of OUT when it is whole and on
 the disk, as `dobutsu build --help` says.
 
 Answers: `classes N`, where a class is a position with its mirror image.
@@ -651,18 +651,19 @@ Answers: `classes N`, where a class is a position with its mirror image.
 Example: dobutsu migrate --db old.db --out new.db prints `classes 54` for lions alone.";
 
 const CERTIFY: &str =
-    "A certificate is a small file that proves a position's value without the database file: `dobutsu verify` checks it, and trusts no one who made
-it. It lists classes that are lost, each within so many plies: every move of a listed class is answered by one to a class that is listed with two
-plies less, or has lost. What is made has passed that check before it is written, so that it is right even where FILE isn't.
+    "A certificate is a small file that proves a position's value without the database file: `dobutsu verify` checks it, whoever made it. It
+lists classes that are lost, each within so many plies: a listed class has lost, or each of its moves is answered by capturing the lion, or by a
+move to a class that has lost or is listed with at least two plies less. What is made passes that check before it is written: it is right even
+where FILE isn't.
 
 Without `--exact` it claims a win or a loss within so many plies. With `--exact` it claims so many and no fewer, by a second list, of classes that
-aren't lost sooner: for a long win or loss of a set with six pieces that has tens of millions of entries, and takes minutes and a gigabyte. A draw
+aren't lost sooner: for a long win or loss of a set with six pieces that has tens of millions of entries, and takes minutes and 1.6 GB. A draw
 is always exact.
 
 With `--most N` it gives up with E39 as soon as there would be more than N entries. With `--progress` it says on standard error, a line a second at
 most, how far it is, as `dobutsu build --help` says.
 
-CERT is written with `.part` behind its name first, as `dobutsu build --help` says of its file.
+CERT is written with `.part` after its name first, as `dobutsu build --help` says of its file.
 
 Answers: the line of `dobutsu verify`, for the position as it is given, then `lost N` and `held N`, the entries of the two lists.
 
@@ -676,7 +677,7 @@ With `--progress` it says on standard error, a line a second at most, how far it
 
 Answers: `POSITION loss within D` or `POSITION win within D`, where an exact certificate has no `within`, or `POSITION draw`.
 
-A file that proves nothing is refused, with status 1, by the first fault that it has: E15 to E20 and E27 as `dobutsu --help` says of database files, or
+A file that proves nothing is refused, with status 1, by the first fault that it has: E15 to E17, E19, E20 and E27, as `dobutsu --help` says, or
 
   E30 Unsupported class N   the entry of class N isn't shown by the moves of its class
   E31 Claim                 the entries don't show what is claimed of the position
@@ -687,7 +688,7 @@ A file that proves nothing is refused, with status 1, by the first fault that it
   E36 EntryNumber           an entry's number isn't in its fewest bytes
   E37 EntryOrder            an entry's class isn't above the one before it
   E38 EntryClass            its piece set has no class of an entry's number
-  E42 EntryPlies            an entry says of what is lost that it never is
+  E42 EntryPlies            an entry of the lost list has 255 plies, which stand for `never`
 
 `dobutsu certify` may end with E39 TooMany, where there would be more entries than `--most` allows, or E40 Unfit, where a distance is above 254
 plies; and `dobutsu reply` with E41 Unlisted, where the certificate says nothing of the position.

@@ -1,37 +1,53 @@
 -- An answer of many is that of one call, and those that are written stay.
 use Rattle.dobutsu_c.proofs.Common.{◌+◌, ◌<◌, ◌∙◌, ◌≡◌, ◌≢◌, ◌≤◌, Err, List, MatchResult, Ok, Result, ap, arith, get_or, inl, inr, length, slice_set, suc}
 use Rattle.dobutsu_c.proofs.Common.{sym, ℕ, get_or-set_other, get_or-set_same, get_or_default, Family, Setup, RepresentsClass, Value, HasByFault, IsToldBy}
-use Rattle.dobutsu_c.proofs.Common.{number_by, IsAnswer, start_at, IsShown, shown, ByFault, DobutsuAnswer, Numbering, DobutsuPosition}
+use Rattle.dobutsu_c.proofs.Common.{IsIndexFor, IsTold, number_by, IsAnswer, IsExact, start_at, IsShown, shown, ByFault, Numbering, DobutsuPosition, DobutsuValue}
 use Rattle.std.proofs.lemmas.Bool.{cases_eq}
 use Rattle.std.proofs.lemmas.Grind.{get_or-set_at, elements}
 use Rattle.dobutsu_c.proofs.Exact.{no_fault, one_told, told_right}
-use Rattle.dobutsu_c.proofs.Indexed.{told_by_right, no_fault_by, one_fault_by}
+use Rattle.dobutsu_c.proofs.Indexed.{told_by_right, no_fault_by, not_unmarked, one_fault_by, some_fault_by, unmarked_fault}
 use Rattle.std.proofs.Common.{refl}
 
-pub answered : (file : List ℕ) (by : Numbering) (text : List ℕ) (old new : DobutsuAnswer) (probed : Result Value ByFault)
-    → MatchResult probed (IsToldBy file text by) (HasByFault file text by)
-    → MatchResult probed (λ value. (new.fault ≡ 0) × (new.value ≡ shown value))
-    (λ fault. (new.fault ≡ number_by fault) × (new.fault ≢ 0) × (new.value ≡ old.value))
-    → IsAnswer file by text old new
-answered file by text old new (Ok value) is new_is = record {
-  told = λ for v at. (new_is.0, new_is.1 ∙ ap shown (one_told file text value v (told_by_right file text by value for is) at));
-  fault = λ for f holds.
-      let told = told_by_right file text by value for is in
-      absurd (no_fault file text told.0 told.1 told.2 f told.3 holds);
-  right = λ for table setup file_is right named none.
-      (value, told_right file text table setup value file_is right named (told_by_right file text by value for is), new_is.1);
-  told_by = λ none. (value, is, new_is.1);
-  refused_by = λ some. absurd (some new_is.0);
-  unchanged = λ some. absurd (some new_is.0);
-}
-answered file by text old new (Err fault) is new_is = record {
-  told = λ for v at. absurd (no_fault_by file text by at.0 at.1 at.2 fault for at.3 is);
-  fault = λ for f holds. new_is.0 ∙ one_fault_by file text by fault f for is holds;
-  right = λ for table setup file_is right named none. absurd (new_is.1 none);
-  told_by = λ none. absurd (new_is.1 none);
-  refused_by = λ some. (fault, is, new_is.0);
-  unchanged = λ some. new_is.2;
-}
+module _ (file text : List ℕ) (by : Numbering) (old new : DobutsuValue) (number : ℕ) where
+  -- by the index of the file's family
+  value_exact : (value : Value) → IsTold file text value → number ≡ 0 → new ≡ shown value → IsExact file text old new number
+  value_exact value is none shown_is = record {
+    given = λ zero. (value, is, shown_is);
+    told = λ v at. (none, shown_is ∙ ap shown (one_told file text value v is at));
+    right = λ table setup file_is right named zero. (value, told_right file text table setup value file_is right named is, shown_is);
+    refused = λ some. absurd (some none);
+    first = λ fault holds. absurd (no_fault file text is.0 is.1 is.2 fault is.3 holds);
+    unchanged = λ some. absurd (some none);
+  }
+
+  fault_exact : (fault : ByFault) → IsIndexFor file by → HasByFault file text by fault → number ≡ number_by fault → number ≢ 0 → new ≡ old
+      → IsExact file text old new number
+  fault_exact fault for is number_is some same = record {
+    given = λ none. absurd (some none);
+    told = λ v at. absurd (no_fault_by file text by at.0 at.1 at.2 fault for at.3 is);
+    right = λ table setup file_is right named none. absurd (some none);
+    refused = λ other. let found = some_fault_by file text by fault for is in (found.0, found.1, number_is ∙ found.2);
+    first = λ f holds. number_is ∙ one_fault_by file text by fault f for is holds;
+    unchanged = λ other. same;
+  }
+
+  pub answered : (probed : Result Value ByFault) → MatchResult probed (IsToldBy file text by) (HasByFault file text by)
+      → MatchResult probed (λ value. (number ≡ 0) × (new ≡ shown value)) (λ fault. (number ≡ number_by fault) × (number ≢ 0) × (new ≡ old))
+      → IsAnswer file by text old new number
+  answered (Ok value) is new_is = record {
+    exact = λ for. value_exact value (told_by_right file text by value for is) new_is.0 new_is.1;
+    told_by = λ none. (value, is, new_is.1);
+    refused_by = λ some. absurd (some new_is.0);
+    unmarked = λ format family setup read wrong. absurd (not_unmarked file text by is.0 format is.1 family is.2 setup is.4.held read wrong);
+    unchanged = λ some. absurd (some new_is.0);
+  }
+  answered (Err fault) is new_is = record {
+    exact = λ for. fault_exact fault for is new_is.0 new_is.1 new_is.2;
+    told_by = λ none. absurd (new_is.1 none);
+    refused_by = λ some. (fault, is, new_is.0);
+    unmarked = λ format family setup read wrong. new_is.0 ∙ unmarked_fault file text by format family setup fault read wrong is;
+    unchanged = λ some. new_is.2;
+  }
 
 -- the next text begins where one ends
 pub begins_next : (ends : List ℕ) (place : ℕ) → start_at ends (place + 1) ≡ get_or ends place 0

@@ -34,6 +34,7 @@ pub use Rattle.dob_dbfile.specs.Format.{IsFile, count_bytes}
 pub use Rattle.dob_dbfile.specs.declared.header.Format.{Format}
 pub use Rattle.dob_foreign.specs.Cells.{cell_number}
 pub use Rattle.dob_foreign.specs.Faults.{file_number, text_number}
+pub use Rattle.dob_foreign.specs.Moves.{shown_step}
 pub use Rattle.dob_foreign.specs.Texts.{IsText}
 pub use Rattle.dob_probe.specs.ValuedMoves.{AreValuedMoves, ComesBefore, HasMoveValue, seen_from_before}
 pub use Rattle.dob_probe.specs.declared.by_value.ValuedMove.{ValuedMove}
@@ -44,13 +45,15 @@ pub use Rattle.dobutsu_c.specs.ByIndex.{HasByFault, IsGivenBy, IsIndexFor, IsMar
 pub use Rattle.dobutsu_c.specs.Certificates.{IsVerifyFault, defect_number}
 pub use Rattle.dobutsu_c.specs.FaultNames.{name_of, names}
 pub use Rattle.dobutsu_c.specs.Faults.{fault_number}
-pub use Rattle.dobutsu_c.specs.Many.{IsAnswer, IsAnswerAt, start_at, text_at}
-pub use Rattle.dobutsu_c.specs.Moves.{AreMovesBy, AreToldMoves, AreToldMovesBy, IsMovesFault, shown_valued}
+pub use Rattle.dobutsu_c.specs.Many.{IsAnswerAt, IsAnswerOf, start_at, text_at}
+pub use Rattle.dobutsu_c.specs.Moves.{AreAnsweredMoves, AreExactMoves, AreMovesBy, AreToldMoves, AreToldMovesBy, AreWritten, IsMovesFault, shown_valued}
 pub use Rattle.dobutsu_c.specs.Positions.{IsShown}
+pub use Rattle.dobutsu_c.specs.Probed.{IsAnswer, IsExact}
 pub use Rattle.dobutsu_c.specs.Probes.{AreRead, HasProbeFault, IsAsked, IsGiven, IsTextOf, IsTold, shown}
-pub use Rattle.dobutsu_c.specs.Steps.{shown_step}
 pub use Rattle.dobutsu_c.specs.declared.by_index.ByFault.{ByFault}
 pub use Rattle.dobutsu_c.specs.declared.fault.Fault.{Fault}
 pub use Rattle.dobutsu_c.specs.declared.many.DobutsuAnswer.{DobutsuAnswer}
+pub use Rattle.dobutsu_c.specs.declared.moves.DobutsuMove.{DobutsuMove}
 pub use Rattle.dobutsu_c.specs.declared.numbering.Numbering.{Numbering}
 pub use Rattle.dobutsu_c.specs.declared.positions.DobutsuPosition.{DobutsuPosition}
+pub use Rattle.dobutsu_c.specs.declared.value.DobutsuValue.{DobutsuValue}

@@ -5,7 +5,7 @@ use Rattle.dobutsu_c.proofs.Common.{count_place, header_len, count_bytes, Format
 use Rattle.dobutsu_c.proofs.Common.{fault_number, AreRead, HasProbeFault, IsAsked, IsGiven, IsTextOf, IsTold, ByFault, Fault, Numbering}
 use Rattle.dob_rank.proofs.Positions.Sets.{same_numbers}
 use Rattle.dob_dbfile.proofs.Places.{same_head}
-use Rattle.dobutsu_c.specs.declared.fault.Fault.TheVariants.{Text, File, FarChick, OtherSet}
+use Rattle.dobutsu_c.specs.declared.fault.Fault.TheVariants.{Text, File, Member}
 use Rattle.dobutsu_c.specs.declared.numbering.Numbering.TheVariants as numbering
 use Rattle.dobutsu_c.specs.declared.by_index.ByFault.TheVariants.{Asked, Index}
 use Rattle.dob_foreign.specs.Profiles.{profile_number}
@@ -109,10 +109,8 @@ no_index file by format family setup for (inr (none, inr fits)) = none (for form
 
 pub some_fault_by : (file text : List ℕ) (by : Numbering) (given : ByFault) → IsIndexFor file by → HasByFault file text by given
     → (fault : Fault) × HasProbeFault file text fault × (number_by given ≡ fault_number fault)
-some_fault_by file text by (Asked FarChick) for is =
-    (FarChick, (is.0, is.1, is.3, read_by file text by is.0 is.1 is.2 is.3 for is.4.0 is.4.1, is.5), refl)
-some_fault_by file text by (Asked OtherSet) for is =
-    (OtherSet, (is.0, is.1, is.3, read_by file text by is.0 is.1 is.2 is.3 for is.4.0 is.4.1, is.5, is.6), refl)
+some_fault_by file text by (Asked (Member stranger)) for is =
+    (Member stranger, (is.0, is.1, is.3, read_by file text by is.0 is.1 is.2 is.3 for is.4.0 is.4.1, is.5), refl)
 some_fault_by file text by Index for is = absurd (no_index file by is.0 is.1 is.2 for is.4)
 some_fault_by file text by (Asked fault) for is = (fault, is, refl)
 
@@ -143,8 +141,6 @@ pub unmarked_fault : (file text : List ℕ) (by : Numbering) (format : Format) (
     → AreRead file text format family setup → (IsMarkedBy by family → ⊥) → HasByFault file text by given → number_by given ≡ 29
 unmarked_fault file text by format family setup (Asked (Text fault)) read wrong is = absurd (no_text_fault text setup fault read.0 is)
 unmarked_fault file text by format family setup (Asked (File fault)) read wrong is = absurd (no_file_fault file format family fault read.1 is.2 is.3)
-unmarked_fault file text by format family setup (Asked FarChick) read wrong is =
-    absurd (marked_by file by is.0 format is.1 family is.2 is.4.1 read.1.0.0.0 wrong)
-unmarked_fault file text by format family setup (Asked OtherSet) read wrong is =
+unmarked_fault file text by format family setup (Asked (Member stranger)) read wrong is =
     absurd (marked_by file by is.0 format is.1 family is.2 is.4.1 read.1.0.0.0 wrong)
 unmarked_fault file text by format family setup Index read wrong is = refl

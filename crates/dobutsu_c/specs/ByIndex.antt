@@ -3,10 +3,8 @@ use Rattle.std.specs.Prelude.{◌≡◌, ◌≢◌, ◌⊎◌, ℕ, ◌+◌, ◌
 use Rattle.dob_pieces.specs.declared.profile.Family.{Family}
 use Rattle.dob_pieces.specs.declared.profile.Profile.TheVariants.{A}
 use Rattle.dob_pieces.specs.declared.setup.Setup.{Setup}
-use Rattle.dob_pieces.specs.Profiles.{IsAllowed}
 use Rattle.dob_text.specs.declared.fault.TextFault.{TextFault}
 use Rattle.dob_text.specs.Faults.{HasTextFault}
-use Rattle.dob_rank.specs.Order.{IsPositionOfSet}
 use Rattle.dob_rank.specs.Families.{IsPositionOf, IsInClass, classes_of}
 use Rattle.dob_value.specs.declared.value.Value.{Value}
 use Rattle.dob_index.specs.Index.{IsIndex, IsMarked}
@@ -16,14 +14,15 @@ use Rattle.dob_dbfile.specs.declared.fault.Fault.TheVariants as file_fault
 use Rattle.dob_dbfile.specs.Faults.{NamesFamily, HasReadFault, IsNoLonger, count_place, header_len}
 use Rattle.dob_dbfile.specs.Format.{count_bytes}
 use Rattle.dob_dbfile.specs.Looking.{HasRecord}
-use Rattle.dobutsu_c.specs.declared.fault.Fault.TheVariants.{Text, File, FarChick, OtherSet}
+use Rattle.dobutsu_c.specs.declared.fault.Fault.TheVariants.{Text, File, Member}
+use Rattle.dobutsu_c.specs.declared.fault.Stranger.{Stranger}
 use Rattle.dobutsu_c.specs.declared.numbering.Numbering.{Numbering}
 use Rattle.dobutsu_c.specs.declared.numbering.Numbering.TheVariants as numbering
 use Rattle.dobutsu_c.specs.declared.by_index.ByFault.{ByFault}
 use Rattle.dobutsu_c.specs.declared.by_index.ByFault.TheVariants.{Asked, Index}
 use Rattle.dobutsu_c.specs.Counts.{IsFamily, count_fault}
 use Rattle.dob_foreign.specs.Faults.{text_number}
-use Rattle.dobutsu_c.specs.Faults.{fault_number}
+use Rattle.dobutsu_c.specs.Faults.{IsStranger, fault_number, stranger_number}
 use Rattle.dobutsu_c.specs.Probes.{IsTextOf}
 
 -- by a count each family's classes are right; numbers are right where they are its index
@@ -88,10 +87,8 @@ AreNoIndex file by format family setup = (AreUnmarked file by format family
 abbrev pub HasByFault : List ℕ → List ℕ → Numbering → ByFault → Type 0
 HasByFault file text by (Asked (Text fault)) = HasTextFault A text fault
 HasByFault file text by (Asked (File fault)) = (setup : Setup) × IsTextOf text setup × HasReadFault (whole file) fault × (fault ≢ file_fault.Digest)
-HasByFault file text by (Asked FarChick) = (format : Format) × (family : Family) × (classes : ℕ) × (setup : Setup)
-    × AreReadBy file text by format family classes setup × ¬ IsAllowed family.profile setup
-HasByFault file text by (Asked OtherSet) = (format : Format) × (family : Family) × (classes : ℕ) × (setup : Setup)
-    × AreReadBy file text by format family classes setup × IsAllowed family.profile setup × ¬ IsPositionOfSet family.set setup
+HasByFault file text by (Asked (Member stranger)) = (format : Format) × (family : Family) × (classes : ℕ) × (setup : Setup)
+    × AreReadBy file text by format family classes setup × IsStranger family setup stranger
 HasByFault file text by Index = (format : Format) × (family : Family) × (setup : Setup) × IsTextOf text setup × AreNoIndex file by format family setup
 
 abbrev pub number_by : ByFault → ℕ
@@ -111,11 +108,11 @@ HasHeldFault file by Index = (format : Format) × (family : Family)
     × (AreUnmarked file by format family ⊎ (IsNoLonger format family (whole file) × ¬ IsRight by family))
 HasHeldFault file by _ = ⊥
 
--- Why the number of a position's class isn't answered by an index, as a fault's number: the numbers aren't marked as an index of the family; or they are, and its
--- profile doesn't allow the position; or it does, and the pieces aren't those of its set.
+-- Why the number of a position's class isn't answered by an index, as a fault's number: the numbers aren't marked as an index of the family; or they are, and the
+-- position isn't one of it.
 abbrev pub IsUnfit : Family → List ℕ → Setup → ℕ → Type 0
-IsUnfit family index setup number = ((¬ IsMarked family index) × (number ≡ 29)) ⊎ (IsMarked family index
-    × (((¬ IsAllowed family.profile setup) × (number ≡ 26)) ⊎ (IsAllowed family.profile setup × (¬ IsPositionOfSet family.set setup) × (number ≡ 7))))
+IsUnfit family index setup number = ((¬ IsMarked family index) × (number ≡ 29))
+    ⊎ (IsMarked family index × (stranger : Stranger) × IsStranger family setup stranger × (number ≡ stranger_number stranger))
 
 -- the same of a text and of numbers that name a family: before that the text may be no position's, and then the numbers may name none
 abbrev pub IsClassFault : ℕ → ℕ → ℕ → ℕ → List ℕ → List ℕ → ℕ → Type 0

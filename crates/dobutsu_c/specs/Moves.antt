@@ -1,12 +1,15 @@
 -- The moves of a position with their values, as other languages see them.
-use Rattle.std.specs.Prelude.{◌≡◌, ◌⊎◌, ℕ, ◌<◌, ◌≤◌, List, length, get_or}
+use Rattle.std.specs.Prelude.{◌≡◌, ◌≢◌, ◌⊎◌, ℕ, ◌<◌, ◌≤◌, List, length, get_or}
 use Rattle.dob_pieces.specs.declared.profile.Family.{Family}
 use Rattle.dob_pieces.specs.declared.setup.Setup.{Setup}
 use Rattle.dob_moves.specs.declared.game_move.Move.{Move}
 use Rattle.dob_value.specs.declared.value.Value.{Value}
+use Rattle.dob_value.specs.Follows.{ClassTable, IsValueTable}
+use Rattle.dob_value.specs.Values.{HasValue}
 use Rattle.dob_dbfile.specs.declared.header.Format.{Format}
-use Rattle.dob_foreign.specs.declared.moves.MoveNumbers.{MoveNumbers}
-use Rattle.dob_foreign.specs.Moves.{move_numbers}
+use Rattle.dob_dbfile.specs.Format.{IsFile}
+use Rattle.dob_foreign.specs.declared.moves.DobutsuStep.{DobutsuStep}
+use Rattle.dob_foreign.specs.Moves.{shown_step}
 use Rattle.dob_probe.specs.declared.by_value.ValuedMove.{ValuedMove}
 use Rattle.dob_probe.specs.declared.gap.Gap.{Gap}
 use Rattle.dob_probe.specs.declared.gap.Gap.TheVariants.{Unsaid, Inconsistent, Memory}
@@ -15,16 +18,17 @@ use Rattle.dobutsu_c.specs.declared.moves.DobutsuMove.{DobutsuMove}
 use Rattle.dobutsu_c.specs.declared.by_index.ByFault.{ByFault}
 use Rattle.dobutsu_c.specs.declared.numbering.Numbering.{Numbering}
 use Rattle.dobutsu_c.specs.declared.value.DobutsuValue.{DobutsuValue}
-use Rattle.dobutsu_c.specs.ByIndex.{IsAskedBy, IsGivenBy, HasByFault, number_by}
-use Rattle.dobutsu_c.specs.Probes.{IsAsked, IsGiven, shown}
+use Rattle.dobutsu_c.specs.declared.fault.Fault.{Fault}
+use Rattle.dobutsu_c.specs.ByIndex.{IsAskedBy, IsGivenBy, IsIndexFor, IsMarkedBy, HasByFault, number_by}
+use Rattle.dobutsu_c.specs.Faults.{fault_number}
+use Rattle.dobutsu_c.specs.Probes.{AreRead, IsAsked, IsGiven, IsTextOf, HasProbeFault, shown}
 
--- the numbers of a move and a value as one
-abbrev pub with_value : MoveNumbers → DobutsuValue → DobutsuMove
-with_value numbers value =
-    record { kind = numbers.kind; from = numbers.from; to = numbers.to; catches = numbers.catches; grows = numbers.grows; value = value }
+-- a move and a value as one
+abbrev pub with_value : DobutsuStep → DobutsuValue → DobutsuMove
+with_value step value = record { kind = step.kind; from = step.from; to = step.to; catches = step.catches; grows = step.grows; value = value }
 
 abbrev pub shown_move : Move → DobutsuValue → DobutsuMove
-shown_move move value = with_value (move_numbers move) value
+shown_move move value = with_value (shown_step move) value
 
 abbrev pub shown_valued : ValuedMove → DobutsuMove
 shown_valued valued = shown_move valued.played (shown valued.value)
@@ -57,3 +61,20 @@ abbrev pub gap_number : Gap ByFault → ℕ
 gap_number (Unsaid fault) = number_by fault
 gap_number (Inconsistent class) = 21
 gap_number Memory = 23
+
+-- ---- what is answered: a fault's number, or 0, the moves and how many there are
+
+-- They are those by the file, and by the file of a value table by definition. Or the number is that of the one fault, or memory ran out.
+pub record AreExactMoves (file text : List ℕ) (old new : List DobutsuMove) (count number : ℕ) : Type 0 where
+  pub given : number ≡ 0 → (list : List ValuedMove) × AreToldMoves file text list × AreWritten list old new × (count ≡ length list)
+  pub right : (table : ClassTable) (setup : Setup) → IsFile file table → IsValueTable table.family table.values → IsTextOf text setup → number ≡ 0
+      → (list : List ValuedMove) × AreValuedMoves table.family.profile (HasValue table.family.profile) setup list × AreWritten list old new × (count ≡ length list)
+  pub refused : number ≢ 0 → (number ≡ 23) ⊎ ((fault : Fault) × HasProbeFault file text fault × (number ≡ fault_number fault))
+  pub first : (fault : Fault) → HasProbeFault file text fault → number ≡ fault_number fault
+
+-- With the index of the file's family it is so; and with any numbers the values are those of some records of the file, or the fault is one that they have too.
+pub record AreAnsweredMoves (file : List ℕ) (by : Numbering) (text : List ℕ) (old new : List DobutsuMove) (count number : ℕ) : Type 0 where
+  pub exact : IsIndexFor file by → AreExactMoves file text old new count number
+  pub told_by : number ≡ 0 → (list : List ValuedMove) × AreToldMovesBy file text by list × AreWritten list old new × (count ≡ length list)
+  pub refused_by : number ≢ 0 → (number ≡ 23) ⊎ ((fault : ByFault) × HasByFault file text by fault × (number ≡ number_by fault))
+  pub unmarked : (format : Format) (family : Family) (setup : Setup) → AreRead file text format family setup → ¬ IsMarkedBy by family → number ≡ 29

@@ -3,11 +3,9 @@ use Rattle.std.specs.Prelude.{◌≡◌, ◌≢◌, ℕ, List}
 use Rattle.dob_pieces.specs.declared.profile.Family.{Family}
 use Rattle.dob_pieces.specs.declared.profile.Profile.TheVariants.{A}
 use Rattle.dob_pieces.specs.declared.setup.Setup.{Setup}
-use Rattle.dob_pieces.specs.Profiles.{IsAllowed}
 use Rattle.dob_pieces.specs.Setups.{IsLegal}
 use Rattle.dob_text.specs.Faults.{HasTextFault}
 use Rattle.dob_text.specs.PositionText.{Spells}
-use Rattle.dob_rank.specs.Order.{IsPositionOfSet}
 use Rattle.dob_rank.specs.Families.{IsPositionOf, IsInClass}
 use Rattle.dob_value.specs.declared.value.Value.{Value}
 use Rattle.dob_value.specs.Bounds.{plies_of}
@@ -18,8 +16,9 @@ use Rattle.dob_dbfile.specs.Faults.{HasReadFault, IsNoLonger}
 use Rattle.dob_dbfile.specs.Looking.{HasRecord}
 use Rattle.dob_foreign.specs.Values.{outcome_number}
 use Rattle.dobutsu_c.specs.declared.fault.Fault.{Fault}
-use Rattle.dobutsu_c.specs.declared.fault.Fault.TheVariants.{Text, File, FarChick, OtherSet}
+use Rattle.dobutsu_c.specs.declared.fault.Fault.TheVariants.{Text, File, Member}
 use Rattle.dobutsu_c.specs.declared.value.DobutsuValue.{DobutsuValue}
+use Rattle.dobutsu_c.specs.Faults.{IsStranger}
 
 -- a value as other languages see it: 0 for a draw, 1 for a win, 2 for a loss, and the distance in plies, which is 0 for a draw
 abbrev pub shown : Value → DobutsuValue
@@ -50,7 +49,5 @@ IsTold file text value =
 abbrev pub HasProbeFault : List ℕ → List ℕ → Fault → Type 0
 HasProbeFault file text (Text fault) = HasTextFault A text fault
 HasProbeFault file text (File fault) = (setup : Setup) × IsTextOf text setup × HasReadFault (whole file) fault × (fault ≢ file_fault.Digest)
-HasProbeFault file text FarChick =
-    (format : Format) × (family : Family) × (setup : Setup) × AreRead file text format family setup × ¬ IsAllowed family.profile setup
-HasProbeFault file text OtherSet = (format : Format) × (family : Family) × (setup : Setup) × AreRead file text format family setup
-    × IsAllowed family.profile setup × ¬ IsPositionOfSet family.set setup
+HasProbeFault file text (Member stranger) =
+    (format : Format) × (family : Family) × (setup : Setup) × AreRead file text format family setup × IsStranger family setup stranger

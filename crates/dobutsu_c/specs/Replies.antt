@@ -2,9 +2,7 @@
 use Rattle.std.specs.Prelude.{◌≡◌, ◌+◌, ℕ, List, Option, Some, None}
 use Rattle.dob_pieces.specs.declared.profile.Profile.TheVariants.{A}
 use Rattle.dob_pieces.specs.declared.setup.Setup.{Setup}
-use Rattle.dob_pieces.specs.Profiles.{IsAllowed}
 use Rattle.dob_text.specs.Faults.{HasTextFault}
-use Rattle.dob_rank.specs.Order.{IsPositionOfSet}
 use Rattle.dob_rank.specs.Families.{IsPositionOf}
 use Rattle.dob_foreign.specs.Faults.{text_number}
 use Rattle.dob_certificate.specs.Lost.{SupportsAllLost}
@@ -15,8 +13,9 @@ use Rattle.dob_certify.specs.declared.replies.Reply.TheVariants.{Win, Loss}
 use Rattle.dob_certify.specs.Replies.{IsReply, IsRight}
 use Rattle.dobutsu_c.specs.declared.moves.DobutsuMove.{DobutsuMove}
 use Rattle.dobutsu_c.specs.declared.replies.ReplyFault.{ReplyFault}
-use Rattle.dobutsu_c.specs.declared.replies.ReplyFault.TheVariants.{Text, Bytes, FarChick, OtherSet, Unsupported, Unlisted, Memory}
+use Rattle.dobutsu_c.specs.declared.replies.ReplyFault.TheVariants.{Text, Bytes, Member, Unsupported, Unlisted, Memory}
 use Rattle.dobutsu_c.specs.Certificates.{defect_number}
+use Rattle.dobutsu_c.specs.Faults.{IsStranger, stranger_number}
 use Rattle.dobutsu_c.specs.Moves.{shown_move}
 use Rattle.dobutsu_c.specs.Probes.{IsTextOf}
 
@@ -52,17 +51,14 @@ HasNoReply said p _ = ⊥
 abbrev pub HasReplyFault : List ℕ → List ℕ → ReplyFault → Type 0
 HasReplyFault file text (Text fault) = HasTextFault A text fault
 HasReplyFault file text (Bytes defect) = (p : Setup) × IsTextOf text p × HasCertFault file defect
-HasReplyFault file text FarChick = (said : Content) × (p : Setup) × AreAsked file text said p × ¬ IsAllowed said.family.profile p
-HasReplyFault file text OtherSet =
-    (said : Content) × (p : Setup) × AreAsked file text said p × IsAllowed said.family.profile p × ¬ IsPositionOfSet said.family.set p
+HasReplyFault file text (Member stranger) = (said : Content) × (p : Setup) × AreAsked file text said p × IsStranger said.family p stranger
 HasReplyFault file text Memory = Unit {0}
 HasReplyFault file text fault = (said : Content) × (p : Setup) × AreAsked file text said p × HasNoReply said p fault
 
 abbrev pub reply_number : ReplyFault → ℕ
 reply_number (Text fault) = text_number fault
 reply_number (Bytes defect) = defect_number defect
-reply_number FarChick = 26
-reply_number OtherSet = 7
+reply_number (Member stranger) = stranger_number stranger
 reply_number Unsupported = 30
 reply_number Unlisted = 41
 reply_number Memory = 23

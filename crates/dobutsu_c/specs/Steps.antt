@@ -4,16 +4,8 @@ use Rattle.dob_pieces.specs.declared.profile.Profile.{Profile}
 use Rattle.dob_pieces.specs.declared.setup.Setup.{Setup}
 use Rattle.dob_moves.specs.declared.game_move.Move.{Move}
 use Rattle.dob_moves.specs.Statuses.{AreMoves, CanCatch, IsFirstCatch}
-use Rattle.dob_foreign.specs.declared.moves.MoveNumbers.{MoveNumbers}
-use Rattle.dob_foreign.specs.Moves.{move_numbers}
-use Rattle.dobutsu_c.specs.declared.steps.DobutsuStep.{DobutsuStep}
-
--- the numbers of a move, one by one
-abbrev pub step_of : MoveNumbers → DobutsuStep
-step_of numbers = record { kind = numbers.kind; from = numbers.from; to = numbers.to; catches = numbers.catches; grows = numbers.grows }
-
-abbrev pub shown_step : Move → DobutsuStep
-shown_step move = step_of (move_numbers move)
+use Rattle.dob_foreign.specs.declared.moves.DobutsuStep.{DobutsuStep}
+use Rattle.dob_foreign.specs.Moves.{shown_step}
 
 -- the moves of the position; where the enemy lion can be caught its first catch alone
 pub record AreSteps (profile : Profile) (p : Setup) (list : List Move) : Type 0 where

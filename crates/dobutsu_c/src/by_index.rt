@@ -11,8 +11,7 @@ ghost use Rattle.dobutsu_c.specs.declared.numbering.Numbering.TheVariants.{Count
 ghost use Rattle.dobutsu_c.specs.ByIndex.{IsRight, IsLongFor, IsHeldBy, IsAskedBy, IsGivenBy, IsToldBy, HasByFault, HasFileFault, HasHeldFault};
 ghost use Rattle.dobutsu_c.specs.Probes.{IsTextOf};
 
-use crate::asked::is_of_set;
-use crate::fault::Fault;
+use crate::fault::{Fault, check_member};
 use crate::numbering::Numbering;
 use crate::numbers::INDEX;
 use dob_dbfile::{Format, held_counted, held_family, held_value};
@@ -86,13 +85,10 @@ pub(crate) fn ask_at(file: &[u8], by: Numbering, position: Position) -> Result<A
         Ok(held) => held,
         Err(fault) => return Err(fault),
     };
-    if !position.is_allowed(held.family.profile) {
-        return Err(ByFault::Asked(Fault::FarChick));
+    match check_member(held.family, &position) {
+        Ok(()) => Ok(AskedBy { held, position }),
+        Err(stranger) => Err(ByFault::Asked(Fault::Member(stranger))),
     }
-    if !is_of_set(&position, held.family.set) {
-        return Err(ByFault::Asked(Fault::OtherSet));
-    }
-    Ok(AskedBy { held, position })
 }
 
 /// The value of the position whose text that is, or the first fault.

@@ -8,10 +8,10 @@ ghost use Rattle.dobutsu_c.specs.ByIndex.{IsClassFault};
 ghost use Rattle.dobutsu_c.specs.Counts.{IsFamily};
 ghost use Rattle.dobutsu_c.specs.Probes.{IsTextOf};
 
-use crate::asked::is_of_set;
 use crate::counts::family_of;
-use crate::fault::Fault;
+use crate::fault::check_member;
 use crate::numbers::INDEX;
+use dob_foreign::text_number;
 use dob_index::{class_by, is_index_of};
 use dob_pieces::Profile;
 use dob_text::read_position_bytes;
@@ -39,7 +39,7 @@ pub extern "C" fn dobutsu_class_by(
 {
     let position = match read_position_bytes(Profile::A, text) {
         Ok(position) => position,
-        Err(fault) => return Fault::Text(fault).number(),
+        Err(fault) => return text_number(fault),
     };
     let family = match family_of(chicks, elephants, giraffes, profile) {
         Ok(family) => family,
@@ -48,12 +48,11 @@ pub extern "C" fn dobutsu_class_by(
     if !is_index_of(family, index) {
         return INDEX;
     }
-    if !position.is_allowed(family.profile) {
-        return Fault::FarChick.number();
+    match check_member(family, &position) {
+        Ok(()) => {
+            *class = class_by(family, index, &position);
+            0
+        }
+        Err(stranger) => stranger.number(),
     }
-    if !is_of_set(&position, family.set) {
-        return Fault::OtherSet.number();
-    }
-    *class = class_by(family, index, &position);
-    0
 }

@@ -11,7 +11,7 @@
 // - Room for fewer moves than there are gets the first of them, the best, and the count is that of all.
 #![tactic(auto)]
 
-mod asked;
+mod answers;
 mod by_index;
 mod certificates;
 mod checks;

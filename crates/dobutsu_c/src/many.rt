@@ -1,15 +1,12 @@
 // The values of many positions by one call.
-ghost use Rattle.std.specs.Prelude.{◌≡◌, ◌≢◌, ◌-◌, min, length, take, drop, MatchResult};
-ghost use Rattle.dobutsu_c.specs.Many.{IsAnswer, AreAnswers, IsAnswerAt, AreAnswersAt};
+ghost use Rattle.std.specs.Prelude.{◌≡◌, ◌-◌, min, length, take, drop};
+ghost use Rattle.dobutsu_c.specs.Many.{IsAnswerOf, AreAnswers, IsAnswerAt, AreAnswersAt};
 ghost use Rattle.dobutsu_c.specs.declared.numbering.Numbering.TheVariants.{Index};
-ghost use Rattle.dobutsu_c.specs.ByIndex.{number_by};
-ghost use Rattle.dobutsu_c.specs.Probes.{shown};
 
-use crate::by_index::{ByFault, probe_at, probe_by};
+use crate::answers::{answer_position, answer_text};
 use crate::numbering::Numbering;
 use crate::positions::{DobutsuPosition, position_of};
-use crate::value::{DobutsuValue, shown};
-use dob_value::Value;
+use crate::value::DobutsuValue;
 
 /// The answer of one position: a fault's number or 0, and where it is 0 the value.
 #[repr(C)]
@@ -77,9 +74,11 @@ fn text_between(texts: &[u8], start: u64, end: u64) -> &[u8]
 
 // The answer of a text; a fault keeps the value.
 fn answer_by(file: &[u8], by: Numbering, text: &[u8], old: DobutsuAnswer) -> DobutsuAnswer
-    ensures { IsAnswer file.now by.entry text.now old result }
+    ensures { IsAnswerOf file.now by.entry text.now old result }
 {
-    answer_of(probe_by(file, by, text), old)
+    let mut value = old.value;
+    let fault = answer_text(file, by, text, &mut value);
+    DobutsuAnswer { fault, value }
 }
 
 // The answer of a position's numbers; a fault keeps the value.
@@ -92,25 +91,11 @@ fn answer_at(
     ensures { IsAnswerAt file.now by.entry numbers.now old result }
 {
     match position_of(numbers) {
-        Ok(position) => answer_of(probe_at(file, by, position), old),
-        Err(fault) => DobutsuAnswer {
-            fault: fault.number(),
-            value: old.value,
-        },
-    }
-}
-
-// What is told of a value or a fault.
-fn answer_of(probed: Result<Value, ByFault>, old: DobutsuAnswer) -> DobutsuAnswer
-    ensures { MatchResult probed
-        (λ value. (result.fault ≡ 0) × (result.value ≡ shown value))
-        (λ fault. (result.fault ≡ number_by fault) × (result.fault ≢ 0) × (result.value ≡ old.value)) }
-{
-    match probed {
-        Ok(value) => DobutsuAnswer {
-            fault: 0,
-            value: shown(value),
-        },
+        Ok(position) => {
+            let mut value = old.value;
+            let fault = answer_position(file, by, position, &mut value);
+            DobutsuAnswer { fault, value }
+        }
         Err(fault) => DobutsuAnswer {
             fault: fault.number(),
             value: old.value,

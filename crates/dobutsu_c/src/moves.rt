@@ -1,20 +1,11 @@
 // The moves of a position with their values by the bytes of a database's file, best first.
-ghost use Rattle.std.specs.Prelude.{◌≡◌, ◌≢◌, ◌⊎◌, List, length};
-ghost use Rattle.dob_pieces.specs.declared.setup.Setup.{Setup};
-ghost use Rattle.dob_value.specs.Follows.{ClassTable, IsValueTable};
-ghost use Rattle.dob_value.specs.Values.{HasValue};
-ghost use Rattle.dob_dbfile.specs.Format.{IsFile};
-ghost use Rattle.dob_probe.specs.declared.by_value.ValuedMove.{ValuedMove as Valued};
-ghost use Rattle.dob_probe.specs.ValuedMoves.{AreValuedMoves};
-ghost use Rattle.dobutsu_c.specs.declared.fault.Fault.{Fault as AnyFault};
-ghost use Rattle.dobutsu_c.specs.Faults.{fault_number};
-ghost use Rattle.dobutsu_c.specs.Moves.{AreToldMoves, AreWritten, shown_move};
-ghost use Rattle.dobutsu_c.specs.Probes.{HasProbeFault, IsTextOf};
+ghost use Rattle.std.specs.Prelude.{◌≡◌, ◌≢◌};
+ghost use Rattle.dobutsu_c.specs.Moves.{AreExactMoves, AreWritten, shown_move};
 
-use crate::moves_by::told_moves;
+use crate::moves_by::answer_moves;
 use crate::numbering::Numbering;
 use crate::value::{DobutsuValue, shown};
-use dob_foreign::{MoveNumbers, move_numbers};
+use dob_foreign::shown_step;
 use dob_moves::Move;
 use dob_probe::ValuedMove;
 use std::alloc::Global;
@@ -41,6 +32,7 @@ pub struct DobutsuMove {
 /// it answers the number of a fault and writes nothing: the first of those of `dobutsu_probe` that holds, or 23 if memory
 /// runs out: it takes some thousand bytes and gives all back.
 #[unsafe(no_mangle)]
+#[tactic(auto, using(crate::proofs::Indexed::all_counted))]
 pub extern "C" fn dobutsu_moves(
     alloc: Global,
     file: &[u8],
@@ -48,23 +40,10 @@ pub extern "C" fn dobutsu_moves(
     moves: &mut [DobutsuMove],
     count: &mut u64,
 ) -> u32
-    ensures moves { result ≡ 0 → (list : List Valued) × AreToldMoves file.now text.now list
-        × AreWritten list moves.old moves.new × (count.new ≡ length list) }
-    ensures right { (table : ClassTable) (setup : Setup) → IsFile file.now table → IsValueTable table.family table.values → IsTextOf text.now setup
-        → result ≡ 0 → (list : List Valued) × AreValuedMoves table.family.profile (HasValue table.family.profile) setup list
-        × AreWritten list moves.old moves.new × (count.new ≡ length list) }
-    ensures refused { result ≢ 0 → (result ≡ 23) ⊎ ((fault : AnyFault) × HasProbeFault file.now text.now fault × (result ≡ fault_number fault)) }
-    ensures fault { (fault : AnyFault) → HasProbeFault file.now text.now fault → result ≡ fault_number fault }
+    ensures exact { AreExactMoves file.now text.now moves.old moves.new count.new result }
     ensures unchanged { result ≢ 0 → (moves.new ≡ moves.old) × (count.new ≡ count.old) }
 {
-    match told_moves(alloc, file, Numbering::Counted, text) {
-        Ok(list) => {
-            write_moves(moves, &list);
-            *count = list.len() as u64;
-            0
-        }
-        Err(fault) => fault,
-    }
+    answer_moves(alloc, file, Numbering::Counted, text, moves, count)
 }
 
 /// Writes the first of the moves, as many as there are places.
@@ -82,19 +61,13 @@ pub(crate) fn write_moves(places: &mut [DobutsuMove], list: &[ValuedMove])
 pub(crate) fn shown_move(played: Move, value: DobutsuValue) -> DobutsuMove
     ensures { result ≡ shown_move played value }
 {
-    let MoveNumbers {
-        kind,
-        from,
-        to,
-        catches,
-        grows,
-    } = move_numbers(played);
+    let step = shown_step(played);
     DobutsuMove {
-        kind,
-        from,
-        to,
-        catches,
-        grows,
+        kind: step.kind,
+        from: step.from,
+        to: step.to,
+        catches: step.catches,
+        grows: step.grows,
         value,
     }
 }

@@ -1,22 +1,9 @@
 // The moves of a position with their values by the bytes of a database's file and the index of its family, best first.
-ghost use Rattle.std.specs.Prelude.{◌≡◌, ◌≢◌, ◌⊎◌, List, false, length, IfErr, MatchResult};
-ghost use Rattle.dob_pieces.specs.declared.profile.Family.{Family as AnyFamily};
-ghost use Rattle.dob_pieces.specs.declared.setup.Setup.{Setup};
-ghost use Rattle.dob_value.specs.Follows.{ClassTable, IsValueTable};
-ghost use Rattle.dob_value.specs.Values.{HasValue};
-ghost use Rattle.dob_index.specs.Index.{IsMarked};
-ghost use Rattle.dob_dbfile.specs.declared.header.Format.{Format as AnyFormat};
-ghost use Rattle.dob_dbfile.specs.Format.{IsFile};
-ghost use Rattle.dob_probe.specs.declared.by_value.ValuedMove.{ValuedMove as Valued};
-ghost use Rattle.dob_probe.specs.ValuedMoves.{AreValuedMoves};
+ghost use Rattle.std.specs.Prelude.{◌≡◌, ◌≢◌, false, IfErr, MatchResult};
 ghost use Rattle.dobutsu_c.specs.declared.numbering.Numbering.TheVariants.{Index};
-ghost use Rattle.dobutsu_c.specs.declared.by_index.ByFault.{ByFault as AnyByFault};
 ghost use Rattle.dobutsu_c.specs.declared.by_index.ByFault.TheVariants as by_fault;
-ghost use Rattle.dobutsu_c.specs.declared.fault.Fault.{Fault as AnyFault};
-ghost use Rattle.dobutsu_c.specs.ByIndex.{IsRight, IsIndexFor, IsHeldBy, IsGivenBy, HasByFault, number_by};
-ghost use Rattle.dobutsu_c.specs.Faults.{fault_number};
-ghost use Rattle.dobutsu_c.specs.Moves.{AreToldMoves, AreToldMovesBy, AreWritten, IsMovesFault, gap_number};
-ghost use Rattle.dobutsu_c.specs.Probes.{AreRead, HasProbeFault, IsTextOf};
+ghost use Rattle.dobutsu_c.specs.ByIndex.{IsRight, IsHeldBy, IsGivenBy, number_by};
+ghost use Rattle.dobutsu_c.specs.Moves.{AreAnsweredMoves, AreToldMovesBy, IsMovesFault, gap_number};
 
 use crate::by_index::{ByFault, HeldBy, ask_by, value_by};
 use crate::moves::{DobutsuMove, write_moves};
@@ -40,23 +27,25 @@ pub extern "C" fn dobutsu_moves_by(
     moves: &mut [DobutsuMove],
     count: &mut u64,
 ) -> u32
-    ensures moves { IsIndexFor file.now (Index index.entry) → result ≡ 0 → (list : List Valued) × AreToldMoves file.now text.now list
-        × AreWritten list moves.old moves.new × (count.new ≡ length list) }
-    ensures right { IsIndexFor file.now (Index index.entry) → (table : ClassTable) (setup : Setup) → IsFile file.now table → IsValueTable table.family table.values
-        → IsTextOf text.now setup → result ≡ 0 → (list : List Valued) × AreValuedMoves table.family.profile (HasValue table.family.profile) setup list
-        × AreWritten list moves.old moves.new × (count.new ≡ length list) }
-    ensures refused { IsIndexFor file.now (Index index.entry) → result ≢ 0
-        → (result ≡ 23) ⊎ ((fault : AnyFault) × HasProbeFault file.now text.now fault × (result ≡ fault_number fault)) }
-    ensures fault { IsIndexFor file.now (Index index.entry) → (fault : AnyFault) → HasProbeFault file.now text.now fault → result ≡ fault_number fault }
-    ensures told_by { result ≡ 0 → (list : List Valued) × AreToldMovesBy file.now text.now (Index index.entry) list
-        × AreWritten list moves.old moves.new × (count.new ≡ length list) }
-    ensures refused_by { result ≢ 0
-        → (result ≡ 23) ⊎ ((fault : AnyByFault) × HasByFault file.now text.now (Index index.entry) fault × (result ≡ number_by fault)) }
-    ensures unmarked { (format : AnyFormat) (family : AnyFamily) (setup : Setup) → AreRead file.now text.now format family setup → ¬ IsMarked family index.now
-        → result ≡ 29 }
+    ensures answer { AreAnsweredMoves file.now (Index index.entry) text.now moves.old moves.new count.new result }
     ensures unchanged { result ≢ 0 → (moves.new ≡ moves.old) × (count.new ≡ count.old) }
 {
-    match told_moves(alloc, file, Numbering::Index(index), text) {
+    answer_moves(alloc, file, Numbering::Index(index), text, moves, count)
+}
+
+/// Answers the moves of the position whose text that is.
+pub(crate) fn answer_moves(
+    alloc: Global,
+    file: &[u8],
+    by: Numbering,
+    text: &[u8],
+    moves: &mut [DobutsuMove],
+    count: &mut u64,
+) -> u32
+    ensures answer { AreAnsweredMoves file.now by.entry text.now moves.old moves.new count.new result }
+    ensures unchanged { result ≢ 0 → (moves.new ≡ moves.old) × (count.new ≡ count.old) }
+{
+    match told_moves(alloc, file, by, text) {
         Ok(list) => {
             write_moves(moves, &list);
             *count = list.len() as u64;
@@ -66,8 +55,8 @@ pub extern "C" fn dobutsu_moves_by(
     }
 }
 
-/// The moves of the position whose text that is, with their values, or the number of the first fault.
-pub(crate) fn told_moves(
+// The moves of the position whose text that is, with their values, or the number of the first fault.
+fn told_moves(
     alloc: Global,
     file: &[u8],
     by: Numbering,

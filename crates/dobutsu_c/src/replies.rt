@@ -6,8 +6,8 @@ ghost use Rattle.dob_certify.specs.declared.replies.Reply.{Reply as AnyReply};
 ghost use Rattle.dobutsu_c.specs.Moves.{shown_move};
 ghost use Rattle.dobutsu_c.specs.Replies.{HasNoReply, HasReplyFault, IsRepliedBy, IsReplyBy, IsReplyRefused, reply_number, shown_reply};
 
-use crate::asked::is_of_set;
 use crate::certificates::defect_number;
+use crate::fault::{Stranger, check_member};
 use crate::moves::{DobutsuMove, shown_move};
 use crate::numbers::{MEMORY, UNSUPPORTED};
 use crate::value::DobutsuValue;
@@ -27,10 +27,8 @@ pub(crate) enum ReplyFault {
     Text(TextFault),
     /// The bytes are no certificate's file.
     Bytes(Defect),
-    /// E26: a chick of the position stands where the certificate's profile lets none stand.
-    FarChick,
-    /// E7: the position isn't of the certificate's piece set.
-    OtherSet,
+    /// The position isn't of the certificate's family.
+    Member(Stranger),
     /// E30: an entry of the lost list isn't supported.
     Unsupported,
     /// E41: the certificate says nothing of the position.
@@ -48,8 +46,7 @@ impl ReplyFault {
         match self {
             ReplyFault::Text(fault) => text_number(fault),
             ReplyFault::Bytes(defect) => defect_number(defect),
-            ReplyFault::FarChick => 26,
-            ReplyFault::OtherSet => 7,
+            ReplyFault::Member(stranger) => stranger.number(),
             ReplyFault::Unsupported => UNSUPPORTED,
             ReplyFault::Unlisted => 41,
             ReplyFault::Memory => MEMORY,
@@ -96,13 +93,10 @@ fn replied_by(alloc: Global, file: &[u8], text: &[u8]) -> Result<Reply, ReplyFau
         Err(ReadFault::Memory) => return Err(ReplyFault::Memory),
         Err(ReadFault::Defect(defect)) => return Err(ReplyFault::Bytes(defect)),
     };
-    if !position.is_allowed(certificate.family.profile) {
-        return Err(ReplyFault::FarChick);
+    match check_member(certificate.family, &position) {
+        Ok(()) => reply_of(alloc, &certificate, &position),
+        Err(stranger) => Err(ReplyFault::Member(stranger)),
     }
-    if !is_of_set(&position, certificate.family.set) {
-        return Err(ReplyFault::OtherSet);
-    }
-    reply_of(alloc, &certificate, &position)
 }
 
 // What the certificate says of a position of its family, once its lost list is looked at.

@@ -7,30 +7,18 @@ ghost use Rattle.dob_moves.specs.declared.position_status.Status.{Status as AnyS
 ghost use Rattle.dob_moves.specs.declared.position_status.Status.TheVariants.{Open};
 ghost use Rattle.dob_moves.specs.Moves.{CanGo, Goes};
 ghost use Rattle.dob_moves.specs.Statuses.{HasStatus};
+ghost use Rattle.dob_foreign.specs.Moves.{shown_step};
 ghost use Rattle.dob_foreign.specs.Statuses.{status_number};
 ghost use Rattle.dobutsu_c.specs.Positions.{IsNumbersAsked, IsRefused, IsShown};
-ghost use Rattle.dobutsu_c.specs.Steps.{AreSteps, AreWrittenSteps, shown_step};
+ghost use Rattle.dobutsu_c.specs.Steps.{AreSteps, AreWrittenSteps};
 
 use crate::numbered::{Numbered, ask_numbers};
 use crate::numbers::{MEMORY, NO_MOVE};
 use crate::positions::{DobutsuPosition, shown_position};
-use dob_foreign::{MoveNumbers, move_numbers, status_number};
+use dob_foreign::{DobutsuStep, shown_step, status_number};
 use dob_moves::{Move, apply, first_catch, moves, status};
 use dob_pieces::Memory;
 use std::alloc::Global;
-
-/// A move: a step of a piece of that kind from one square to another, or where it comes from 12 a drop. Chick 0, elephant 1, giraffe 2, hen 3, lion 4, as the
-/// piece was before; square a1 is 0, b1 1, c1 2, a2 3 and so on to c4, 11. `catches` is 1 if a piece is caught and `grows` if a chick becomes a hen,
-/// else 0.
-#[repr(C)]
-#[derive(Clone, Copy)]
-pub struct DobutsuStep {
-    pub kind: u32,
-    pub from: u32,
-    pub to: u32,
-    pub catches: u32,
-    pub grows: u32,
-}
 
 /// The status of a position by the profile of that number, 0 if it is open, 1 if the enemy lion can be caught, 2 if it has tried, 3 if there is no
 /// move; and its moves in the move order. Where the enemy lion can be caught there is its first catch alone, and none if the position is lost already. It
@@ -153,24 +141,4 @@ fn is_shown(played: Move, step: &DobutsuStep) -> bool
         && shown.to == step.to
         && shown.catches == step.catches
         && shown.grows == step.grows
-}
-
-// The move as it is shown.
-fn shown_step(played: Move) -> DobutsuStep
-    ensures { result ≡ shown_step played }
-{
-    let MoveNumbers {
-        kind,
-        from,
-        to,
-        catches,
-        grows,
-    } = move_numbers(played);
-    DobutsuStep {
-        kind,
-        from,
-        to,
-        catches,
-        grows,
-    }
 }

@@ -2,7 +2,7 @@
 ghost use Rattle.std.specs.Prelude.{◌≡◌, IfSome, Some, codes, is_some, option_map, true};
 ghost use Rattle.clap.specs.Words.{first_value, found_of};
 ghost use Rattle.dob_words.specs.Shapes.{HasFit, texts_in};
-ghost use Rattle.dob_words.specs.Readings.{IsLinesOrder, IsFlaggedBy, IsOneOf, IsReadFor, form_for, name_of, subcommand_asked, text_given};
+ghost use Rattle.dob_words.specs.Readings.{IsLinesOrder, IsFlaggedBy, IsOneOf, IsReadFor, form_for, line_form, name_of, stats_form, subcommand_asked, text_given};
 ghost use Rattle.dob_words.specs.Words.{asks, cleared, is_number, number_in, profile_named};
 ghost use Rattle.dob_words.specs.declared.rows.Subcommand.TheVariants.{Build, Certify, Puzzles, Reach, Zugzwangs};
 
@@ -10,27 +10,59 @@ use crate::rows::Subcommand;
 use clap::ArgMatches;
 use dob_pieces::Profile;
 
+/// What is asked of a position.
+#[derive(Clone, Copy)]
+pub enum Question {
+    /// Its value.
+    Value(ValueForm),
+    /// Its moves with their values.
+    Moves(MovesForm),
+    /// Its line.
+    Line(LineForm),
+}
+
+/// How a value is told.
+#[derive(Clone, Copy)]
+pub enum ValueForm {
+    /// On a line.
+    Plain,
+    /// As a JSON object.
+    Object,
+}
+
+/// How moves with their values are told.
+#[derive(Clone, Copy)]
+pub enum MovesForm {
+    /// Each on a line.
+    Plain,
+    /// The first of them alone.
+    Best,
+    /// As a JSON object.
+    Object,
+}
+
+/// How a line is told.
+#[derive(Clone, Copy)]
+pub enum LineForm {
+    /// Its moves, all on one line.
+    Plain,
+    /// Each move on a line with its number.
+    Numbered,
+    /// The position's value and its line, as a JSON object.
+    Object,
+    /// The position drawn, with its value and its line.
+    Drawn,
+}
+
 /// What a position is asked by a database file.
 #[derive(Clone, Copy)]
 pub enum Asked {
     /// Its value, by the whole table.
     Probe,
-    /// Its value, by its record, as JSON if it is.
-    Look {
-        is_json: bool,
-    },
-    /// Its moves with their values, as JSON if they are.
-    Moves {
-        is_json: bool,
-    },
-    /// The first move of its line, with its value.
-    Best,
-    /// Its line, by the whole table or by records, as JSON if it is, or each move on a line with its number if it is numbered.
-    Line {
-        is_numbered: bool,
-        by_records: bool,
-        is_json: bool,
-    },
+    /// Its line, by the whole table.
+    Line(LineForm),
+    /// The question, by the records that its answer needs.
+    Records(Question),
 }
 
 /// What the program is asked to do.
@@ -55,13 +87,11 @@ pub enum LinesOrder<'a> {
         profile: Profile,
         set: &'a str,
     },
-    /// To print how many classes are reached from that of the position, by the rules of the profile; where a table's file is named, by
-    /// its rules, and how many of them have which value. A line for each distance where it has levels; and how far it is if it is watched.
+    /// To print how many classes are reached from that of the position; where a table's file is named, by its rules, and how many of them have
+    /// which value.
     Reach {
-        profile: Profile,
+        search: ReachSearch,
         file: Option<&'a str>,
-        has_levels: bool,
-        is_watched: bool,
         position: &'a str,
     },
     /// To build a table.
@@ -84,11 +114,10 @@ pub enum LinesOrder<'a> {
         picture: Option<&'a str>,
         position: &'a str,
     },
-    /// To print how many classes of the file's table have which value, as JSON or as lines of two fields if it is for scripts.
+    /// To print how many classes of the file's table have which value.
     Stats {
         file: &'a str,
-        is_csv: bool,
-        is_json: bool,
+        form: StatsForm,
     },
     /// To print how many pairs of classes of the file's table whoever has to move would rather not move in, and the first N of them
     /// where a number is given.
@@ -96,15 +125,10 @@ pub enum LinesOrder<'a> {
         file: &'a str,
         listed: Option<u64>,
     },
-    /// To print the first `count` positions of the file's table with exactly one fastest win, in `plies` plies: those behind a class where one is
-    /// given, in the order that a seed makes if one is given, each with the number of its class if it is numbered.
+    /// To print puzzles of the file's table.
     Puzzles {
         file: &'a str,
-        plies: u64,
-        count: u64,
-        from: Option<u64>,
-        seed: Option<u64>,
-        is_numbered: bool,
+        search: PuzzleSearch,
     },
     /// To keep the table of the file under the other name, in the format that is written.
     Migrate {
@@ -123,6 +147,40 @@ pub enum LinesOrder<'a> {
         file: &'a str,
         position: &'a str,
     },
+}
+
+/// How it is looked for what can be reached.
+#[derive(Clone, Copy)]
+pub struct ReachSearch {
+    /// The rules, where no file says them.
+    pub profile: Profile,
+    /// Whether there is a line for each distance.
+    pub has_levels: bool,
+    /// Whether lines on the console say how far it is.
+    pub is_watched: bool,
+}
+
+/// How statistics are told: as lines, as lines of two fields for scripts, or as JSON objects.
+#[derive(Clone, Copy)]
+pub enum StatsForm {
+    Lines,
+    Csv,
+    Objects,
+}
+
+/// Which puzzles are looked for, positions with exactly one fastest win, and how they are printed.
+#[derive(Clone, Copy)]
+pub struct PuzzleSearch {
+    /// In how many plies they are won.
+    pub plies: u64,
+    /// How many of them, at most.
+    pub count: u64,
+    /// The class behind which they stand, where one is given.
+    pub from: Option<u64>,
+    /// What makes their order, where it is given.
+    pub seed: Option<u64>,
+    /// Whether the number of its class stands before each.
+    pub is_numbered: bool,
 }
 
 /// To build the table of the piece set that the text names, by the rules of the profile and by `nodes` nodes, or by as many as
@@ -155,27 +213,21 @@ pub(super) fn order_for<'a>(subcommand: Subcommand, inner: &ArgMatches<'a>) -> O
 {
     match subcommand {
         Subcommand::Probe => asked_order(inner, Asked::Probe),
-        Subcommand::Look => {
-            let is_json = inner.get_str("json").is_some();
-            asked_order(inner, Asked::Look { is_json })
-        }
-        Subcommand::Moves => {
-            let is_json = inner.get_str("json").is_some();
-            asked_order(inner, Asked::Moves { is_json })
-        }
-        Subcommand::Best => asked_order(inner, Asked::Best),
+        Subcommand::Look => match inner.get_str("json") {
+            None => asked_order(inner, Asked::Records(Question::Value(ValueForm::Plain))),
+            Some(_) => asked_order(inner, Asked::Records(Question::Value(ValueForm::Object))),
+        },
+        Subcommand::Moves => match inner.get_str("json") {
+            None => asked_order(inner, Asked::Records(Question::Moves(MovesForm::Plain))),
+            Some(_) => asked_order(inner, Asked::Records(Question::Moves(MovesForm::Object))),
+        },
+        Subcommand::Best => asked_order(inner, Asked::Records(Question::Moves(MovesForm::Best))),
         Subcommand::Line => {
-            let is_numbered = inner.get_str("numbered").is_some();
-            let by_records = inner.get_str("records").is_some();
-            let is_json = inner.get_str("json").is_some();
-            asked_order(
-                inner,
-                Asked::Line {
-                    is_numbered,
-                    by_records,
-                    is_json,
-                },
-            )
+            let form = line_form(inner.get_str("numbered"), inner.get_str("json"));
+            match inner.get_str("records") {
+                None => asked_order(inner, Asked::Line(form)),
+                Some(_) => asked_order(inner, Asked::Records(Question::Line(form))),
+            }
         }
         Subcommand::Value => Some(Order::Lines(LinesOrder::Value {
             profile: profile_named(inner.get_str("PROFILE")),
@@ -198,8 +250,7 @@ pub(super) fn order_for<'a>(subcommand: Subcommand, inner: &ArgMatches<'a>) -> O
         })),
         Subcommand::Stats => Some(Order::Lines(LinesOrder::Stats {
             file: text(inner, "FILE"),
-            is_csv: inner.get_str("csv").is_some(),
-            is_json: inner.get_str("json").is_some(),
+            form: stats_form(inner.get_str("csv"), inner.get_str("json")),
         })),
         Subcommand::Zugzwangs => Some(Order::Lines(zugzwangs_order(inner))),
         Subcommand::Puzzles => Some(Order::Lines(puzzles_order(inner))),
@@ -224,11 +275,14 @@ fn reach_order<'a>(inner: &ArgMatches<'a>) -> LinesOrder<'a>
     requires { HasFit (form_for Reach) inner.now }
     ensures { IsLinesOrder Reach (texts_in (form_for Reach) inner.now) result }
 {
-    LinesOrder::Reach {
+    let search = ReachSearch {
         profile: profile_named(inner.get_str("PROFILE")),
-        file: inner.get_str("FILE"),
         has_levels: inner.get_str("levels").is_some(),
         is_watched: inner.get_str("progress").is_some(),
+    };
+    LinesOrder::Reach {
+        search,
+        file: inner.get_str("FILE"),
         position: text(inner, "POSITION"),
     }
 }
@@ -263,13 +317,16 @@ fn puzzles_order<'a>(inner: &ArgMatches<'a>) -> LinesOrder<'a>
     requires { HasFit (form_for Puzzles) inner.now }
     ensures { IsLinesOrder Puzzles (texts_in (form_for Puzzles) inner.now) result }
 {
-    LinesOrder::Puzzles {
-        file: text(inner, "FILE"),
+    let search = PuzzleSearch {
         plies: number(text(inner, "D")),
         count: number(text(inner, "N")),
         from: number_given(inner.get_str("CLASS")),
         seed: number_given(inner.get_str("SEED")),
         is_numbered: inner.get_str("numbered").is_some(),
+    };
+    LinesOrder::Puzzles {
+        file: text(inner, "FILE"),
+        search,
     }
 }
 
@@ -286,6 +343,28 @@ fn certify_order<'a>(inner: &ArgMatches<'a>) -> LinesOrder<'a>
         is_watched: inner.get_str("progress").is_some(),
         position: text(inner, "POSITION"),
     })
+}
+
+// How a line is told: as JSON, also where its moves are to be numbered.
+fn line_form(numbered: Option<&str>, json: Option<&str>) -> LineForm
+    ensures { result ≡ line_form (text_given numbered.entry) (text_given json.entry) }
+{
+    match (numbered, json) {
+        (_, Some(_)) => LineForm::Object,
+        (Some(_), None) => LineForm::Numbered,
+        (None, None) => LineForm::Plain,
+    }
+}
+
+// How statistics are told: as JSON, also where they are to be for scripts.
+fn stats_form(csv: Option<&str>, json: Option<&str>) -> StatsForm
+    ensures { result ≡ stats_form (text_given csv.entry) (text_given json.entry) }
+{
+    match (csv, json) {
+        (_, Some(_)) => StatsForm::Objects,
+        (Some(_), None) => StatsForm::Csv,
+        (None, None) => StatsForm::Lines,
+    }
 }
 
 // What the matches ask for by one position or by `--each`, if it is clear.

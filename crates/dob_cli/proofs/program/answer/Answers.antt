@@ -13,7 +13,7 @@ returns-in-Count g c =
     rw c.in-Count.is (answered_by (shelf_change shelf shelf) _ _ _ c.answer_count.ensures.ok c.answer_count.ensures.err (search rules), unchanged shelf.has)
 
 pub returns-in-Reach : goal.returns-in-Reach
-returns-in-Reach g c = rw c.in-Reach.is (rw c.reach_of-search.ensures at c.answer_reach.ensures)
+returns-in-Reach g c = rw c.in-Reach.is c.answer_reach.ensures
 
 pub returns-in-Ask : goal.returns-in-Ask
 returns-in-Ask g c = rw c.in-Ask.is c.answer_asked.ensures
@@ -28,7 +28,7 @@ pub returns-in-Show : goal.returns-in-Show
 returns-in-Show g c = rw c.in-Show.is c.answer_show.ensures
 
 pub returns-in-Stats : goal.returns-in-Stats
-returns-in-Stats g c = rw c.in-Stats.is (rw c.form_of.ensures at c.answer_stats.ensures)
+returns-in-Stats g c = rw c.in-Stats.is c.answer_stats.ensures
 
 pub returns-in-Migrate : goal.returns-in-Migrate
 returns-in-Migrate g c = rw c.in-Migrate.is c.answer_migrate.ensures
@@ -37,7 +37,7 @@ pub returns-in-Zugzwangs : goal.returns-in-Zugzwangs
 returns-in-Zugzwangs g c = rw c.in-Zugzwangs.is c.answer_zugzwangs.ensures
 
 pub returns-in-Puzzles : goal.returns-in-Puzzles
-returns-in-Puzzles g c = rw c.in-Puzzles.is (rw c.search_of-search.ensures at c.answer_puzzles.ensures)
+returns-in-Puzzles g c = rw c.in-Puzzles.is c.answer_puzzles.ensures
 
 pub returns-in-Certify : goal.returns-in-Certify
 returns-in-Certify g c = rw c.in-Certify.is c.answer_certify.ensures

@@ -1,12 +1,11 @@
 -- It is asked of the table, or of the records.
-use Rattle.std.proofs.Common.{◌∙◌, sym}
 use Rattle.dob_cli.proofs.program.answer_asked.Goals as goal
 
 pub returns-in-Probe : goal.returns-in-Probe
-returns-in-Probe g c = rw (sym c.way_of.ensures ∙ c.in-Probe.is) c.answer_probe.ensures
+returns-in-Probe g c = rw c.in-Probe.is c.answer_probe.ensures
 
 pub returns-in-Line : goal.returns-in-Line
-returns-in-Line g c = rw (sym c.way_of.ensures ∙ c.in-Line.is) c.answer_line.ensures
+returns-in-Line g c = rw c.in-Line.is c.answer_line.ensures
 
 pub returns-in-Records : goal.returns-in-Records
-returns-in-Records g c = rw (sym c.way_of.ensures ∙ c.in-Records.is) c.answer_question.ensures
+returns-in-Records g c = rw c.in-Records.is c.answer_question.ensures

@@ -1,9 +1,7 @@
 -- What the header's bytes are refused for is a fault of the file.
-use Rattle.dob_dbfile.proofs.Common.{◌≤◌, arith, inr, length, refl, subst, take, ℕ, IfErr-weaker, err_from_is_err_and, whole, CountsClasses, HasHeaderFault}
+use Rattle.dob_dbfile.proofs.Common.{◌≤◌, arith, inr, length, refl, subst, take, ℕ, err_from_is_err_and, whole, CountsClasses, HasHeaderFault}
 use Rattle.dob_dbfile.proofs.Common.{header_len}
 use Rattle.dob_dbfile.proofs.Headers.{set_lifts, counts_lifts, fault_lifts, front_refused, header_long}
-use Rattle.dob_dbfile.proofs.HeldBytes.{front_refused_whole}
-use Rattle.dob_dbfile.specs.declared.fault.Fault.TheVariants as fault
 use Rattle.dob_dbfile.proofs.held.held_header.Goals as goal
 
 pub returns-in_err-format-clause-front : goal.returns-in_err-format-clause-front
@@ -13,9 +11,6 @@ returns-in_err-format-clause-front c =
     rw (p.1, p.2) (front_refused (whole bytes) _
     (fault_lifts 20 bytes (omega arith) (omega (arith, c.if-bytes-lt-FRONT_LEN.false)) c.in_err-format.field-0.0 c.in_err-format.ensures.fault))
 
-pub returns-in_err-format-clause-fault : goal.returns-in_err-format-clause-fault
-returns-in_err-format-clause-fault c = IfErr-weaker c.from_residual.result _ _ (front_refused_whole c.args.bytes.now) (returns-in_err-format-clause-front c)
-
 pub returns-then-bytes-header_len-clause-front : goal.returns-then-bytes-header_len-clause-front
 returns-then-bytes-header_len-clause-front c =
     let bytes = c.args.bytes.now in
@@ -23,9 +18,6 @@ returns-then-bytes-header_len-clause-front c =
     let named = set_lifts 20 bytes (omega arith) (omega (arith, c.if-bytes-lt-FRONT_LEN.false)) format c.in_ok-format.set c.in_ok-format.ensures.named in
     let short : header_len format ≤ length bytes → ⊥ = λ le. omega (arith, le, c.header_len.ensures, c.if-bytes-header_len.true) in
     (inr (format, c.in_ok-format.set, named, λ has. short has.1), refl)
-
-pub returns-then-bytes-header_len-clause-fault : goal.returns-then-bytes-header_len-clause-fault
-returns-then-bytes-header_len-clause-fault c = front_refused_whole c.args.bytes.now fault.Truncated (returns-then-bytes-header_len-clause-front c)
 
 pub returns-in_err-family_counted-clause-front : goal.returns-in_err-family_counted-clause-front
 returns-in_err-family_counted-clause-front c =
@@ -35,10 +27,6 @@ returns-in_err-family_counted-clause-front c =
     let there : header_len format ≤ length bytes = omega (arith, c.header_len.ensures, c.if-bytes-header_len.false) in
     rw (p.1, p.2) (front_refused (whole bytes) _ (fault_lifts (header_len format) bytes (header_long format) there c.in_err-family_counted.field-0.0
     (subst (λ (n : ℕ). HasHeaderFault (take n bytes) c.in_err-family_counted.field-0.0) c.header_len-2.ensures c.in_err-family_counted.ensures.fault)))
-
-pub returns-in_err-family_counted-clause-fault : goal.returns-in_err-family_counted-clause-fault
-returns-in_err-family_counted-clause-fault c =
-    IfErr-weaker c.from_residual-in_err-family_counted.result _ _ (front_refused_whole c.args.bytes.now) (returns-in_err-family_counted-clause-front c)
 
 pub returns-clause-counted : goal.returns-clause-counted
 returns-clause-counted c =

@@ -18,7 +18,7 @@ returns-then-are_same-clause-is g c = λ stream message gives holds.
     record {
       ends = found.ends;
       whole = found.whole ∙ room;
-      digest = found.same ∙ c.are_same.ensures.0 c.if-are_same.true ∙ c.finalize.ensures message holds;
+      digest = found.same ∙ c.are_same.ensures.same.0 c.if-are_same.true ∙ c.finalize.ensures message holds;
     }
 
 pub returns-else-are_same-clause-fault : goal.returns-else-are_same-clause-fault
@@ -29,7 +29,7 @@ returns-else-are_same-clause-fault g c = λ stream message gives holds.
       found.whole ∙ room,
       found.ends,
       λ same.
-          let yes : c.are_same.result ≡ true = c.are_same.ensures.1 (sym found.same ∙ same ∙ sym (c.finalize.ensures message holds)) in
+          let yes : c.are_same.result ≡ true = c.are_same.ensures.same.1 (sym found.same ∙ same ∙ sym (c.finalize.ensures message holds)) in
           let no : c.are_same.result ≡ false = c.if-are_same.false in
           cc,
     )

@@ -1,9 +1,9 @@
 -- What the source told is what the file has.
-use Rattle.dob_query.proofs.Common.{List, rules, ℕ, Stream, whole, shelf_change, IsAnswerBy, IsAnswerOf, IsAskingFault, IsFaultOfAsking}
+use Rattle.dob_query.proofs.Common.{List, rules, ℕ, Stream, whole, shelf_change, IsAnswerBy, IsAnswerOf, IsAskingFault}
 use Rattle.std.specs.Prelude.{string_bytes}
 use Rattle.dob_query.proofs.Asking.{ok_each, source_asks}
 use Rattle.dob_files.proofs.Endings.{answered_by}
-use Rattle.dob_query.proofs.Placed.{err_weaker}
+use Rattle.std.proofs.lemmas.Result.{IfErr-weaker}
 use Rattle.dob_query.proofs.questions.answer_of.Goals as goal
 
 pub returns-clause-answered : goal.returns-clause-answered
@@ -17,7 +17,7 @@ returns-clause-answered g c =
           (IsAskingFault question Has setup) c.ask-answer.result
           (ok_each Has (λ bytes lines. IsAnswerOf question (whole bytes) setup (string_bytes lines)) c.ask-answer.result
           (λ bytes has. c.ask-answer.ensures.ok (whole bytes) (c.in_ok-source.ensures.found bytes has) (c.in_ok-source.ensures.shown bytes has)))
-          (err_weaker (IsFaultOfAsking question Gives setup) (IsAskingFault question Has setup) c.ask-answer.result
+          (IfErr-weaker c.ask-answer.result _ _
           (λ fault. source_asks question Has setup Gives fault (λ bytes has. (c.in_ok-source.ensures.found bytes has, c.in_ok-source.ensures.shown bytes has)))
           c.ask-answer.ensures.fault)
           (search rules),

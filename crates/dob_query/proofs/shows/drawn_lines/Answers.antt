@@ -1,5 +1,5 @@
 -- A fault of asking the file is one of drawing.
-use Rattle.dob_query.proofs.Common.{shelf_change, IsAnswerBy, IsAskingFault, AreDrawn, IsDrawingFault, Draw}
+use Rattle.dob_query.proofs.Common.{shelf_change, IsAnswerBy, IsAskingFault, AreDrawn, IsDrawingFault, drawn_line}
 use Rattle.std.specs.Prelude.{Some, string_bytes}
 use Rattle.dob_query.proofs.Asking.{answered_weaker}
 use Rattle.dob_query.proofs.Shown.{asking_draws}
@@ -13,8 +13,8 @@ returns-in-Some-clause-answered g c =
     let answered = c.answer_of.ensures.answered in
     rw c.in-Some.is (
       answered_weaker (shelf_change (g.S.Shelf.state c.args.shelf.now) (g.S.Shelf.state c.answer_of.new.shelf))
-          (λ lines. IsAnswerBy Draw (Has file) setup (string_bytes lines)) (λ lines. AreDrawn Has (Some file) setup (string_bytes lines))
-          (IsAskingFault Draw (Has file) setup) (IsDrawingFault Has (Some file) setup) c.answer_of.result
+          (λ lines. IsAnswerBy drawn_line (Has file) setup (string_bytes lines)) (λ lines. AreDrawn Has (Some file) setup (string_bytes lines))
+          (IsAskingFault drawn_line (Has file) setup) (IsDrawingFault Has (Some file) setup) c.answer_of.result
           (λ lines told. told) (λ fault. asking_draws Has file setup fault) answered.0,
       answered.1,
     )

@@ -1,4 +1,4 @@
--- The fault of finding a value holds of the text whose position was read.
+-- The position is the text's, and the fault of finding its value holds of the text.
 use Rattle.std.proofs.Common.{ap, Err}
 use Rattle.std.proofs.lemmas.Result.{err_from_is_err_and}
 use Rattle.dob_value.specs.declared.fault.Fault as value
@@ -11,3 +11,11 @@ returns-in_err-value-clause-err c =
     rw (p.1, p.2) (value_fault_holds c.args.profile _ c.in_ok-position.position.setup _ c.in_ok-position.position.legal
     (record { squares = c.in_ok-position.position.legal.squares; spelled = c.in_ok-position.ensures.read })
     (λ e. c.in_err-value.ensures.deep (ap (λ (f : value.Fault). Err f) e)))
+
+pub returns-clause-ok : goal.returns-clause-ok
+returns-clause-ok c = record {
+  position = c.in_ok-position.position.setup;
+  named = (c.in_ok-position.position.legal, record { squares = c.in_ok-position.position.legal.squares; spelled = c.in_ok-position.ensures.read });
+  allowed = c.in_ok-position.ensures.allowed;
+  told = (c.in_ok-value.value, c.in_ok-value.ensures.value, c.in_ok-line_of.ensures);
+}

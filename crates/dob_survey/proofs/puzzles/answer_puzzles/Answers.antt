@@ -1,11 +1,12 @@
 -- The puzzles are those of the file's table.
 use Rattle.dob_survey.proofs.Common.{◌∙◌, ap, puzzle_lines}
 use Rattle.dob_survey.proofs.Puzzling.{puzzle_within}
+use Rattle.dob_survey.specs.Puzzles.{walk_of}
 use Rattle.dob_survey.proofs.puzzles.answer_puzzles.Goals as goal
 
 pub puzzle_lines-requires : goal.puzzle_lines-requires
 puzzle_lines-requires g c = λ puzzle listed.
-    puzzle_within c.in_ok-table.table c.args.search.walk c.args.search.plies c.args.search.count c.in_ok-puzzles.puzzles.items c.deref.result.now puzzle c.in_ok-puzzles.ensures
+    puzzle_within c.in_ok-table.table (walk_of c.args.search) c.args.search.plies c.args.search.count c.in_ok-puzzles.puzzles.items c.deref.result.now puzzle c.in_ok-puzzles.ensures
     c.deref.ensures.value listed
 
 pub returns : goal.returns

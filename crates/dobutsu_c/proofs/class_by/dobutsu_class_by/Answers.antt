@@ -3,6 +3,7 @@ use Rattle.dobutsu_c.proofs.Common.{◌≡◌, ◌≢◌, inl, inr, refl, subst,
 use Rattle.dobutsu_c.proofs.Common.{IsInClass-class_number, IsIndex, IsTextOf}
 use Rattle.dobutsu_c.specs.ByIndex.{IsClassFault, IsUnfit}
 use Rattle.dobutsu_c.specs.Counts.{IsFamily}
+use Rattle.dobutsu_c.proofs.Exact.{no_stranger}
 use Rattle.dobutsu_c.proofs.Indexed.{one_family}
 use Rattle.dobutsu_c.proofs.class_by.dobutsu_class_by.Goals as goal
 use Rattle.dobutsu_c.proofs.class_by.dobutsu_class_by.Goals.{In-Ok-family_of}
@@ -25,9 +26,9 @@ unfit c number is = inr (
   inr (c.in-Ok-family_of.family, c.in-Ok-family_of.ensures.0, is),
 )
 
-pub returns-clause-class : goal.returns-clause-class
-returns-clause-class c = λ family setup is index named member.
-    let as_found = found (goal.at.returns-clause-class c).In-Ok-family_of family setup is named member in
+pub returns-in-Ok-check_member-clause-class : goal.returns-in-Ok-check_member-clause-class
+returns-in-Ok-check_member-clause-class c = λ family setup is index named member.
+    let as_found = found (goal.at.returns-in-Ok-check_member-clause-class c).In-Ok-family_of family setup is named member in
     let number = c.class_by.ensures (rw as_found.0 at index) in
     (refl, rw (as_found.0, as_found.1, number) (IsInClass-class_number c.in-Ok-family_of.family c.in-Ok.position.setup as_found.2))
 
@@ -37,23 +38,23 @@ returns-then-not-is_index_of-clause-class c = λ family setup is index named mem
     let there : IsIndex c.in-Ok-family_of.family c.args.index.now = subst (λ (f : Family). IsIndex f c.args.index.now) as_found.0 index in
     absurd (both_ways _ c.if-not-is_index_of.true (c.is_index_of.ensures.1 there.marked))
 
-pub returns-then-not-is_of_set-clause-class : goal.returns-then-not-is_of_set-clause-class
-returns-then-not-is_of_set-clause-class c = λ family setup is index named member.
-    let as_found = found (goal.at.returns-then-not-is_of_set-clause-class c).In-Ok-family_of family setup is named member in
-    absurd (both_ways _ c.if-not-is_of_set.true (c.is_of_set.ensures.1 as_found.2.of_set))
+pub returns-in-Err-check_member-clause-class : goal.returns-in-Err-check_member-clause-class
+returns-in-Err-check_member-clause-class c = λ family setup is index named member.
+    let as_found = found (goal.at.returns-in-Err-check_member-clause-class c).In-Ok-family_of family setup is named member in
+    absurd (no_stranger c.in-Ok-family_of.family c.in-Ok.position.setup c.in-Err-check_member.stranger as_found.2 c.in-Err-check_member.ensures)
 
-pub returns-clause-told : goal.returns-clause-told
-returns-clause-told c = λ none. (
+pub returns-in-Ok-check_member-clause-told : goal.returns-in-Ok-check_member-clause-told
+returns-in-Ok-check_member-clause-told c = λ none. (
   c.in-Ok-family_of.family,
   c.in-Ok.position.setup,
   c.in-Ok-family_of.ensures.0,
   c.is_index_of.ensures.0 c.if-not-is_index_of.false,
   (c.in-Ok.ensures.read.0, c.in-Ok.ensures.read.2),
-  record { of_set = c.is_of_set.ensures.0 c.if-not-is_of_set.false; allowed = c.is_allowed.ensures.0 c.if-not-is_allowed.false },
+  c.in-Ok-check_member.ensures,
 )
 
 pub returns-in-Err-clause-refused : goal.returns-in-Err-clause-refused
-returns-in-Err-clause-refused c = λ _. inl (c.in-Err.fault, c.in-Err.ensures.read, c.number.ensures.number)
+returns-in-Err-clause-refused c = λ _. inl (c.in-Err.fault, c.in-Err.ensures.read, c.text_number.ensures.number)
 
 pub returns-in-Err-family_of-clause-refused : goal.returns-in-Err-family_of-clause-refused
 returns-in-Err-family_of-clause-refused c = λ some. inr (
@@ -67,20 +68,11 @@ returns-then-not-is_index_of-clause-refused c = λ _.
     unfit (goal.at.returns-then-not-is_index_of-clause-refused c).In-Ok-family_of _
     (inl (λ marked. both_ways _ c.if-not-is_index_of.true (c.is_index_of.ensures.1 marked), refl))
 
-pub returns-then-not-is_allowed-clause-refused : goal.returns-then-not-is_allowed-clause-refused
-returns-then-not-is_allowed-clause-refused c = λ _.
-    unfit (goal.at.returns-then-not-is_allowed-clause-refused c).In-Ok-family_of _ (inr (
+pub returns-in-Err-check_member-clause-refused : goal.returns-in-Err-check_member-clause-refused
+returns-in-Err-check_member-clause-refused c = λ _.
+    unfit (goal.at.returns-in-Err-check_member-clause-refused c).In-Ok-family_of _ (inr (
       c.is_index_of.ensures.0 c.if-not-is_index_of.false,
-      inl (λ allowed. both_ways _ c.if-not-is_allowed.true (c.is_allowed.ensures.1 allowed), c.number-then-not-is_allowed.ensures.number),
-    ))
-
-pub returns-then-not-is_of_set-clause-refused : goal.returns-then-not-is_of_set-clause-refused
-returns-then-not-is_of_set-clause-refused c = λ _.
-    unfit (goal.at.returns-then-not-is_of_set-clause-refused c).In-Ok-family_of _ (inr (
-      c.is_index_of.ensures.0 c.if-not-is_index_of.false,
-      inr (
-        c.is_allowed.ensures.0 c.if-not-is_allowed.false,
-        λ of. both_ways _ c.if-not-is_of_set.true (c.is_of_set.ensures.1 of),
-        c.number-then-not-is_of_set.ensures.number,
-      ),
+      c.in-Err-check_member.stranger,
+      c.in-Err-check_member.ensures,
+      c.number.ensures.number,
     ))

@@ -1,6 +1,5 @@
 -- A position's answer is that of its text.
 use Rattle.dobutsu_c.proofs.Common.{inl, refl, text_of}
-use Rattle.dobutsu_c.proofs.Answered.{answered}
 use Rattle.dobutsu_c.proofs.many.answer_at.Goals as goal
 
 pub returns-in-Ok : goal.returns-in-Ok
@@ -9,6 +8,5 @@ returns-in-Ok c =
       position.setup,
       position.legal,
       c.in-Ok.ensures,
-      answered c.args.file.now c.args.by (text_of position.setup) c.args.old c.answer_of.result c.probe_at.result
-          (c.probe_at.ensures (text_of position.setup) (position.legal, record { squares = position.legal.squares; spelled = refl })) c.answer_of.ensures,
+      c.answer_position-fault.ensures (text_of position.setup) (position.legal, record { squares = position.legal.squares; spelled = refl }),
     )

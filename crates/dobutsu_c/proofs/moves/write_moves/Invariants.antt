@@ -1,6 +1,6 @@
 -- The places below the index hold the moves, and those past the list what they held.
 use Rattle.dobutsu_c.proofs.Common.{◌<◌, ◌≡◌, ◌≤◌, get_or, length, ℕ, ValuedMove, shown_valued}
-use Rattle.dobutsu_c.specs.declared.moves.DobutsuMove.{DobutsuMove}
+use Rattle.dobutsu_c.proofs.Common.{DobutsuMove}
 use Rattle.dobutsu_c.proofs.moves.write_moves.Given as goal
 
 abbrev pub invariant-loop-place : goal.invariant-loop-place

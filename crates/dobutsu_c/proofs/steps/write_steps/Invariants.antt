@@ -1,6 +1,6 @@
 -- The places below the index hold the moves, and those past the list what they held.
 use Rattle.dobutsu_c.proofs.Common.{◌<◌, ◌≡◌, ◌≤◌, get_or, length, ℕ, Move, shown_step}
-use Rattle.dobutsu_c.specs.declared.steps.DobutsuStep.{DobutsuStep}
+use Rattle.dob_foreign.specs.declared.moves.DobutsuStep.{DobutsuStep}
 use Rattle.dobutsu_c.proofs.steps.write_steps.Given as goal
 
 abbrev pub invariant-loop-place : goal.invariant-loop-place
