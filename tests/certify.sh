@@ -41,15 +41,5 @@ expect 1 '' 'dobutsu: E15 Truncated' verify --cert /dev/null
 expect 1 '' 'dobutsu: E16 Magic' reply --cert "$lions_2" "$position"
 
 # A table whose values aren't right gives no certificate: the record of the class, with the digest that then belongs there.
-python3 - "$lions_2" "$work/wrong.db" "$position" <<'PYTHON'
-import hashlib
-import pathlib
-import sys
-sys.path.insert(0, "python")
-from dobutsu import plain
-data = bytearray(pathlib.Path(sys.argv[1]).read_bytes())
-number = plain.class_number("A", plain.read_position(sys.argv[3]))
-data[21 + 2 * number] = 2  # a win in 1
-pathlib.Path(sys.argv[2]).write_bytes(bytes(data[:-32]) + hashlib.sha256(data[:-32]).digest())
-PYTHON
+python3 tests/certify_wrong_table.py "$lions_2" "$work/wrong.db" "$position"
 expect 1 '' 'dobutsu: E31 Claim' certify --db "$work/wrong.db" --out "$work/kept.cert" "$position"

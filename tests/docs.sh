@@ -1,29 +1,15 @@
 # The pages: what they name exists, they keep their lengths, and what a script makes is as it makes it.
 
-# tools/check-pages tests the lengths too: README.md has at most 1,400 words, all pages together at most 36,000.
 good=no
 if tools/check-pages >"$work/out"; then good=yes; fi
 note "tools/check-pages: $(head -1 "$work/out")" "$good"
 # The numbers of docs/CLASSES.md are those of the reader in Python.
 good=no
-if python3 - >"$work/out" 2>&1 <<'PYTHON'; then good=yes; fi
-import sys
-sys.path.insert(0, "tools")
-import read_db
-page = open("docs/CLASSES.md").read()
-chick, start = ".l./..c/.../.L. - -", "gle/.c./.C./ELG - -"
-for profile, text, number in ("A", chick, "770"), ("B", chick, "695"), ("A", start, "427,671,695"), ("B", start, "337,403,035"):
-    assert number in page, number
-    assert f"{read_db.class_number(profile, read_db.read_position(text)):,}" == number, (profile, text)
-PYTHON
+if python3 tests/docs_classes.py >"$work/out" 2>&1; then good=yes; fi
 note "the class numbers of docs/CLASSES.md: $(tail -1 "$work/out")" "$good"
 good=no
 if tools/planted --check >"$work/out"; then good=yes; fi
 note "tools/planted --check: $(head -1 "$work/out")" "$good"
-# docs/DECISIONS.md says what stands in another form than the design began with, in at most 500 words.
-good=no
-if [ -s docs/DECISIONS.md ] && [ "$(wc -w <docs/DECISIONS.md)" -le 500 ]; then good=yes; fi
-note "docs/DECISIONS.md: it isn't there, or has more than 500 words" "$good"
 # The toolchain is used as it is: no tool locks for it, nor writes by itself what it believes proved.
 good=no
 if ! grep -rIn --exclude-dir=__pycache__ 'floc[k]\|stam[p]' tools test tests .ci dobutsu >"$work/out"; then good=yes; fi
@@ -53,3 +39,18 @@ note "tools/calls dob_moves apply: $(head -1 "$work/out")" "$good"
 good=no
 if tools/planted --list dob_world >"$work/out" && grep -q 'last batch first' "$work/out" && grep -q -e ' -- ' "$work/out"; then good=yes; fi
 note "tools/planted --list dob_world: $(head -1 "$work/out")" "$good"
+# tools/fresh looks at the sources of what a file is made of, and at no other crate's.
+mkdir -p "$work/tree/tools" "$work/tree"/crates/{low,high,other}/src "$work/tree/crates/high/out"
+cp tools/fresh "$work/tree/tools"
+printf '%s\n' '# crates' 'low:' 'high staticlib: low' 'other: low' >"$work/tree/crates.txt"
+touch -d '2 hours ago' "$work/tree"/{crates.txt,HANDLES,crates/{low,high}/src/lib.rt}
+echo made >"$work/tree/crates/high/out/high.o"
+touch -d '1 hour ago' "$work/tree/crates/high/out/high.o"
+touch "$work/tree/crates/other/src/lib.rt" "$work/tree/crates/high/out/statement.rt"
+good=no
+if "$work/tree/tools/fresh" "$work/tree/crates/high/out/high.o"; then good=yes; fi
+note "tools/fresh where another crate is newer" "$good"
+touch "$work/tree/crates/low/src/lib.rt"
+good=no
+if ! "$work/tree/tools/fresh" "$work/tree/crates/high/out/high.o"; then good=yes; fi
+note "tools/fresh where a crate below is newer" "$good"

@@ -175,32 +175,7 @@ for word in look moves line; do
     ./dobutsu "$word" --each --db "$chick" <"$work/asked" >"$work/$word.txt"
     ./dobutsu "$word" --each --json --db "$chick" <"$work/asked" >"$work/$word.json"
 done
-python3 - "$work" >"$work/out" 2>&1 <<'END' || good=no
-import json, pathlib, sys
-work = pathlib.Path(sys.argv[1])
-def objects(word): return [json.loads(line) for line in (work / f"{word}.json").read_text().splitlines()]
-def worth(o): return o["value"] if o["plies"] is None else f"{o['value']} {o['plies']}"
-def of_text(text):
-    if "*" in text: return None, text[2:4]
-    return text[1:3], text[4:6]
-NAMES = {"l": "lion", "g": "giraffe", "e": "elephant", "c": "chick", "h": "hen"}
-asked = (work / "asked").read_text().splitlines()
-looked = (work / "look.txt").read_text().splitlines()
-moved = (work / "moves.txt").read_text().split("\n\n")[:-1]
-lined = (work / "line.txt").read_text().splitlines()
-rows = list(zip(asked, looked, moved, lined, objects("look"), objects("moves"), objects("line"), strict=True))
-assert len(rows) == 500 and sum("fault" in row[4] for row in rows) == len(asked) // 7
-for position, value, moves, line, look_object, moves_object, line_object in rows:
-    if value.startswith("E"):
-        assert look_object == moves_object == line_object == {"fault": value} and moves == line == value, position
-        continue
-    assert look_object["position"] == moves_object["position"] == line_object["position"] == position
-    assert worth(look_object) == worth(line_object) == value, position
-    assert [f"{o['move']} {worth(o)}" for o in moves_object["moves"]] == [move for move in moves.splitlines() if move != "end"], position
-    assert [o["move"] for o in line_object["moves"]] == [move for move in line.split() if move not in ("end", "draw")], position
-    for o in moves_object["moves"] + line_object["moves"]:
-        assert (o["from"], o["to"]) == of_text(o["move"]) and o["kind"] == NAMES[o["move"][0].lower()] and o["catch"] == ("x" in o["move"]), o
-END
+python3 tests/files_objects.py "$work" >"$work/out" 2>&1 || good=no
 note "objects of look, moves and line: $(tail -1 "$work/out")" "$good"
 # a program can talk with each of them over two pipes: a line is answered before the next one is whole, a refused one too, whatever was written of it
 talks() {

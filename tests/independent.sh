@@ -84,7 +84,7 @@ same_tables() {
         done
     done
     # With these the published digests of the sets without chicks are compared by rules B too, which docs/results.csv leaves out.
-    for set in 002 011 012 020 021 022; do
+    for set in 002 012 020 021 022; do
         good=no
         if "$program" build --set "$set" --rules B --out "$work/without.db" >"$work/out" 2>&1 &&
             python3 tests/independent.py published "$set" B "$work/without.db" >"$work/out" 2>&1; then good=yes; fi

@@ -52,23 +52,12 @@ answer_alike() {
     done <"$asked" >"$work/printed"
     [ -s "$asked" ] && "$work/probe_c" "$file" <"$asked" >"$work/printed_c" 2>&1 && cmp -s "$work/printed" "$work/printed_c"
 }
-# Prints the positions of some 200 classes of a file, as they are spread over it.
-spread() {
-    python3 -c '
-import sys
-sys.path.insert(0, "tools")
-import read_db
-db = read_db.open_db(sys.argv[1])
-for number in range(0, db.count, max(1, db.count // 200)):
-    print(read_db.write_position(read_db.position_at(db.profile, db.pieces, number)))
-' "$1"
-}
 same=yes
 sed 's/ = .*//' testdata/one_chick.txt testdata/lions_alone.txt >"$work/texts"
 printf '%s\n' 'x' '' 'C.l/.../.../L.. - -' 'L../.../.../..l - -' '..l/.../L../... -' >>"$work/texts"
 for name in {A,B}_{000,100,010,001,200}; do
     "$program" build --rules "${name%_*}" --set "${name#*_}" --nodes 3 --out "$work/$name.db" >"$work/out" 2>&1 || same=no
-    spread "$work/$name.db" >"$work/$name.asked" || same=no
+    python3 tests/library_spread.py "$work/$name.db" >"$work/$name.asked" || same=no
     answer_alike "$work/$name.db" "$work/$name.asked" || same=no
     answer_alike "$work/$name.db" "$work/texts" || same=no
 done
@@ -91,7 +80,7 @@ same=yes
 compile -O2 examples/solve.c -o "$work/solve" || same=no
 for name in {A,B}_{100,111}; do
     [ -s "$work/$name.db" ] || "$program" build --rules "${name%_*}" --set "${name#*_}" --nodes 3 --out "$work/$name.db" >"$work/out" 2>&1 || same=no
-    spread "$work/$name.db" >"$work/$name.asked" || same=no
+    python3 tests/library_spread.py "$work/$name.db" >"$work/$name.asked" || same=no
     while IFS= read -r text; do
         line="$("$program" line --db "$work/$name.db" "$text")"
         if [ "$line" = end ]; then

@@ -1,8 +1,8 @@
 # The reader in Python, written from docs/FORMAT.md and docs/RULES.md alone, and the program: they say the same of thousands of positions.
 # Takes minutes.
 
-# By files of both formats, each position of lions alone, and 500 of one chick: `probe`, `look` and the reader that was written from docs/FORMAT.md alone give
-# the same value, and that of the row, where it has one (these values are from outside). The built program is run itself,
+# By files of both formats, each position of lions alone, and 500 of one chick: `probe`, `look` and that reader give the same value,
+# and that of the row, where it has one (these values are from outside). The built program is run itself,
 # so that twice 599 runs don't look for newer sources.
 expect 0 'consistent' '' check --db "$chick"
 for name in lions_alone one_chick lions_alone_2 one_chick_2; do
@@ -34,40 +34,7 @@ same=yes
 for ruled_set in {A,B}_{000,100,010,001,200}; do
     set="${ruled_set#*_}"
     "$program" build --set "$set" --rules "${ruled_set%_*}" --nodes 3 --out "$work/$set.db" >"$work/out" 2>&1 || same=no
-    python3 - "$top/tools" "$work/$set.db" "$work/counts" >"$work/asked" <<'PYTHON' || same=no
-import sys
-sys.path.insert(0, sys.argv[1])
-import read_db
-db = read_db.open_db(sys.argv[2])
-for number in range(0, db.count, max(1, db.count // 200)):
-    text = read_db.write_position(read_db.position_at(db.profile, db.pieces, number))
-    value, moves = db.value(text), db.moves(text)
-    assert read_db.class_number(db.profile, read_db.read_position(text)) == number
-    assert not moves or moves[0][1] == value
-    print(text, value, *map(" ".join, moves), sep=" = ")
-stats = db.stats()
-assert sum(stats["win"].values()) + sum(stats["loss"].values()) + stats["draw"] == db.count
-counts = [(distance, kind, number) for kind in ("win", "loss") for distance, number in stats[kind].items()]
-with open(sys.argv[3], "w") as lines:
-    print("classes", db.count, file=lines)
-    for kind in ("win", "loss"):
-        print(kind, sum(stats[kind].values()), file=lines)
-    print("draw", stats["draw"], file=lines)
-    for distance, kind, number in sorted(counts):
-        print(kind, distance, number, file=lines)
-    for kind in ("win", "loss"):
-        print("longest", kind, *stats["longest"][kind], file=lines)
-    for plies in (3, 5, 7):
-        puzzles, won = [], f"win {plies}"
-        for number in range(db.count):
-            text = read_db.write_position(read_db.position_at(db.profile, db.pieces, number))
-            best = [move for move, value in db.moves(text) if value == won] if db.value(text) == won else []
-            if len(best) == 1:
-                puzzles.append(text + "  " + best[0])
-            if len(puzzles) == 10:
-                break
-        print(*(puzzles or ["none"]), sep="\n", file=lines)
-PYTHON
+    python3 tests/reader_ask.py "$work/$set.db" "$work/counts" >"$work/asked" || same=no
     "$program" stats --db "$work/$set.db" >"$work/out" 2>&1 || same=no
     for plies in 3 5 7; do
         "$program" puzzles --db "$work/$set.db" --plies "$plies" --count 10 >>"$work/out" 2>&1 || same=no

@@ -2,12 +2,15 @@
 # Takes minutes.
 
 # The release: made twice, the second time by a copy of the repository at another path, it is one archive; its program runs in an empty folder, and
-# needs no library. The copy has the program's object, and makes the library, the page's engine and all else anew.
+# needs no library. The copy has the program's object and the libraries that are proved here, and makes the library for C, the page's engine and all else anew.
 same=yes
 mkdir "$work/two"
 make_release || same=no
 git clone -q "$top" "$work/elsewhere" && git ls-files -z | xargs -0 cp -p --parents -t "$work/elsewhere" || same=no
 cp -p --parents -t "$work/elsewhere" crates/dobutsu/out/dobutsu crates/dobutsu/out/dobutsu.o || same=no
+for name in $(tools/crates.py dobutsu_c | sed 's/[ :].*//'); do
+    [ ! -d "crates/$name/out/rlib" ] || cp -r --parents -t "$work/elsewhere" "crates/$name/out/rlib" || same=no
+done
 "$work/elsewhere/tools/release" "$work/two" >"$work/err" 2>&1 || same=no
 cmp -s "$archive" "$work/two/$(basename "$archive")" || same=no
 rm -rf "$work/elsewhere"
@@ -35,12 +38,7 @@ if ! tools/verify-release "$work/spoilt.tar.gz" >"$work/out" 2>&1 && grep -q 'no
 note "tools/verify-release of a changed archive: $(tail -1 "$work/out")" "$good"
 # Every link of the archive's pages leads somewhere.
 good=no
-if python3 - "$release" >"$work/out" 2>&1 <<'PYTHON'; then good=yes; fi
-import pathlib, re, sys
-top = pathlib.Path(sys.argv[1])
-links = [(page, link) for page in top.rglob("*.md") for link in re.findall(r"\]\(([^)#:]+)\)", page.read_text())]
-sys.exit("\n".join(f"{page.relative_to(top)}: {link}" for page, link in links if not (page.parent / link).exists()) or 0)
-PYTHON
+if python3 tests/release_links.py "$release" >"$work/out" 2>&1; then good=yes; fi
 note "the links of the archive's pages: $(head -1 "$work/out")" "$good"
 # Each example is built by the line in its head, in the archive and in a clone with the library beside it.
 mkdir "$work/clone" && cp -r examples include "$work/clone" && cp "$release/libdobutsu.a" "$work/clone"

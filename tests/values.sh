@@ -117,6 +117,10 @@ depth 26' '' reach 'gl./.c./.../E.L - -'
 expect 0 'classes 385001
 open 174386
 depth 26' '' reach --rules B 'gl./.c./.../E.L - -'
+# with more classes at a distance than are searched side by side
+expect 0 'classes 6148621
+open 2641072
+depth 36' '' reach 'gle/.c./.C./..L - -'
 expect 0 'classes 1
 open 0
 depth 0
