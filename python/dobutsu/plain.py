@@ -161,7 +161,7 @@ def all_moves(profile: str, position: Position) -> tuple[list[Move], list[Move]]
 
 
 def status_and_moves(profile: str, position: Position) -> tuple[str, list[Move]]:
-    """The status, and the moves: only the first catch at `caught`, none at `tried` and `stuck`."""
+    """The status, and the moves: only the first capture at `caught`, none at `tried` and `stuck`."""
     squares = position[0]
     steps, drops = all_moves(profile, position)
     catches = [move for move in steps if squares[move[2]] == "l"]
@@ -679,7 +679,7 @@ class Certificate:
         return self.lost_plies.get(position, EVER + 1) <= plies or self.has_lost(position)
 
     def is_answered(self, position: Position, plies: int) -> bool:
-        """Whether the side to move catches the lion, or has a move to a position that is said to be lost within `plies`."""
+        """Whether the side to move captures the lion, or has a move to a position that is said to be lost within `plies`."""
         found, moves = self.asked(position)
         if found == "open":
             return any(self.is_said_lost(apply(position, move), plies) for move in moves)
@@ -700,7 +700,7 @@ class Certificate:
         return found == "caught" or found == "open" and (plies <= 1 or self.held_plies.get(position, -1) >= plies)
 
     def is_safe(self, position: Position, plies: int) -> bool:
-        """Whether the side to move can't catch the lion, and each of its moves leads to what is said not to be lost within `plies`."""
+        """Whether the side to move can't capture the lion, and each of its moves leads to what is said not to be lost within `plies`."""
         found, moves = self.asked(position)
         return found != "caught" and all(self.is_said_held(apply(position, move), plies) for move in moves)
 

@@ -43,7 +43,7 @@ class Position:
         return "".join(map(str, plain.set_of(plain.read_position(self.text))))
 
     def after(self, move: str, rules: str = "A") -> Position | None:
-        """The position that the move leads to, as the other side sees it; none where the move catches the lion.
+        """The position that the move leads to, as the other side sees it; none where the move captures the lion.
 
         >>> Position(".l./.../.../.L. C -").after("C*b4")
         Traceback (most recent call last):
@@ -114,7 +114,7 @@ class Position:
 
 
 def after_move(rules: str, text: str, move: str) -> str | None:
-    """The text of the position that the move leads to, as the other side sees it; none where the move catches the lion.
+    """The text of the position that the move leads to, as the other side sees it; none where the move captures the lion.
 
     Raises what `Position` and its `after` do: `Fault`, `IllegalMove`, and ValueError for other rules than A and B.
     """

@@ -124,7 +124,7 @@ class Table:
     def moves(self, position: Asked) -> list[Move]:
         """Each move with the value that the side that makes it then has, best first, equal ones in the move order.
 
-        Where the enemy lion can be caught there is its first catch alone, and no move where the position is lost already. Raises `Fault` as
+        Where the enemy lion can be captured there is its first capture alone, and no move where the position is lost already. Raises `Fault` as
         `table[position]` does.
         """
         db, text = self._open(), text_of(position)
