@@ -26,7 +26,7 @@ pub enum Fault {
     Table(dob_probe::Fault),
     /// No puzzle has that length: an even number of plies, or less than 3.
     PuzzlePlies,
-    /// E15 to E20, E27, E30 to E41: the certificate proves nothing, there is none, or it says nothing of the position.
+    /// E15 to E20, E27, E30 to E42: the certificate proves nothing, there is none, or it says nothing of the position.
     Certificate(CertificateFault),
     /// E23: a growth was refused for lack of memory.
     Memory,

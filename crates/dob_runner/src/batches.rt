@@ -11,7 +11,7 @@ use dob_update::Batch;
 pub(crate) fn is_for(batch: &Batch, family: Family, nodes: usize, from: usize, to: usize) -> bool
     ensures { IsTrue result ↔ IsBatchFor family nodes from to batch.now }
 {
-    if !is_one_family(batch.family(), family) || batch.owners() != nodes {
+    if !is_one_family(batch.family(), family) || batch.nodes() != nodes {
         return false;
     }
     if batch.from() != from || batch.to() != to {

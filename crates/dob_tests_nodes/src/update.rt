@@ -60,7 +60,7 @@ fn tells(
     assert!(rt; told(alloc, batch)?.as_slice() == classes);
     assert!(rt; batch.skip() == skip);
     assert!(rt; batch.parts().len() == settlements);
-    assert!(rt; (batch.owners(), batch.from(), batch.to()) == (2, 0, 1));
+    assert!(rt; (batch.nodes(), batch.from(), batch.to()) == (2, 0, 1));
     Ok(())
 }
 

@@ -71,8 +71,8 @@ impl Batch {
         self.family
     }
 
-    /// How many owners there are.
-    pub fn owners(&self) -> usize
+    /// How many nodes there are.
+    pub fn nodes(&self) -> usize
         ensures { result ≡ self.now.n }
     {
         self.n

@@ -688,7 +688,7 @@ A file that proves nothing is refused, with status 1, by the first fault that it
   E36 EntryNumber           an entry's number isn't in its fewest bytes
   E37 EntryOrder            an entry's class isn't above the one before it
   E38 EntryClass            its piece set has no class of an entry's number
-  E42 EntryPlies            an entry of the lost list has 255 plies, which stand for `never`
+  E42 EntryPlies            an entry of the lost list has 255 plies, which mean `ever`
 
 `dobutsu certify` may end with E39 TooMany, where there would be more entries than `--most` allows, or E40 Unfit, where a distance is above 254
 plies; and `dobutsu reply` with E41 Unlisted, where the certificate says nothing of the position.
