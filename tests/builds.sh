@@ -111,7 +111,7 @@ note "a build over a file, and over a part that was left" "$good"
 same=yes
 for moment in $(seq 20); do
     cp testdata/lions_alone.db "$work/kept.db"
-    (timeout -s KILL "0.0$(printf '%02d' "$moment")" "$top/crates/dobutsu/out/dobutsu" build --set 100 --nodes 4 --out "$work/kept.db" \
+    (timeout --foreground -s KILL "0.0$(printf '%02d' "$moment")" "$top/crates/dobutsu/out/dobutsu" build --set 100 --nodes 4 --out "$work/kept.db" \
         || true) >"$work/out" 2>&1
     cmp -s "$work/kept.db" testdata/lions_alone.db || cmp -s "$work/kept.db" testdata/one_chick_2.db || same=no
 done
@@ -121,7 +121,7 @@ cp testdata/lions_alone.db "$work/kept.db"
 too_large="$(failed_at "$work/kept.db" 'File too large (os error 27)')"
 if [ "$status" = 3 ] && [ "$(cat "$work/err")" = "$too_large" ] && cmp -s "$work/kept.db" testdata/lions_alone.db \
     && [ ! -e "$work/kept.db.part" ]; then good=yes; else good=no; fi
-note "a build whose file may not grow leaves the one that was there, and no part" "$good"
+note "a build whose file may not grow leaves the one that was there, and no part: status $status, $(tail -1 "$work/err")" "$good"
 expect 0 '~^classes 54$' '' build --set 000 --nodes 2 --out /dev/null
 # a rebuilt file keeps its mode, whatever the shell would give it, and a new one has that
 same=yes
@@ -253,7 +253,7 @@ expect 1 '' 'dobutsu: E9 Nodes' build --set 222 --nodes 0 --out "$work/none/kept
 # nor does a build that is refused take anything from what a link leads to
 cp testdata/lions_alone.db "$work/behind.db"
 expect 1 '' 'dobutsu: E9 Nodes' build --set 100 --nodes 17 --out "$work/link.db"
-(timeout -s KILL 0.3 "$program" build --set 211 --nodes 2 --out "$work/link.db" || true) >"$work/out" 2>&1
+(timeout --foreground -s KILL 0.3 "$program" build --set 211 --nodes 2 --out "$work/link.db" || true) >"$work/out" 2>&1
 if [ -L "$work/link.db" ] && cmp -s "$work/behind.db" testdata/lions_alone.db; then good=yes; else good=no; fi
 note "a build that is refused or killed leaves what a link leads to" "$good"
 
