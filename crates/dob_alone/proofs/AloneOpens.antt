@@ -8,8 +8,8 @@ use Rattle.dob_moves.specs.Statuses.{HasStatus}
 use Rattle.dob_moves.specs.declared.position_status.Status.{Status}
 use Rattle.dob_moves.specs.declared.position_status.Status.TheVariants.{Open}
 use Rattle.dob_rank.specs.Families.{class_setup, classes_of}
-use Rattle.dob_value.specs.Follows.{IsEntry}
-use Rattle.dob_value.specs.declared.value.Value.TheVariants.{Draw}
+use Rattle.dob_distance.specs.Codes.{IsEntry}
+use Rattle.dob_distance.specs.declared.value.Value.TheVariants.{Draw}
 use Rattle.dob_unmove.specs.Edges.{predecessors}
 use Rattle.dob_share.proofs.Applied.{CellValue-same}
 use Rattle.dob_share.specs.Cells.{SameCell, fresh}

@@ -9,9 +9,10 @@ use Rattle.dob_pieces.specs.declared.profile.Family.{Family}
 use Rattle.dob_moves.proofs.Cases.{one_status}
 use Rattle.dob_moves.specs.declared.position_status.Status.TheVariants.{Open}
 use Rattle.dob_rank.specs.Families.{class_setup, classes_of}
-use Rattle.dob_value.specs.Follows.{AreGiven, IsEntry, IsValueTable}
-use Rattle.dob_value.specs.declared.value.Value.{Value}
-use Rattle.dob_value.specs.declared.value.Value.TheVariants.{Draw}
+use Rattle.dob_distance.specs.Codes.{IsEntry}
+use Rattle.dob_value.specs.Follows.{AreGiven, IsValueTable}
+use Rattle.dob_distance.specs.declared.value.Value.{Value}
+use Rattle.dob_distance.specs.declared.value.Value.TheVariants.{Draw}
 use Rattle.dob_unmove.specs.Edges.{predecessors}
 use Rattle.dob_share.proofs.Changing.{short_value}
 use Rattle.dob_share.proofs.Owning.{cell_short}

@@ -8,7 +8,7 @@ use Rattle.dob_pieces.specs.declared.profile.Family.{Family}
 use Rattle.dob_pieces.specs.declared.profile.Profile.{Profile}
 use Rattle.dob_pieces.specs.declared.profile.Profile.TheVariants.{A, B}
 use Rattle.dob_rank.specs.Families.{classes_of, family_of}
-use Rattle.dob_value.specs.declared.value.Value.TheVariants.{Win, Loss, Draw}
+use Rattle.dob_distance.specs.declared.value.Value.TheVariants.{Win, Loss, Draw}
 use Rattle.dob_certificate.specs.declared.claim.Claim.{Claim}
 use Rattle.dob_certificate.specs.declared.claim.Claim.TheVariants.{Exactly, LostWithin, WonWithin}
 use Rattle.dob_certificate.specs.declared.entry.Entry.{Entry}

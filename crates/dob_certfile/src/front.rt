@@ -11,8 +11,8 @@ use byteorder::{ByteOrder, LittleEndian};
 use dob_certificate::Claim;
 use dob_classes::count_classes;
 use dob_dbfile::{are_same, set_named};
+use dob_distance::Value;
 use dob_pieces::{Family, PieceSet, Profile};
-use dob_value::Value;
 
 /// How many bytes stand before the entries.
 pub(crate) const FRONT_LEN: usize = 28;

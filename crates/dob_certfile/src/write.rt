@@ -16,8 +16,8 @@ use byteorder::{ByteOrder, LittleEndian};
 use dob_certificate::{Claim, EVER, Entry, ListKind};
 use dob_classes::count_classes;
 use dob_dbfile::{FailedAfter, Sink, put_all};
+use dob_distance::Value;
 use dob_pieces::Memory;
-use dob_value::Value;
 use sha2::{Digest, Sha256};
 use std::alloc::Global;
 

@@ -3,7 +3,7 @@ use Rattle.dob_certificate.proofs.Common.{◌-◌, ◌<◌, ◌≡◌, ◌≤◌
 use Rattle.dob_certificate.proofs.Common.{HasClasses-classes_of, IsInClass, class_setup, classes_of, lost_not_caught, lost_not_open, lost_stays, Lost, Won}
 use Rattle.dob_certificate.proofs.Common.{IsListedBeyond, IsSafe, IsSaidHeld, SupportsAllHeld, plies_asked, IsEntryFor, IsAnswered, IsListedWithin, IsSaidLost}
 use Rattle.dob_certificate.proofs.Common.{SupportsAllLost, Entry, EVER}
-use Rattle.dob_value.specs.Depths.{SameOutlook}
+use Rattle.dob_distance.specs.Depths.{SameOutlook}
 use Rattle.dob_value.proofs.Rows.{class_outlook}
 
 -- a position has the outlook of its class's representative

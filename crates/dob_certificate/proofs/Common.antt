@@ -15,8 +15,8 @@ pub use Rattle.dob_moves.specs.declared.position_status.Status.TheVariants.{Caug
 pub use Rattle.dob_rank.proofs.OfFamilies.Present.{HasClasses-classes_of}
 pub use Rattle.dob_rank.specs.Families.{HasClass, IsInClass, IsRepresentative, class_setup, classes_of}
 pub use Rattle.dob_classes.proofs.OfFamilies.FamilyRepresentatives.{class_setup_only, one_class}
-pub use Rattle.dob_value.proofs.Depths.{lost_not_caught, lost_not_open, lost_stays, won_stays}
-pub use Rattle.dob_value.specs.Values.{HasLost, HasValue, Lost, Won}
+pub use Rattle.dob_distance.proofs.Depths.{lost_not_caught, lost_not_open, lost_stays, won_stays}
+pub use Rattle.dob_distance.specs.Values.{HasLost, HasValue, Lost, Won}
 pub use Rattle.dob_certificate.specs.Ascending.{AreAscending, class_at, listed_entry}
 pub use Rattle.dob_certificate.specs.Claims.{Holds, Prove, ShowsDraw, ShowsLoss, ShowsWin, ShowsWon}
 pub use Rattle.dob_certificate.specs.Held.{IsHoldSupported, IsListedBeyond, IsSafe, IsSaidHeld, SupportsAllHeld, SupportsHeld, plies_asked}

@@ -2,7 +2,7 @@
 use Rattle.dob_certificate.proofs.Common.{◌-◌, ◌<◌, ◌≡◌, ◌≤◌, List, arith, inl, inr, subst, suc, zero, ℕ, cases_lt, Family, Profile, Setup, lost_stays}
 use Rattle.dob_certificate.proofs.Common.{won_stays, HasValue, Lost, Won, Holds, Prove, ShowsDraw, ShowsLoss, ShowsWin, ShowsWon, SupportsAllHeld}
 use Rattle.dob_certificate.proofs.Common.{SupportsAllLost, Claim, Entry, EVER}
-use Rattle.dob_value.specs.declared.value.Value.TheVariants.{Win, Loss, Draw}
+use Rattle.dob_distance.specs.declared.value.Value.TheVariants.{Win, Loss, Draw}
 use Rattle.dob_certificate.specs.declared.claim.Claim.TheVariants.{Exactly, LostWithin, WonWithin}
 use Rattle.dob_certificate.proofs.Bounds.{said_lost, answered_won, said_held, safe_not_won}
 

@@ -7,7 +7,7 @@ use Rattle.dob_moves.specs.declared.position_status.Status.TheVariants.{Caught, 
 use Rattle.dob_moves.specs.Moves.{Goes}
 use Rattle.dob_moves.specs.Statuses.{HasStatus}
 use Rattle.dob_rank.specs.Families.{classes_of, class_setup}
-use Rattle.dob_value.specs.Values.{HasLost}
+use Rattle.dob_distance.specs.Values.{HasLost}
 use Rattle.dob_certificate.specs.declared.entry.Entry.{Entry}
 use Rattle.dob_certificate.specs.Listed.{IsEntryFor}
 

@@ -1,7 +1,7 @@
 // Whether a certificate proves what is claimed of a position.
 ghost use Rattle.std.specs.Prelude.{◌≡◌, ◌≢◌, ◌↔◌, false, IfOk, IfErr, IsTrue};
 ghost use Rattle.dob_rank.specs.Families.{IsPositionOf};
-ghost use Rattle.dob_value.specs.Values.{Lost, Won};
+ghost use Rattle.dob_distance.specs.Values.{Lost, Won};
 ghost use Rattle.dob_certificate.specs.Lost.{IsSaidLost, SupportsAllLost};
 ghost use Rattle.dob_certificate.specs.Held.{SupportsAllHeld};
 ghost use Rattle.dob_certificate.specs.Claims.{Holds, Prove, ShowsWon};

@@ -1,7 +1,7 @@
 -- What the lists of a certificate say, by the table that it is made of.
 use Rattle.std.specs.Prelude.{◌≡◌, ◌+◌, ◌<◌, ◌≤◌, ℕ, All, List, Some, length, slice_get}
-use Rattle.dob_value.specs.declared.value.Value.{Value}
-use Rattle.dob_value.specs.declared.value.Value.TheVariants.{Win, Loss, Draw}
+use Rattle.dob_distance.specs.declared.value.Value.{Value}
+use Rattle.dob_distance.specs.declared.value.Value.TheVariants.{Win, Loss, Draw}
 use Rattle.dob_value.specs.Follows.{ClassTable}
 use Rattle.dob_certificate.specs.Ascending.{AreAscending}
 use Rattle.dob_certificate.specs.declared.entry.Entry.{Entry}

@@ -7,7 +7,7 @@ use Rattle.dob_moves.specs.declared.game_move.Move.{Move}
 use Rattle.dob_moves.specs.declared.position_status.Status.TheVariants.{Open}
 use Rattle.dob_moves.specs.Moves.{Goes, place}
 use Rattle.dob_moves.specs.Statuses.{CanCatch, HasStatus, IsFirstCatch}
-use Rattle.dob_value.specs.Values.{Lost, Won}
+use Rattle.dob_distance.specs.Values.{Lost, Won}
 use Rattle.dob_certificate.specs.declared.entry.Entry.{Entry}
 use Rattle.dob_certificate.specs.Lost.{IsSaidLost}
 use Rattle.dob_certify.specs.declared.replies.Lead.{Lead}

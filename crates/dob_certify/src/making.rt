@@ -1,7 +1,7 @@
 // A certificate of what a table says of a position.
 ghost use Rattle.std.specs.Prelude.{◌≡◌, ◌≤◌, ◌+◌, ◌↔◌, All, length, IfOk, IfErr, IsTrue, OnOk};
 ghost use Rattle.dob_rank.specs.Families.{IsPositionOf};
-ghost use Rattle.dob_value.specs.declared.value.Value.{Value as Valued};
+ghost use Rattle.dob_distance.specs.declared.value.Value.{Value as Valued};
 ghost use Rattle.dob_probe.specs.Lines.{GivenBy};
 ghost use Rattle.dob_certificate.specs.Ascending.{AreAscending};
 ghost use Rattle.dob_certificate.specs.Claims.{Holds, Prove};

@@ -2,7 +2,7 @@
 use Rattle.dob_check.proofs.Common.{◌*◌, ◌++◌, ◌+◌, ◌<◌, ◌^◌, ◌∙◌, ◌≡◌, ◌≤◌, List, Option, Some, [], ap, arith, length, min, subst, sym, take, ℕ, AllZip}
 use Rattle.dob_check.proofs.Common.{range_with_len, slice_get, each_is, AreSlots, part_of, Group, part_count, part_size}
 use Rattle.std.proofs.lemmas.List.{length-take, take_all, take_min}
-use Rattle.dob_value.specs.declared.value.Value.{Value}
+use Rattle.dob_distance.specs.declared.value.Value.{Value}
 use Rattle.dob_probe.proofs.Slotted.{part_joins, slots_none}
 
 -- the one at a place

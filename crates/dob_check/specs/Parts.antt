@@ -1,6 +1,6 @@
 -- The parts of a table's classes that are counted by themselves.
 use Rattle.std.specs.Prelude.{ℕ, ◌+◌, ◌-◌, ◌*◌, ◌/◌, ◌≤◌, List, length, min}
-use Rattle.dob_value.specs.declared.value.Value.{Value}
+use Rattle.dob_distance.specs.declared.value.Value.{Value}
 use Rattle.dob_probe.specs.Slots.{AreSlots, part_of}
 use Rattle.dob_check.specs.declared.counts.Part.{Part}
 

@@ -5,7 +5,7 @@ use Rattle.dob_dbfile.proofs.Common.{flat_map-append, All-tail, All, flat_map, l
 use Rattle.dob_dbfile.proofs.Common.{values_of_codes, IsEntry, Value, code_bytes, records}
 use Rattle.std.proofs.lemmas.List.{take_more, get_or-drop}
 use Rattle.std.proofs.lemmas.Option.{get_or_from_slice_get}
-use Rattle.dob_value.specs.declared.value.Value.TheVariants.{Win, Loss, Draw}
+use Rattle.dob_distance.specs.declared.value.Value.TheVariants.{Win, Loss, Draw}
 
 -- ---- records and the codes that they are
 

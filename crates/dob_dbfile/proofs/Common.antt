@@ -21,9 +21,9 @@ pub use Rattle.dob_pieces.specs.declared.profile.Family.{Family}
 pub use Rattle.dob_pieces.specs.declared.profile.Profile.{Profile}
 pub use Rattle.dob_pieces.specs.declared.profile.Profile.TheVariants.{A, B}
 pub use Rattle.dob_rank.specs.Families.{classes_of, family_of}
-pub use Rattle.dob_value.specs.Codes.{code_of_value, value_at_distance, value_of_code, values_of_codes}
-pub use Rattle.dob_value.specs.Follows.{ClassTable, IsEntry, IsTable, class_table}
-pub use Rattle.dob_value.specs.declared.value.Value.{Value}
+pub use Rattle.dob_distance.specs.Codes.{IsEntry, code_of_value, value_at_distance, value_of_code, values_of_codes}
+pub use Rattle.dob_value.specs.Follows.{ClassTable, IsTable, class_table}
+pub use Rattle.dob_distance.specs.declared.value.Value.{Value}
 pub use Rattle.dob_dbfile.specs.Devices.{GivesFirst, Stream, after, whole}
 pub use Rattle.dob_dbfile.specs.Faults.{CountsClasses, HasDigest, HasHeader, HasHeaderFault, HasReadFault, HasTitle, IsHeaderShort, NamesClasses, NamesFamily}
 pub use Rattle.dob_dbfile.specs.Faults.{NamesSet, PassesAll, SaysProfile, contents_len, count_place, file_len, header_len}

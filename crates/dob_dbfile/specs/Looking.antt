@@ -2,9 +2,9 @@
 use Rattle.std.specs.Prelude.{◌≡◌, ℕ, List, ◌+◌, ◌*◌, ◌<◌, true, false, length, take, drop, Some, slice_get}
 use Rattle.byteorder.specs.Endian.{little_bytes}
 use Rattle.dob_pieces.specs.declared.profile.Family.{Family}
-use Rattle.dob_value.specs.declared.value.Value.{Value}
-use Rattle.dob_value.specs.Codes.{code_of_value}
-use Rattle.dob_value.specs.Follows.{ClassTable, IsEntry, IsTable}
+use Rattle.dob_distance.specs.declared.value.Value.{Value}
+use Rattle.dob_distance.specs.Codes.{code_of_value, IsEntry}
+use Rattle.dob_value.specs.Follows.{ClassTable, IsTable}
 use Rattle.dob_dbfile.specs.declared.fault.Fault.{Fault}
 use Rattle.dob_dbfile.specs.declared.fault.Fault.TheVariants.{Truncated, Io}
 use Rattle.dob_dbfile.specs.declared.header.Format.{Format}

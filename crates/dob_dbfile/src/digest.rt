@@ -23,7 +23,7 @@ pub struct FileHasher {
 
 impl FileHasher {
     ghost use Rattle.dob_pieces.specs.declared.profile.Family.{Family as Known};
-    ghost use Rattle.dob_value.specs.Codes.{values_of_codes};
+    ghost use Rattle.dob_distance.specs.Codes.{values_of_codes};
     ghost use Rattle.dob_value.specs.Follows.{class_table};
     ghost use Rattle.dob_dbfile.specs.Digests.{HasTaken};
 

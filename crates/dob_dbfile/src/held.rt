@@ -3,7 +3,7 @@
 ghost use Rattle.std.specs.Prelude.{◌≡◌, ◌≢◌, ◌+◌, ◌*◌, ◌^◌, ◌≤◌, ◌↔◌, ℕ, List, length, take, drop, Some, IfOk, IfErr, IfSome, IsErrOf};
 ghost use Rattle.dob_pieces.specs.declared.profile.Family.{Family as AnyFamily};
 ghost use Rattle.dob_rank.specs.Families.{classes_of};
-ghost use Rattle.dob_value.specs.Follows.{IsEntry};
+ghost use Rattle.dob_distance.specs.Codes.{IsEntry};
 ghost use Rattle.dob_dbfile.specs.declared.fault.Fault.{Fault as AnyFault};
 ghost use Rattle.dob_dbfile.specs.declared.header.Format.{Format as AnyFormat};
 ghost use Rattle.dob_dbfile.specs.Devices.{whole};

@@ -1,6 +1,6 @@
 // Reading by place: what a file's header names, and the value of one class's record.
 ghost use Rattle.std.specs.Prelude.{◌≡◌, ◌⊎◌, ◌<◌, ◌||◌, ◌^◌, false, IfErr, IfOk};
-ghost use Rattle.dob_value.specs.Follows.{IsEntry};
+ghost use Rattle.dob_distance.specs.Codes.{IsEntry};
 ghost use Rattle.dob_dbfile.specs.Devices.{Stream};
 ghost use Rattle.dob_dbfile.specs.Faults.{CountsClasses, NamesClasses, fails, is_io};
 ghost use Rattle.dob_dbfile.specs.Looking.{HasFrontFault, HasRecord, HasRecordFault};

@@ -1,8 +1,7 @@
 // The records of a file: two bytes for each class, the lower first.
 ghost use Rattle.std.specs.Prelude.{◌≡◌, ℕ, List, ◌+◌, ◌*◌, ◌%◌, ◌-◌, ◌<◌, ◌≤◌, ◌++◌, length, take, vec_capacity, vec_len, All, IfOk, OnOk};
 ghost use Rattle.byteorder.specs.Endian.{little_bytes};
-ghost use Rattle.dob_value.specs.Codes.{code_of_value};
-ghost use Rattle.dob_value.specs.Follows.{IsEntry};
+ghost use Rattle.dob_distance.specs.Codes.{code_of_value, IsEntry};
 ghost use Rattle.dob_dbfile.specs.Format.{code_bytes, records};
 
 use byteorder::{ByteOrder, LittleEndian};

@@ -2,9 +2,9 @@
 use Rattle.std.specs.Prelude.{◌≡◌, ◌⊎◌, ℕ, Bool, true, false, List, [], ◌∷◌, ◌++◌, codes}
 use Rattle.dob_pieces.specs.Faults.{memory_text, set_fault_text}
 use Rattle.dob_text.specs.Faults as position
-use Rattle.dob_value.specs.Faults as value_texts
-use Rattle.dob_value.specs.declared.fault.Fault as value
-use Rattle.dob_value.specs.declared.fault.Fault.TheVariants as value_fault
+use Rattle.dob_distance.specs.Faults as value_texts
+use Rattle.dob_distance.specs.declared.fault.Fault as value
+use Rattle.dob_distance.specs.declared.fault.Fault.TheVariants as value_fault
 use Rattle.dob_dbfile.specs.FaultTexts as file
 use Rattle.dob_dbfile.specs.Faults as reading
 use Rattle.dob_dbfile.specs.declared.fault.Fault.{Fault as FileFault}

@@ -1,7 +1,7 @@
 -- The numbers of outcomes.
 use Rattle.std.specs.Prelude.{ℕ}
-use Rattle.dob_value.specs.declared.value.Value.{Value}
-use Rattle.dob_value.specs.declared.value.Value.TheVariants.{Win, Loss, Draw}
+use Rattle.dob_distance.specs.declared.value.Value.{Value}
+use Rattle.dob_distance.specs.declared.value.Value.TheVariants.{Win, Loss, Draw}
 
 abbrev pub outcome_number : Value → ℕ
 outcome_number Draw = 0

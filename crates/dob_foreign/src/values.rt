@@ -1,9 +1,9 @@
 // A value as two numbers.
 ghost use Rattle.std.specs.Prelude.{◌≡◌};
-ghost use Rattle.dob_value.specs.Bounds.{plies_of};
+ghost use Rattle.dob_distance.specs.Distances.{plies_of};
 ghost use Rattle.dob_foreign.specs.Values.{outcome_number};
 
-use dob_value::Value;
+use dob_distance::Value;
 
 /// 0 for a draw, 1 for a win and 2 for a loss of the side to move.
 pub fn outcome_number(value: Value) -> u32

@@ -10,8 +10,8 @@ pub use Rattle.dob_pieces.proofs.Elements.{read_there, some_at}
 pub use Rattle.dob_pieces.proofs.Zips.{as_many, each_is}
 pub use Rattle.dob_pieces.specs.declared.profile.Family.{Family}
 pub use Rattle.dob_rank.specs.Families.{classes_of}
-pub use Rattle.dob_value.specs.Follows.{ClassTable, IsEntry}
-pub use Rattle.dob_value.specs.declared.value.Value.{Value}
+pub use Rattle.dob_value.specs.Follows.{ClassTable}
+pub use Rattle.dob_distance.specs.declared.value.Value.{Value}
 pub use Rattle.dob_share.specs.Owners.{owner_of}
 pub use Rattle.dob_share.specs.Shares.{HasValueNow}
 pub use Rattle.dob_share.specs.declared.share.Share.{Share}
@@ -21,4 +21,4 @@ pub use Rattle.dob_gather.specs.Owners.{IsShownByOwner}
 pub use Rattle.dob_gather.specs.Gathering.{IsTaken}
 pub use Rattle.dob_gather.specs.Scans.{AreFrom}
 pub use Rattle.dob_dbfile.specs.Digests.{HasTaken}
-pub use Rattle.dob_value.specs.Codes.{value_of_code, values_of_codes}
+pub use Rattle.dob_distance.specs.Codes.{IsEntry, value_of_code, values_of_codes}

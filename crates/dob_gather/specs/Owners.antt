@@ -2,9 +2,9 @@
 use Rattle.std.specs.Prelude.{◌≡◌, ℕ, ◌<◌, List, Some, slice_get}
 use Rattle.dob_pieces.specs.declared.profile.Family.{Family}
 use Rattle.dob_rank.specs.Families.{classes_of}
-use Rattle.dob_value.specs.declared.value.Value.{Value}
-use Rattle.dob_value.specs.Codes.{value_of_code}
-use Rattle.dob_value.specs.Follows.{IsEntry, AreGiven}
+use Rattle.dob_distance.specs.declared.value.Value.{Value}
+use Rattle.dob_distance.specs.Codes.{value_of_code, IsEntry}
+use Rattle.dob_value.specs.Follows.{AreGiven}
 use Rattle.dob_share.specs.Owners.{owner_of}
 use Rattle.dob_share.specs.Shares.{IsOwn, HasValueNow}
 use Rattle.dob_share.specs.declared.share.Share.{Share}

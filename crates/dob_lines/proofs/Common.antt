@@ -4,7 +4,7 @@ pub use Rattle.std.proofs.lemmas.List.{append_assoc, length-append}
 pub use Rattle.std.specs.Fmt.{decimal}
 pub use Rattle.std.specs.List.{AllZip, range_with_len}
 pub use Rattle.std.specs.Prelude.{slice_get}
-pub use Rattle.dob_value.specs.declared.value.Value.{Value}
+pub use Rattle.dob_distance.specs.declared.value.Value.{Value}
 pub use Rattle.dob_lines.specs.Objects.{played_objects, valued_objects}
 pub use Rattle.dob_lines.specs.Tallies.{IsTally, IsTallyAt, class_lines, count_line}
 pub use Rattle.dob_lines.specs.declared.tally.Tally.{Tally}

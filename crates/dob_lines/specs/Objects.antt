@@ -12,8 +12,8 @@ use Rattle.dob_text.specs.MoveText.{move_text, seen, square_text}
 use Rattle.dob_text.specs.PositionText.{text_of}
 use Rattle.dob_moves.specs.declared.game_move.Move.{Move}
 use Rattle.dob_moves.specs.declared.game_move.Move.TheVariants.{Put, Step}
-use Rattle.dob_value.specs.declared.value.Value.{Value}
-use Rattle.dob_value.specs.declared.value.Value.TheVariants.{Draw, Loss, Win}
+use Rattle.dob_distance.specs.declared.value.Value.{Value}
+use Rattle.dob_distance.specs.declared.value.Value.TheVariants.{Draw, Loss, Win}
 use Rattle.dob_probe.specs.declared.by_value.ValuedMove.{ValuedMove}
 use Rattle.dob_probe.specs.declared.groups.Group.{Group}
 

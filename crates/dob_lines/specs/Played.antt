@@ -5,8 +5,8 @@ use Rattle.dob_pieces.specs.Bytes.{line_feed, space}
 use Rattle.dob_text.specs.Drawings.{drawing_of}
 use Rattle.dob_text.specs.MoveText.{move_text, numbered_text}
 use Rattle.dob_moves.specs.declared.game_move.Move.{Move}
-use Rattle.dob_value.specs.declared.value.Value.{Value}
-use Rattle.dob_value.specs.declared.value.Value.TheVariants.{Draw}
+use Rattle.dob_distance.specs.declared.value.Value.{Value}
+use Rattle.dob_distance.specs.declared.value.Value.TheVariants.{Draw}
 use Rattle.dob_lines.specs.Values.{value_line}
 
 -- a space where more moves follow

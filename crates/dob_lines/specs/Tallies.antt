@@ -4,9 +4,9 @@ use Rattle.std.specs.List.{count_by}
 use Rattle.std.specs.Prelude.{◌++◌, ◌+◌, ◌<◌, ◌^◌, ◌∷◌, ◌≡◌, Bool, List, Some, [], codes, false, length, slice_get, true, ℕ}
 use Rattle.dob_lines.specs.declared.tally.Tally.{Tally}
 use Rattle.dob_pieces.specs.Bytes.{line_feed}
-use Rattle.dob_value.specs.Entries.{is_draw}
-use Rattle.dob_value.specs.declared.value.Value.{Value}
-use Rattle.dob_value.specs.declared.value.Value.TheVariants.{Loss, Win}
+use Rattle.dob_distance.specs.Entries.{is_draw}
+use Rattle.dob_distance.specs.declared.value.Value.{Value}
+use Rattle.dob_distance.specs.declared.value.Value.TheVariants.{Loss, Win}
 
 abbrev pub is_win : Value → Bool
 is_win (Win plies) = true

@@ -14,7 +14,7 @@ use Rattle.dob_share.specs.Slots.{IsShortCell}
 use Rattle.dob_moves.proofs.MoveCounts.{other_count}
 use Rattle.dob_rank.proofs.OfFamilies.ClassBounds.{classes_of-below}
 use Rattle.dob_share.proofs.Opened.{settles_most}
-use Rattle.dob_value.specs.Bounds.{plies_of}
+use Rattle.dob_distance.specs.Distances.{plies_of}
 use Rattle.dob_node.specs.Levels.{level_of}
 
 -- ---- parity

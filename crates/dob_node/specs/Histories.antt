@@ -1,8 +1,8 @@
 -- What a history says of its classes, and what the copies of an edge know of it.
 use Rattle.std.specs.Prelude.{◌≡◌, ℕ, ◌<◌, ◌&&◌, ◌==◌, nat_lt, Bool, cond, List, [], ◌∷◌, ◌++◌, length, slice_get, count_by, Some}
 use Rattle.dob_pieces.specs.Lists.{each_below}
-use Rattle.dob_value.specs.declared.value.Value.{Value}
-use Rattle.dob_value.specs.declared.value.Value.TheVariants.{Draw}
+use Rattle.dob_distance.specs.declared.value.Value.{Value}
+use Rattle.dob_distance.specs.declared.value.Value.TheVariants.{Draw}
 use Rattle.dob_share.specs.declared.news.Settlement.{Settlement}
 use Rattle.dob_share.specs.declared.news.Item.{Item}
 use Rattle.dob_share.specs.Owners.{owner_of}

@@ -4,7 +4,7 @@ use Rattle.dob_pieces.specs.declared.profile.Family.{Family}
 use Rattle.dob_moves.specs.MoveLists.{moves_of}
 use Rattle.dob_rank.specs.Families.{classes_of}
 use Rattle.dob_rank.specs.Families.{class_setup}
-use Rattle.dob_value.specs.declared.value.Value.{Value}
+use Rattle.dob_distance.specs.declared.value.Value.{Value}
 use Rattle.dob_value.specs.Follows.{IsValueTable}
 use Rattle.dob_unmove.specs.Edges.{predecessors}
 use Rattle.dob_share.specs.declared.news.Settlement.{Settlement}

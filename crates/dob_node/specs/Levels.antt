@@ -1,6 +1,6 @@
 -- How far what a node has to expand next is from the end of a game.
 use Rattle.std.specs.Prelude.{◌≡◌, ℕ, max, Some, slice_get}
-use Rattle.dob_value.specs.Bounds.{plies_of}
+use Rattle.dob_distance.specs.Distances.{plies_of}
 use Rattle.dob_share.specs.declared.news.Settlement.{Settlement}
 use Rattle.dob_node.specs.NodeViews.{NodeView}
 

@@ -2,7 +2,7 @@
 use Rattle.std.specs.Prelude.{◌≡◌, ◌≢◌, ℕ, ◌+◌, ◌*◌, ◌<◌, ◌≤◌, ◌↔◌, List, [], ◌∷◌, ◌++◌, length, slice_get, None, Some}
 use Rattle.std.specs.List.{All}
 use Rattle.dob_pieces.specs.declared.profile.Family.{Family}
-use Rattle.dob_value.specs.declared.value.Value.{Value}
+use Rattle.dob_distance.specs.declared.value.Value.{Value}
 use Rattle.dob_unmove.specs.Edges.{predecessors}
 use Rattle.dob_share.specs.declared.news.Settlement.{Settlement}
 use Rattle.dob_share.specs.declared.news.Item.{Item}

@@ -2,7 +2,7 @@
 -- place among the owner's and the values as codes.
 use Rattle.std.specs.Prelude.{ℕ, suc, List, [], ◌∷◌, ◌++◌, length}
 use Rattle.dob_moves.specs.declared.position_status.Status.{Status}
-use Rattle.dob_value.specs.Codes.{value_of_code}
+use Rattle.dob_distance.specs.Codes.{value_of_code}
 use Rattle.dob_share.specs.declared.news.Settlement.{Settlement}
 use Rattle.dob_share.specs.Openings.{settled_among}
 use Rattle.dob_share.specs.Owners.{class_of_place}

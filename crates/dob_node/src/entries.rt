@@ -1,7 +1,7 @@
 // Which items a node takes of others: those with values that a table can have.
 ghost use Rattle.std.specs.Prelude.{◌↔◌, IsTrue};
 ghost use Rattle.std.specs.List.{All};
-ghost use Rattle.dob_value.specs.Follows.{IsEntry};
+ghost use Rattle.dob_distance.specs.Codes.{IsEntry};
 ghost use Rattle.dob_node.specs.TakenItems.{HasItemEntries};
 
 use dob_share::Item;

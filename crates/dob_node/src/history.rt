@@ -2,9 +2,9 @@
 // 8 bytes each. It makes the room for a settlement before an item changes a cell, and for those of a batch before its first item does.
 ghost use Rattle.std.specs.Prelude.{◌≡◌, ◌≢◌, ◌↔◌, ℕ, ◌+◌, ◌/◌, ◌^◌, ◌<◌, ◌≤◌, ◌∷◌, ◌++◌, [], length, take, Option, Some, Err, IfErr, OnOk, OnErr, slice_get};
 ghost use Rattle.dob_pieces.specs.declared.profile.Family.{Family as Set};
-ghost use Rattle.dob_value.specs.Follows.{IsEntry};
+ghost use Rattle.dob_distance.specs.Codes.{IsEntry};
 ghost use Rattle.dob_share.specs.Owners.{owner_of, class_of_place};
-ghost use Rattle.dob_value.specs.declared.value.Value.TheVariants.{Draw};
+ghost use Rattle.dob_distance.specs.declared.value.Value.TheVariants.{Draw};
 ghost use Rattle.dob_share.specs.declared.news.Settlement.{Settlement as Settled};
 ghost use Rattle.dob_share.specs.declared.share.Seen.{Seen};
 ghost use Rattle.dob_share.specs.Shares.{Fits, GoesTooDeep, IsSeen, cell_at};

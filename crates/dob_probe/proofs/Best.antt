@@ -3,8 +3,8 @@ use Rattle.dob_probe.proofs.Common.{◌-◌, ◌∙◌, ◌∷◌, ◌≡◌, �
 use Rattle.dob_probe.proofs.Common.{zero, ℕ, cases_lt, Setup, Goes, CanCatch, HasStatus, Move, Open, IsPositionOf, consistent_is_right, moves_keep_the_family}
 use Rattle.dob_probe.proofs.Common.{ClassTable, IsConsistent, IsValueTable, Value, Loss, Win, IsFaultOfLine, Begins, ValuedMove, GivenBy, IsLine, LacksMove}
 use Rattle.dob_probe.proofs.Common.{LeadsTo, value_wanted, Fault, Inconsistent, Memory}
-use Rattle.dob_value.specs.Values.{Won, Lost, HasValue}
-use Rattle.dob_value.proofs.Depths.{won_stays, won_not_lost, at_most_one_value}
+use Rattle.dob_distance.specs.Values.{Won, Lost, HasValue}
+use Rattle.dob_distance.proofs.Depths.{won_stays, won_not_lost, at_most_one_value}
 use Rattle.dob_probe.specs.Laws.{LinesAreBest, NoneBreaks}
 use Rattle.dob_probe.specs.ValuedMoves.{AreValuedMoves}
 use Rattle.dob_probe.proofs.Relations.{leads_by, line_by, listed_by}

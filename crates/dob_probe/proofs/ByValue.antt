@@ -4,7 +4,7 @@ use Rattle.dob_probe.proofs.Common.{slice_get, subst, sym, ℕ, cases_lt, cases_
 use Rattle.dob_probe.proofs.Common.{Goes, place, AreMoves, CanCatch, HasStatus, Move, Open, IsPositionOf, moves_keep_the_family, ClassTable, IsValueTable}
 use Rattle.dob_probe.proofs.Common.{Value, GivenBy, ComesBefore, IsBetter, ValuedMove, ◌∷◌, take, drop}
 use Rattle.std.proofs.lemmas.Grind.{in_insert, elements}
-use Rattle.dob_value.specs.Values.{HasValue}
+use Rattle.dob_distance.specs.Values.{HasValue}
 use Rattle.dob_probe.specs.Said.{AreSingle}
 use Rattle.dob_probe.specs.ValuedMoves.{seen_from_before, HasMoveValue, AreSaidMoves, AreValuedMoves}
 use Rattle.dob_probe.proofs.Best.{valued_best}

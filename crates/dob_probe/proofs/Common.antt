@@ -35,10 +35,11 @@ pub use Rattle.dob_classes.specs.Bitboards.{IsShown}
 pub use Rattle.dob_value.proofs.ClassNumbers.{one_entry, one_of_class}
 pub use Rattle.dob_value.proofs.Consistency.{consistent_is_right}
 pub use Rattle.dob_value.proofs.Successors.{AreSuccessorsBelow, move_goes, moves_keep_the_family}
-pub use Rattle.dob_value.specs.Distances.{IsLeastLoss, greater_of, lesser_of}
-pub use Rattle.dob_value.specs.Follows.{ClassTable, FollowsFromSuccessors, IsConsistent, IsEntry, IsTable, IsValueTable}
-pub use Rattle.dob_value.specs.declared.value.Value.{Value}
-pub use Rattle.dob_value.specs.declared.value.Value.TheVariants.{Draw, Loss, Win}
+pub use Rattle.dob_distance.specs.Distances.{IsLeastLoss, greater_of, lesser_of}
+pub use Rattle.dob_distance.specs.Codes.{IsEntry}
+pub use Rattle.dob_value.specs.Follows.{ClassTable, FollowsFromSuccessors, IsConsistent, IsTable, IsValueTable}
+pub use Rattle.dob_distance.specs.declared.value.Value.{Value}
+pub use Rattle.dob_distance.specs.declared.value.Value.TheVariants.{Draw, Loss, Win}
 pub use Rattle.dob_probe.specs.Checks.{ClassBreaks, ClassFollows, HasEntry}
 pub use Rattle.dob_probe.specs.Faults.{IsFaultOfLine}
 pub use Rattle.dob_probe.specs.Lines.{Begins, BreaksAt, Continues, EndsAt, GivenBy, GoesOnTo, IsFirstTo, IsLine, LacksMove, LeadsTo, value_wanted}

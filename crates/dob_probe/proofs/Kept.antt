@@ -2,7 +2,7 @@
 use Rattle.dob_probe.proofs.Common.{◌++◌, ◌∷◌, ◌≡◌, ◌≤◌, ◌⊎◌, Bool, Contains, List, None, Option, Some, [], arith, max, min, true, ℕ, Contains-append_left}
 use Rattle.dob_probe.proofs.Common.{Contains-push, Contains-push_cases, IsLeastLoss, greater_of, lesser_of, Value, Draw, Loss, Win, AreSummed, IsGreatestWin}
 use Rattle.dob_probe.proofs.Common.{TellsDraw, Successors}
-use Rattle.dob_value.proofs.Distances.{same_win, same_loss}
+use Rattle.dob_distance.proofs.Distances.{same_win, same_loss}
 
 -- of the values of one kind, given by their distances, that one is the first in an order, or there is none
 abbrev IsFirst : (ℕ → Value) → (ℕ → ℕ → Type 0) → List Value → Option ℕ → Type 0

@@ -6,7 +6,7 @@ use Rattle.dob_probe.proofs.Common.{Contains-append_left, Contains-get_or, Conta
 use Rattle.dob_probe.proofs.Common.{slice_get_within, get_front, IsEntry, Value, AreSlots, part_of}
 use Rattle.std.proofs.lemmas.List.{drop-take, get_or-drop, get_or_past, length-append, length-drop, length-take, take-append-drop, take-take, take_more}
 use Rattle.std.proofs.lemmas.List.Sums.{sum_by-append, sum_by-cons, count_by-le-length}
-use Rattle.dob_value.specs.Codes.{code_of_value}
+use Rattle.dob_distance.specs.Codes.{code_of_value}
 use Rattle.dob_probe.specs.declared.groups.Group.{Group}
 use Rattle.dob_probe.specs.Statistics.{has_code, IsGroup, AreGroups}
 use Rattle.dob_probe.proofs.Entries.{all_at}

@@ -3,7 +3,7 @@ use Rattle.std.specs.Prelude.{◌≡◌, ℕ, List}
 use Rattle.dob_pieces.specs.declared.setup.Setup.{Setup}
 use Rattle.dob_moves.specs.declared.game_move.Move.{Move}
 use Rattle.dob_rank.specs.Families.{IsPositionOf}
-use Rattle.dob_value.specs.Values.{HasValue}
+use Rattle.dob_distance.specs.Values.{HasValue}
 use Rattle.dob_value.specs.Follows.{ClassTable, IsValueTable}
 use Rattle.dob_probe.specs.Lines.{GivenBy, IsLine, BreaksAt}
 

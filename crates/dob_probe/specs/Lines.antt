@@ -8,8 +8,8 @@ use Rattle.dob_moves.specs.declared.position_status.Status.TheVariants.{Open}
 use Rattle.dob_moves.specs.Moves.{Goes, place}
 use Rattle.dob_moves.specs.Statuses.{CanCatch, HasStatus, IsFirstCatch}
 use Rattle.dob_rank.specs.Families.{IsInClass}
-use Rattle.dob_value.specs.declared.value.Value.{Value}
-use Rattle.dob_value.specs.declared.value.Value.TheVariants.{Win, Loss, Draw}
+use Rattle.dob_distance.specs.declared.value.Value.{Value}
+use Rattle.dob_distance.specs.declared.value.Value.TheVariants.{Win, Loss, Draw}
 use Rattle.dob_value.specs.Follows.{ClassTable, HasInTable}
 
 -- the table gives the position's class that value

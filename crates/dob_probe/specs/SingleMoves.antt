@@ -3,7 +3,7 @@ use Rattle.std.specs.Prelude.{◌≡◌, ℕ, Option, Some, None}
 use Rattle.dob_pieces.specs.declared.profile.Profile.{Profile}
 use Rattle.dob_pieces.specs.declared.setup.Setup.{Setup}
 use Rattle.dob_moves.specs.declared.game_move.Move.{Move}
-use Rattle.dob_value.specs.declared.value.Value.{Value}
+use Rattle.dob_distance.specs.declared.value.Value.{Value}
 use Rattle.dob_value.specs.Follows.{ClassTable}
 use Rattle.dob_probe.specs.declared.puzzles.Puzzle.{Puzzle}
 use Rattle.dob_probe.specs.Puzzles.{IsOnlyTo, IsPuzzle}

@@ -1,8 +1,7 @@
 -- How many classes of a table have which value, and which class is the first to have it.
 use Rattle.std.specs.Prelude.{◌≡◌, ℕ, ◌<◌, ◌==◌, Bool, List, Contains, AllPairs, Some, slice_get, count_by}
-use Rattle.dob_value.specs.declared.value.Value.{Value}
-use Rattle.dob_value.specs.Follows.{IsEntry}
-use Rattle.dob_value.specs.Codes.{code_of_value}
+use Rattle.dob_distance.specs.declared.value.Value.{Value}
+use Rattle.dob_distance.specs.Codes.{code_of_value, IsEntry}
 use Rattle.dob_probe.specs.declared.groups.Group.{Group}
 
 -- The entry has that code: 0 of a draw, else one more than its distance, so that losses have odd codes and wins even ones, and entries

@@ -1,8 +1,8 @@
 -- What decides a position's value among the values of its successors.
 use Rattle.std.specs.Prelude.{ℕ, ◌+◌, ◌≤◌, ◌<◌, ◌^◌, Bool, true, false, List, Contains, Option, Some, None, IfSome}
-use Rattle.dob_value.specs.declared.value.Value.{Value}
-use Rattle.dob_value.specs.declared.value.Value.TheVariants.{Win, Loss, Draw}
-use Rattle.dob_value.specs.Distances.{IsLeastLoss}
+use Rattle.dob_distance.specs.declared.value.Value.{Value}
+use Rattle.dob_distance.specs.declared.value.Value.TheVariants.{Win, Loss, Draw}
+use Rattle.dob_distance.specs.Distances.{IsLeastLoss}
 use Rattle.dob_probe.specs.declared.successors.Successors.{Successors}
 
 -- the greatest win among the values

@@ -6,8 +6,8 @@ use Rattle.dob_moves.specs.declared.position_status.Status.TheVariants.{Open}
 use Rattle.dob_moves.specs.declared.game_move.Move.{Move}
 use Rattle.dob_moves.specs.Moves.{CanGo, Goes, place}
 use Rattle.dob_moves.specs.Statuses.{CanCatch, HasStatus, IsFirstCatch}
-use Rattle.dob_value.specs.declared.value.Value.{Value}
-use Rattle.dob_value.specs.declared.value.Value.TheVariants.{Win, Loss, Draw}
+use Rattle.dob_distance.specs.declared.value.Value.{Value}
+use Rattle.dob_distance.specs.declared.value.Value.TheVariants.{Win, Loss, Draw}
 use Rattle.dob_probe.specs.declared.by_value.ValuedMove.{ValuedMove}
 
 -- the value that the side that made a move has, where the position after it has that value for the other side

@@ -1,8 +1,9 @@
 // The value of a position from a table.
 ghost use Rattle.std.specs.Prelude.{IfErr, IfOk, OnOk};
 ghost use Rattle.dob_rank.specs.Families.{IsPositionOf};
-ghost use Rattle.dob_value.specs.Values.{HasValue};
-ghost use Rattle.dob_value.specs.Follows.{IsConsistent, IsEntry};
+ghost use Rattle.dob_distance.specs.Values.{HasValue};
+ghost use Rattle.dob_distance.specs.Codes.{IsEntry};
+ghost use Rattle.dob_value.specs.Follows.{IsConsistent};
 ghost use Rattle.dob_probe.specs.Faults.{IsRefusal};
 ghost use Rattle.dob_probe.specs.Lines.{GivenBy};
 

@@ -6,7 +6,7 @@ ghost use Rattle.dob_probe.specs.Outlines.{AreOutlines, IsOutlineOf, same_outlin
 ghost use Rattle.dob_moves.specs.Statuses.{AreMoves};
 ghost use Rattle.dob_rank.specs.Families.{IsPositionOf};
 ghost use Rattle.dob_value.specs.Follows.{IsTable};
-ghost use Rattle.dob_value.specs.declared.value.Value.TheVariants.{Loss};
+ghost use Rattle.dob_distance.specs.declared.value.Value.TheVariants.{Loss};
 ghost use Rattle.dob_probe.specs.Lines.{GivenBy};
 ghost use Rattle.dob_probe.specs.Puzzles.{ArePuzzles, IsListedNext, puzzle_of};
 ghost use Rattle.dob_probe.specs.SingleMoves.{IsPuzzleOf, IsSingleMove};

@@ -3,8 +3,9 @@ ghost use Rattle.std.specs.Prelude.{◌≡◌, ◌||◌, Bool, false, IfErr, IfO
 ghost use Rattle.dob_pieces.specs.declared.profile.Family.{Family};
 ghost use Rattle.dob_pieces.specs.declared.setup.Setup.{Setup};
 ghost use Rattle.dob_rank.specs.Families.{IsPositionOf};
-ghost use Rattle.dob_value.specs.declared.value.Value.{Value as Valued};
-ghost use Rattle.dob_value.specs.Follows.{IsEntry, IsTable};
+ghost use Rattle.dob_distance.specs.declared.value.Value.{Value as Valued};
+ghost use Rattle.dob_distance.specs.Codes.{IsEntry};
+ghost use Rattle.dob_value.specs.Follows.{IsTable};
 ghost use Rattle.dob_probe.specs.Lines.{GivenBy};
 ghost use Rattle.dob_probe.specs.Said.{fails};
 

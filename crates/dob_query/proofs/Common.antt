@@ -9,8 +9,8 @@ pub use Rattle.dob_pieces.specs.declared.profile.Profile.{Profile}
 pub use Rattle.dob_pieces.specs.declared.setup.Setup.{Setup}
 pub use Rattle.dob_rank.specs.Families.{IsPositionOf}
 pub use Rattle.dob_value.specs.Follows.{ClassTable}
-pub use Rattle.dob_value.specs.Values.{HasValue}
-pub use Rattle.dob_value.specs.declared.value.Value.{Value}
+pub use Rattle.dob_distance.specs.Values.{HasValue}
+pub use Rattle.dob_distance.specs.declared.value.Value.{Value}
 pub use Rattle.dob_dbfile.specs.Devices.{Stream, whole}
 pub use Rattle.dob_dbfile.specs.Faults.{CountsClasses}
 pub use Rattle.dob_dbfile.specs.Sinks.{change}

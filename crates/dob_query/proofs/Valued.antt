@@ -9,8 +9,8 @@ use Rattle.dob_probe.specs.declared.fault.Fault as probing
 use Rattle.dob_probe.specs.declared.fault.Fault.TheVariants as table_fault
 use Rattle.dob_text.specs.PositionText.{Spells}
 use Rattle.dob_value.specs.Rosters.{HasSamePieces, SomeTooDeep}
-use Rattle.dob_value.specs.declared.fault.Fault as value
-use Rattle.dob_value.specs.declared.fault.Fault.TheVariants as value_fault
+use Rattle.dob_distance.specs.declared.fault.Fault as value
+use Rattle.dob_distance.specs.declared.fault.Fault.TheVariants as value_fault
 
 -- a fault of finding a value is one of the text's
 pub value_fault_holds : (profile : Profile) (text : List ℕ) (p : Setup) (f : value.Fault) → IsLegal p → Spells text p

@@ -5,7 +5,7 @@ use Rattle.dob_pieces.specs.declared.profile.Profile.{Profile}
 use Rattle.dob_pieces.specs.declared.setup.Setup.{Setup}
 use Rattle.dob_pieces.specs.Bytes.{line_feed}
 use Rattle.dob_text.specs.Faults.{HasTextFault}
-use Rattle.dob_value.specs.declared.value.Value.{Value}
+use Rattle.dob_distance.specs.declared.value.Value.{Value}
 use Rattle.dob_value.specs.Follows.{ClassTable}
 use Rattle.dob_probe.specs.Lines.{GivenBy}
 use Rattle.dob_probe.specs.Faults.{IsRefusal}

@@ -6,8 +6,8 @@ use Rattle.dob_pieces.specs.Profiles.{IsAllowed}
 use Rattle.dob_pieces.specs.Setups.{IsLegal}
 use Rattle.dob_text.specs.PositionText.{Spells}
 use Rattle.dob_text.specs.Faults.{HasTextFault}
-use Rattle.dob_value.specs.declared.value.Value.{Value}
-use Rattle.dob_value.specs.Values.{HasValue}
+use Rattle.dob_distance.specs.declared.value.Value.{Value}
+use Rattle.dob_distance.specs.Values.{HasValue}
 use Rattle.dob_value.specs.Rosters.{SomeTooDeep, HasSamePieces}
 use Rattle.dob_files.specs.declared.fault.Fault.{Fault}
 use Rattle.dob_files.specs.declared.fault.Fault.TheVariants.{Text, TooDeep, Memory}

@@ -8,8 +8,8 @@ use Rattle.dob_pieces.specs.Profiles.{IsAllowed}
 use Rattle.dob_text.specs.Faults as text
 use Rattle.dob_moves.specs.declared.game_move.Move.{Move as GameMove}
 use Rattle.dob_rank.specs.Families.{IsPositionOf}
-use Rattle.dob_value.specs.declared.value.Value.{Value}
-use Rattle.dob_value.specs.Values.{HasValue}
+use Rattle.dob_distance.specs.declared.value.Value.{Value}
+use Rattle.dob_distance.specs.Values.{HasValue}
 use Rattle.dob_dbfile.specs.declared.fault.Fault as file
 use Rattle.dob_dbfile.specs.declared.fault.Fault.TheVariants as file_fault
 use Rattle.dob_dbfile.specs.declared.header.Format.{Format}

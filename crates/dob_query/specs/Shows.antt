@@ -6,7 +6,7 @@ use Rattle.dob_text.specs.Drawings.{drawing_of}
 use Rattle.dob_text.specs.Pictures.{picture_of}
 use Rattle.dob_text.specs.Faults.{HasTextFault}
 use Rattle.dob_pieces.specs.declared.profile.Profile.{Profile}
-use Rattle.dob_value.specs.Values.{HasValue}
+use Rattle.dob_distance.specs.Values.{HasValue}
 use Rattle.dob_files.specs.declared.fault.Fault.{Fault}
 use Rattle.dob_files.specs.declared.fault.Fault.TheVariants.{Text, Memory, Io}
 use Rattle.dob_files.specs.Endings.{AnswersOver, Ending, GivesLines}

@@ -1,8 +1,8 @@
 -- The classes that are reached by their values, one class more each time.
 use Rattle.dob_reach.proofs.Common.{◌+◌, ◌<◌, ◌↔◌, ◌∙◌, ◌≡◌, ◌≤◌, HasJust, IsMarked, List, Some, arith, cases_lt, inl, inr, length, slice_get}
 use Rattle.dob_reach.proofs.Common.{slice_get_within, sym, ℕ}
-use Rattle.dob_value.specs.declared.value.Value.{Value}
-use Rattle.dob_value.specs.declared.value.Value.TheVariants.{Win, Loss, Draw}
+use Rattle.dob_distance.specs.declared.value.Value.{Value}
+use Rattle.dob_distance.specs.declared.value.Value.TheVariants.{Win, Loss, Draw}
 use Rattle.dob_reach.specs.declared.values.ByValue.{ByValue}
 use Rattle.dob_reach.specs.Values.{AreCounted, IsDrawn, IsLost, IsWon, with_value}
 use Rattle.dob_reach.proofs.Counts.{just_both, just_none, just_one, just_same}

@@ -1,8 +1,8 @@
 -- How many of the classes that are reached have which value by a table.
 use Rattle.std.specs.Prelude.{◌≡◌, ℕ, ◌+◌, List, Some, slice_get}
 use Rattle.dob_pieces.specs.declared.profile.Family.{Family}
-use Rattle.dob_value.specs.declared.value.Value.{Value}
-use Rattle.dob_value.specs.declared.value.Value.TheVariants.{Win, Loss, Draw}
+use Rattle.dob_distance.specs.declared.value.Value.{Value}
+use Rattle.dob_distance.specs.declared.value.Value.TheVariants.{Win, Loss, Draw}
 use Rattle.dob_reach.specs.declared.values.ByValue.{ByValue}
 use Rattle.dob_reach.specs.Counts.{HasJust}
 use Rattle.dob_reach.specs.Distances.{IsReached}

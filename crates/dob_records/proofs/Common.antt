@@ -7,7 +7,7 @@ pub use Rattle.dob_pieces.specs.declared.setup.Setup.{Setup}
 pub use Rattle.dob_moves.specs.declared.game_move.Move.{Move}
 pub use Rattle.dob_rank.specs.Families.{IsPositionOf}
 pub use Rattle.dob_value.specs.Follows.{ClassTable, IsTable}
-pub use Rattle.dob_value.specs.declared.value.Value.{Value}
+pub use Rattle.dob_distance.specs.declared.value.Value.{Value}
 pub use Rattle.dob_dbfile.proofs.Looked.{one_record, table_has_record, table_record}
 pub use Rattle.dob_dbfile.specs.Devices.{Stream, whole}
 pub use Rattle.dob_dbfile.specs.Looking.{HasRecord}

@@ -14,9 +14,9 @@ pub use Rattle.dob_pieces.proofs.Elements.{at_end, get_front, get_set_other, mid
 pub use Rattle.dob_pieces.proofs.Zips.{as_many, each_is, made_all, zip_at, zip_long, zip_one}
 pub use Rattle.dob_pieces.specs.declared.profile.Family.{Family}
 pub use Rattle.dob_rank.specs.Families.{classes_of}
-pub use Rattle.dob_value.specs.Follows.{ClassTable, IsEntry, IsValueTable}
-pub use Rattle.dob_value.specs.declared.value.Value.{Value}
-pub use Rattle.dob_value.specs.declared.value.Value.TheVariants.{Draw}
+pub use Rattle.dob_value.specs.Follows.{ClassTable, IsValueTable}
+pub use Rattle.dob_distance.specs.declared.value.Value.{Value}
+pub use Rattle.dob_distance.specs.declared.value.Value.TheVariants.{Draw}
 pub use Rattle.dob_share.specs.Owners.{owner_of}
 pub use Rattle.dob_share.specs.Shares.{HasValueNow, IsValue, cell_at}
 pub use Rattle.dob_share.specs.declared.news.Item.{Item}
@@ -79,7 +79,7 @@ pub use Rattle.dob_run.specs.declared.built_table.Built.{Built}
 pub use Rattle.dob_run.specs.declared.handed.Handed.{Handed}
 pub use Rattle.dob_run.specs.declared.threads.Kept.{Kept}
 pub use Rattle.dob_dbfile.specs.Digests.{HasTaken}
-pub use Rattle.dob_value.specs.Codes.{value_of_code, values_of_codes}
+pub use Rattle.dob_distance.specs.Codes.{IsEntry, value_of_code, values_of_codes}
 pub use Rattle.dob_unmove.specs.Edges.{predecessors}
 pub use Rattle.rayon.proofs.ListFacts.{AllZip-weaken}
 pub use Rattle.dob_run.specs.InboxOpen.{AreLaid, AreLaidUpto, AreOutlets, IsLaid, IsOneLaid, IsUntaken}

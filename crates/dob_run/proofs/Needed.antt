@@ -7,7 +7,7 @@ use Rattle.dob_run.proofs.Common.{items_of, last_now, value_of, IsIdle, Node, Is
 use Rattle.dob_run.proofs.Common.{predecessors}
 use Rattle.std.proofs.lemmas.List.Concat.{length-flat_map}
 use Rattle.std.proofs.lemmas.List.Sums.{sum_by-cons, sum_by-le, sum_by-le-sum_by, length-filter}
-use Rattle.dob_value.specs.Entries.{is_draw}
+use Rattle.dob_distance.specs.Entries.{is_draw}
 
 -- ---- sums over numbers that follow one another
 

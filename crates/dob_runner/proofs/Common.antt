@@ -13,9 +13,9 @@ pub use Rattle.dob_pieces.specs.declared.profile.Family.{Family}
 pub use Rattle.dob_moves.specs.declared.position_status.Status.{Status}
 pub use Rattle.dob_moves.specs.declared.position_status.Status.TheVariants.{Open}
 pub use Rattle.dob_rank.specs.Families.{class_setup, classes_of}
-pub use Rattle.dob_value.specs.Follows.{IsEntry}
-pub use Rattle.dob_value.specs.declared.value.Value.{Value}
-pub use Rattle.dob_value.specs.declared.value.Value.TheVariants.{Draw, Loss, Win}
+pub use Rattle.dob_distance.specs.Codes.{IsEntry}
+pub use Rattle.dob_distance.specs.declared.value.Value.{Value}
+pub use Rattle.dob_distance.specs.declared.value.Value.TheVariants.{Draw, Loss, Win}
 pub use Rattle.dob_unmove.specs.Edges.{predecessors}
 pub use Rattle.dob_share.proofs.Applied.{CellValue-same}
 pub use Rattle.dob_share.specs.Cells.{Cell, Changes, SameCell, SumsUp, changed, fresh}

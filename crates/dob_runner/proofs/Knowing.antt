@@ -10,8 +10,8 @@ use Rattle.dob_runner.proofs.Common.{batches_of, AreCellsSummed, CanHaveMade, Kn
 use Rattle.dob_runner.proofs.Common.{planned, worked, Inlet, others_more, fits_own, kept_still, news_is}
 use Rattle.dob_chan.proofs.Deliveries.{own_more as batch_more}
 use Rattle.dob_pieces.proofs.Lists.{none_in_empty, head_in, cons_cases}
-use Rattle.dob_value.specs.Distances.{IsLeastLoss, lesser_of}
-use Rattle.dob_value.proofs.Distances.{same_loss}
+use Rattle.dob_distance.specs.Distances.{IsLeastLoss, lesser_of}
+use Rattle.dob_distance.proofs.Distances.{same_loss}
 use Rattle.dob_share.specs.Values.{Better}
 use Rattle.dob_share.specs.Shares.{status_at, cell_at, IsValue, HasValueNow, HasSettled, IsOwn, places_of}
 use Rattle.dob_share.proofs.Sums.{sums_up_after}

@@ -7,11 +7,11 @@ use Rattle.dob_moves.specs.declared.position_status.Status.TheVariants.{Open}
 use Rattle.dob_moves.specs.Statuses.{HasStatus}
 use Rattle.dob_rank.specs.Families.{classes_of}
 use Rattle.dob_rank.specs.Families.{class_setup}
-use Rattle.dob_value.specs.declared.value.Value.{Value}
-use Rattle.dob_value.specs.declared.value.Value.TheVariants.{Win, Loss, Draw}
-use Rattle.dob_value.specs.Entries.{is_draw}
-use Rattle.dob_value.specs.Follows.{IsEntry}
-use Rattle.dob_value.specs.Distances.{lesser_of}
+use Rattle.dob_distance.specs.declared.value.Value.{Value}
+use Rattle.dob_distance.specs.declared.value.Value.TheVariants.{Win, Loss, Draw}
+use Rattle.dob_distance.specs.Entries.{is_draw}
+use Rattle.dob_distance.specs.Codes.{IsEntry}
+use Rattle.dob_distance.specs.Distances.{lesser_of}
 use Rattle.dob_unmove.specs.Edges.{predecessors}
 use Rattle.dob_share.specs.declared.news.Settlement.{Settlement}
 use Rattle.dob_share.specs.declared.news.Item.{Item}

@@ -3,14 +3,14 @@ use Rattle.std.specs.Prelude.{ℕ, suc, ◌<◌, List, Option}
 use Rattle.std.specs.List.{All}
 use Rattle.std.specs.Coded.{Coded-set, coded_ℕ, coded_list, coded_option, ×_prop, Π_prop, Unit-prop, le_prop}
 use Rattle.dob_moves.specs.contracts.position_status.Status as status_row
-use Rattle.dob_value.specs.contracts.value.Value as value_row
+use Rattle.dob_distance.specs.contracts.value.Value as value_row
 use Rattle.dob_pieces.specs.contracts.profile.Family as family_row
 use Rattle.dob_share.specs.contracts.news.Item as item_row
 use Rattle.dob_update.specs.contracts.batch.Batch as batch_row
 use Rattle.dob_pieces.specs.declared.profile.Family.{Family}
-use Rattle.dob_value.specs.declared.value.Value.{Value}
-use Rattle.dob_value.specs.declared.value.Value.TheVariants.{Win, Loss, Draw}
-use Rattle.dob_value.specs.Follows.{IsEntry}
+use Rattle.dob_distance.specs.declared.value.Value.{Value}
+use Rattle.dob_distance.specs.declared.value.Value.TheVariants.{Win, Loss, Draw}
+use Rattle.dob_distance.specs.Codes.{IsEntry}
 use Rattle.dob_share.specs.declared.news.Item.{Item}
 use Rattle.dob_rank.specs.Families.{classes_of}
 use Rattle.dob_moves.specs.declared.position_status.Status.{Status}

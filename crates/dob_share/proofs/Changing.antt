@@ -2,7 +2,7 @@
 use Rattle.dob_share.proofs.Common.{◌+◌, ◌-◌, ◌<◌, ◌↔◌, ◌≡◌, ◌≤◌, Cell, CellCanTake, CellValue, Contradiction, Draw, Err, Fault, IsGreatestIn, IsShortCell}
 use Rattle.dob_share.proofs.Common.{IsTooDeep, Loss, Ok, Option, Result, Slot, Some, TooDeep, Value, Win, ap, arith, cell_of, changed, greater_of, least_of}
 use Rattle.dob_share.proofs.Common.{lesser_of, more_at, nat_tests, refl, suc, zero, ℕ}
-use Rattle.dob_value.specs.Codes.{IsShort}
+use Rattle.dob_distance.specs.Codes.{IsShort}
 use Rattle.dob_share.specs.Cells.{IsGreatest}
 
 pub least_some : (win : ℕ) → 0 < win → (least : ℕ) × (least_of win ≡ Some least) × (win ≡ least + 1)

@@ -17,10 +17,10 @@ pub use Rattle.std.specs.List.{count_by}
 pub use Rattle.dob_pieces.proofs.Lists.{cons_cases, head_in, none_in_empty}
 pub use Rattle.dob_moves.specs.declared.position_status.Status.{Status}
 pub use Rattle.dob_moves.specs.declared.position_status.Status.TheVariants.{Open, Stuck}
-pub use Rattle.dob_value.specs.Distances.{IsLeastLoss, greater_of, lesser_of}
-pub use Rattle.dob_value.specs.Entries.{is_draw}
-pub use Rattle.dob_value.specs.declared.value.Value.{Value}
-pub use Rattle.dob_value.specs.declared.value.Value.TheVariants.{Draw, Loss, Win}
+pub use Rattle.dob_distance.specs.Distances.{IsLeastLoss, greater_of, lesser_of}
+pub use Rattle.dob_distance.specs.Entries.{is_draw}
+pub use Rattle.dob_distance.specs.declared.value.Value.{Value}
+pub use Rattle.dob_distance.specs.declared.value.Value.TheVariants.{Draw, Loss, Win}
 pub use Rattle.dob_share.specs.Cells.{Cell, CellCanTake, CellValue, Changes, IsGreatestIn, KnowsLossWithin, SameCell, SumsUp, changed, fresh, less_at, more_at}
 pub use Rattle.dob_share.specs.Openings.{AreOpened, AreOwn, ArePlaced, cell_moves, moves_where, new_slot, opening_of, settled_among, settles, slots_where}
 pub use Rattle.dob_share.specs.Owners.{class_of_place}

@@ -1,9 +1,9 @@
 -- What a class's cell says of its moves, and how an item changes it.
 use Rattle.std.specs.Prelude.{◌≡◌, ℕ, ◌+◌, ◌-◌, ◌<◌, ◌≤◌, ◌⊎◌, ◌==◌, if◌then◌else◌, List, ◌++◌, ◌∷◌, count_by, Option, None, Some}
-use Rattle.dob_value.specs.declared.value.Value.{Value}
-use Rattle.dob_value.specs.declared.value.Value.TheVariants.{Win, Loss, Draw}
-use Rattle.dob_value.specs.Entries.{is_draw}
-use Rattle.dob_value.specs.Distances.{IsLeastLoss, lesser_of}
+use Rattle.dob_distance.specs.declared.value.Value.{Value}
+use Rattle.dob_distance.specs.declared.value.Value.TheVariants.{Win, Loss, Draw}
+use Rattle.dob_distance.specs.Entries.{is_draw}
+use Rattle.dob_distance.specs.Distances.{IsLeastLoss, lesser_of}
 use Rattle.dob_share.specs.Values.{is_win_in}
 
 -- The moves of a class by what is known of the positions that they lead to: how many lead to one of which nothing is

@@ -1,6 +1,6 @@
 -- Laws of cells, of which `src/laws.rt` has one function each.
 use Rattle.std.specs.Prelude.{List}
-use Rattle.dob_value.specs.declared.value.Value.{Value}
+use Rattle.dob_distance.specs.declared.value.Value.{Value}
 use Rattle.dob_share.specs.Values.{Better, NoWorse}
 use Rattle.dob_share.specs.Cells.{Cell, CellValue, CellCanTake, changed, SumsUp, Changes}
 

@@ -3,8 +3,8 @@ use Rattle.std.specs.Prelude.{◌≡◌, ◌≢◌, ◌↔◌, ℕ, zero, suc, �
 use Rattle.std.specs.Prelude.{Result, Err, IfOk, OnOk, OnErr}
 use Rattle.dob_moves.specs.declared.position_status.Status.{Status}
 use Rattle.dob_moves.specs.declared.position_status.Status.TheVariants.{Caught, Tried, Stuck, Open}
-use Rattle.dob_value.specs.declared.value.Value.{Value}
-use Rattle.dob_value.specs.declared.value.Value.TheVariants.{Win, Loss}
+use Rattle.dob_distance.specs.declared.value.Value.{Value}
+use Rattle.dob_distance.specs.declared.value.Value.TheVariants.{Win, Loss}
 use Rattle.dob_share.specs.declared.fault.Fault.{Fault}
 use Rattle.dob_share.specs.declared.fault.Fault.TheVariants.{TooDeep, Contradiction}
 use Rattle.dob_share.specs.declared.news.Item.{Item}

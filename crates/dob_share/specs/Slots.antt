@@ -1,6 +1,6 @@
 -- The cells of a share as they are kept: slots in the order of the open classes, and a pool with a run for each.
 use Rattle.std.specs.Prelude.{◌≡◌, ℕ, zero, suc, ◌+◌, ◌-◌, ◌<◌, ◌≤◌, List, length, slice_index_or, Option, None, Some}
-use Rattle.dob_value.specs.declared.sweep.TheConstants.{MAX_DISTANCE}
+use Rattle.dob_distance.specs.declared.value.TheConstants.{MAX_DISTANCE}
 use Rattle.dob_share.specs.declared.cells.Slot.{Slot}
 use Rattle.dob_share.specs.Cells.{Cell}
 use Rattle.dob_share.specs.Pools.{wins_in}

@@ -1,7 +1,7 @@
 -- What an item makes of the cells: a fault, or one cell changed.
 use Rattle.std.specs.Prelude.{◌≡◌, ◌≢◌, ℕ, ◌↔◌, List, length, Option, None, Some, Result, Ok, Err}
-use Rattle.dob_value.specs.declared.value.Value.{Value}
-use Rattle.dob_value.specs.Codes.{IsShort}
+use Rattle.dob_distance.specs.declared.value.Value.{Value}
+use Rattle.dob_distance.specs.Codes.{IsShort}
 use Rattle.dob_share.specs.declared.cells.Slot.{Slot}
 use Rattle.dob_share.specs.declared.fault.Fault.{Fault}
 use Rattle.dob_share.specs.declared.fault.Fault.TheVariants.{TooDeep, Contradiction}

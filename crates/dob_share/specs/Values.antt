@@ -1,7 +1,7 @@
 -- Which value is better than another of the same class: it is known later, and says more.
 use Rattle.std.specs.Prelude.{◌≡◌, ℕ, ◌<◌, ◌⊎◌, Bool, false, ◌==◌}
-use Rattle.dob_value.specs.declared.value.Value.{Value}
-use Rattle.dob_value.specs.declared.value.Value.TheVariants.{Win, Loss, Draw}
+use Rattle.dob_distance.specs.declared.value.Value.{Value}
+use Rattle.dob_distance.specs.declared.value.Value.TheVariants.{Win, Loss, Draw}
 
 -- The second value is better than the first: a win or a loss is better than a draw, and one in fewer plies better than
 -- one of its kind in more.

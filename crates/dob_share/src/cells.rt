@@ -1,7 +1,7 @@
 // How cells are kept: 8 bytes a cell, and one pool with the distances of the counted wins of all cells. A cell's entries in
 // the pool are a run with room for as many entries as the class has moves.
 ghost use Rattle.std.specs.Prelude.{◌≡◌, ℕ, ◌<◌, ◌≤◌, ◌+◌, IfSome, length, MatchOption, slice_index_or};
-ghost use Rattle.dob_value.specs.Distances.{greater_of};
+ghost use Rattle.dob_distance.specs.Distances.{greater_of};
 ghost use Rattle.dob_share.specs.Cells.{more_at, less_at, IsGreatestIn};
 ghost use Rattle.dob_share.specs.Pools.{vacant, wins_in, IsWithin, IsCountedAt, ChangesRun};
 

@@ -1,5 +1,5 @@
 // What owners send one another: settlements, and the items that they make.
-use dob_value::Value;
+use dob_distance::Value;
 
 /// A change of the value of a class. `number` is its place in the history of the class's owner, counted from 0.
 #[derive(Clone, Copy, PartialEq, Eq)]

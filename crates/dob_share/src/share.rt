@@ -17,11 +17,11 @@ use crate::opening::Opening;
 use crate::owners::{quotient, rest};
 use crate::statuses::Statuses;
 use crate::steps::{apply_at, value_in};
+use dob_distance::Value;
 use dob_lists::Segments;
 use dob_moves::Status;
 use dob_pieces::Memory;
 use dob_safra::NodeCount;
-use dob_value::Value;
 use std::alloc::Global;
 
 /// What is seen of an own class that is open: the number of its cell, and where the cell's run begins.

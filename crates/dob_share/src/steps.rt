@@ -2,8 +2,8 @@
 // changes a cell's value only if the win comes nearer or the last move becomes known, so most items look no value up; and
 // only wins of the enemy are counted, so that other items leave the pool alone.
 ghost use Rattle.std.specs.Prelude.{◌≡◌, ◌≢◌, ℕ, ◌+◌, ◌<◌, ◌≤◌, List, length, Some, MatchOption};
-ghost use Rattle.dob_value.specs.declared.value.Value.TheVariants.{Win, Loss, Draw};
-ghost use Rattle.dob_value.specs.Distances.{lesser_of};
+ghost use Rattle.dob_distance.specs.declared.value.Value.TheVariants.{Win, Loss, Draw};
+ghost use Rattle.dob_distance.specs.Distances.{lesser_of};
 ghost use Rattle.dob_share.specs.Cells.{CellValue};
 ghost use Rattle.dob_share.specs.Slots.{slot_at, start_at, cell_by, ArePooled, IsShortCell, least_of};
 ghost use Rattle.dob_share.specs.Steps.{IsApplied};
@@ -11,8 +11,8 @@ ghost use Rattle.dob_share.specs.Steps.{IsApplied};
 use crate::cells::{Slot, count_better, count_win, counted_place, greatest_win, later};
 use crate::fault::Fault;
 use crate::share::Seen;
+use dob_distance::{MAX_DISTANCE, Value};
 use dob_lists::Segments;
-use dob_value::{MAX_DISTANCE, Value};
 
 /// The value of the cell.
 pub(crate) fn value_in(pool: &Segments<u16>, slot: Slot) -> Value

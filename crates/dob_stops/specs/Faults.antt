@@ -1,7 +1,6 @@
 -- What each fault of a world or a build by threads is called.
-use Rattle.std.specs.Prelude.{ℕ, List}
+use Rattle.std.specs.Prelude.{ℕ, List, codes}
 use Rattle.dob_pieces.specs.Faults.{memory_text}
-use Rattle.dob_update.specs.Faults.{sizes_text}
 use Rattle.dob_safra.specs.Faults.{nodes_text}
 use Rattle.dob_stops.specs.Causes.{stopped_text}
 use Rattle.dob_stops.specs.declared.fault.Fault.{Fault}
@@ -10,6 +9,6 @@ use Rattle.dob_stops.specs.declared.fault.Fault.TheVariants.{Nodes, Sizes, Stopp
 -- the fault's number and name, and of a stopped node which one and why
 abbrev pub fault_text : Fault → List ℕ
 fault_text Nodes = nodes_text
-fault_text Sizes = sizes_text
+fault_text Sizes = codes "E10 Sizes"
 fault_text (Stopped node why) = stopped_text node why
 fault_text Memory = memory_text

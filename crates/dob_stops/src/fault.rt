@@ -28,7 +28,7 @@ impl fmt::Display for Fault {
     fn fmt<W: fmt::Write>(&self, f: &mut fmt::Formatter<W>) -> fmt::Result {
         match self {
             Fault::Nodes => write!(f, "{}", dob_safra::Nodes),
-            Fault::Sizes => write!(f, "{}", dob_update::Sizes),
+            Fault::Sizes => write!(f, "E10 Sizes"),
             Fault::Stopped { node, cause } => write!(f, "{}", Stopped(*node, *cause)),
             Fault::Memory => write!(f, "{Memory}"),
         }

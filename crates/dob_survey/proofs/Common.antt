@@ -14,7 +14,7 @@ pub use Rattle.dob_rank.proofs.OfFamilies.Present.{HasClasses-classes_of}
 pub use Rattle.dob_rank.specs.Families.{HasClass, IsPositionOf, IsRepresentative, class_number, class_setup, classes_of}
 pub use Rattle.dob_classes.proofs.OfFamilies.FamilyRepresentatives.{class_setup_only}
 pub use Rattle.dob_value.specs.Follows.{ClassTable}
-pub use Rattle.dob_value.specs.declared.value.Value.{Value}
+pub use Rattle.dob_distance.specs.declared.value.Value.{Value}
 pub use Rattle.dob_probe.specs.Faults.{IsFaultOfCheck, IsRefusal}
 pub use Rattle.dob_zugzwang.specs.Counts.{AreCounts, IsDeepest}
 pub use Rattle.dob_zugzwang.specs.Pairs.{ArePairs}

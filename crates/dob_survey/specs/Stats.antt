@@ -6,8 +6,8 @@ use Rattle.dob_pieces.specs.declared.setup.Setup.{Setup}
 use Rattle.dob_pieces.specs.Bytes.{line_feed, space}
 use Rattle.dob_text.specs.PositionText.{text_of}
 use Rattle.dob_rank.specs.Families.{HasClass, IsRepresentative}
-use Rattle.dob_value.specs.declared.value.Value.{Value}
-use Rattle.dob_value.specs.declared.value.Value.TheVariants.{Win, Loss, Draw}
+use Rattle.dob_distance.specs.declared.value.Value.{Value}
+use Rattle.dob_distance.specs.declared.value.Value.TheVariants.{Win, Loss, Draw}
 use Rattle.dob_value.specs.Follows.{ClassTable}
 use Rattle.dob_probe.specs.declared.groups.Group.{Group}
 use Rattle.dob_probe.specs.Statistics.{AreGroups}

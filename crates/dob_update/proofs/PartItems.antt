@@ -7,7 +7,7 @@ use Rattle.dob_update.proofs.Common.{owner_of, Item, Settlement, OutboxView, add
 use Rattle.dob_update.proofs.Common.{settlement_of, settlements_of, skip_behind, target_of, AreListed, IsRest, Part}
 use Rattle.std.specs.Prelude.{◌==◌, ◌^◌}
 use Rattle.std.proofs.lemmas.List.{take-append-drop, drop-take, take_at, map_more, get_or-drop, nil_from_length}
-use Rattle.dob_value.specs.declared.value.Value.TheVariants.{Win}
+use Rattle.dob_distance.specs.declared.value.Value.TheVariants.{Win}
 use Rattle.dob_update.proofs.PartLists.{front-zero, behind-within, behind-past}
 use Rattle.dob_update.proofs.Runs.{total-front, rest_many, rest_added, rest_cut}
 

@@ -1,4 +1,3 @@
-pub mod Faults
 pub mod Items
 pub mod Parts
 pub mod Batches

@@ -6,8 +6,9 @@ use Rattle.dob_value.proofs.Common.{SomeHasDistance, HasValue, Lost, Won, Value,
 use Rattle.std.proofs.lemmas.List.FromFn.{length-range_with_len, get_or-range_with_len}
 use Rattle.dob_pieces.proofs.Lists.{stands_or}
 use Rattle.dob_rank.specs.Families.{is_marked, class_setup}
-use Rattle.dob_value.specs.Bounds.{plies_of, DistancesAreFew}
-use Rattle.dob_value.proofs.Depths.{won_stays, lost_stays, won_not_lost}
+use Rattle.dob_distance.specs.Distances.{plies_of}
+use Rattle.dob_value.specs.Bounds.{DistancesAreFew}
+use Rattle.dob_distance.proofs.Depths.{won_stays, lost_stays, won_not_lost}
 use Rattle.dob_value.proofs.Tables.{LeadsToClasses, NothingNew, nothing_later}
 use Rattle.dob_value.proofs.ClassNumbers.{no_longer, one_count, class_within, has_representative, representative_is, represents_itself}
 use Rattle.dob_value.proofs.Rows.{class_setup_is, class_outlook}

@@ -8,7 +8,7 @@ pub use Rattle.dob_classes.proofs.OfFamilies.Counted.{no_longer, one_count}
 pub use Rattle.dob_rank.proofs.Marked.Representatives.{not_before_itself}
 pub use Rattle.dob_classes.proofs.OfFamilies.FamilyRepresentatives.{class_within, one_of_class, has_representative}
 pub use Rattle.dob_classes.proofs.OfFamilies.FamilyRepresentatives.{representative_is, same_representative, represents_itself, one_class}
-use Rattle.dob_value.proofs.Images.{one_outlook}
+use Rattle.dob_distance.proofs.Images.{one_outlook}
 
 same_outlook : (profile : Profile) (p : Setup) → SameOutlook profile p p
 same_outlook profile p = record { won = λ n. (λ won. won, λ won. won); lost = λ n. (λ lost. lost, λ lost. lost) }

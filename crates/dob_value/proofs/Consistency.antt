@@ -5,8 +5,8 @@ use Rattle.dob_value.proofs.Common.{Win}
 use Rattle.dob_moves.proofs.Cases.{one_status}
 use Rattle.dob_value.proofs.Successors.{moves_keep_the_family}
 use Rattle.dob_value.specs.Follows.{FollowsFromSuccessors, FollowsAt, Follows, IsConsistent, ConsistentIsRight}
-use Rattle.dob_value.proofs.Distances.{same_win, same_loss}
-use Rattle.dob_value.proofs.Depths.{won_stays}
+use Rattle.dob_distance.proofs.Distances.{same_win, same_loss}
+use Rattle.dob_distance.proofs.Depths.{won_stays}
 use Rattle.dob_value.proofs.ClassNumbers.{has_entry, one_entry, representative_is, representative_outlook}
 
 -- the value is a win, or a loss, in at most so many plies

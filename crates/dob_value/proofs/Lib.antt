@@ -1,13 +1,8 @@
 -- The lemmas, in the order in which they are read.
 mod Common  -- names of other crates and of this one's definitions, for the proofs
--- Values.
-pub mod Distances  -- a win, or a loss, has one distance
-pub mod Depths  -- won and lost at different depths
-pub mod NextValues  -- the value at one depth more
-pub mod Parity  -- a distance says whether it is a win
 -- Tables of values.
+pub mod NextValues  -- the value at one depth more
 pub mod Tables  -- tables during the sweeps
-pub mod Images  -- mirror images have one value
 pub mod ClassNumbers  -- each position has one entry
 pub mod Rows  -- tables in the order of the classes
 pub mod Listed  -- values that are given for each class

@@ -6,7 +6,7 @@ use Rattle.std.proofs.Common.{Bool, All}
 use Rattle.std.proofs.lemmas.List.Folds.{Any-from_list_any, list_any_at}
 use Rattle.std.proofs.lemmas.List.Sums.{AllPass-from_list_all, list_all-from_AllPass}
 use Rattle.std.proofs.lemmas.List.Elements.{All-contains}
-use Rattle.dob_value.proofs.Depths.{won_stays, lost_stays, lost_not_open}
+use Rattle.dob_distance.proofs.Depths.{won_stays, lost_stays, lost_not_open}
 
 -- what comes first at depth n + 1
 first_at : (P : ℕ → Type 0) (n : ℕ) → ((m : ℕ) → m ≤ n → P m → P n) → ¬ P n → P (suc n) → P (n + 1) × ((m : ℕ) → P m → n + 1 ≤ m)

@@ -8,7 +8,7 @@ use Rattle.dob_rank.specs.Families.{HasClass, IsInClass, class_setup}
 use Rattle.dob_classes.proofs.OfFamilies.Counted.{one_count}
 pub use Rattle.dob_rank.proofs.Marked.Representatives.{IsPlaceOf, place_found}
 pub use Rattle.dob_classes.proofs.OfFamilies.FamilyRepresentatives.{class_setup_is, class_setup_only}
-use Rattle.dob_value.proofs.Tables.{value_same}
+use Rattle.dob_distance.proofs.Outlooks.{value_same}
 use Rattle.dob_value.proofs.ClassNumbers.{representative_is, representative_outlook, has_entry}
 
 -- a position has the outlook of what stands at its class number

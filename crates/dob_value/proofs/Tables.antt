@@ -1,45 +1,14 @@
 -- Tables during the sweeps.
-use Rattle.dob_value.proofs.Common.{rules, add-one, ◌++◌, ◌+◌, ◌<◌, ◌∙◌, ◌≡◌, ◌≤◌, List, arith, drop, inl, inr, length, map, refl, slice_index_or, slice_set}
-use Rattle.dob_value.proofs.Common.{suc, take, true, zero, ℕ, cases_lt, le-leb, leb-true, common_steps, get_or-map, length-map, Family, Profile, Setup, Goes}
-use Rattle.dob_value.proofs.Common.{HasStatus, Move, Status, Caught, Open, Stuck, Tried, classes_of, class_setup, SameOutlook, IsCutOff, Tells, TellsAt}
+use Rattle.dob_value.proofs.Common.{rules, add-one, ◌++◌, ◌+◌, ◌<◌, ◌∙◌, ◌≡◌, ◌≤◌, List, arith, drop, get_or, inl, inr, length, map, slice_index_or, slice_set}
+use Rattle.dob_value.proofs.Common.{subst, suc, take, true, zero, ℕ, cases_lt, common_steps, get_or-map, length-map, All, Family, Profile, Setup, Goes}
+use Rattle.dob_value.proofs.Common.{HasStatus, Move, Status, Caught, Open, Stuck, Tried, classes_of, class_setup, IsEntry, IsShort, IsCutOff, Tells, TellsAt}
 use Rattle.dob_value.proofs.Common.{is_draw, AreCutOff, AreSwept, AreValues, ClassStandsFor, IsGraph, IsNode, status_at, value_at_start, HasValue, Lost, Won}
-use Rattle.dob_value.proofs.Common.{Value, Draw, Loss, Win}
+use Rattle.dob_value.proofs.Common.{MAX_DISTANCE, Value, Draw, Loss, Win}
+use Rattle.std.proofs.lemmas.List.{get_or_default}
 use Rattle.dob_value.specs.declared.graph.Graph.{Graph}
-use Rattle.dob_value.proofs.Depths.{won_stays, lost_stays, lost_not_caught, lost_not_open, won_not_lost}
-
--- an entry that is cut off at a depth speaks of each depth up to it
-pub tells : (profile : Profile) (n m : ℕ) (p : Setup) (entry : Value) → n ≤ m → IsCutOff profile m p entry → Tells profile n p entry
-tells profile n m p (Win d) upto cut = record {
-  win = λ yes. won_stays profile d n p (leb-true d n yes) cut.1.0;
-  won = λ won. le-leb d n (cut.1.1 n won);
-  loss = λ false_is_true. absurd (cc);
-  lost = λ lost. absurd (won_not_lost profile d n p cut.1.0 lost);
-}
-tells profile n m p (Loss d) upto cut = record {
-  win = λ false_is_true. absurd (cc);
-  won = λ won. absurd (won_not_lost profile n d p won cut.1.0);
-  loss = λ yes. lost_stays profile d n p (leb-true d n yes) cut.1.0;
-  lost = λ lost. le-leb d n (cut.1.1 n lost);
-}
-tells profile n m p Draw upto cut = record {
-  win = λ false_is_true. absurd (cc);
-  won = λ won. absurd (cut.0 (won_stays profile n m p upto won));
-  loss = λ false_is_true. absurd (cc);
-  lost = λ lost. absurd (cut.1 (lost_stays profile n m p upto lost));
-}
-
--- positions with the same outlook: an entry says the same of both, and they have the same values
-pub tells_same : (profile : Profile) (n : ℕ) (p q : Setup) (entry : Value) → SameOutlook profile q p → Tells profile n p entry → Tells profile n q entry
-tells_same profile n p q entry same told = grind arith
-
-pub value_same : (profile : Profile) (p q : Setup) (v : Value) → SameOutlook profile q p → HasValue profile p v → HasValue profile q v
-value_same profile p q (Win d) same has = ((same.won d).1 has.0, λ n won. has.1 n ((same.won n).0 won))
-value_same profile p q (Loss d) same has = ((same.lost d).1 has.0, λ n lost. has.1 n ((same.lost n).0 lost))
-value_same profile p q Draw same has = λ n. (λ won. (has n).0 ((same.won n).0 won), λ lost. (has n).1 ((same.lost n).0 lost))
-
-pub draw_is : (v : Value) → is_draw v ≡ true → v ≡ Draw
-draw_is Draw h = refl
-draw_is _ h = cc
+use Rattle.dob_distance.proofs.Depths.{won_stays, lost_stays, lost_not_caught, lost_not_open, won_not_lost}
+use Rattle.dob_distance.proofs.Outlooks.{tells, tells_same, draw_is}
+use Rattle.dob_distance.proofs.Parity.{short_of_cut, entry_of_value}
 
 -- a node's successors stay so where their numbers stand for positions in another way too
 pub node_standing : (profile : Profile) (StandsFor Other : ℕ → Setup → Type 0) (p : Setup) (status : Status) (numbers : List ℕ) →
@@ -164,3 +133,22 @@ starts_cut graph is = record {
 pub put_back : {X : Type 0} (n : ℕ) (new old : List X) → length new ≡ length old → n ≡ length old →
     take n (new ++ drop (length new) old) ≡ new
 put_back n new old same full = grind (arith, common_steps)
+
+-- ---- entries that are short
+
+-- entries cut off at a depth that isn't too great are short
+pub all_short : (n : ℕ) (family : Family) (entries : List Value) → n ≤ MAX_DISTANCE → AreCutOff n family entries → All IsShort entries
+all_short n family entries upto cut k d below =
+    let same_length : length entries ≡ classes_of family = cut.same_length in
+    let within : k < classes_of family = omega (arith, below) in
+    subst IsShort (get_or_default entries k Draw d below)
+    (short_of_cut family.profile n (class_setup family k) (get_or entries k Draw) upto (cut.fits k within))
+
+-- short entries that are right have the parity of their kind
+pub all_entries : (family : Family) (entries : List Value) → AreValues family entries → All IsShort entries → All IsEntry entries
+all_entries family entries values short k d below =
+    let same_length : length entries ≡ classes_of family = values.same_length in
+    let within : k < classes_of family = omega (arith, below) in
+    let here : HasValue family.profile (class_setup family k) (get_or entries k d) =
+    subst (HasValue family.profile (class_setup family k)) (get_or_default entries k Draw d below) (values.fits k within) in
+    entry_of_value family.profile (class_setup family k) (get_or entries k d) here (short k d below)

@@ -1,5 +1,5 @@
 -- Tables of one family with one value a class, and when a value follows from those of the successors.
-use Rattle.std.specs.Prelude.{◌≡◌, ℕ, ◌+◌, ◌%◌, ◌≤◌, List, length, Some, All, slice_get}
+use Rattle.std.specs.Prelude.{◌≡◌, ℕ, ◌+◌, ◌≤◌, List, length, Some, All, slice_get}
 use Rattle.dob_pieces.specs.declared.profile.Family.{Family}
 use Rattle.dob_pieces.specs.declared.profile.Profile.{Profile}
 use Rattle.dob_pieces.specs.declared.setup.Setup.{Setup}
@@ -9,10 +9,10 @@ use Rattle.dob_moves.specs.declared.position_status.Status.TheVariants.{Caught, 
 use Rattle.dob_moves.specs.Moves.{Goes}
 use Rattle.dob_moves.specs.Statuses.{HasStatus}
 use Rattle.dob_rank.specs.Families.{IsPositionOf, IsRepresentative, HasClass, HasClasses, IsInClass}
-use Rattle.dob_value.specs.declared.value.Value.{Value}
-use Rattle.dob_value.specs.declared.value.Value.TheVariants.{Win, Loss, Draw}
-use Rattle.dob_value.specs.declared.sweep.TheConstants.{MAX_DISTANCE}
-use Rattle.dob_value.specs.Values.{HasValue}
+use Rattle.dob_distance.specs.declared.value.Value.{Value}
+use Rattle.dob_distance.specs.declared.value.Value.TheVariants.{Win, Loss, Draw}
+use Rattle.dob_distance.specs.Values.{HasValue}
+use Rattle.dob_distance.specs.Codes.{IsEntry}
 
 -- the class of the position has that value in the table
 pub record HasInTable (family : Family) (values : List Value) (p : Setup) (v : Value) : Type 0 where
@@ -47,12 +47,6 @@ FollowsAt profile Has p Open v = FollowsFromSuccessors profile Has p v
 -- The value follows from the position's status and its successors' values, where Has says which value a successor has.
 abbrev pub Follows : Profile → (Setup → Value → Type 0) → Setup → Value → Type 0
 Follows profile Has p v = (status : Status) × HasStatus profile p status × FollowsAt profile Has p status v
-
--- wins have odd and losses even distances, at most MAX_DISTANCE
-abbrev pub IsEntry : Value → Type 0
-IsEntry (Win plies) = (plies % 2 ≡ 1) × (plies ≤ MAX_DISTANCE)
-IsEntry (Loss plies) = (plies % 2 ≡ 0) × (plies ≤ MAX_DISTANCE)
-IsEntry Draw = Unit {0}
 
 -- a table's family, and its values in the order of the classes
 pub record ClassTable : Type 0 where

@@ -9,12 +9,12 @@ use Rattle.dob_moves.specs.declared.position_status.Status.TheVariants.{Caught, 
 use Rattle.dob_moves.specs.Moves.{Goes}
 use Rattle.dob_moves.specs.Statuses.{HasStatus}
 use Rattle.dob_rank.specs.Families.{classes_of}
-use Rattle.dob_value.specs.declared.value.Value.{Value}
-use Rattle.dob_value.specs.declared.value.Value.TheVariants.{Loss, Draw}
+use Rattle.dob_distance.specs.declared.value.Value.{Value}
+use Rattle.dob_distance.specs.declared.value.Value.TheVariants.{Loss, Draw}
 use Rattle.dob_value.specs.declared.graph.Graph.{Graph}
-use Rattle.dob_value.specs.Values.{HasValue}
-use Rattle.dob_value.specs.Depths.{SameOutlook}
-use Rattle.dob_value.specs.Entries.{IsCutOff, HasDistance}
+use Rattle.dob_distance.specs.Values.{HasValue}
+use Rattle.dob_distance.specs.Depths.{SameOutlook}
+use Rattle.dob_distance.specs.Entries.{IsCutOff, HasDistance}
 use Rattle.dob_value.specs.ClassRows.{class_setup}
 
 -- The numbers, or other things, stand for the positions to which the moves of p lead, for each at least one, and for no

@@ -1,11 +1,5 @@
-pub mod Values
-pub mod Depths
-pub mod Entries
-pub mod Distances
 pub mod Graphs
-pub mod Faults
 pub mod Rosters
 pub mod Follows
-pub mod Codes
 pub mod ClassRows
 pub mod Bounds

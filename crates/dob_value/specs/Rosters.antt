@@ -5,8 +5,8 @@ use Rattle.dob_pieces.specs.declared.setup.Setup.{Setup}
 use Rattle.dob_pieces.specs.declared.kind.HandKind.{HandKind}
 use Rattle.dob_pieces.specs.Profiles.{IsAllowed}
 use Rattle.dob_pieces.specs.Setups.{IsLegal, total}
-use Rattle.dob_value.specs.declared.sweep.TheConstants.{MAX_DISTANCE}
-use Rattle.dob_value.specs.Entries.{HasDistance}
+use Rattle.dob_distance.specs.declared.value.TheConstants.{MAX_DISTANCE}
+use Rattle.dob_distance.specs.Entries.{HasDistance}
 
 -- some member is won or lost, in more plies than a table's entry can say
 abbrev pub SomeTooDeep : Profile → (Setup → Type 0) → Type 0

@@ -1,4 +1,4 @@
-// The value of a position: who wins, and in how many plies.
+// Tables of values: the value of each class of a family, by sweeps, and what a move of a family's position leads to.
 //
 // Choices:
 // - A sweep stores the successors of each class while it runs, so moves are made once and not once a sweep. Its entries have 4 bytes, those of the table 2:
@@ -8,20 +8,14 @@
 //   (`Table::new`).
 #![tactic(auto)]
 
-mod codes;
-mod fault;
 mod graph;
 pub mod laws;
 mod outcomes;
 mod position_value;
 mod sweep;
 mod table;
-mod value;
 
-pub use codes::{code_of_value, value_of_code};
-pub use fault::Fault;
+pub use dob_distance::{Fault, MAX_DISTANCE, Value, code_of_value, value_of_code};
 pub use outcomes::{class_after, outcome_of};
 pub use position_value::{sweep_table, sweep_value};
-pub use sweep::MAX_DISTANCE;
 pub use table::Table;
-pub use value::Value;

@@ -3,17 +3,17 @@ ghost use Rattle.std.specs.Prelude.{◌≡◌, ◌<◌, All, Some, IfOk, IsErrOf
 ghost use Rattle.dob_pieces.specs.Profiles.{IsAllowed};
 ghost use Rattle.dob_rank.specs.Families.{classes_of};
 ghost use Rattle.dob_rank.specs.Families.{IsPositionOf};
-ghost use Rattle.dob_value.specs.Values.{HasValue};
+ghost use Rattle.dob_distance.specs.Values.{HasValue};
 ghost use Rattle.dob_value.specs.Rosters.{SomeTooDeep, HasSamePieces};
-ghost use Rattle.dob_value.specs.Follows.{IsEntry, IsValueTable};
+ghost use Rattle.dob_distance.specs.Codes.{IsEntry};
+ghost use Rattle.dob_value.specs.Follows.{IsValueTable};
 ghost use Rattle.dob_value.specs.Graphs.{AreValues};
 ghost use Rattle.dob_value.specs.Bounds.{HasManyClasses};
 
-use crate::fault::Fault;
-use crate::sweep::{MAX_DISTANCE, sweep};
+use crate::sweep::sweep;
 use crate::table::Table;
-use crate::value::Value;
 use dob_classes::Classes;
+use dob_distance::{Fault, MAX_DISTANCE, Value};
 use dob_pieces::{Family, Memory, Position, Profile};
 use std::alloc::Global;
 

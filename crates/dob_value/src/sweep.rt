@@ -4,24 +4,19 @@ ghost use Rattle.std.specs.Prelude.{◌≡◌, ℕ, ◌+◌, ◌<◌, ◌≤◌,
 ghost use Rattle.std.specs.List.{list_any, list_all};
 ghost use Rattle.dob_rank.specs.Families.{IsPositionOf};
 ghost use Rattle.dob_rank.specs.Families.{classes_of};
-ghost use Rattle.dob_value.specs.declared.value.Value.TheVariants.{Draw};
-ghost use Rattle.dob_value.specs.Values.{Won, Lost};
-ghost use Rattle.dob_value.specs.Entries.{is_win_within, is_loss_within, is_draw, IsCutOff, TellsAt, HasDistance};
+ghost use Rattle.dob_distance.specs.declared.value.Value.TheVariants.{Draw};
+ghost use Rattle.dob_distance.specs.Values.{Won, Lost};
+ghost use Rattle.dob_distance.specs.Entries.{is_win_within, is_loss_within, is_draw, IsCutOff, TellsAt, HasDistance};
 ghost use Rattle.dob_value.specs.ClassRows.{class_setup};
 ghost use Rattle.dob_value.specs.Graphs.{IsNode, IsGraph, AreCutOff, AreSwept, AreValues, SomeHasDistance, value_at_start, status_at, successors_at};
-ghost use Rattle.dob_value.specs.Codes.{IsShort};
-ghost use Rattle.dob_value.specs.Follows.{IsEntry};
+ghost use Rattle.dob_distance.specs.Codes.{IsShort, IsEntry};
 ghost use Rattle.dob_value.specs.Rosters.{SomeTooDeep};
 
-use crate::fault::Fault;
 use crate::graph::{Graph, graph_of};
-use crate::value::Value;
 use dob_classes::Classes;
+use dob_distance::{Fault, MAX_DISTANCE, Value};
 use dob_moves::Status;
 use std::alloc::{AllocError, Global};
-
-/// The greatest distance that an entry may have.
-pub const MAX_DISTANCE: u16 = 65_534;
 
 /// The entry with that number.
 pub(crate) fn entry_at(values: &[Value], number: usize) -> Value

@@ -1,14 +1,13 @@
 // Tables of a family: a value for each of its classes.
 ghost use Rattle.std.specs.Prelude.{◌≡◌, ◌<◌, ℕ, All, Some, IfOk, length, slice_get};
-ghost use Rattle.dob_value.specs.declared.value.Value.{Value};
+ghost use Rattle.dob_distance.specs.declared.value.Value.{Value};
 ghost use Rattle.dob_rank.specs.Families.{IsPositionOf, HasClasses};
 ghost use Rattle.dob_rank.specs.Families.{classes_of};
-ghost use Rattle.dob_value.specs.Codes.{values_of_codes};
-ghost use Rattle.dob_value.specs.Follows.{ClassTable, HasInTable, IsTable, IsEntry, AreGiven, class_table};
+ghost use Rattle.dob_distance.specs.Codes.{values_of_codes, IsEntry};
+ghost use Rattle.dob_value.specs.Follows.{ClassTable, HasInTable, IsTable, AreGiven, class_table};
 
-use crate::codes::{code_of_value, value_of_code};
-use crate::value::Value;
 use dob_classes::Classes;
+use dob_distance::{Value, code_of_value, value_of_code};
 use dob_lists::{SegmentLength, Segments};
 use dob_pieces::{Family, Memory, Position};
 use std::alloc::Global;

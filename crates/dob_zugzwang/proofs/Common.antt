@@ -14,8 +14,8 @@ pub use Rattle.dob_moves.specs.declared.position_status.Status.TheVariants.{Open
 pub use Rattle.dob_rank.specs.Families.{IsInClass, IsPositionOf, RepresentsClass, class_number, classes_of}
 pub use Rattle.dob_classes.proofs.OfFamilies.FamilyRepresentatives.{class_representative, in_mirror, one_class, one_representative}
 pub use Rattle.dob_value.specs.Follows.{ClassTable, HasInTable}
-pub use Rattle.dob_value.specs.declared.value.Value.{Value}
-pub use Rattle.dob_value.specs.declared.value.Value.TheVariants.{Draw, Loss, Win}
+pub use Rattle.dob_distance.specs.declared.value.Value.{Value}
+pub use Rattle.dob_distance.specs.declared.value.Value.TheVariants.{Draw, Loss, Win}
 pub use Rattle.dob_zugzwang.specs.Counts.{IsDeeper, IsDeepest, is_lost_by_both}
 pub use Rattle.dob_zugzwang.specs.Laws.{EachIsListed, IsMutual, IsRightByValues, TurnedTwice, TurnsArePositions}
 pub use Rattle.dob_zugzwang.specs.Pairs.{ArePairs, IsPair, IsPairAt, IsPairOf}

@@ -2,8 +2,8 @@
 use Rattle.dob_zugzwang.proofs.Common.{◌≡◌, arith, inl, inr, refl, subst, sym, cases_lt, turned-turned, turned, Profile, Setup, HasStatus, Open, IsInClass}
 use Rattle.dob_zugzwang.proofs.Common.{class_number, HasInTable, Value, EachIsListed, IsMutual, IsRightByValues, TurnedTwice, IsPair, IsZugzwang, Zugzwang}
 use Rattle.dob_classes.proofs.OfFamilies.FamilyNumbers.{IsInClass-class_number}
-use Rattle.dob_value.proofs.Depths.{at_most_one_value}
-use Rattle.dob_value.specs.Values.{HasValue}
+use Rattle.dob_distance.proofs.Depths.{at_most_one_value}
+use Rattle.dob_distance.specs.Values.{HasValue}
 use Rattle.dob_zugzwang.proofs.Pairing.{pair_of}
 use Rattle.dob_zugzwang.proofs.Turned.{turn_is_position}
 use Rattle.dob_zugzwang.proofs.Worth.{worse_exchanged}

@@ -7,9 +7,9 @@ use Rattle.dob_pieces.specs.Setups.{IsLegal, turned}
 use Rattle.dob_moves.specs.declared.position_status.Status.TheVariants.{Open}
 use Rattle.dob_moves.specs.Statuses.{HasStatus}
 use Rattle.dob_rank.specs.Families.{IsInClass, IsPositionOf}
-use Rattle.dob_value.specs.declared.value.Value.{Value}
+use Rattle.dob_distance.specs.declared.value.Value.{Value}
 use Rattle.dob_value.specs.Follows.{ClassTable, HasInTable, IsValueTable}
-use Rattle.dob_value.specs.Values.{HasValue}
+use Rattle.dob_distance.specs.Values.{HasValue}
 use Rattle.dob_zugzwang.specs.declared.pairs.Zugzwang.{Zugzwang}
 use Rattle.dob_zugzwang.specs.Zugzwangs.{IsZugzwang}
 use Rattle.dob_zugzwang.specs.Pairs.{ArePairs}

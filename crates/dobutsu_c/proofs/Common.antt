@@ -24,8 +24,8 @@ pub use Rattle.dob_classes.proofs.OfFamilies.FamilyNumbers.{IsInClass-class_numb
 pub use Rattle.dob_classes.proofs.OfFamilies.FamilyRepresentatives.{one_class}
 pub use Rattle.dob_value.proofs.Successors.{move_goes, moves_keep_the_family}
 pub use Rattle.dob_value.specs.Follows.{ClassTable, IsConsistent, IsValueTable}
-pub use Rattle.dob_value.specs.Values.{HasValue}
-pub use Rattle.dob_value.specs.declared.value.Value.{Value}
+pub use Rattle.dob_distance.specs.Values.{HasValue}
+pub use Rattle.dob_distance.specs.declared.value.Value.{Value}
 pub use Rattle.dob_index.specs.Index.{IsIndex}
 pub use Rattle.dob_index.specs.Layout.{words_of}
 pub use Rattle.dob_dbfile.specs.Devices.{whole}

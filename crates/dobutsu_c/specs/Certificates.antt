@@ -1,8 +1,8 @@
 -- What is answered of the bytes of a certificate's file.
 use Rattle.std.specs.Prelude.{◌≡◌, ◌⊎◌, ℕ, List}
 use Rattle.dob_pieces.specs.declared.setup.Setup.{Setup}
-use Rattle.dob_value.specs.declared.value.Value.{Value}
-use Rattle.dob_value.specs.declared.value.Value.TheVariants.{Win, Loss, Draw}
+use Rattle.dob_distance.specs.declared.value.Value.{Value}
+use Rattle.dob_distance.specs.declared.value.Value.TheVariants.{Win, Loss, Draw}
 use Rattle.dob_foreign.specs.Profiles.{profile_number}
 use Rattle.dob_certificate.specs.declared.claim.Claim.{Claim}
 use Rattle.dob_certificate.specs.declared.claim.Claim.TheVariants.{Exactly, LostWithin, WonWithin}

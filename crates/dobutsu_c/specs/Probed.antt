@@ -2,9 +2,9 @@
 use Rattle.std.specs.Prelude.{◌≡◌, ◌≢◌, ℕ, List}
 use Rattle.dob_pieces.specs.declared.profile.Family.{Family}
 use Rattle.dob_pieces.specs.declared.setup.Setup.{Setup}
-use Rattle.dob_value.specs.declared.value.Value.{Value}
+use Rattle.dob_distance.specs.declared.value.Value.{Value}
 use Rattle.dob_value.specs.Follows.{ClassTable, IsValueTable}
-use Rattle.dob_value.specs.Values.{HasValue}
+use Rattle.dob_distance.specs.Values.{HasValue}
 use Rattle.dob_dbfile.specs.declared.header.Format.{Format}
 use Rattle.dob_dbfile.specs.Format.{IsFile}
 use Rattle.dobutsu_c.specs.declared.by_index.ByFault.{ByFault}

@@ -7,8 +7,8 @@ use Rattle.dob_pieces.specs.Setups.{IsLegal}
 use Rattle.dob_text.specs.Faults.{HasTextFault}
 use Rattle.dob_text.specs.PositionText.{Spells}
 use Rattle.dob_rank.specs.Families.{IsPositionOf, IsInClass}
-use Rattle.dob_value.specs.declared.value.Value.{Value}
-use Rattle.dob_value.specs.Bounds.{plies_of}
+use Rattle.dob_distance.specs.declared.value.Value.{Value}
+use Rattle.dob_distance.specs.Distances.{plies_of}
 use Rattle.dob_dbfile.specs.declared.fault.Fault.TheVariants as file_fault
 use Rattle.dob_dbfile.specs.declared.header.Format.{Format}
 use Rattle.dob_dbfile.specs.Devices.{whole}

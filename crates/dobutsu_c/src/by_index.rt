@@ -6,7 +6,7 @@ ghost use Rattle.dob_dbfile.specs.declared.header.Format.{Format as AnyFormat};
 ghost use Rattle.dob_dbfile.specs.Devices.{whole};
 ghost use Rattle.dob_dbfile.specs.Faults.{IsNoLonger};
 ghost use Rattle.dob_rank.specs.Families.{IsPositionOf};
-ghost use Rattle.dob_value.specs.Follows.{IsEntry};
+ghost use Rattle.dob_distance.specs.Codes.{IsEntry};
 ghost use Rattle.dobutsu_c.specs.declared.numbering.Numbering.TheVariants.{Counted, Index};
 ghost use Rattle.dobutsu_c.specs.ByIndex.{IsRight, IsLongFor, IsHeldBy, IsAskedBy, IsGivenBy, IsToldBy, HasByFault, HasFileFault, HasHeldFault};
 ghost use Rattle.dobutsu_c.specs.Probes.{IsTextOf};

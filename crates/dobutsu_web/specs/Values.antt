@@ -1,10 +1,9 @@
 -- Values as other languages see them.
 use Rattle.std.specs.Prelude.{◌≡◌, ℕ, List}
 use Rattle.byteorder.specs.Endian.{little_bytes}
-use Rattle.dob_value.specs.declared.value.Value.{Value}
-use Rattle.dob_value.specs.Bounds.{plies_of}
-use Rattle.dob_value.specs.Codes.{code_of_value}
-use Rattle.dob_value.specs.Follows.{IsEntry}
+use Rattle.dob_distance.specs.declared.value.Value.{Value}
+use Rattle.dob_distance.specs.Distances.{plies_of}
+use Rattle.dob_distance.specs.Codes.{code_of_value, IsEntry}
 use Rattle.dob_foreign.specs.Values.{outcome_number}
 use Rattle.dobutsu_web.specs.declared.values.DobutsuValue.{DobutsuValue}
 

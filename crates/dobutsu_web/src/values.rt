@@ -1,6 +1,6 @@
 // The value that a record says, for the side to move, and for the side that moved there.
 ghost use Rattle.std.specs.Prelude.{◌≡◌, ◌≢◌, length, MatchOption};
-ghost use Rattle.dob_value.specs.declared.value.Value.{Value as AnyValue};
+ghost use Rattle.dob_distance.specs.declared.value.Value.{Value as AnyValue};
 ghost use Rattle.dob_probe.specs.ValuedMoves.{seen_from_before};
 ghost use Rattle.dobutsu_web.specs.Values.{IsRecordOf, shown_value};
 

@@ -1,7 +1,7 @@
 // A table of more classes than one segment of the greatest length has, of which what is said at 2^20 and past it rests on no clause where
 // memory is refused.
 ghost use Rattle.std.specs.Prelude.{◌≡◌, ◌<◌, length};
-ghost use Rattle.dob_value.specs.Follows.{IsEntry};
+ghost use Rattle.dob_distance.specs.Codes.{IsEntry};
 
 use crate::sets::{are_one_table, family};
 use dob_classes::Classes;

@@ -1,5 +1,5 @@
 -- No step is made yet.
-use Rattle.dob_value.proofs.Parity.{IfOk-both}
+use Rattle.dob_distance.proofs.Parity.{IfOk-both}
 use Rattle.dob_alone.proofs.AloneOpens.{made_none}
 use Rattle.dob_alone.proofs.one_owner.begin.Goals as goal
 

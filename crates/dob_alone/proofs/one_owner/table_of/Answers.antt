@@ -2,7 +2,7 @@
 use Rattle.std.proofs.Common.{ap, subst, ℕ, ◌<◌}
 use Rattle.dob_pieces.specs.declared.profile.Family.{Family}
 use Rattle.dob_rank.specs.Families.{classes_of}
-use Rattle.dob_value.proofs.Parity.{IfOk-both}
+use Rattle.dob_distance.proofs.Parity.{IfOk-both}
 use Rattle.dob_alone.proofs.AloneSteps.{alone_given, shows_entry}
 use Rattle.dob_alone.proofs.one_owner.table_of.Goals as goal
 

@@ -1,6 +1,6 @@
 -- The one entry of the position's class decides.
 use Rattle.std.proofs.Common.{◌≤◌, arith, inl, inr, subst, sym}
-use Rattle.dob_value.proofs.Depths.{lost_not_open}
+use Rattle.dob_distance.proofs.Depths.{lost_not_open}
 use Rattle.dob_certificate.specs.declared.entry.Entry.{Entry}
 use Rattle.dob_certify.proofs.replies.plies_listed.Goals as goal
 

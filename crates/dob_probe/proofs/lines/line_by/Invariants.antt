@@ -1,6 +1,6 @@
 -- The moves so far begin the line and lead to a position with that value, whose distance falls, and the source holds what it held.
 use Rattle.dob_probe.proofs.Common.{◌≡◌, IsPositionOf, IsEntry}
-use Rattle.dob_value.specs.Bounds.{plies_of}
+use Rattle.dob_distance.specs.Distances.{plies_of}
 use Rattle.dob_probe.proofs.Ways.{IsBegun}
 use Rattle.dob_probe.proofs.lines.line_by.Given as goal
 

@@ -1,7 +1,7 @@
 -- The position is the text's, and the fault of finding its value holds of the text.
 use Rattle.std.proofs.Common.{ap, Err}
 use Rattle.std.proofs.lemmas.Result.{err_from_is_err_and}
-use Rattle.dob_value.specs.declared.fault.Fault as value
+use Rattle.dob_distance.specs.declared.fault.Fault as value
 use Rattle.dob_query.proofs.Valued.{value_fault_holds}
 use Rattle.dob_query.proofs.values.answer_value.Goals as goal
 

@@ -1,8 +1,7 @@
 -- A sweep that changes nothing is the last, and there are as many classes as the depth that it comes to.
 use Rattle.dob_value.proofs.Common.{◌+◌, ◌∙◌, ap, arith, length, map, refl, subst, sym, IsShort, AreCutOff, AreValues, value_at_start}
 use Rattle.std.proofs.Common.{All}
-use Rattle.dob_value.proofs.Tables.{starts_cut, unchanged_is_final, put_back}
-use Rattle.dob_value.proofs.Parity.{all_short}
+use Rattle.dob_value.proofs.Tables.{starts_cut, unchanged_is_final, put_back, all_short}
 use Rattle.dob_value.proofs.Bounds.{deep_within}
 use Rattle.dob_value.proofs.sweep.settle.Goals as goal
 

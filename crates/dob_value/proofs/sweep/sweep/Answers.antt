@@ -1,7 +1,8 @@
 -- The graph's values are those of the classes.
 use Rattle.dob_value.proofs.Common.{subst, Family, IsPositionOf, IsShort, IsEntry, AreValues, SomeTooDeep}
 use Rattle.std.proofs.Common.{All}
-use Rattle.dob_value.proofs.Parity.{IfOk-both, all_entries}
+use Rattle.dob_distance.proofs.Parity.{IfOk-both}
+use Rattle.dob_value.proofs.Tables.{all_entries}
 use Rattle.dob_value.proofs.Nodes.{deep_position}
 use Rattle.dob_value.proofs.sweep.sweep.Goals as goal
 

@@ -1,6 +1,6 @@
 -- Each class has the value that is given for it.
 use Rattle.dob_value.proofs.Common.{◌<◌, ◌∙◌, ◌≡◌, arith, subst, sym, ℕ, All-push, All, HasClasses-classes_of, HasClasses, classes_of}
-use Rattle.dob_value.proofs.Parity.{entries_of_codes}
+use Rattle.dob_distance.proofs.Parity.{entries_of_codes}
 use Rattle.dob_value.proofs.Listed.{given_more}
 use Rattle.dob_value.proofs.table.Table.from_fn.Goals as goal
 

@@ -1,6 +1,6 @@
 -- A table has a value for each class.
 use Rattle.dob_value.proofs.Common.{◌∙◌, subst, sym, length-map, HasClasses-classes_of, HasClasses, value_of_code}
-use Rattle.dob_value.proofs.Parity.{entries_of_codes}
+use Rattle.dob_distance.proofs.Parity.{entries_of_codes}
 use Rattle.dob_value.proofs.table.Table.new.Goals as goal
 
 pub invariant_of-result : goal.invariant_of-result

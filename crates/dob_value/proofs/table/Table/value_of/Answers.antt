@@ -1,6 +1,6 @@
 -- A class number below the count has a value.
 use Rattle.dob_value.proofs.Common.{subst, ClassTable, HasInTable}
-use Rattle.dob_value.proofs.Parity.{entry_read}
+use Rattle.dob_distance.proofs.Parity.{entry_read}
 use Rattle.dob_value.proofs.Rows.{class_has_code}
 use Rattle.dob_value.proofs.table.Table.value_of.Goals as goal
 

@@ -1,6 +1,6 @@
 -- At rest it is the value table.
 use Rattle.dob_world.proofs.Common.{IfOk, ap, subst, ℕ, Family, classes_of, values_given, AreValuesBelow, setting_of, state_of, value_in}
-use Rattle.dob_value.proofs.Parity.{IfOk-both}
+use Rattle.dob_distance.proofs.Parity.{IfOk-both}
 use Rattle.dob_world.proofs.Promise.{end_is_silent, rest_is_right}
 use Rattle.dob_world.proofs.world.World.gather.Goals as goal
 use Rattle.dob_world.proofs.world.World.gather.Goals.{After-from_fn}

@@ -1,7 +1,10 @@
-// Values, and what an entry says up to some depth.
+// Values, the greatest distance, and what an entry says up to some depth.
 ghost use Rattle.std.specs.Prelude.{◌≡◌};
-ghost use Rattle.dob_value.specs.Bounds.{plies_of};
-ghost use Rattle.dob_value.specs.Entries.{is_win_within, is_loss_within, is_draw};
+ghost use Rattle.dob_distance.specs.Distances.{plies_of};
+ghost use Rattle.dob_distance.specs.Entries.{is_win_within, is_loss_within, is_draw};
+
+/// The greatest distance that an entry may have.
+pub const MAX_DISTANCE: u16 = 65_534;
 
 /// The value of a position for the side to move, with the least number of plies in which the end can be forced.
 #[derive(Clone, Copy, PartialEq, Eq)]
@@ -24,7 +27,7 @@ impl Value {
     }
 
     /// Whether this is a win in at most that many plies.
-    pub(crate) fn is_win_within(self, depth: u16) -> bool
+    pub fn is_win_within(self, depth: u16) -> bool
         ensures { result ≡ is_win_within depth self }
     {
         match self {
@@ -34,7 +37,7 @@ impl Value {
     }
 
     /// Whether this is a loss in at most that many plies.
-    pub(crate) fn is_loss_within(self, depth: u16) -> bool
+    pub fn is_loss_within(self, depth: u16) -> bool
         ensures { result ≡ is_loss_within depth self }
     {
         match self {
@@ -44,7 +47,7 @@ impl Value {
     }
 
     /// Whether this is a draw.
-    pub(crate) fn is_draw(self) -> bool
+    pub fn is_draw(self) -> bool
         ensures { result ≡ is_draw self }
     {
         match self {

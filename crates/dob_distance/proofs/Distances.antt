@@ -1,5 +1,5 @@
 -- A win, or a loss, has one distance.
-use Rattle.dob_value.proofs.Common.{◌≡◌, ℕ, Loss, Win}
+use Rattle.dob_distance.proofs.Common.{◌≡◌, ℕ, Loss, Win}
 
 pub same_win : (a b : ℕ) → Win a ≡ Win b → a ≡ b
 same_win a b e = cc

@@ -3,10 +3,10 @@
 use Rattle.std.specs.Prelude.{◌≡◌, ℕ, zero, suc, ◌+◌, ◌%◌, ◌≤◌, ◌==◌, if◌then◌else◌, List, map}
 use Rattle.dob_pieces.specs.declared.profile.Profile.{Profile}
 use Rattle.dob_pieces.specs.declared.setup.Setup.{Setup}
-use Rattle.dob_value.specs.declared.value.Value.{Value}
-use Rattle.dob_value.specs.declared.value.Value.TheVariants.{Win, Loss, Draw}
-use Rattle.dob_value.specs.declared.sweep.TheConstants.{MAX_DISTANCE}
-use Rattle.dob_value.specs.Values.{HasValue}
+use Rattle.dob_distance.specs.declared.value.Value.{Value}
+use Rattle.dob_distance.specs.declared.value.Value.TheVariants.{Win, Loss, Draw}
+use Rattle.dob_distance.specs.declared.value.TheConstants.{MAX_DISTANCE}
+use Rattle.dob_distance.specs.Values.{HasValue}
 
 -- the value at that distance
 abbrev pub value_at_distance : ℕ → Value
@@ -42,3 +42,9 @@ abbrev pub IsShort : Value → Type 0
 IsShort (Win plies) = plies ≤ MAX_DISTANCE
 IsShort (Loss plies) = plies ≤ MAX_DISTANCE
 IsShort Draw = Unit {0}
+
+-- wins have odd and losses even distances, at most MAX_DISTANCE
+abbrev pub IsEntry : Value → Type 0
+IsEntry (Win plies) = (plies % 2 ≡ 1) × (plies ≤ MAX_DISTANCE)
+IsEntry (Loss plies) = (plies % 2 ≡ 0) × (plies ≤ MAX_DISTANCE)
+IsEntry Draw = Unit {0}

@@ -1,6 +1,6 @@
 // The faults of this crate.
 ghost use Rattle.std.specs.Prelude.{◌≡◌, Some};
-ghost use Rattle.dob_value.specs.declared.fault.Fault.TheVariants as fault;
+ghost use Rattle.dob_distance.specs.declared.fault.Fault.TheVariants as fault;
 
 use dob_pieces::Memory;
 use std::alloc::{AllocError, AllocFailed};
@@ -17,7 +17,7 @@ pub enum Fault {
 }
 
 impl fmt::Display for Fault {
-    ghost use Rattle.dob_value.specs.Faults.{fault_text};
+    ghost use Rattle.dob_distance.specs.Faults.{fault_text};
 
     ghost output = { λ fault. Some (fault_text fault) };
 

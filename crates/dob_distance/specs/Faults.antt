@@ -1,8 +1,8 @@
 -- What each fault is called.
 use Rattle.std.specs.Prelude.{List, ℕ, codes}
 use Rattle.dob_pieces.specs.Faults.{memory_text}
-use Rattle.dob_value.specs.declared.fault.Fault.{Fault}
-use Rattle.dob_value.specs.declared.fault.Fault.TheVariants.{TooDeep, Memory}
+use Rattle.dob_distance.specs.declared.fault.Fault.{Fault}
+use Rattle.dob_distance.specs.declared.fault.Fault.TheVariants.{TooDeep, Memory}
 
 -- the fault's number and name
 abbrev pub fault_text : Fault → List ℕ

@@ -1,11 +1,11 @@
 -- Mirror images are won and lost at the same depths.
-use Rattle.dob_value.proofs.Common.{inl, inr, subst, suc, zero, ℕ, Profile, Setup, Goes-mirrored, HasStatus-mirrored, IsLegal-Goes, Goes, Move, Caught, Open}
-use Rattle.dob_value.proofs.Common.{Stuck, Tried, MirrorsHaveOneOutlook, MirrorsHaveOneValue, SameOutlook, HasLost, Lost, Won}
+use Rattle.dob_distance.proofs.Common.{inl, inr, subst, suc, zero, ℕ, Profile, Setup, Goes-mirrored, HasStatus-mirrored, IsLegal-Goes, Goes, Move, Caught, Open}
+use Rattle.dob_distance.proofs.Common.{Stuck, Tried, MirrorsHaveOneOutlook, MirrorsHaveOneValue, SameOutlook, HasLost, Lost, Won}
 use Rattle.dob_pieces.specs.Setups.{IsLegal, mirrored}
 use Rattle.dob_pieces.proofs.Boards.{IsLegal-mirrored}
 use Rattle.dob_pieces.proofs.Symmetries.{mirrored-mirrored}
 use Rattle.dob_moves.specs.Mirrors.{mirrored_move}
-use Rattle.dob_value.proofs.Tables.{value_same}
+use Rattle.dob_distance.proofs.Outlooks.{value_same}
 
 -- what has lost has lost in the mirror
 over_mirrored : (profile : Profile) (p : Setup) → IsLegal p → HasLost profile p → HasLost profile (mirrored p)

@@ -1,8 +1,7 @@
 // Entries of a table as numbers of 16 bits: 0 is a draw, and a number above 0 is one more than the distance. Wins have
 // odd and losses even distances, so the distance says which it is.
 ghost use Rattle.std.specs.Prelude.{◌≡◌};
-ghost use Rattle.dob_value.specs.Codes.{value_of_code, code_of_value};
-ghost use Rattle.dob_value.specs.Follows.{IsEntry};
+ghost use Rattle.dob_distance.specs.Codes.{IsEntry, value_of_code, code_of_value};
 
 use crate::value::Value;
 

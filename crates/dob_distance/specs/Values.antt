@@ -6,8 +6,8 @@ use Rattle.dob_moves.specs.declared.game_move.Move.{Move}
 use Rattle.dob_moves.specs.declared.position_status.Status.TheVariants.{Caught, Tried, Stuck, Open}
 use Rattle.dob_moves.specs.Moves.{Goes}
 use Rattle.dob_moves.specs.Statuses.{HasStatus}
-use Rattle.dob_value.specs.declared.value.Value.{Value}
-use Rattle.dob_value.specs.declared.value.Value.TheVariants.{Win, Loss, Draw}
+use Rattle.dob_distance.specs.declared.value.Value.{Value}
+use Rattle.dob_distance.specs.declared.value.Value.TheVariants.{Win, Loss, Draw}
 
 -- the side to move has lost before any move
 abbrev pub HasLost : Profile → Setup → Type 0

@@ -1,10 +1,9 @@
 -- Wins come at odd and losses at even distances, and so a number says the value.
-use Rattle.dob_value.proofs.Common.{◌%◌, ◌<◌, ◌∙◌, ◌≡◌, ◌≤◌, Err, List, Ok, Result, Some, ap, arith, get_or, inl, inr, length, option_map, refl, slice_get}
-use Rattle.dob_value.proofs.Common.{subst, suc, sym, zero, ℕ, cases_eq, get_or-map, length-map, slice_get-map, All, Family, Profile, Setup, classes_of}
-use Rattle.dob_value.proofs.Common.{class_setup, IsShort, ValuesHaveParity, value_of_code, values_of_codes, IsCutOff, IsEntry, AreCutOff, AreValues, HasValue}
-use Rattle.dob_value.proofs.Common.{Lost, Won, MAX_DISTANCE, Value, Draw, Loss, Win}
+use Rattle.dob_distance.proofs.Common.{◌%◌, ◌<◌, ◌∙◌, ◌≡◌, ◌≤◌, Err, List, Ok, Result, Some, ap, arith, get_or, inl, inr, length, option_map, refl, slice_get}
+use Rattle.dob_distance.proofs.Common.{subst, suc, sym, zero, ℕ, cases_eq, get_or-map, length-map, slice_get-map, All, Profile, Setup}
+use Rattle.dob_distance.proofs.Common.{IsShort, ValuesHaveParity, value_of_code, values_of_codes, IsCutOff, IsEntry, HasValue}
+use Rattle.dob_distance.proofs.Common.{Lost, Won, MAX_DISTANCE, Value, Draw, Loss, Win}
 use Rattle.std.specs.Result.{IfOk}
-use Rattle.std.proofs.lemmas.List.{get_or_default}
 
 -- an even depth wins nothing that the depth before doesn't, and an odd one loses nothing
 mutual
@@ -73,21 +72,6 @@ pub short_of_cut : (profile : Profile) (n : ℕ) (p : Setup) (v : Value) → n �
 short_of_cut profile n p (Win plies) upto cut = omega (arith, cut.0, upto)
 short_of_cut profile n p (Loss plies) upto cut = omega (arith, cut.0, upto)
 short_of_cut profile n p Draw upto cut = tt
-
-pub all_short : (n : ℕ) (family : Family) (entries : List Value) → n ≤ MAX_DISTANCE → AreCutOff n family entries → All IsShort entries
-all_short n family entries upto cut k d below =
-    let same_length : length entries ≡ classes_of family = cut.same_length in
-    let within : k < classes_of family = omega (arith, below) in
-    subst IsShort (get_or_default entries k Draw d below)
-    (short_of_cut family.profile n (class_setup family k) (get_or entries k Draw) upto (cut.fits k within))
-
-pub all_entries : (family : Family) (entries : List Value) → AreValues family entries → All IsShort entries → All IsEntry entries
-all_entries family entries values short k d below =
-    let same_length : length entries ≡ classes_of family = values.same_length in
-    let within : k < classes_of family = omega (arith, below) in
-    let here : HasValue family.profile (class_setup family k) (get_or entries k d) =
-    subst (HasValue family.profile (class_setup family k)) (get_or_default entries k Draw d below) (values.fits k within) in
-    entry_of_value family.profile (class_setup family k) (get_or entries k d) here (short k d below)
 
 -- what a code says is the entry that stands at its place
 pub entry_read : (codes : List ℕ) (class code : ℕ) (v : Value) → slice_get codes class ≡ Some code → v ≡ value_of_code code →

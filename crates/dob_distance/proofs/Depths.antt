@@ -1,6 +1,6 @@
 -- Won and lost positions at different depths.
-use Rattle.dob_value.proofs.Common.{◌+◌, ◌≡◌, ◌≤◌, ap, arith, inl, inr, refl, subst, suc, zero, ℕ, Profile, Setup, HasStatus, Caught, Open, LostStaysLost}
-use Rattle.dob_value.proofs.Common.{OneValue, WonStaysWon, HasLost, Lost, Won, Draw, Loss, Win, cases_lt}
+use Rattle.dob_distance.proofs.Common.{◌+◌, ◌≡◌, ◌≤◌, ap, arith, inl, inr, refl, subst, suc, zero, ℕ, Profile, Setup, HasStatus, Caught, Open, LostStaysLost}
+use Rattle.dob_distance.proofs.Common.{OneValue, WonStaysWon, HasLost, Lost, Won, Draw, Loss, Win, cases_lt}
 
 -- one ply more changes nothing
 mutual

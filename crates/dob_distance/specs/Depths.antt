@@ -3,8 +3,8 @@ use Rattle.std.specs.Prelude.{◌≡◌, ℕ, ◌≤◌}
 use Rattle.dob_pieces.specs.declared.profile.Profile.{Profile}
 use Rattle.dob_pieces.specs.declared.setup.Setup.{Setup}
 use Rattle.dob_pieces.specs.Setups.{IsLegal, mirrored}
-use Rattle.dob_value.specs.declared.value.Value.{Value}
-use Rattle.dob_value.specs.Values.{Won, Lost, HasValue}
+use Rattle.dob_distance.specs.declared.value.Value.{Value}
+use Rattle.dob_distance.specs.Values.{Won, Lost, HasValue}
 
 -- what is won within n plies is won within any more, and likewise what is lost
 abbrev pub WonStaysWon : Type 0

@@ -1,7 +1,13 @@
--- Distances among values: the least loss, and the lesser and the greater of two.
+-- Distances of values: that of one, the least loss among some, and the lesser and the greater of two.
 use Rattle.std.specs.Prelude.{ℕ, ◌≤◌, min, max, List, Contains, Option, Some, None}
-use Rattle.dob_value.specs.declared.value.Value.{Value}
-use Rattle.dob_value.specs.declared.value.Value.TheVariants.{Loss}
+use Rattle.dob_distance.specs.declared.value.Value.{Value}
+use Rattle.dob_distance.specs.declared.value.Value.TheVariants.{Win, Loss, Draw}
+
+-- the distance of a value, which for a draw is 0
+abbrev pub plies_of : Value → ℕ
+plies_of (Win plies) = plies
+plies_of (Loss plies) = plies
+plies_of Draw = 0
 
 -- the least loss that is among the values, where there is one
 abbrev pub IsLeastLoss : List Value → Option ℕ → Type 0

@@ -1,0 +1,6 @@
+pub mod Values
+pub mod Depths
+pub mod Entries
+pub mod Distances
+pub mod Codes
+pub mod Faults
