@@ -1,21 +1,18 @@
--- A node as it is opened: the settlements of the start, how many there are and where each stands; and what its share then has. What cells count and
--- know keeps its parity, and so do their values.
-use Rattle.dob_node.proofs.Common.{◌*◌, ◌++◌, ◌+◌, ◌/◌, ◌<◌, ◌↔◌, ◌∙◌, ◌∷◌, ◌≡◌, ◌≤◌, All, All-append, All-cons, All-nil, AreKept, AreOpenings, Cell}
-use Rattle.dob_node.proofs.Common.{CellValue, Draw, Family, HasClasses-classes_of, HasParities, HasStatus, HasValueNow, HistoryView, IsEntry, IsNewShare}
-use Rattle.dob_node.proofs.Common.{IsOpening, IsOwn, IsValue, List, Loss, None, Open, Opening, Option, Profile, SameCell, Settlement, Setup, Share, Some}
-use Rattle.dob_node.proofs.Common.{Status, StatusesView, Value, Win, [], ap, arith, cases_eq, cell_at, cell_short, changed, class_of_place}
-use Rattle.dob_node.proofs.Common.{class_setup, class_setup_is, classes_of, div-mul-add, fresh, get_front, get_or, get_or_append_left, get_or_from_slice_get}
-use Rattle.dob_node.proofs.Common.{inl, inr, length, length-append, max, middle, mod-mul-add, moves_of, moves_where, nat_tests, opening_of}
-use Rattle.dob_node.proofs.Common.{opening_settlement, opening_settlements, opening_status, opening_value, places_of, refl, settled_among, settles, slice_get}
-use Rattle.dob_node.proofs.Common.{slice_get-get_or, start_settlements, start_status, starts_count, starts_of, status_at, subst, suc, sym, zero, ℕ}
-use Rattle.dob_pieces.specs.Setups.{IsLegal}
-use Rattle.dob_share.specs.Openings.{stuck}
+-- A node as it is opened: where each settlement of the start stands, and what its share then has. What cells count and know keeps its parity, and so do
+-- their values.
+use Rattle.dob_node.proofs.Common.{◌*◌, ◌++◌, ◌+◌, ◌/◌, ◌<◌, ◌↔◌, ◌∙◌, ◌∷◌, ◌≡◌, ◌≤◌, AreKept, AreOpenings, Cell, CellValue, Draw, Family}
+use Rattle.dob_node.proofs.Common.{HasParities, HasValueNow, HistoryView, IsEntry, IsNewShare, IsOwn, IsValue, List, Loss, Open, Opening, SameCell}
+use Rattle.dob_node.proofs.Common.{Settlement, Share, Some, Status, StatusesView, Value, Win, [], ap, arith, cases_eq, cell_at, cell_short, changed}
+use Rattle.dob_node.proofs.Common.{class_of_place, class_setup, classes_of, div-mul-add, fresh, get_front, get_or, get_or_append_left}
+use Rattle.dob_node.proofs.Common.{get_or_from_slice_get, inl, inr, length, max, middle, mod-mul-add, nat_tests, opening_of, opening_settlement}
+use Rattle.dob_node.proofs.Common.{opening_settlements, opening_status, opening_value, places_of, refl, settled_among, slice_get, start_settlements}
+use Rattle.dob_node.proofs.Common.{start_status, starts_count, starts_of, status_at, subst, suc, sym, zero, ℕ}
 use Rattle.dob_share.specs.Slots.{IsShortCell}
-use Rattle.dob_moves.proofs.MoveCounts.{other_count}
 use Rattle.dob_rank.proofs.OfFamilies.ClassBounds.{classes_of-below}
 use Rattle.dob_share.proofs.Opened.{settles_most}
 use Rattle.dob_value.specs.Bounds.{plies_of}
 use Rattle.dob_node.specs.Levels.{level_of}
+use Rattle.dob_lawful.proofs.Opens.{all_started, listed_opening, moves_open, start_length, starts_are, twelve_squares}
 
 -- ---- parity
 
@@ -41,51 +38,6 @@ entry_by status cell v known short is = grind arith
 pub entry_now : (share : Share) (class : ℕ) (v : Value) → IsOwn share class → HasParities (cell_at share class) → HasValueNow share class v → IsEntry v
 entry_now share class v own known is = entry_by (status_at share class) (cell_at share class) v known (cell_short share class own) is
 
--- ---- the settlements
-
-one_settles : (status : Status) (number class : ℕ) → settles status ≡ length (opening_settlement number class (opening_value status))
-one_settles status number class = grind arith
-
--- as many as a share counts
-pub start_length : (status : ℕ → Status) (n id k : ℕ) → length (start_settlements status n id k) ≡ settled_among status k
-start_length status n id zero = refl
-start_length status n id (suc k) =
-    let before = start_settlements status n id k in
-    omega (
-      arith,
-      length-append before (opening_settlement (length before) (class_of_place n id k) (opening_value (status k))),
-      start_length status n id k,
-      one_settles (status k) (length before) (class_of_place n id k),
-    )
-
--- what each of them has
-pub all_started : (P : Settlement → Type 0) (status : ℕ → Status) (n id k : ℕ) →
-    ((place number : ℕ) (now : Value) → place < k → opening_value (status place) ≡ Some now →
-    P (record { number = number; class = class_of_place n id place; was = Draw; now = now })) → All P (start_settlements status n id k)
-all_started P status n id zero each = All-nil P
-all_started P status n id (suc k) each =
-    let before = start_settlements status n id k in
-    All-append P before _ (all_started P status n id k (λ place number now low. each place number now (omega arith)))
-    (last (length before) (opening_value (status k)) refl)
-  where
-    last : (number : ℕ) (o : Option Value) → opening_value (status k) ≡ o → All P (opening_settlement number (class_of_place n id k) o)
-    last number None is = All-nil P
-    last number (Some now) is = All-cons P _ [] (each k number now (omega arith) is) (All-nil P)
-
--- ---- positions
-
-pub legal_class : (family : Family) (class : ℕ) → class < classes_of family → IsLegal (class_setup family class)
-legal_class family class low = (class_setup_is family class (classes_of family) (HasClasses-classes_of family) low).0.0.of_set.legal
-
-pub twelve_squares : (family : Family) (class : ℕ) → class < classes_of family → length (class_setup family class).board ≡ 12
-twelve_squares family class low = (legal_class family class low).squares
-
--- a class that isn't open has no move
-moves_open : (profile : Profile) (p : Setup) (status : Status) (moves : ℕ) → length p.board ≡ 12 → HasStatus profile p status →
-    moves ≡ length (moves_of profile p) → moves_where status moves ≡ moves
-moves_open profile p Open moves twelve is counted = refl
-moves_open profile p status moves twelve is counted = other_count profile p status twelve is (λ e. cc) ∙ sym counted
-
 fresh_parities : (moves : ℕ) → HasParities (fresh moves)
 fresh_parities moves = grind arith
 
@@ -101,16 +53,6 @@ pub starts_length : (n id : ℕ) (starts : StatusesView) → length (starts_of n
 starts_length n id starts = start_length (start_status starts) n id starts.places
 
 -- ---- which they are
-
-pub starts_are : (here status : ℕ → Status) (n id k : ℕ) → ((place : ℕ) → place < k → here place ≡ status (class_of_place n id place)) →
-    start_settlements here n id k ≡ opening_settlements status n id k
-starts_are here status n id zero same = refl
-starts_are here status n id (suc k) same =
-    let class : ℕ = class_of_place n id k in
-    let opened : List Settlement = opening_settlements status n id k in
-    ap (λ (xs : List Settlement). xs ++ opening_settlement (length xs) class (opening_value (here k)))
-    (starts_are here status n id k (λ place low. same place (omega arith)))
-    ∙ ap (λ (st : Status). opened ++ opening_settlement (length opened) class (opening_value st)) (same k (omega arith))
 
 -- the settlement of the start of the class at a place, by its number
 abbrev start_of : ℕ → ℕ → ℕ → ℕ → Value → Settlement
@@ -139,9 +81,6 @@ pub start_found : (n id number place : ℕ) (starts : StatusesView) (now : Value
 start_found n id number place starts now others low count is = get_front (starts_of n id starts) others (start_of n id number place now) number
     (rw (← count) (start_at (start_status starts) n id place starts.places now low is))
 
-pub start_entry : (status : Status) (now : Value) → opening_value status ≡ Some now → IsEntry now
-start_entry status now is = grind arith
-
 -- ---- on which level they are
 
 level_once : (status : Status) (now : Value) → opening_value status ≡ Some now → max (plies_of now) 1 ≡ 1
@@ -156,16 +95,6 @@ start_level n id number starts others s low there =
     let is : get_or front number s ≡ s = sym (get_or_append_left front others s number within) ∙ get_or_from_slice_get (front ++ others) number s s there in
     subst (λ (t : Settlement). level_of t ≡ 1) is (all_started (λ (t : Settlement). level_of t ≡ 1) (start_status starts) n id starts.places
     (λ place number now low here. level_once (start_status starts place) now here) number s within)
-
--- ---- what is listed
-
--- what is listed of a class is its opening
-pub opening_listed : (openings : List Opening) (place : ℕ) → place < length openings → slice_get openings place ≡ Some (opening_of openings place)
-opening_listed openings place low = slice_get-get_or openings place stuck low
-
-pub listed_opening : (family : Family) (openings : List Opening) (class : ℕ) → AreOpenings family openings → class < classes_of family →
-    IsOpening family.profile (class_setup family class) (opening_of openings class)
-listed_opening family openings class are low = are.each class (opening_of openings class) (opening_listed openings class (rw are.whole low))
 
 -- ---- a share as it is opened
 

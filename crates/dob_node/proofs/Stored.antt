@@ -4,7 +4,8 @@ use Rattle.dob_node.proofs.Common.{Stored, Value, [], ap, arith, class_of_place,
 use Rattle.dob_node.proofs.Common.{opening_value, refl, set, settled_among, settlement_stored, settlements_from, settlements_of, slice_get, slice_get-get_or}
 use Rattle.dob_node.proofs.Common.{slice_get_within, start_status, starts_count, starts_of, subst, suc, sym, take, value_of_code, zero, ℕ}
 use Rattle.std.proofs.lemmas.List.{append_assoc, get_or-append-add, length-take-le, get_or-take, take_more_set}
-use Rattle.dob_node.proofs.Opens.{starts_length, start_found, start_entry}
+use Rattle.dob_lawful.proofs.Opens.{start_entry}
+use Rattle.dob_node.proofs.Opens.{starts_length, start_found}
 
 pub length-settlements_from : (n id number : ℕ) (stored : List Stored) → length (settlements_from n id number stored) ≡ length stored
 length-settlements_from n id number [] = refl

@@ -7,7 +7,7 @@ use Rattle.dob_share.specs.declared.news.Settlement.{Settlement}
 use Rattle.dob_share.specs.Openings.{settled_among}
 use Rattle.dob_share.specs.Owners.{class_of_place}
 use Rattle.dob_share.specs.Statuses.{StatusesView, status_in}
-use Rattle.dob_node.specs.OpeningLists.{start_settlements}
+use Rattle.dob_lawful.specs.OpeningLists.{start_settlements}
 use Rattle.dob_node.specs.declared.history.Stored.{Stored}
 
 -- the settlements of one owner among n, and how many more its store has room for at least

@@ -7,10 +7,10 @@ ghost use Rattle.dob_node.specs.Nodes.{IsSound, IsShareOf, IsOpenedBy};
 
 use crate::history::History;
 use crate::node_core::Core;
-use crate::openings::own_openings;
 use crate::outboxes::{are_empty, empty_outboxes};
 use crate::start_statuses::StartStatuses;
 use dob_classes::Classes;
+use dob_lawful::own_openings;
 use dob_lists::{SegmentLength, Segments};
 use dob_pieces::{Family, Memory};
 use dob_safra::NodeCount;
@@ -46,7 +46,7 @@ pub struct Part {
 }
 
 impl Node {
-    ghost use Rattle.dob_node.specs.Openings.{AreOpenings};
+    ghost use Rattle.dob_lawful.specs.Openings.{AreOpenings};
     ghost use Rattle.dob_node.specs.Nodes.{outbox_to, IsOpened, IsOpenedOf, IsIdle, AreValuesNow};
     ghost use Rattle.dob_node.specs.Levels.{HasLevel};
     ghost use Rattle.dob_node.specs.NodeSteps.{Keeps, Expands, AppliesOwn, AppliesEveryOwn, AppliesAll, MakesRoom, Cuts};

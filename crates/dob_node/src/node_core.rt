@@ -2,7 +2,7 @@
 ghost use Rattle.std.specs.Prelude.{◌≡◌, ◌+◌, ◌<◌, ◌≤◌, ◌++◌, length, IfOk};
 ghost use Rattle.std.specs.List.{All};
 ghost use Rattle.std.specs.VecDeque.{deque_len, deque_capacity};
-ghost use Rattle.dob_update.specs.Items.{items_of};
+ghost use Rattle.dob_share.specs.Items.{items_of};
 ghost use Rattle.dob_node.specs.TakenItems.{HasItemEntries};
 
 use crate::history::History;

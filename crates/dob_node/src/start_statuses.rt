@@ -2,7 +2,7 @@
 // statuses, which the node's share holds too, and aren't stored.
 ghost use Rattle.std.specs.Prelude.{◌≡◌, ℕ, ◌+◌, ◌<◌, ◌≤◌, ◌^◌, Some};
 ghost use Rattle.dob_share.specs.Openings.{settled_among};
-ghost use Rattle.dob_node.specs.OpeningLists.{opening_value};
+ghost use Rattle.dob_lawful.specs.OpeningLists.{opening_value};
 ghost use Rattle.dob_node.specs.Stores.{start_status, starts_count};
 
 use dob_moves::Status;

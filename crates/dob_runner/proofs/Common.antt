@@ -25,13 +25,13 @@ pub use Rattle.dob_share.specs.declared.news.Settlement.{Settlement}
 pub use Rattle.dob_share.specs.declared.share.Share.{Share}
 pub use Rattle.dob_update.proofs.BatchItems.{items_in_more}
 pub use Rattle.dob_update.specs.Batches.{BatchView, OutboxView, empty_outbox, items_of_batches}
-pub use Rattle.dob_update.specs.Items.{items_from, items_of}
+pub use Rattle.dob_share.specs.Items.{items_from, items_of}
 pub use Rattle.dob_stops.specs.declared.cause.Cause.{Cause}
 pub use Rattle.dob_stops.specs.declared.cause.Cause.TheVariants.{Counts, Held, Memory}
 pub use Rattle.dob_node.proofs.Nodes.{kept_sound, outbox_same}
-pub use Rattle.dob_node.proofs.Settles.{chained_more, emitted_grown, emitted_more, value_of-more}
-pub use Rattle.dob_node.proofs.ValuesFollow.{SumsUp-same}
-pub use Rattle.dob_node.specs.Histories.{IsChained, IsNext, all_known, value_of}
+pub use Rattle.dob_lawful.proofs.Settles.{chained_more, emitted_grown, emitted_more, value_of-more}
+pub use Rattle.dob_lawful.proofs.ValuesFollow.{SumsUp-same}
+pub use Rattle.dob_lawful.specs.Histories.{IsChained, IsNext, all_known, value_of}
 pub use Rattle.dob_node.specs.NodeViews.{NodeView}
 pub use Rattle.dob_node.specs.Nodes.{HasApplied, HasAppliedItems, HasCut, HasItemFault, HasTaken, IsExpanded, IsIdle, IsOpened, IsSound, IsUnchanged}
 pub use Rattle.dob_node.specs.Nodes.{outbox_to}

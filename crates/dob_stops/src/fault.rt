@@ -3,6 +3,7 @@ ghost use Rattle.std.specs.Prelude.{◌≡◌, Some};
 ghost use Rattle.dob_stops.specs.declared.fault.Fault.TheVariants as fault;
 
 use crate::cause::{Cause, Stopped};
+use crate::sizes::Sizes;
 use dob_pieces::Memory;
 use std::error::Error;
 use std::fmt;
@@ -28,7 +29,7 @@ impl fmt::Display for Fault {
     fn fmt<W: fmt::Write>(&self, f: &mut fmt::Formatter<W>) -> fmt::Result {
         match self {
             Fault::Nodes => write!(f, "{}", dob_safra::Nodes),
-            Fault::Sizes => write!(f, "{}", dob_update::Sizes),
+            Fault::Sizes => write!(f, "{Sizes}"),
             Fault::Stopped { node, cause } => write!(f, "{}", Stopped(*node, *cause)),
             Fault::Memory => write!(f, "{Memory}"),
         }

@@ -3,6 +3,8 @@
 
 mod cause;
 mod fault;
+mod sizes;
 
 pub use cause::{Cause, Stopped};
 pub use fault::Fault;
+pub use sizes::Sizes;

@@ -1,5 +1,3 @@
-pub mod Faults
-pub mod Items
 pub mod Parts
 pub mod Batches
 pub mod Runs

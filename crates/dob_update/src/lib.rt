@@ -9,14 +9,12 @@
 #![tactic(auto)]
 
 mod batch;
-mod fault;
 mod items;
 mod outbox;
 mod part;
 mod sizes;
 
 pub use batch::Batch;
-pub use fault::Sizes;
 pub use items::{count_items, item_for, push_items};
 pub use outbox::Outbox;
 pub use part::Part;
