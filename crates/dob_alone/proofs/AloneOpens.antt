@@ -29,7 +29,7 @@ use Rattle.dob_lawful.specs.Histories.{IsChained, value_of}
 use Rattle.dob_lawful.specs.Lawful.{AreLawfulNodes, known_of}
 use Rattle.dob_node.specs.NodeViews.{NodeView}
 use Rattle.dob_node.specs.Nodes.{IsOpened, IsSound}
-use Rattle.dob_lawful.specs.OpeningLists.{opening_settlements, opening_status, opening_value}
+use Rattle.dob_history.specs.OpeningLists.{opening_settlements, opening_status, opening_value}
 use Rattle.dob_lawful.specs.Openings.{AreOpenings, IsOpening}
 use Rattle.dob_alone.proofs.AloneSteps.{cell_below, one_owner}
 use Rattle.dob_alone.specs.Alone.{HasCome, HasMade, IsAlone, alone_applied, alone_history, cells_below}

@@ -28,7 +28,7 @@ use Rattle.dob_stops.specs.declared.cause.Cause.{Cause}
 use Rattle.dob_lawful.proofs.Ends.{lawful_is_right}
 use Rattle.dob_node.proofs.ItemChanges.{Change, item_changes, same_by}
 use Rattle.dob_lawful.proofs.Kept.{last_now-entry}
-use Rattle.dob_node.proofs.Kepts.{fits_own}
+use Rattle.dob_history.proofs.Kepts.{fits_own}
 use Rattle.dob_lawful.proofs.Rises.{falls_stay, not_too_deep}
 use Rattle.dob_lawful.proofs.Settles.{emitted_all, emitted_grown, emitted_more}
 use Rattle.dob_node.proofs.ShownValues.{value_shown, values_given}
@@ -39,8 +39,8 @@ use Rattle.dob_lawful.specs.Lawful.{AreAfter, AreLawfulNodes, AreSettled, CanApp
 use Rattle.dob_node.specs.NodeViews.{NodeView}
 use Rattle.dob_node.specs.Nodes.{HasApplied, HasItemFault, IsExpanded, IsIdle, IsSound, outbox_to}
 use Rattle.dob_lawful.specs.Openings.{AreOpenings}
-use Rattle.dob_node.specs.Stores.{HistoryView}
-use Rattle.dob_node.specs.TakenItems.{AreKept, IsTaken, listed}
+use Rattle.dob_history.specs.Stores.{HistoryView}
+use Rattle.dob_history.specs.TakenItems.{AreKept, IsTaken, listed}
 use Rattle.dob_alone.specs.Alone.{HasCome, HasMade, HasStoppedAlone, IsAlone, IsDone, IsTooDeepWithin, IsUnderWay, alone_applied, alone_history}
 use Rattle.dob_alone.specs.Alone.{alone_items, cells_below}
 use Rattle.dob_alone.specs.Faults.{IsFaultOf}

@@ -3,7 +3,7 @@ use Rattle.dob_lawful.proofs.Common.{◌%◌, ◌*◌, ◌++◌, ◌+◌, ◌<�
 use Rattle.dob_lawful.proofs.Common.{Open, Option, Settlement, Some, Status, Value, [], ap, append-nil, arith, cases_eq, cond, eq-eqb, eqb, inl, inr, length}
 use Rattle.dob_lawful.proofs.Common.{mod-eq_of_lt, mul-add-mod_self_right, nat_tests, ne_eqb, opening_settlement, opening_settlements, opening_value, refl}
 use Rattle.dob_lawful.proofs.Common.{same_from_place, subst, suc, sym, value_of, zero, ℕ}
-use Rattle.dob_lawful.proofs.Opens.{all_started}
+use Rattle.dob_history.proofs.Starts.{all_started}
 use Rattle.dob_lawful.proofs.Settles.{chained_more, chained_none, value_of-more}
 
 -- the value, where there is one, or else another

@@ -43,7 +43,7 @@ pub use Rattle.dob_share.proofs.Applied.{CellValue-same}
 pub use Rattle.dob_share.proofs.Learning.{counted, counts, takes_next}
 pub use Rattle.dob_share.proofs.Sums.{sums_up_after}
 pub use Rattle.dob_share.specs.Cells.{Cell, CellValue, Changes, IsGreatest, SameCell, SumsUp, changed, fresh}
-pub use Rattle.dob_share.specs.Openings.{AreOwn, moves_where, opening_of, settled_among, settles}
+pub use Rattle.dob_share.specs.Openings.{AreOwn, moves_where, opening_of}
 pub use Rattle.dob_share.specs.Owners.{class_of_place, owner_of}
 pub use Rattle.dob_share.specs.Steps.{IsTooDeep}
 pub use Rattle.dob_share.specs.Values.{Better, NoWorse, is_win_in}
@@ -55,6 +55,6 @@ pub use Rattle.dob_lawful.specs.Falls.{Falls, HaveFalls, IsCellWithin, IsFall, I
 pub use Rattle.dob_lawful.specs.Histories.{IsChained, IsNext, copies, items_to, known, last_now, value_of}
 unfoldable pub use Rattle.dob_lawful.specs.Histories.{all_known}
 pub use Rattle.dob_lawful.specs.Lawful.{AreAfter, AreLawfulNodes, AreSettled, CanApply, IsNextItem, IsOneMore, known_of}
-pub use Rattle.dob_lawful.specs.OpeningLists.{opening_settlement, opening_settlements, opening_status, opening_value, start_settlements}
+pub use Rattle.dob_history.specs.OpeningLists.{opening_settlement, opening_settlements, opening_status, opening_value}
 pub use Rattle.dob_lawful.specs.Openings.{AreOpenings, AreOpeningsBelow, AreOwnOpenings, AreOwnSoFar, IsOpening}
 pub use Rattle.dob_lawful.specs.Quiet.{AreGathered, FollowsAtStatus, FollowsFromKnown, IsQuiet, QuietIsRight}

@@ -7,7 +7,7 @@ pub mod Totals  -- a class's moves have one copy each, which knows nothing at fi
 pub mod Learns  -- the next item of a history teaches one copy, and no other
 pub mod Settles  -- one more settlement: what it leaves, and what it makes
 -- Openings.
-pub mod Opens  -- the settlements of the start, how many there are and which, and what is listed of a class at the opening
+pub mod Opens  -- what is listed of a class at the opening
 pub mod Found  -- each family has openings, whether they were listed or not, and those of an owner's classes are among them
 -- Lawful nodes.
 pub mod Rest  -- quiet nodes hold the value table

@@ -11,7 +11,7 @@ use Rattle.dob_lawful.proofs.Common.{known, known_of, last_now, length, length-m
 use Rattle.dob_lawful.proofs.Common.{owner_of, plies_of, predecessors, range_with_len, refl, subst, sums_up_after, sym, value_of, ℕ}
 use Rattle.std.proofs.Common.{All, AllPairs}
 use Rattle.dob_share.proofs.Growing.{no_worse}
-use Rattle.dob_lawful.proofs.Opens.{all_started}
+use Rattle.dob_history.proofs.Starts.{all_started}
 use Rattle.dob_lawful.proofs.Copies.{only_one, known_by}
 use Rattle.dob_lawful.proofs.Rest.{below_owner}
 use Rattle.dob_lawful.proofs.Kept.{better_apart}

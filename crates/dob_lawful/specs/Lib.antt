@@ -4,4 +4,3 @@ pub mod Openings
 pub mod Lawful
 pub mod Falls
 pub mod Laws
-pub mod OpeningLists

@@ -5,7 +5,7 @@
 // - The copies of an edge are numbered from 0: copy i knows the last settlement whose applied items are more than i.
 // - A node of a build finds the openings of its own classes itself (`own_openings`), so nodes open side by side without a list of all. Its share goes over
 //   them twice and a class takes some 300 instructions to find, so they stand in a list of its own until the share is made.
-// - It knows neither outboxes nor stores: histories are lists here, and items those that `items_from` lists. So it is proved beside the outboxes.
+// - Histories are lists here, and items those that `items_from` lists. So it needs no outboxes, and is proved beside them.
 #![tactic(auto)]
 
 pub mod laws;

@@ -1,37 +1,32 @@
 -- The names that the proofs here use most, from other crates and the definitions of this one.
-pub use Rattle.std.proofs.Common.{◌%◌, ◌*◌, ◌++◌, ◌+◌, ◌-◌, ◌/◌, ◌<◌, ◌==◌, ◌^◌, ◌↔◌, ◌∙◌, ◌∷◌, ◌≡◌, ◌≢◌, ◌≤◌, Bool, Err, List, None, Ok, Option, Result, Some}
-pub use Rattle.std.proofs.Common.{[], add-one, ap, append_assoc, arith, cond, drop, eqb, get_or, inl, inr, length, map, max, refl, rules, set, slice_get}
-pub use Rattle.std.proofs.Common.{slice_set, subst, suc, sym, take, true, zero, ℕ}
+pub use Rattle.std.proofs.Common.{◌*◌, ◌++◌, ◌+◌, ◌-◌, ◌/◌, ◌<◌, ◌==◌, ◌^◌, ◌↔◌, ◌∙◌, ◌∷◌, ◌≡◌, ◌≢◌, ◌≤◌, Bool, Err, List, None, Ok, Option, Result, Some, []}
+pub use Rattle.std.proofs.Common.{ap, arith, cond, eqb, get_or, inl, inr, length, map, refl, rules, set, slice_get, slice_set, subst, sym, take, true, ℕ}
 pub use Rattle.std.proofs.Math.ListN.{get_or-eq_default}
-pub use Rattle.std.proofs.Math.Nat.{div-add-mod, div-le_self, mul_comm}
-pub use Rattle.std.proofs.Math.Seq.{drop-append_seam, drop-cons, drop-nil, take-append_seam, take-suc}
+pub use Rattle.std.proofs.Math.Seq.{drop-nil}
 pub use Rattle.std.proofs.lemmas.Bool.{cases_eq, cases_lt, eq-eqb}
 pub use Rattle.std.proofs.lemmas.Bool.Decides.{nat_tests}
 pub use Rattle.std.proofs.lemmas.List.{append-nil, get_or-set_other, get_or-set_same, get_or_append_left, get_or_default, length-append, length-set, same_lists}
-pub use Rattle.std.proofs.lemmas.List.{take-append-drop}
 pub use Rattle.std.proofs.lemmas.List.Elements.{All-append, All-cons, All-drop, All-nil, All-take}
 pub use Rattle.std.proofs.lemmas.Nat.{div-mul-add, mod-mul-add}
-pub use Rattle.std.proofs.lemmas.Option.{get_or_from_slice_get, same_Some, slice_get-get_or, slice_get_within}
+pub use Rattle.std.proofs.lemmas.Option.{get_or_from_slice_get, slice_get-get_or, slice_get_within}
 pub use Rattle.std.proofs.lemmas.Result.{IfOk-weaker, err_from_is_err_and}
 pub use Rattle.std.specs.List.{All, filter}
-pub use Rattle.std.specs.Prelude.{IfSome, IsNone, OnOk}
-pub use Rattle.std.specs.Result.{IfErr, IsErrAnd}
-pub use Rattle.dob_pieces.proofs.Elements.{at_end, get_front, middle}
+pub use Rattle.std.specs.Prelude.{IfSome, IsNone}
+pub use Rattle.std.specs.Result.{IfErr}
+pub use Rattle.dob_pieces.proofs.Elements.{at_end}
 pub use Rattle.dob_pieces.specs.declared.profile.Family.{Family}
 pub use Rattle.dob_moves.specs.Statuses.{HasStatus}
 pub use Rattle.dob_moves.specs.declared.position_status.Status.{Status}
 pub use Rattle.dob_moves.specs.declared.position_status.Status.TheVariants.{Open}
 pub use Rattle.dob_rank.specs.Families.{class_setup, classes_of}
-pub use Rattle.dob_value.specs.Codes.{value_of_code}
 pub use Rattle.dob_value.specs.Follows.{AreGiven, IsEntry}
 pub use Rattle.dob_value.specs.declared.value.Value.{Value}
-pub use Rattle.dob_value.specs.declared.value.Value.TheVariants.{Draw, Loss, Win}
+pub use Rattle.dob_value.specs.declared.value.Value.TheVariants.{Draw}
 pub use Rattle.dob_unmove.specs.Edges.{predecessors}
-pub use Rattle.dob_share.proofs.Owning.{cell_short}
-pub use Rattle.dob_share.specs.Cells.{Cell, CellCanTake, CellValue, KnowsLossWithin, SameCell, changed, fresh}
-pub use Rattle.dob_share.specs.Openings.{opening_of, settled_among}
+pub use Rattle.dob_share.specs.Cells.{Cell, CellValue, SameCell, fresh}
+pub use Rattle.dob_share.specs.Openings.{opening_of}
 pub use Rattle.dob_share.specs.Owners.{class_of_place, owner_of}
-pub use Rattle.dob_share.specs.Shares.{HasSettled, HasValueNow, IsApplication, IsNewShare, IsSeen, IsValue, SameClasses, cell_at}
+pub use Rattle.dob_share.specs.Shares.{HasSettled, HasValueNow, IsNewShare, IsValue, cell_at}
 unfoldable pub use Rattle.dob_share.specs.Shares.{Fits, IsOwn, places_of, status_at}
 pub use Rattle.dob_share.specs.Statuses.{StatusesView}
 pub use Rattle.dob_share.specs.Values.{Better, NoWorse}
@@ -47,11 +42,9 @@ pub use Rattle.dob_lawful.specs.Lawful.{AreLawfulNodes}
 pub use Rattle.dob_node.specs.NodeSteps.{AppliesAll, AppliesEveryOwn}
 pub use Rattle.dob_node.specs.NodeViews.{NodeView, going, node_of}
 pub use Rattle.dob_node.specs.Nodes.{AreValuesNow, HasItemFault, HasTaken, HasTakenBefore, IsOpened, IsOpenedBy, IsOpenedOf, IsSound, IsUnchanged, outbox_to}
-pub use Rattle.dob_lawful.specs.OpeningLists.{opening_settlement, opening_settlements, opening_status, opening_value, start_settlements}
+pub use Rattle.dob_history.specs.OpeningLists.{opening_settlements, opening_status}
 pub use Rattle.dob_lawful.specs.Openings.{AreOpenings}
 pub use Rattle.dob_node.specs.Outboxes.{AreAdded, HaveOneMore, IsCutFrom, IsOutboxTo, outbox_in}
-unfoldable pub use Rattle.dob_node.specs.SeenItems.{AreSeen}
-pub use Rattle.dob_node.specs.Stores.{HistoryView, settlement_stored, settlements_from, settlements_of, start_status, starts_count, starts_of}
-pub use Rattle.dob_node.specs.TakenItems.{AreKept, AreTaken, AreTakenBefore, HasItemEntries, HasParities, IsHistory, IsReason, IsTaken, StayKept, StopsAt}
-pub use Rattle.dob_node.specs.TakenItems.{StopsFirst, TakesFirst, listed}
-pub use Rattle.dob_node.specs.declared.history.Stored.{Stored}
+pub use Rattle.dob_history.specs.Stores.{HistoryView, start_status, starts_of}
+pub use Rattle.dob_history.specs.TakenItems.{AreKept, AreTaken, AreTakenBefore, HasItemEntries, HasParities, IsHistory, IsTaken, StayKept, StopsAt, StopsFirst}
+pub use Rattle.dob_history.specs.TakenItems.{listed}

@@ -4,7 +4,7 @@ use Rattle.dob_node.proofs.Common.{Item, List, NoWorse, None, Open, Option, Same
 use Rattle.dob_node.proofs.Common.{cell_at, cond, eq-eqb, eqb, inl, inr, length, listed, nat_tests, refl, status_at, subst, sym, true, value_of, ℕ}
 use Rattle.dob_lawful.proofs.Settles.{value_of-more}
 use Rattle.dob_lawful.proofs.Kept.{better_apart}
-use Rattle.dob_node.proofs.Stored.{same_settlement}
+use Rattle.dob_history.proofs.Stored.{same_settlement}
 
 -- ---- a cell has one value
 

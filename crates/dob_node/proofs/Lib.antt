@@ -1,12 +1,10 @@
 -- The lemmas, in the order in which they are read.
 mod Common  -- names of other crates and of this one's definitions, for the proofs
 -- A node with its outboxes.
-pub mod Opens  -- a node as it is opened: where each settlement of the start stands, and what its share has
-pub mod Stored  -- what is stored of a history is read again
-pub mod Kepts  -- what an item taken makes of a node's cells and history
+pub mod Opens  -- a node as it is opened: what its share has
 pub mod Sounds  -- a node stays sound
 pub mod Nodes  -- what a node has, whatever has failed of it, and the values of its own classes
-pub mod TakenLists  -- items taken one after the other: looked at before, from lists, and from a queue
+pub mod TakenLists  -- items that a node takes one after the other, whose history may have had other room before
 pub mod Sends  -- empty outboxes, what one settlement more adds to them, and what it is to take that back
 -- Worlds of shares and histories.
 pub mod ItemChanges  -- what an item that a share takes changes

@@ -1,6 +1,3 @@
-pub mod Stores
-pub mod TakenItems
-pub mod SeenItems
 pub mod Outboxes
 pub mod NodeViews
 pub mod Levels

@@ -17,8 +17,8 @@ use Rattle.dob_update.specs.Batches.{BatchView, OutboxView, empty_outbox, added,
 use Rattle.dob_stops.specs.declared.cause.Cause.{Cause}
 use Rattle.dob_node.specs.NodeViews.{NodeView}
 use Rattle.dob_lawful.specs.Openings.{AreOpenings}
-use Rattle.dob_lawful.specs.OpeningLists.{opening_settlements, opening_status}
-use Rattle.dob_node.specs.TakenItems.{HasItemEntries, AreKept, IsHistory, IsTaken, AreTaken, IsReason}
+use Rattle.dob_history.specs.OpeningLists.{opening_settlements, opening_status}
+use Rattle.dob_history.specs.TakenItems.{HasItemEntries, AreKept, IsHistory, IsTaken, AreTaken, IsReason}
 use Rattle.dob_node.specs.Outboxes.{outbox_in, IsOutboxTo}
 
 -- what the node has still to send to another

@@ -28,7 +28,7 @@ pub use Rattle.dob_stops.specs.declared.cause.Cause.{Cause}
 pub use Rattle.dob_stops.specs.declared.fault.Fault.{Fault}
 pub use Rattle.dob_stops.specs.declared.fault.Fault.TheVariants.{Memory, Nodes, Sizes, Stopped}
 pub use Rattle.dob_lawful.proofs.Rest.{below_owner}
-pub use Rattle.dob_node.proofs.TakenLists.{carried}
+pub use Rattle.dob_history.proofs.TakenLists.{carried}
 pub use Rattle.dob_lawful.specs.Histories.{last_now, value_of}
 pub use Rattle.dob_node.specs.Nodes.{IsIdle, IsOpened}
 pub use Rattle.dob_node.specs.declared.node.Node.{Node}

@@ -24,7 +24,7 @@ use Rattle.dob_moves.specs.MoveLists.{moves_of}
 use Rattle.dob_moves.proofs.Cases.{one_status}
 use Rattle.dob_share.specs.declared.opening.Opening.{Opening}
 use Rattle.dob_lawful.specs.Openings.{AreOpenings}
-use Rattle.dob_lawful.specs.OpeningLists.{opening_value, opening_status}
+use Rattle.dob_history.specs.OpeningLists.{opening_value, opening_status}
 use Rattle.dob_lawful.proofs.Totals.{start_sums}
 use Rattle.dob_lawful.proofs.Opens.{listed_opening}
 use Rattle.dob_lawful.proofs.Beginnings.{or_else, opened_value, opened_chained, opened_entries}

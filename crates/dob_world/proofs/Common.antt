@@ -48,8 +48,8 @@ pub use Rattle.dob_lawful.proofs.ValuesFollow.{SumsUp-same, value_follows}
 pub use Rattle.dob_lawful.specs.Histories.{AreValuesBelow, IsChained, value_of}
 pub use Rattle.dob_lawful.specs.Lawful.{CanApply, known_of}
 pub use Rattle.dob_node.specs.Nodes.{HasApplied, HasCut, HasItemFault, HasTaken, IsExpanded, IsOpened, IsSound, IsUnchanged, outbox_to}
-pub use Rattle.dob_node.specs.Stores.{HistoryView}
-pub use Rattle.dob_node.specs.TakenItems.{AreKept, AreTaken, HasItemEntries, IsReason, IsTaken}
+pub use Rattle.dob_history.specs.Stores.{HistoryView}
+pub use Rattle.dob_history.specs.TakenItems.{AreKept, AreTaken, HasItemEntries, IsReason, IsTaken}
 pub use Rattle.dob_node.specs.declared.node.Node.{Node}
 pub use Rattle.dob_world.specs.Effects.{IsEventDone, IsMade, IsSkipped, IsStopped, IsWorldUnchanged}
 pub use Rattle.dob_world.specs.Events.{Applies, AppliesItems, AppliesOwn, CanHappen, ExpandsAt, Happens, LinksStay, NodesStay, OtherLinksStay, Posts, Stays}

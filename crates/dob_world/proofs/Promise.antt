@@ -17,7 +17,7 @@ use Rattle.dob_moves.specs.MoveLists.{moves_of}
 use Rattle.dob_share.proofs.Applied.{CellValue-same}
 use Rattle.dob_lawful.specs.Quiet.{FollowsAtStatus}
 use Rattle.dob_lawful.specs.Openings.{AreOpenings}
-use Rattle.dob_lawful.specs.OpeningLists.{opening_value, opening_settlements, opening_status}
+use Rattle.dob_history.specs.OpeningLists.{opening_value, opening_settlements, opening_status}
 use Rattle.dob_lawful.specs.Falls.{IsFirst}
 use Rattle.dob_lawful.proofs.Rises.{opened_first, fresh_within, falls_start}
 use Rattle.dob_lawful.proofs.Opens.{listed_opening}
