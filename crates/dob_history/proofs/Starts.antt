@@ -10,7 +10,6 @@ use Rattle.dob_share.specs.Slots.{IsShortCell}
 use Rattle.dob_share.proofs.Opened.{settles_most}
 use Rattle.dob_value.specs.Bounds.{plies_of}
 use Rattle.dob_history.specs.Levels.{level_of}
-use Rattle.dob_history.proofs.Starts.{all_started, start_length, starts_are}
 
 -- ---- parity
 
