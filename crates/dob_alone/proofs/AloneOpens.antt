@@ -18,19 +18,19 @@ use Rattle.dob_share.specs.Owners.{owner_of}
 use Rattle.dob_share.specs.Shares.{IsOwn, places_of}
 use Rattle.dob_share.specs.declared.news.Settlement.{Settlement}
 use Rattle.dob_share.specs.declared.opening.Opening.{Opening}
-use Rattle.dob_update.specs.Items.{items_from}
-use Rattle.dob_node.proofs.Beginnings.{closed_follows, opened_chained, opened_entries, opened_value, or_else}
-use Rattle.dob_node.proofs.Opens.{listed_opening}
-use Rattle.dob_node.proofs.Rises.{falls_start, fresh_within, opened_first}
-use Rattle.dob_node.proofs.Totals.{start_sums}
-use Rattle.dob_node.proofs.ValuesFollow.{SumsUp-same}
-use Rattle.dob_node.specs.Falls.{HaveFalls, IsFirst}
-use Rattle.dob_node.specs.Histories.{IsChained, value_of}
-use Rattle.dob_node.specs.Lawful.{AreLawfulNodes, known_of}
+use Rattle.dob_share.specs.Items.{items_from}
+use Rattle.dob_lawful.proofs.Beginnings.{closed_follows, opened_chained, opened_entries, opened_value, or_else}
+use Rattle.dob_lawful.proofs.Opens.{listed_opening}
+use Rattle.dob_lawful.proofs.Rises.{falls_start, fresh_within, opened_first}
+use Rattle.dob_lawful.proofs.Totals.{start_sums}
+use Rattle.dob_lawful.proofs.ValuesFollow.{SumsUp-same}
+use Rattle.dob_lawful.specs.Falls.{HaveFalls, IsFirst}
+use Rattle.dob_lawful.specs.Histories.{IsChained, value_of}
+use Rattle.dob_lawful.specs.Lawful.{AreLawfulNodes, known_of}
 use Rattle.dob_node.specs.NodeViews.{NodeView}
 use Rattle.dob_node.specs.Nodes.{IsOpened, IsSound}
-use Rattle.dob_node.specs.OpeningLists.{opening_settlements, opening_status, opening_value}
-use Rattle.dob_node.specs.Openings.{AreOpenings, IsOpening}
+use Rattle.dob_history.specs.OpeningLists.{opening_settlements, opening_status, opening_value}
+use Rattle.dob_lawful.specs.Openings.{AreOpenings, IsOpening}
 use Rattle.dob_alone.proofs.AloneSteps.{cell_below, one_owner}
 use Rattle.dob_alone.specs.Alone.{HasCome, HasMade, IsAlone, alone_applied, alone_history, cells_below}
 

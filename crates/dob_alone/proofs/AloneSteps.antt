@@ -24,24 +24,24 @@ use Rattle.dob_share.specs.declared.news.Settlement.{Settlement}
 use Rattle.dob_share.specs.declared.opening.Opening.{Opening}
 use Rattle.dob_share.specs.declared.share.Share.{Share}
 use Rattle.dob_update.specs.Batches.{OutboxView, empty_outbox}
-use Rattle.dob_update.specs.Items.{items_from, items_of}
+use Rattle.dob_share.specs.Items.{items_from, items_of}
 use Rattle.dob_stops.specs.declared.cause.Cause.{Cause}
-use Rattle.dob_node.proofs.Ends.{lawful_is_right}
+use Rattle.dob_lawful.proofs.Ends.{lawful_is_right}
 use Rattle.dob_node.proofs.ItemChanges.{Change, item_changes, same_by}
-use Rattle.dob_node.proofs.Kept.{last_now-entry}
-use Rattle.dob_node.proofs.Kepts.{fits_own}
-use Rattle.dob_node.proofs.Rises.{falls_stay, not_too_deep}
-use Rattle.dob_node.proofs.Settles.{emitted_all, emitted_grown, emitted_more}
+use Rattle.dob_lawful.proofs.Kept.{last_now-entry}
+use Rattle.dob_history.proofs.Kepts.{fits_own}
+use Rattle.dob_lawful.proofs.Rises.{falls_stay, not_too_deep}
+use Rattle.dob_lawful.proofs.Settles.{emitted_all, emitted_grown, emitted_more}
 use Rattle.dob_node.proofs.ShownValues.{value_shown, values_given}
-use Rattle.dob_node.proofs.Steps.{can_apply, lawful_after}
-use Rattle.dob_node.specs.Falls.{HaveFalls}
-use Rattle.dob_node.specs.Histories.{AreValuesBelow, value_of}
-use Rattle.dob_node.specs.Lawful.{AreAfter, AreLawfulNodes, AreSettled, CanApply, IsNextItem}
+use Rattle.dob_lawful.proofs.Steps.{can_apply, lawful_after}
+use Rattle.dob_lawful.specs.Falls.{HaveFalls}
+use Rattle.dob_lawful.specs.Histories.{AreValuesBelow, value_of}
+use Rattle.dob_lawful.specs.Lawful.{AreAfter, AreLawfulNodes, AreSettled, CanApply, IsNextItem}
 use Rattle.dob_node.specs.NodeViews.{NodeView}
 use Rattle.dob_node.specs.Nodes.{HasApplied, HasItemFault, IsExpanded, IsIdle, IsSound, outbox_to}
-use Rattle.dob_node.specs.Openings.{AreOpenings}
-use Rattle.dob_node.specs.Stores.{HistoryView}
-use Rattle.dob_node.specs.TakenItems.{AreKept, IsTaken, listed}
+use Rattle.dob_lawful.specs.Openings.{AreOpenings}
+use Rattle.dob_history.specs.Stores.{HistoryView}
+use Rattle.dob_history.specs.TakenItems.{AreKept, IsTaken, listed}
 use Rattle.dob_alone.specs.Alone.{HasCome, HasMade, HasStoppedAlone, IsAlone, IsDone, IsTooDeepWithin, IsUnderWay, alone_applied, alone_history}
 use Rattle.dob_alone.specs.Alone.{alone_items, cells_below}
 use Rattle.dob_alone.specs.Faults.{IsFaultOf}

@@ -11,11 +11,11 @@ use Rattle.dob_share.specs.declared.opening.Opening.{Opening}
 use Rattle.dob_share.specs.declared.share.Share.{Share}
 use Rattle.dob_share.specs.Cells.{Cell, fresh}
 use Rattle.dob_share.specs.Shares.{status_at, cell_at}
-use Rattle.dob_update.specs.Items.{items_from}
-use Rattle.dob_node.specs.Histories.{value_of}
-use Rattle.dob_node.specs.Openings.{AreOpenings}
-use Rattle.dob_node.specs.Lawful.{AreLawfulNodes}
-use Rattle.dob_node.specs.Falls.{HaveFalls}
+use Rattle.dob_share.specs.Items.{items_from}
+use Rattle.dob_lawful.specs.Histories.{value_of}
+use Rattle.dob_lawful.specs.Openings.{AreOpenings}
+use Rattle.dob_lawful.specs.Lawful.{AreLawfulNodes}
+use Rattle.dob_lawful.specs.Falls.{HaveFalls}
 use Rattle.dob_stops.specs.declared.cause.Cause.{Cause}
 use Rattle.dob_stops.specs.declared.cause.Cause.TheVariants.{TooDeep, Contradiction, Memory, Held, Counts}
 use Rattle.dob_node.specs.NodeViews.{NodeView}

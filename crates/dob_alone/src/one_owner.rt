@@ -10,8 +10,9 @@ ghost use Rattle.dob_alone.specs.Alone.{HasMade, IsDone, IsUnderWay, IsDoneWithi
 
 use crate::fault::Fault;
 use dob_classes::Classes;
+use dob_lawful::opening;
 use dob_lists::SegmentLength;
-use dob_node::{Node, opening};
+use dob_node::Node;
 use dob_pieces::{Family, Memory};
 use dob_safra::NodeCount;
 use dob_stops::Cause;

@@ -1,27 +1,10 @@
 -- The lemmas, in the order in which they are read.
 mod Common  -- names of other crates and of this one's definitions, for the proofs
--- What the copies of edges know.
-pub mod Copies  -- how many items of each settlement a list has for a class, and what the copies of an edge know
-pub mod Splits  -- which settlement made an item, and what was made before
-pub mod Totals  -- a class's moves have one copy each, which knows nothing at first
-pub mod Learns  -- the next item of a history teaches one copy, and no other
-pub mod Settles  -- one more settlement: what it leaves, and what it makes
--- Lawful nodes.
-pub mod Rest  -- quiet nodes hold the value table
-pub mod Kept  -- what copies know of the same items, and which values they can know
-pub mod ValuesFollow  -- the value of a cell that sums up what is known follows
-pub mod Beginnings  -- the histories of nodes at their opening
-pub mod Steps  -- the next item fits its cell, and what is lawful stays so
-pub mod Rises  -- falls: how far they go, and what goes before one; after the next item each settlement has a fall, and no distance exceeds the classes
-pub mod Ends  -- lawful nodes that have applied all items hold the value table
 -- A node with its outboxes.
-pub mod Opens  -- a node as it is opened: the settlements of the start, by the statuses of the classes, and what its share has
-pub mod Found  -- each family has openings, whether they were listed or not, and those of an owner's classes are among them
-pub mod Stored  -- what is stored of a history is read again
-pub mod Kepts  -- what an item taken makes of a node's cells and history
+pub mod Opens  -- a node as it is opened: what its share has
 pub mod Sounds  -- a node stays sound
 pub mod Nodes  -- what a node has, whatever has failed of it, and the values of its own classes
-pub mod TakenLists  -- items taken one after the other: looked at before, from lists, and from a queue
+pub mod TakenLists  -- items that a node takes one after the other, whose history may have had other room before
 pub mod Sends  -- empty outboxes, what one settlement more adds to them, and what it is to take that back
 -- Worlds of shares and histories.
 pub mod ItemChanges  -- what an item that a share takes changes

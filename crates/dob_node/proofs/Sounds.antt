@@ -1,28 +1,7 @@
--- A node stays sound.
+-- A node stays sound: its expansions.
 use Rattle.dob_node.proofs.Common.{◌++◌, ◌+◌, ◌<◌, ◌∙◌, ◌∷◌, ◌≡◌, ◌≤◌, All, All-append, All-cons, All-nil, AreKept, Family, HasItemEntries, HistoryView}
-use Rattle.dob_node.proofs.Common.{IsEntry, IsTaken, Item, List, Settlement, Share, Some, StayKept, [], ap, arith, classes_of, get_or_from_slice_get}
-use Rattle.dob_node.proofs.Common.{item_for, length, length-append, listed, map, slice_get, slice_get_within, subst, sym, ℕ}
-
--- by the share's own numbers
-pub kept_own : {family : Family} {n id : ℕ} {share : Share} {history : HistoryView} → AreKept family n id share history →
-    AreKept family share.nodes share.id share history
-kept_own {family = family} {n = n} {share = share} {history = history} kept =
-    subst (λ (m : ℕ). AreKept family m share.id share history) (sym kept.share_is.0)
-    (subst (λ (k : ℕ). AreKept family n k share history) (sym kept.share_is.1) kept)
-
-pub kept_back : {family : Family} {n id : ℕ} {share after : Share} {history grown : HistoryView} → AreKept family n id share history →
-    StayKept share history after grown → AreKept family n id after grown
-kept_back {family = family} {id = id} {share = share} {after = after} {grown = grown} kept still =
-    subst (λ (m : ℕ). AreKept family m id after grown) kept.share_is.0
-    (subst (λ (k : ℕ). AreKept family share.nodes k after grown) kept.share_is.1 (still family (kept_own kept)))
-
--- what is expanded is less than a longer history
-pub emitted_still : (item : Item) (share after : Share) (history grown : HistoryView) (expanded : ℕ) → IsTaken item share after history grown →
-    expanded ≤ length history.settlements → expanded ≤ length grown.settlements
-emitted_still item share after history grown expanded taken emitted =
-    omega (arith, length-append history.settlements (listed taken.settled.0), ap (λ (view : HistoryView). length view.settlements) taken.settled.2)
-
--- ---- expansions
+use Rattle.dob_node.proofs.Common.{IsEntry, Item, List, Settlement, Share, Some, [], ap, arith, classes_of, get_or_from_slice_get, item_for, map, slice_get}
+use Rattle.dob_node.proofs.Common.{slice_get_within, subst, sym, ℕ}
 
 -- one more is expanded where not all were
 pub next_emitted : (expanded all count : ℕ) → expanded ≤ all → count ≡ all → (expanded ≡ count → ⊥) → expanded + 1 ≤ all

@@ -1,14 +1,4 @@
-pub mod Histories
-pub mod Quiet
-pub mod Openings
-pub mod Lawful
-pub mod Falls
-pub mod Laws
-pub mod Stores
-pub mod TakenItems
-pub mod SeenItems
 pub mod Outboxes
-pub mod OpeningLists
 pub mod NodeViews
 pub mod Levels
 pub mod Nodes

@@ -6,7 +6,7 @@ use Rattle.dob_update.specs.Batches.{BatchView}
 use Rattle.dob_stops.specs.declared.cause.Cause.{Cause}
 use Rattle.dob_stops.specs.declared.cause.Cause.TheVariants.{Memory, Counts}
 use Rattle.dob_node.specs.NodeViews.{NodeView}
-use Rattle.dob_node.specs.TakenItems.{StopsAt}
+use Rattle.dob_history.specs.TakenItems.{StopsAt}
 use Rattle.dob_node.specs.Nodes.{outbox_to, IsSound, IsExpanded, HasApplied, HasAppliedItems, HasItemFault, HasTaken, HasTakenBefore, HasCut, IsUnchanged}
 
 -- The node is sound after a step, and has failed for the cause that the step answers, and for none where it answers Ok.

@@ -6,7 +6,7 @@ use Rattle.dob_share.specs.declared.share.Share.{Share}
 use Rattle.dob_update.specs.Batches.{OutboxView}
 use Rattle.dob_stops.specs.declared.cause.Cause.{Cause}
 use Rattle.dob_node.specs.declared.node_core.Core.{Core}
-use Rattle.dob_node.specs.Stores.{HistoryView}
+use Rattle.dob_history.specs.Stores.{HistoryView}
 
 -- The node of owner `id`, one of n, of a family's classes: its cells, its history and how many settlements of it are expanded, the
 -- items for itself, what it has to send to each node, how many items were applied of the last batch, and why it has failed.

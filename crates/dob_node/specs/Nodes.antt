@@ -12,13 +12,13 @@ use Rattle.dob_share.specs.Owners.{class_of_place}
 use Rattle.dob_share.specs.Cells.{SameCell, fresh}
 use Rattle.dob_share.specs.Openings.{opening_of}
 use Rattle.dob_share.specs.Shares.{places_of, IsOwn, IsNewShare, status_at, cell_at, HasValueNow}
-use Rattle.dob_update.specs.Items.{items_of}
+use Rattle.dob_share.specs.Items.{items_of}
 use Rattle.dob_update.specs.Batches.{BatchView, OutboxView, empty_outbox, added, IsCut}
 use Rattle.dob_stops.specs.declared.cause.Cause.{Cause}
 use Rattle.dob_node.specs.NodeViews.{NodeView}
-use Rattle.dob_node.specs.Openings.{AreOpenings}
-use Rattle.dob_node.specs.OpeningLists.{opening_settlements, opening_status}
-use Rattle.dob_node.specs.TakenItems.{HasItemEntries, AreKept, IsHistory, IsTaken, AreTaken, IsReason}
+use Rattle.dob_lawful.specs.Openings.{AreOpenings}
+use Rattle.dob_history.specs.OpeningLists.{opening_settlements, opening_status}
+use Rattle.dob_history.specs.TakenItems.{HasItemEntries, AreKept, IsHistory, IsTaken, AreTaken, IsReason}
 use Rattle.dob_node.specs.Outboxes.{outbox_in, IsOutboxTo}
 
 -- what the node has still to send to another

@@ -4,9 +4,9 @@ use Rattle.std.specs.List.{All}
 use Rattle.dob_pieces.specs.declared.profile.Family.{Family}
 use Rattle.dob_unmove.specs.Edges.{predecessors}
 use Rattle.dob_share.specs.declared.news.Settlement.{Settlement}
-use Rattle.dob_update.specs.Items.{items_of}
+use Rattle.dob_share.specs.Items.{items_of}
 use Rattle.dob_update.specs.Batches.{BatchView, OutboxView, empty_outbox, added, IsCut}
-use Rattle.dob_node.specs.TakenItems.{HasItemEntries}
+use Rattle.dob_history.specs.TakenItems.{HasItemEntries}
 
 -- the outbox for a node, among those of one of n nodes
 abbrev pub outbox_in : Family → ℕ → ℕ → List OutboxView → ℕ → OutboxView

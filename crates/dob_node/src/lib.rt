@@ -1,13 +1,6 @@
-// One node of a build: the history of the classes that it owns, and what it has to send and to apply.
+// One node of a build: its cells and history, and what it has to send and to apply.
 //
 // Choices:
-// - The copies of an edge are numbered from 0: copy i knows the last settlement whose applied items are more than i.
-// - A node of a build finds the openings of its own classes itself (`open_own`), so nodes open side by side without a list of all. Its share goes over them
-//   twice and a class takes some 300 instructions to find, so they stand in a list of its own until the share is made.
-// - A history makes room behind its settlements before an item is applied, so an item that runs out of memory changes nothing, before E13 and E12. A list in
-//   segments doesn't show its room, so the history stores one blank more and counts the settlements itself.
-// - The settlements of the start aren't stored: they follow from the statuses, which history and cells share (`Arc`); a cursor walks them. A further
-//   settlement takes 8 bytes: cells count wins at odd distances and losses at even ones (`AreKept`), so each is a table's entry.
 // - A step that meets an error leaves its node as it was (`IsUnchanged`), except that it has failed; only `apply_batch` has applied the items before the
 //   refused one. `reserve` makes its growths beforehand.
 // - A node's core steps, and the node notes what failed (`Core`, `noted`). Calls that grow it or apply items ask that it hasn't (`going`).
@@ -15,22 +8,15 @@
 // - `expand` takes back what it added: an outbox doesn't show its room, so if one runs out of memory the settlement is taken out of those before it
 //   (`Outbox::take_back`), which needs no memory.
 // - A node has an outbox for itself too, which stays empty, so that outboxes stand by the numbers of their receivers.
-// - Why a node stops is said by cases of its cause (`IsReason`, `StopsAt`); a cause that a step never gives is impossible.
 #![tactic(auto)]
 
-mod entries;
-mod history;
-pub mod laws;
 mod node;
 mod node_core;
-mod openings;
 mod outboxes;
-mod start_statuses;
-mod taking;
 
+pub use dob_history::have_entries;
+pub use dob_lawful::{laws, opening, opening_in};
 pub use dob_share::Opening;
 pub use dob_stops::{Cause, Stopped};
-pub use entries::have_entries;
 pub use node::{Node, Part};
 pub use node_core::MAX_BATCHES;
-pub use openings::{opening, opening_in};

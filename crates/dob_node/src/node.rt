@@ -1,16 +1,15 @@
 // A node: what its steps change, and what has failed of them. Once a step has failed, none is made.
 ghost use Rattle.std.specs.Prelude.{◌≡◌, ◌<◌, ◌≤◌, ◌^◌, ◌↔◌, length, slice_get, None, Some, IsTrue, IfOk, IfErr, OnOk, MatchOption};
 ghost use Rattle.std.specs.List.{All};
-ghost use Rattle.dob_node.specs.Stores.{starts_of};
-ghost use Rattle.dob_node.specs.TakenItems.{HasItemEntries};
+ghost use Rattle.dob_history.specs.Stores.{starts_of};
+ghost use Rattle.dob_history.specs.TakenItems.{HasItemEntries};
 ghost use Rattle.dob_node.specs.Nodes.{IsSound, IsShareOf, IsOpenedBy};
 
-use crate::history::History;
 use crate::node_core::Core;
-use crate::openings::own_openings;
 use crate::outboxes::{are_empty, empty_outboxes};
-use crate::start_statuses::StartStatuses;
 use dob_classes::Classes;
+use dob_history::{History, StartStatuses};
+use dob_lawful::own_openings;
 use dob_lists::{SegmentLength, Segments};
 use dob_pieces::{Family, Memory};
 use dob_safra::NodeCount;
@@ -46,7 +45,7 @@ pub struct Part {
 }
 
 impl Node {
-    ghost use Rattle.dob_node.specs.Openings.{AreOpenings};
+    ghost use Rattle.dob_lawful.specs.Openings.{AreOpenings};
     ghost use Rattle.dob_node.specs.Nodes.{outbox_to, IsOpened, IsOpenedOf, IsIdle, AreValuesNow};
     ghost use Rattle.dob_node.specs.Levels.{HasLevel};
     ghost use Rattle.dob_node.specs.NodeSteps.{Keeps, Expands, AppliesOwn, AppliesEveryOwn, AppliesAll, MakesRoom, Cuts};

@@ -2,13 +2,12 @@
 ghost use Rattle.std.specs.Prelude.{◌≡◌, ◌+◌, ◌<◌, ◌≤◌, ◌++◌, length, IfOk};
 ghost use Rattle.std.specs.List.{All};
 ghost use Rattle.std.specs.VecDeque.{deque_len, deque_capacity};
-ghost use Rattle.dob_update.specs.Items.{items_of};
-ghost use Rattle.dob_node.specs.TakenItems.{HasItemEntries};
+ghost use Rattle.dob_share.specs.Items.{items_of};
+ghost use Rattle.dob_history.specs.TakenItems.{HasItemEntries};
 
-use crate::history::History;
 use crate::outboxes::add_for_others;
-use crate::taking::{take_items, take_queue};
 use dob_classes::Classes;
+use dob_history::{History, take_items, take_queue};
 use dob_pieces::{Family, Memory};
 use dob_safra::NodeCount;
 use dob_share::{Item, Settlement, Share, owner};

@@ -4,7 +4,7 @@ ghost use Rattle.std.specs.Prelude.{slice_set, IsTrue, IfOk, OnOk, OnErr};
 ghost use Rattle.std.specs.List.{All};
 ghost use Rattle.dob_pieces.specs.declared.profile.Family.{Family as Set};
 ghost use Rattle.dob_unmove.specs.Edges.{predecessors};
-ghost use Rattle.dob_update.specs.Items.{items_of};
+ghost use Rattle.dob_share.specs.Items.{items_of};
 ghost use Rattle.dob_update.specs.Batches.{OutboxView, HasOneMore, empty_outbox, added};
 ghost use Rattle.dob_node.specs.Outboxes.{outbox_in, IsOutboxTo, AreAdded, HaveOneMore};
 

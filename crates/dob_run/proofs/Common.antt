@@ -23,13 +23,13 @@ pub use Rattle.dob_share.specs.declared.news.Item.{Item}
 pub use Rattle.dob_share.specs.declared.news.Settlement.{Settlement}
 pub use Rattle.dob_share.specs.declared.share.Share.{Share}
 pub use Rattle.dob_update.specs.Batches.{BatchView, items_of_batches}
-pub use Rattle.dob_update.specs.Items.{item_for, items_from, items_of}
+pub use Rattle.dob_share.specs.Items.{item_for, items_from, items_of}
 pub use Rattle.dob_stops.specs.declared.cause.Cause.{Cause}
 pub use Rattle.dob_stops.specs.declared.fault.Fault.{Fault}
 pub use Rattle.dob_stops.specs.declared.fault.Fault.TheVariants.{Memory, Nodes, Sizes, Stopped}
-pub use Rattle.dob_node.proofs.Rest.{below_owner}
-pub use Rattle.dob_node.proofs.TakenLists.{carried}
-pub use Rattle.dob_node.specs.Histories.{last_now, value_of}
+pub use Rattle.dob_lawful.proofs.Rest.{below_owner}
+pub use Rattle.dob_history.proofs.TakenLists.{carried}
+pub use Rattle.dob_lawful.specs.Histories.{last_now, value_of}
 pub use Rattle.dob_node.specs.Nodes.{IsIdle, IsOpened}
 pub use Rattle.dob_node.specs.declared.node.Node.{Node}
 pub use Rattle.dob_board.proofs.Halting.{same_halt}

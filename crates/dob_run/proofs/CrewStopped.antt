@@ -10,21 +10,21 @@ use Rattle.dob_run.proofs.Common.{own_applied, planned, offered, worked_from, he
 use Rattle.dob_run.proofs.Common.{AllKnow, AreFailureless, AreOwners, AreShownBelow, HaveStopped, IsFailure, IsFailureOf, IsOwner, IsShownByOwner}
 use Rattle.dob_run.proofs.Common.{share_in, IsBuilt, IsLinkDone, needed, AreClosed, IsCrew, seat_in, endpoint_of, node_of, AreFinished, AreShown, IsLawfulAt}
 use Rattle.dob_run.proofs.Common.{Built, predecessors}
-use Rattle.dob_node.proofs.Kept.{last_now-entry}
+use Rattle.dob_lawful.proofs.Kept.{last_now-entry}
 use Rattle.dob_gather.proofs.Found.{map_got}
 use Rattle.dob_run.proofs.Places.{get_map}
 use Rattle.dob_moves.specs.declared.position_status.Status.{Status}
 use Rattle.dob_moves.specs.declared.position_status.Status.TheVariants.{Open}
 use Rattle.dob_share.specs.declared.opening.Opening.{Opening}
 use Rattle.dob_share.specs.Cells.{Cell}
-use Rattle.dob_node.specs.Quiet.{FollowsAtStatus}
-use Rattle.dob_node.specs.Lawful.{known_of, AreLawfulNodes as AreLawful}
-use Rattle.dob_node.specs.Openings.{AreOpenings}
-use Rattle.dob_node.proofs.Ends.{lawful_is_right}
+use Rattle.dob_lawful.specs.Quiet.{FollowsAtStatus}
+use Rattle.dob_lawful.specs.Lawful.{known_of, AreLawfulNodes as AreLawful}
+use Rattle.dob_lawful.specs.Openings.{AreOpenings}
+use Rattle.dob_lawful.proofs.Ends.{lawful_is_right}
 use Rattle.dob_run.proofs.CrewRunners.{are_linked, seat_there, rejoined_at, seat_at, crew_many, crew_low, outlet_at}
 use Rattle.dob_run.specs.declared.crew_close.ClosedCrew.{ClosedCrew as Left}
 use Rattle.dob_run.proofs.Needed.{needed_fits}
-use Rattle.dob_node.proofs.Found.{some_openings}
+use Rattle.dob_lawful.proofs.Found.{some_openings}
 
 -- what is answered where none is known
 abbrev pub IsNone : List Runner → Type 0

@@ -15,19 +15,19 @@ use Rattle.dob_distance.proofs.Distances.{same_loss}
 use Rattle.dob_share.specs.Values.{Better}
 use Rattle.dob_share.specs.Shares.{status_at, cell_at, IsValue, HasValueNow, HasSettled, IsOwn, places_of}
 use Rattle.dob_share.proofs.Sums.{sums_up_after}
-use Rattle.dob_node.proofs.Splits.{IsMade, IsFrom, split, made_from}
-use Rattle.dob_node.proofs.Learns.{learnt, nothing_learnt}
-use Rattle.dob_node.proofs.Kept.{all_known-same}
+use Rattle.dob_lawful.proofs.Splits.{IsMade, IsFrom, split, made_from}
+use Rattle.dob_lawful.proofs.Learns.{learnt, nothing_learnt}
+use Rattle.dob_lawful.proofs.Kept.{all_known-same}
 use Rattle.dob_node.proofs.ItemChanges.{one_value, fits_open, value_elsewhere}
-use Rattle.dob_node.proofs.Rises.{same_back}
+use Rattle.dob_lawful.proofs.Rises.{same_back}
 use Rattle.dob_moves.specs.MoveLists.{moves_of}
 use Rattle.dob_moves.proofs.Cases.{one_status}
 use Rattle.dob_share.specs.declared.opening.Opening.{Opening}
-use Rattle.dob_node.specs.Openings.{AreOpenings}
-use Rattle.dob_node.specs.OpeningLists.{opening_value, opening_status}
-use Rattle.dob_node.proofs.Totals.{start_sums}
-use Rattle.dob_node.proofs.Opens.{listed_opening}
-use Rattle.dob_node.proofs.Beginnings.{or_else, opened_value, opened_chained, opened_entries}
+use Rattle.dob_lawful.specs.Openings.{AreOpenings}
+use Rattle.dob_history.specs.OpeningLists.{opening_value, opening_status}
+use Rattle.dob_lawful.proofs.Totals.{start_sums}
+use Rattle.dob_lawful.proofs.Opens.{listed_opening}
+use Rattle.dob_lawful.proofs.Beginnings.{or_else, opened_value, opened_chained, opened_entries}
 
 -- items that are taken make a history that goes on
 pub history_grown : (items : List Item) (share after : Share) (history grown : HistoryView) → AreTaken items share after history grown →

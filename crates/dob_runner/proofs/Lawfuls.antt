@@ -7,7 +7,7 @@ use Rattle.dob_runner.proofs.Common.{emitted_grown, emitted_more, NodeView, HasA
 use Rattle.dob_runner.proofs.Common.{IsUnchanged, outbox_to, HistoryView, HasItemEntries, IsTaken, listed, Node, batches_of, AreOut, HasChangedOne}
 use Rattle.dob_runner.proofs.Common.{HasSameLinksAndColour, KnowsRight, AreLast, IsLawfulRunner, SendsRight, applied_from, items_worked, own_applied, planned}
 use Rattle.dob_runner.proofs.Common.{IsOffered, offered, IsNew, Endpoint, Inlet, Outlet, kept_still}
-use Rattle.dob_node.proofs.Sounds.{emitted_still}
+use Rattle.dob_history.proofs.Kepts.{emitted_still}
 use Rattle.dob_runner.proofs.Knowing.{own_less, own_more, own_still, applied_here, applied_else, applied_still, knows_after, taken_one, knows_same, taken_all}
 use Rattle.dob_runner.proofs.Knowing.{knows_opened, history_grown, last_more, last_less, each_more}
 use Rattle.dob_runner.proofs.Links.{each_after}

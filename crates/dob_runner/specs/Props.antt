@@ -20,10 +20,10 @@ use Rattle.dob_share.specs.Cells.{Cell, SameCell}
 use Rattle.dob_share.specs.Values.{Better}
 use Rattle.dob_share.specs.Shares.{IsOwn, cell_at}
 use Rattle.dob_update.specs.Batches.{BatchView, OutboxView}
-use Rattle.dob_node.specs.Histories.{IsNext, IsChained}
+use Rattle.dob_lawful.specs.Histories.{IsNext, IsChained}
 use Rattle.dob_node.specs.declared.node.Node.{Node}
-use Rattle.dob_node.specs.Stores.{HistoryView}
-use Rattle.dob_node.specs.TakenItems.{HasItemEntries, HasParities, AreKept}
+use Rattle.dob_history.specs.Stores.{HistoryView}
+use Rattle.dob_history.specs.TakenItems.{HasItemEntries, HasParities, AreKept}
 use Rattle.dob_node.specs.Outboxes.{IsOutboxTo}
 use Rattle.dob_node.specs.Nodes.{outbox_to, IsSound, IsIdle}
 use Rattle.dob_board.specs.Props.{ℕ-set}

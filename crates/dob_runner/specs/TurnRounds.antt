@@ -5,7 +5,8 @@ use Rattle.dob_board.specs.Seats.{TakesNone}
 use Rattle.dob_chan.specs.Ends.{sent_by, taken_by, take_told, WasEmpty}
 use Rattle.dob_share.specs.declared.news.Settlement.{Settlement}
 use Rattle.dob_node.specs.NodeViews.{NodeView}
-use Rattle.dob_node.specs.Levels.{level_of, HasLevel}
+use Rattle.dob_history.specs.Levels.{level_of}
+use Rattle.dob_node.specs.Levels.{HasLevel}
 use Rattle.dob_node.specs.Nodes.{outbox_to, IsExpanded, IsUnchanged}
 use Rattle.dob_runner.specs.declared.slots.Outlet.{Outlet}
 use Rattle.dob_runner.specs.declared.slots.Inlet.{Inlet}

@@ -2,7 +2,7 @@
 ghost use Rattle.std.specs.Prelude.{◌≡◌, ◌↔◌, IsTrue};
 ghost use Rattle.dob_runner.specs.Batches.{IsBatchFor};
 
-use dob_node::have_entries;
+use dob_history::have_entries;
 use dob_pieces::{Family, PieceSet, Profile};
 use dob_update::Batch;
 

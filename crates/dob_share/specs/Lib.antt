@@ -9,3 +9,4 @@ pub mod Statuses
 pub mod Shares
 pub mod Faults
 pub mod Laws
+pub mod Items

@@ -1,7 +1,7 @@
 // What fills the outbox of owner 0 of two for owner 1, in the set of lions alone.
 ghost use Rattle.std.specs.Prelude.{◌≡◌, IfOk, OnOk};
 ghost use Rattle.dob_unmove.specs.Edges.{predecessors};
-ghost use Rattle.dob_update.specs.Items.{items_of};
+ghost use Rattle.dob_share.specs.Items.{items_of};
 
 use crate::sets::classes_of;
 use dob_classes::Classes;

@@ -3,9 +3,9 @@ ghost use Rattle.std.specs.Prelude.{◌<◌};
 
 use crate::openings::listed;
 use crate::sets::classes_of;
+use dob_lawful::opening;
 use dob_lists::{SegmentLength, Segments};
 use dob_moves::Status;
-use dob_node::opening;
 use dob_pieces::Memory;
 use dob_safra::NodeCount;
 use dob_share::{Fault, Item, Opening, Share, owner};

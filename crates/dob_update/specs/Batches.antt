@@ -5,7 +5,7 @@ use Rattle.dob_pieces.specs.declared.profile.Family.{Family}
 use Rattle.dob_unmove.specs.Edges.{predecessors}
 use Rattle.dob_share.specs.declared.news.Settlement.{Settlement}
 use Rattle.dob_share.specs.declared.news.Item.{Item}
-use Rattle.dob_update.specs.Items.{items_of, items_from}
+use Rattle.dob_share.specs.Items.{items_of, items_from}
 
 -- a batch of a family among n nodes, from one node to another, by its number on this link
 pub record BatchView : Type 0 where

@@ -1,4 +1,3 @@
-pub mod Items
 pub mod Parts
 pub mod Batches
 pub mod Runs

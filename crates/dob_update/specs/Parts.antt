@@ -3,7 +3,7 @@ use Rattle.std.specs.Prelude.{◌≡◌, ℕ, ◌+◌, ◌-◌, ◌^◌, ◌<◌
 use Rattle.dob_share.specs.declared.news.Settlement.{Settlement}
 use Rattle.dob_share.specs.declared.news.Item.{Item}
 use Rattle.dob_update.specs.declared.part.Part.{Part}
-use Rattle.dob_update.specs.Items.{item_for}
+use Rattle.dob_share.specs.Items.{item_for}
 
 abbrev pub settlement_of : Part → Settlement
 settlement_of part = part.settlement

@@ -5,7 +5,7 @@ use Rattle.dob_unmove.specs.Edges.{predecessors}
 use Rattle.dob_share.specs.declared.news.Settlement.{Settlement}
 use Rattle.dob_share.specs.declared.news.Item.{Item}
 use Rattle.dob_update.specs.declared.part.Part.{Part}
-use Rattle.dob_update.specs.Items.{items_of}
+use Rattle.dob_share.specs.Items.{items_of}
 use Rattle.dob_update.specs.Parts.{AreParts, AreWhole, settlements_of, items_in_all, items_of_parts}
 use Rattle.dob_update.specs.Batches.{items_for}
 

@@ -1,7 +1,7 @@
 // The items that a settlement makes.
 ghost use Rattle.std.specs.Prelude.{◌≡◌, ◌<◌, ◌++◌, ℕ, length, take, OnOk, OnErr};
 ghost use Rattle.dob_share.specs.declared.news.Settlement.{Settlement as Settled};
-ghost use Rattle.dob_update.specs.Items.{item_for, items_of};
+ghost use Rattle.dob_share.specs.Items.{item_for, items_of};
 
 use dob_pieces::Memory;
 use dob_share::{Item, Settlement, owner};

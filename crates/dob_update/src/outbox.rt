@@ -6,7 +6,7 @@ ghost use Rattle.std.specs.VecDeque.{deque_len, deque_capacity};
 ghost use Rattle.dob_unmove.specs.Edges.{predecessors};
 ghost use Rattle.dob_share.specs.declared.news.Settlement.{Settlement as Settled};
 ghost use Rattle.dob_share.specs.Owners.{owner_of};
-ghost use Rattle.dob_update.specs.Items.{item_for, items_of};
+ghost use Rattle.dob_share.specs.Items.{item_for, items_of};
 ghost use Rattle.dob_update.specs.Parts.{front, behind, skip_behind, items_in_all, items_of_parts, target_of, AreWhole};
 ghost use Rattle.dob_update.specs.Batches.{OutboxView, IsOutbox, HasOneMore, IsCut, empty_outbox, added};
 

@@ -10,9 +10,9 @@ use Rattle.dob_world.proofs.Common.{AreLawful, HaveFallsIn, IsLinked, IsNodeIdle
 use Rattle.dob_world.proofs.Common.{Event, Announce, Expand, Own, Pass, Post, Take}
 use Rattle.dob_share.specs.Shares.{GoesTooDeep}
 use Rattle.dob_update.proofs.BatchItems.{items_in_more}
-use Rattle.dob_node.proofs.Kept.{better_apart}
-use Rattle.dob_node.proofs.Rises.{falls_stay, not_too_deep}
-use Rattle.dob_node.proofs.Steps.{can_apply, lawful_after}
+use Rattle.dob_lawful.proofs.Kept.{better_apart}
+use Rattle.dob_lawful.proofs.Rises.{falls_stay, not_too_deep}
+use Rattle.dob_lawful.proofs.Steps.{can_apply, lawful_after}
 use Rattle.dob_safra.specs.declared.event.RingEvent.TheVariants as ring
 use Rattle.dob_world.proofs.InPlace.{at_node, at_link, by_stay}
 use Rattle.dob_world.proofs.Firsts.{none_some}

@@ -9,8 +9,8 @@ use Rattle.dob_share.specs.Values.{NoWorse}
 use Rattle.dob_share.proofs.Applied.{same_itself}
 use Rattle.dob_share.proofs.Changing.{short_value}
 use Rattle.dob_share.proofs.Owning.{cell_short}
-use Rattle.dob_node.proofs.Stored.{same_settlement}
-use Rattle.dob_node.proofs.Kepts.{fits_own, kept_still}
+use Rattle.dob_history.proofs.Stored.{same_settlement}
+use Rattle.dob_history.proofs.Kepts.{fits_own, kept_still}
 use Rattle.dob_node.proofs.ItemChanges.{Change, item_changes}
 use Rattle.dob_world.proofs.InPlace.{at_node, at_link, NodeAt, here, was, elsewhere, set_there, AtLane, lane_here, lane_was, lane_else}
 use Rattle.dob_world.proofs.Kept.{next_fits, lawful_step, step_grows, next_after}

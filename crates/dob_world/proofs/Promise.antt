@@ -15,15 +15,15 @@ use Rattle.dob_world.proofs.Common.{WorldView, emitted_in, items_in, value_in, w
 use Rattle.dob_world.proofs.Common.{World}
 use Rattle.dob_moves.specs.MoveLists.{moves_of}
 use Rattle.dob_share.proofs.Applied.{CellValue-same}
-use Rattle.dob_node.specs.Quiet.{FollowsAtStatus}
-use Rattle.dob_node.specs.Openings.{AreOpenings}
-use Rattle.dob_node.specs.OpeningLists.{opening_value, opening_settlements, opening_status}
-use Rattle.dob_node.specs.Falls.{IsFirst}
-use Rattle.dob_node.proofs.Rises.{opened_first, fresh_within, falls_start}
-use Rattle.dob_node.proofs.Opens.{listed_opening}
-use Rattle.dob_node.proofs.Beginnings.{or_else, closed_follows, opened_value, opened_chained, opened_entries}
+use Rattle.dob_lawful.specs.Quiet.{FollowsAtStatus}
+use Rattle.dob_lawful.specs.Openings.{AreOpenings}
+use Rattle.dob_history.specs.OpeningLists.{opening_value, opening_settlements, opening_status}
+use Rattle.dob_lawful.specs.Falls.{IsFirst}
+use Rattle.dob_lawful.proofs.Rises.{opened_first, fresh_within, falls_start}
+use Rattle.dob_lawful.proofs.Opens.{listed_opening}
+use Rattle.dob_lawful.proofs.Beginnings.{or_else, closed_follows, opened_value, opened_chained, opened_entries}
 use Rattle.dob_safra.proofs.Quiet.{quiet}
-use Rattle.dob_node.proofs.Ends.{lawful_is_right}
+use Rattle.dob_lawful.proofs.Ends.{lawful_is_right}
 use Rattle.std.proofs.Math.IntN.{pos}
 use Rattle.dob_safra.specs.Rings.{black_token, IsStart as IsStartRing}
 use Rattle.dob_pieces.specs.Lists.{IsBeginning}

@@ -3,9 +3,9 @@ use Rattle.std.specs.Prelude.{◌≡◌, ◌≢◌, ℕ, ◌+◌, ◌<◌, ◌�
 use Rattle.dob_unmove.specs.Edges.{predecessors}
 use Rattle.dob_share.specs.declared.news.Settlement.{Settlement}
 use Rattle.dob_share.specs.declared.news.Item.{Item}
-use Rattle.dob_update.specs.Items.{items_of}
+use Rattle.dob_share.specs.Items.{items_of}
 use Rattle.dob_update.specs.Batches.{BatchView}
-use Rattle.dob_node.specs.Lawful.{AreAfter, IsOneMore, AreSettled}
+use Rattle.dob_lawful.specs.Lawful.{AreAfter, IsOneMore, AreSettled}
 use Rattle.dob_world.specs.declared.event.Event.{Event}
 use Rattle.dob_safra.specs.declared.event.RingEvent.TheVariants as ring
 use Rattle.dob_safra.specs.Rings.{IsAnnounceable, Moved}

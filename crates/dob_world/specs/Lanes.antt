@@ -7,7 +7,7 @@ use Rattle.dob_update.specs.Batches.{BatchView}
 use Rattle.dob_world.specs.Links.{link_of}
 use Rattle.dob_stops.specs.declared.cause.Cause.{Cause}
 use Rattle.dob_node.specs.declared.node.Node.{Node}
-use Rattle.dob_node.specs.TakenItems.{HasItemEntries}
+use Rattle.dob_history.specs.TakenItems.{HasItemEntries}
 use Rattle.dob_node.specs.Nodes.{HasApplied, HasTaken, HasTakenBefore, HasCut}
 use Rattle.dob_world.specs.declared.lane.Lane.{Lane}
 

@@ -10,7 +10,7 @@ use Rattle.dob_share.specs.Shares.{IsOwn, status_at}
 use Rattle.dob_update.specs.Batches.{AreSizes}
 use Rattle.dob_node.specs.declared.node.Node.{Node}
 use Rattle.dob_node.specs.Nodes.{IsSound}
-use Rattle.dob_node.specs.Openings.{AreOpenings}
+use Rattle.dob_lawful.specs.Openings.{AreOpenings}
 use Rattle.dob_safra.specs.Laws.{IsSize}
 use Rattle.dob_safra.specs.Rings.{Ring, IsLawfulRing}
 use Rattle.dob_world.specs.declared.detector.Detector.{Detector}

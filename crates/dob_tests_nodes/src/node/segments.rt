@@ -2,13 +2,14 @@
 // leaves is a run of `tools/refuse-growths` over a question of `dob_answers`.
 ghost use Rattle.std.specs.Prelude.{◌≡◌, ◌<◌, None};
 ghost use Rattle.dob_node.specs.Nodes.{IsSound};
-ghost use Rattle.dob_node.specs.Openings.{AreOpenings};
+ghost use Rattle.dob_lawful.specs.Openings.{AreOpenings};
 
 use super::{Log, run};
 use crate::sets::classes_of;
 use dob_classes::Classes;
+use dob_lawful::opening;
 use dob_lists::{SegmentLength, Segments};
-use dob_node::{Node, Opening, Part, opening};
+use dob_node::{Node, Opening, Part};
 use dob_pieces::Family;
 use dob_safra::NodeCount;
 use std::alloc::Global;

@@ -1,13 +1,14 @@
 // Nodes that find the openings of their own classes themselves have what those have that a list of all openings opens; and such a list, also past
 // its first segment, where what is said rests on no clause where memory is refused.
 ghost use Rattle.std.specs.Prelude.{◌<◌, length};
-ghost use Rattle.dob_node.specs.Openings.{AreOpenings};
+ghost use Rattle.dob_lawful.specs.Openings.{AreOpenings};
 
 use crate::sets::classes_of;
 use dob_classes::Classes;
+use dob_lawful::opening;
 use dob_lists::{SegmentLength, Segments};
 use dob_moves::status_and_count;
-use dob_node::{Node, Opening, opening};
+use dob_node::{Node, Opening};
 use dob_pieces::Profile;
 use dob_run::scan;
 use dob_safra::NodeCount;

@@ -1,7 +1,7 @@
 -- A step that stops is one of fewer than all.
 use Rattle.std.proofs.Common.{subst}
 use Rattle.dob_pieces.specs.declared.profile.Family.{Family}
-use Rattle.dob_node.proofs.TakenLists.{carried}
+use Rattle.dob_history.proofs.TakenLists.{carried}
 use Rattle.dob_alone.specs.Alone.{HasStoppedAlone}
 use Rattle.dob_alone.proofs.one_owner.make_steps.Goals as goal
 

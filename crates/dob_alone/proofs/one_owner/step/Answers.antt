@@ -1,6 +1,6 @@
 -- One step more is made.
 use Rattle.std.proofs.Common.{Ok, ap, ℕ, ◌<◌, ◌≡◌}
-use Rattle.dob_node.proofs.TakenLists.{carried}
+use Rattle.dob_history.proofs.TakenLists.{carried}
 use Rattle.dob_alone.proofs.AloneSteps.{made_applied, made_expanded, stopped_alone}
 use Rattle.dob_alone.specs.Alone.{HasMade, HasStoppedAlone}
 use Rattle.dob_alone.proofs.one_owner.step.Goals as goal

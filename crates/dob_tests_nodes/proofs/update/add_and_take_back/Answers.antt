@@ -1,7 +1,7 @@
 -- What was added has its items.
 use Rattle.std.proofs.Common.{◌≡◌, length, rules}
 use Rattle.dob_unmove.specs.Edges.{predecessors}
-use Rattle.dob_update.specs.Items.{items_of}
+use Rattle.dob_share.specs.Items.{items_of}
 use Rattle.dob_tests_nodes.proofs.update.add_and_take_back.Goals as goal
 
 pub take_back-requires : goal.take_back-requires

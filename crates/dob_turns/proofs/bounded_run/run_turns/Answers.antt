@@ -1,6 +1,6 @@
 -- A crew that isn't opened or has a failed runner is refused with that cause; else its runners are closed as a crew.
 use Rattle.std.proofs.Common.{List, rules, subst}
-use Rattle.dob_node.proofs.TakenLists.{carried}
+use Rattle.dob_history.proofs.TakenLists.{carried}
 use Rattle.dob_runner.specs.Runners.{says_no}
 use Rattle.dob_runner.specs.declared.runner.Runner.{Runner}
 use Rattle.dob_runner.specs.declared.turn_loop.Until.TheVariants.{Turns}

@@ -1,7 +1,7 @@
 -- Where not all are expanded the next has a level.
 use Rattle.dob_node.proofs.Common.{◌<◌, ◌≤◌, NodeView, arith, length, subst, sym}
 use Rattle.dob_node.specs.Levels.{HasLevel}
-use Rattle.dob_node.proofs.Stored.{some_at}
+use Rattle.dob_history.proofs.Stored.{some_at}
 use Rattle.dob_node.proofs.node.Node.level.Goals as goal
 
 pub returns : goal.returns

@@ -1,7 +1,8 @@
 -- What is taken is kept.
 use Rattle.dob_node.proofs.Common.{err_from_is_err_and, going, rules}
-use Rattle.dob_node.proofs.Sounds.{kept_own}
-use Rattle.dob_node.proofs.TakenLists.{kept_with_room, stops_first, applies_err, applies_ok, still_sound}
+use Rattle.dob_history.proofs.Kepts.{kept_own}
+use Rattle.dob_history.proofs.TakenLists.{kept_with_room, stops_first}
+use Rattle.dob_node.proofs.TakenLists.{applies_err, applies_ok, still_sound}
 use Rattle.dob_node.proofs.node_core.Core.apply_batch.Goals as goal
 
 pub returns-in_err-reserve-clause-step : goal.returns-in_err-reserve-clause-step

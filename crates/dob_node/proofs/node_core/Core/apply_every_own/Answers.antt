@@ -1,7 +1,8 @@
 -- What is taken is kept.
 use Rattle.dob_node.proofs.Common.{going, refl}
-use Rattle.dob_node.proofs.Sounds.{kept_own}
-use Rattle.dob_node.proofs.TakenLists.{still_sound, left_entries, fault_of}
+use Rattle.dob_history.proofs.Kepts.{kept_own}
+use Rattle.dob_history.proofs.TakenLists.{left_entries}
+use Rattle.dob_node.proofs.TakenLists.{still_sound, fault_of}
 use Rattle.dob_node.proofs.node_core.Core.apply_every_own.Goals as goal
 
 pub take_queue-requires-clause-kept : goal.take_queue-requires-clause-kept

@@ -2,7 +2,7 @@
 use Rattle.std.proofs.lemmas.Grind.{common_steps}
 use Rattle.std.proofs.Common.{arith}
 use Rattle.dob_node.proofs.Common.{◌∷◌, All-drop, HasItemEntries, [], going, refl}
-use Rattle.dob_node.proofs.Sounds.{kept_own}
+use Rattle.dob_history.proofs.Kepts.{kept_own}
 use Rattle.dob_node.proofs.TakenLists.{still_sound}
 use Rattle.dob_node.proofs.node_core.Core.apply_own.Goals as goal
 

@@ -1,0 +1,5 @@
+pub mod OpeningLists
+pub mod Stores
+pub mod TakenItems
+pub mod SeenItems
+pub mod Levels

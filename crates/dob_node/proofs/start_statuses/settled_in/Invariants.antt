@@ -1,9 +1,0 @@
--- Those at the places so far are counted.
-use Rattle.dob_node.proofs.Common.{◌≡◌, ◌≤◌, settled_among, start_status}
-use Rattle.dob_node.proofs.start_statuses.settled_in.Given as goal
-
-abbrev pub invariant-loop-place : goal.invariant-loop-place
-invariant-loop-place l = record {
-  count : l.settled ≡ settled_among (start_status l.statuses) l.place;
-  few : l.settled ≤ l.place;
-}
