@@ -10,10 +10,10 @@ use Rattle.dob_value.specs.Follows.{IsValueTable}
 use Rattle.dob_run.specs.declared.built_table.Built.{Built}
 use Rattle.dob_stops.specs.declared.fault.Fault.{Fault as RunFault}
 use Rattle.dob_stops.specs.declared.fault.Fault.TheVariants.{Nodes, Sizes}
-use Rattle.dob_run.specs.declared.limits.CrewSizes.{CrewSizes}
+use Rattle.dob_crew.specs.declared.limits.CrewSizes.{CrewSizes}
 use Rattle.dob_run.specs.Builds.{Builds}
-use Rattle.dob_run.specs.CrewSizes.{AreThese as AreSizes}
-use Rattle.dob_run.specs.Faults.{HasSizeFault}
+use Rattle.dob_crew.specs.CrewSizes.{AreThese as AreSizes}
+use Rattle.dob_crew.specs.Faults.{HasSizeFault}
 use Rattle.dob_files.specs.declared.fault.Fault.TheVariants.{Run, File, Memory}
 use Rattle.dob_build.specs.Builds.{AreBuildLines, AreBuilt, AreNodes, HasNoBuild, HaveBuilt, IsBuildFault, IsRunFault, IsTableFor, IsUnbuilt, IsUsualCrew, always_yes}
 use Rattle.dob_files.specs.Keeping.{AreThese, FillsSink, IsShelfFault, IsWritingFault, LeavesFiles}

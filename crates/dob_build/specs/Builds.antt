@@ -8,11 +8,12 @@ use Rattle.dob_rank.specs.Families.{family_of}
 use Rattle.dob_safra.specs.Laws.{IsSize}
 use Rattle.dob_value.specs.Follows.{ClassTable, IsValueTable}
 use Rattle.dob_run.specs.declared.built_table.Built.{Built}
-use Rattle.dob_run.specs.declared.limits.CrewSizes.{CrewSizes}
+use Rattle.dob_crew.specs.declared.limits.CrewSizes.{CrewSizes}
 use Rattle.dob_run.specs.Built.{IsBuilt}
 use Rattle.dob_run.specs.Builds.{IsLeftByCrew}
-use Rattle.dob_run.specs.CrewSizes.{AreThese}
-use Rattle.dob_run.specs.Faults.{AreWithin, HasBuildFault}
+use Rattle.dob_crew.specs.CrewSizes.{AreThese}
+use Rattle.dob_crew.specs.Faults.{AreWithin}
+use Rattle.dob_run.specs.Faults.{HasBuildFault}
 use Rattle.dob_run.specs.BuildEnd.{IsFailureOf}
 use Rattle.dob_run.specs.CrewStops.{StopsSo, IsUnheld}
 use Rattle.dob_runner.specs.Runners.{says_no}

@@ -1,14 +1,10 @@
 -- What was found of each class, in the order of the classes, and the values that the nodes show.
-use Rattle.dob_gather.proofs.Common.{◌++◌, ◌+◌, ◌-◌, ◌<◌, ◌∷◌, ◌≡◌, ◌≤◌, ◌⊎◌, List, Some, [], arith, inl, inr, length, length-append, map, refl, subst, suc}
-use Rattle.dob_gather.proofs.Common.{zero, ℕ, ⊎_elim, length-map, same_Some, slice_get-get_or, All, AllZip, range_with_len, slice_get, slice_index_or, some_at}
+use Rattle.dob_gather.proofs.Common.{◌++◌, ◌+◌, ◌-◌, ◌<◌, ◌∙◌, ◌∷◌, ◌≡◌, ◌≤◌, ◌⊎◌, List, Some, [], ap, arith, inl, inr, length, length-append, map, refl}
+use Rattle.dob_gather.proofs.Common.{subst, suc, sym, zero, ℕ, ⊎_elim, length-map, same_Some, slice_get-get_or, All, AllZip, range_with_len, slice_get, slice_index_or, some_at}
 use Rattle.dob_gather.proofs.Common.{as_many, each_is, Family, classes_of, IsEntry, Value, owner_of, Share, below_owner, AreOwners, AreShownBelow, IsCodeShown}
 use Rattle.dob_gather.proofs.Common.{IsShownByOwner, AreFrom, value_of_code, values_of_codes}
-
--- what stands at a place of a function of all things is that of the thing there
-pub map_got : {A B : Type 0} → (f : A → B) (xs : List A) (k : ℕ) (y : B) → slice_get (map f xs) k ≡ Some y → (x : A) × (slice_get xs k ≡ Some x) × (f x ≡ y)
-map_got f [] k y e = absurd (cc)
-map_got f (x ∷ xs) zero y e = (x, refl, same_Some (f x) y e)
-map_got f (x ∷ xs) (suc k) y e = map_got f xs k y e
+use Rattle.std.specs.Option.{option_map}
+use Rattle.std.proofs.lemmas.Option.{slice_get-map, slice_get_within}
 
 -- ---- what was found of each class, in the order of the classes
 
@@ -55,7 +51,9 @@ module _ (n count : ℕ) (shares : List Share) (codes : List ℕ) (are : AreFrom
   values_shown = record {
     whole = omega (arith, length-map codes value_of_code, are.whole);
     each = λ class value at.
-        let got = map_got value_of_code codes class value at in
+        let code = some_at codes class (omega (arith, slice_get_within (map value_of_code codes) class value at, length-map codes value_of_code)) in
+        let is : value_of_code code.0 ≡ value = same_Some (value_of_code code.0) value
+        (ap (option_map value_of_code) (sym code.1) ∙ sym (slice_get-map value_of_code codes class) ∙ at) in
         let here : 0 + class ≡ class = omega arith in
-        subst (λ (p : ℕ × Value). IsShownByOwner n shares p.0 p.1) (λ i. (here i, got.2 i)) (are.each class got.0 got.1).1;
+        subst (λ (p : ℕ × Value). IsShownByOwner n shares p.0 p.1) (λ i. (here i, is i)) (are.each class code.0 code.1).1;
   }

@@ -1,28 +1,26 @@
 -- A crew that has stopped: what its words say of its runners, what they know and show, and that one at its end holds the value table.
 use Rattle.dob_run.proofs.Common.{◌*◌, ◌++◌, ◌+◌, ◌-◌, ◌<◌, ◌∙◌, ◌∷◌, ◌≡◌, ◌≢◌, ◌≤◌, Global, List, None, Option, Some, [], ap, arith, false, get_or, inl, inr}
-use Rattle.dob_run.proofs.Common.{length, length-append, map, refl, subst, sym, take, ℕ, cases_eq, cases_lt, append-nil, length-map, take_all}
-use Rattle.dob_run.proofs.Common.{slice_get-get_or, All, MatchOption, slice_get, slice_index, slice_index_or, Vec, some_at, Family, classes_of, IsEntry}
-use Rattle.dob_run.proofs.Common.{IsValueTable, Value, owner_of, HasValueNow, IsValue, cell_at, Item, Settlement, Share, BatchView, items_of_batches}
-use Rattle.dob_run.proofs.Common.{items_from, Cause, Fault, Stopped, below_owner, value_of, IsIdle, Node, same_halt, AreWords, halt_word, posted_word, Board}
-use Rattle.dob_run.proofs.Common.{Closed, Halt, Ended, Failed, Running, IsRejoined, sent_by, taken_by, taken_of, IsLawfulInbox, Rejoined, applied_else}
-use Rattle.dob_run.proofs.Common.{applied_here, sums_by, parts, AreOut, CanHaveMade, KnowsRight, IsLawfulRunner, SendsRight, applied_from, items_worked}
-use Rattle.dob_run.proofs.Common.{own_applied, planned, offered, worked_from, held_from, in_slot, Endpoint, Runner, Inlet, Outlet, AreUnfailed, IsFirstFailed}
-use Rattle.dob_run.proofs.Common.{AllKnow, AreFailureless, AreOwners, AreShownBelow, HaveStopped, IsFailure, IsFailureOf, IsOwner, IsShownByOwner}
-use Rattle.dob_run.proofs.Common.{share_in, IsBuilt, IsLinkDone, needed, AreClosed, IsCrew, seat_in, endpoint_of, node_of, AreFinished, AreShown, IsLawfulAt}
-use Rattle.dob_run.proofs.Common.{Built, predecessors}
-use Rattle.dob_lawful.proofs.Kept.{last_now-entry}
-use Rattle.dob_gather.proofs.Found.{map_got}
-use Rattle.dob_run.proofs.Places.{get_map}
+use Rattle.dob_run.proofs.Common.{length, length-append, map, refl, subst, sym, take, ℕ, cases_eq, cases_lt, append-nil, length-map, take_all, slice_get-get_or}
+use Rattle.dob_run.proofs.Common.{MatchOption, slice_get, slice_index, Vec, some_at, Family, classes_of, IsValueTable, Value, owner_of, HasValueNow, IsValue}
+use Rattle.dob_run.proofs.Common.{cell_at, Item, Settlement, Share, BatchView, items_of_batches, items_from, Cause, Fault, Stopped, below_owner, value_of}
+use Rattle.dob_run.proofs.Common.{IsIdle, Node, same_halt, AreWords, halt_word, posted_word, Board, Closed, Halt, Ended, Failed, Running, IsRejoined, sent_by}
+use Rattle.dob_run.proofs.Common.{taken_by, taken_of, IsLawfulInbox, Rejoined, applied_else, applied_here, sums_by, parts, AreOut, CanHaveMade, KnowsRight}
+use Rattle.dob_run.proofs.Common.{IsLawfulRunner, SendsRight, applied_from, items_worked, own_applied, planned, offered, worked_from, held_from, in_slot}
+use Rattle.dob_run.proofs.Common.{Endpoint, Runner, Inlet, Outlet, AreUnfailed, IsFirstFailed, AllKnow, AreFailureless, AreOwners, AreShownBelow, HaveStopped}
+use Rattle.dob_run.proofs.Common.{IsFailure, IsFailureOf, IsOwner, share_in, IsBuilt, IsLinkDone, needed, AreClosed, IsCrew, seat_in, endpoint_of, node_of}
+use Rattle.dob_run.proofs.Common.{AreFinished, AreShown, IsLawfulAt, Built, predecessors}
+use Rattle.dob_node.proofs.Kept.{last_now-entry}
+use Rattle.dob_endpoint.proofs.Places.{map_got, get_map}
 use Rattle.dob_moves.specs.declared.position_status.Status.{Status}
 use Rattle.dob_moves.specs.declared.position_status.Status.TheVariants.{Open}
 use Rattle.dob_share.specs.declared.opening.Opening.{Opening}
 use Rattle.dob_share.specs.Cells.{Cell}
-use Rattle.dob_lawful.specs.Quiet.{FollowsAtStatus}
-use Rattle.dob_lawful.specs.Lawful.{known_of, AreLawfulNodes as AreLawful}
-use Rattle.dob_lawful.specs.Openings.{AreOpenings}
-use Rattle.dob_lawful.proofs.Ends.{lawful_is_right}
-use Rattle.dob_run.proofs.CrewRunners.{are_linked, seat_there, rejoined_at, seat_at, crew_many, crew_low, outlet_at}
-use Rattle.dob_run.specs.declared.crew_close.ClosedCrew.{ClosedCrew as Left}
+use Rattle.dob_node.specs.Quiet.{FollowsAtStatus}
+use Rattle.dob_node.specs.Lawful.{known_of, AreLawfulNodes as AreLawful}
+use Rattle.dob_node.specs.Openings.{AreOpenings}
+use Rattle.dob_node.proofs.Ends.{lawful_is_right}
+use Rattle.dob_crew.proofs.CrewRunners.{are_linked, seat_there, rejoined_at, seat_at, crew_many, crew_low, outlet_at}
+use Rattle.dob_crew.specs.declared.crew_close.ClosedCrew.{ClosedCrew as Left}
 use Rattle.dob_run.proofs.Needed.{needed_fits}
 use Rattle.dob_lawful.proofs.Found.{some_openings}
 

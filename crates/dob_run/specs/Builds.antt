@@ -11,8 +11,8 @@ use Rattle.dob_run.specs.declared.built_table.Built.{Built}
 use Rattle.dob_run.specs.Built.{IsBuilt}
 use Rattle.dob_run.specs.BuildEnd.{IsFailureOf}
 use Rattle.dob_run.specs.CrewStops.{StopsSo, IsUnheld}
-use Rattle.dob_run.specs.CrewClose.{seat_in}
-use Rattle.dob_run.specs.CrewRunners.{endpoint_of}
+use Rattle.dob_crew.specs.CrewClose.{seat_in}
+use Rattle.dob_crew.specs.CrewRunners.{endpoint_of}
 use Rattle.dob_run.specs.CrewTurns.{HasRun}
 use Rattle.dob_run.specs.Faults.{HasBuildFault}
 

@@ -1,4 +1,4 @@
--- What the runners of a crew need to make turns, and what they are afterwards.
+-- What the runners of a crew are after their turns.
 use Rattle.std.specs.Prelude.{◌≡◌, ⊤, ℕ, Bool, true, List, None, Some, slice_get}
 use Rattle.std.specs.List.{AllZip}
 use Rattle.dob_pieces.specs.declared.profile.Family.{Family}
@@ -6,13 +6,9 @@ use Rattle.dob_board.specs.declared.board.Board.{Board}
 use Rattle.dob_runner.specs.declared.runner.Runner.{Runner}
 use Rattle.dob_runner.specs.declared.turn_loop.Until.{Until}
 use Rattle.dob_runner.specs.declared.turn_loop.Until.TheVariants.{Turns, Halted}
-use Rattle.dob_runner.specs.TurnLoop.{Suits, Ends}
-use Rattle.dob_run.specs.CrewRunners.{IsNewCrew}
-use Rattle.dob_run.specs.Faults.{AreWithin}
-
--- each runner can work with the classes of that family
-abbrev pub AllSuit : Family → List Runner → Type 0
-AllSuit family runners = (k : ℕ) (runner : Runner) → slice_get runners k ≡ Some runner → Suits family runner
+use Rattle.dob_runner.specs.TurnLoop.{Ends}
+use Rattle.dob_crew.specs.CrewRunners.{IsNewCrew}
+use Rattle.dob_crew.specs.Faults.{AreWithin}
 
 -- a gate that may answer so let each node go on that hasn't failed
 abbrev pub AreLetOn : (ℕ → Bool → Type 0) → Until → List Runner → Type 0

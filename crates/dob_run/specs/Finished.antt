@@ -10,12 +10,12 @@ use Rattle.dob_share.specs.Shares.{HasValueNow}
 use Rattle.dob_update.specs.Batches.{BatchView}
 use Rattle.dob_lawful.specs.Openings.{AreOpenings}
 use Rattle.dob_chan.specs.Ends.{sent_by, taken_of}
-use Rattle.dob_runner.specs.declared.slots.Outlet.{Outlet}
-use Rattle.dob_runner.specs.declared.slots.Inlet.{Inlet}
+use Rattle.dob_endpoint.specs.declared.slots.Outlet.{Outlet}
+use Rattle.dob_endpoint.specs.declared.slots.Inlet.{Inlet}
 use Rattle.dob_runner.specs.declared.runner.Runner.{Runner}
 use Rattle.dob_runner.specs.LawfulRunners.{IsLawfulRunner}
-use Rattle.dob_run.specs.CrewClose.{AreLinked}
-use Rattle.dob_run.specs.CrewRunners.{endpoint_of}
+use Rattle.dob_crew.specs.CrewClose.{AreLinked}
+use Rattle.dob_crew.specs.CrewRunners.{endpoint_of}
 
 -- the runner is lawful, and stands at that place of a crew of n for the family
 pub record IsLawfulAt (family : Family) (n place : ℕ) (runner : Runner) : Type 0 where

@@ -1,16 +1,7 @@
 pub mod Built
-pub mod CrewClose
-pub mod InboxClose
 pub mod Faults
 pub mod Finished
 pub mod BuildEnd
-pub mod InboxOpen
-pub mod CrewRunners
-pub mod CrewSizes
 pub mod CrewTurns
-pub mod CrewOpen
-pub mod Rows
-pub mod Seating
-pub mod Started
 pub mod CrewStops
 pub mod Builds

@@ -1,13 +1,13 @@
 // A build by threads, from a family to its table.
 ghost use Rattle.std.specs.Prelude.{ℕ, OnOk};
 ghost use Rattle.dob_run.specs.Builds.{Builds};
-ghost use Rattle.dob_run.specs.CrewSizes.{AreThese};
-ghost use Rattle.dob_run.specs.Faults.{AreWithin};
+ghost use Rattle.dob_crew.specs.CrewSizes.{AreThese};
+ghost use Rattle.dob_crew.specs.Faults.{AreWithin};
 
 use crate::build_end::finish;
 use crate::built_table::Built;
-use crate::limits::CrewSizes;
-use crate::threads::{EndedCrew, run_crew};
+use crate::crew_turns::{EndedCrew, run_crew};
+use dob_crew::CrewSizes;
 use dob_pieces::Family;
 use dob_runner::{Gate, Until};
 use dob_stops::Fault;

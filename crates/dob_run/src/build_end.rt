@@ -2,17 +2,17 @@
 ghost use Rattle.std.specs.Prelude.{◌≡◌, ◌<◌, ◌↔◌, ℕ, IsTrue, IfOk, IfErr, OnOk, MatchOption, Some, length, map, slice_get};
 ghost use Rattle.dob_stops.specs.declared.cause.Cause.{Cause};
 ghost use Rattle.dob_runner.specs.declared.runner.Runner.{Runner};
-ghost use Rattle.dob_run.specs.CrewRunners.{endpoint_of, node_of};
+ghost use Rattle.dob_crew.specs.CrewRunners.{endpoint_of, node_of};
 ghost use Rattle.dob_board.specs.Seats.{AreWords};
-ghost use Rattle.dob_run.specs.CrewClose.{IsCrew, AreClosed, seat_in};
+ghost use Rattle.dob_crew.specs.CrewClose.{IsCrew, AreClosed, seat_in};
 ghost use Rattle.dob_run.specs.Built.{IsBuilt};
 ghost use Rattle.dob_run.specs.CrewStops.{AreUnfailed, IsFirstFailed};
 ghost use Rattle.dob_run.specs.BuildEnd.{HaveStopped, AllKnow, IsFailure, IsFailureOf, AreFailureless, share_in};
 
 use crate::built_table::Built;
-use crate::crew_close::{ClosedCrew, close_runners};
 use dob_board::{Board, Halt};
 use dob_classes::Classes;
+use dob_crew::{ClosedCrew, close_runners};
 use dob_gather::{Gathered, gather};
 use dob_node::{Cause, Node};
 use dob_pieces::Memory;

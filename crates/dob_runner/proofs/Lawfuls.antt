@@ -10,7 +10,7 @@ use Rattle.dob_runner.proofs.Common.{IsOffered, offered, IsNew, Endpoint, Inlet,
 use Rattle.dob_history.proofs.Kepts.{emitted_still}
 use Rattle.dob_runner.proofs.Knowing.{own_less, own_more, own_still, applied_here, applied_else, applied_still, knows_after, taken_one, knows_same, taken_all}
 use Rattle.dob_runner.proofs.Knowing.{knows_opened, history_grown, last_more, last_less, each_more}
-use Rattle.dob_runner.proofs.Links.{each_after}
+use Rattle.dob_endpoint.proofs.Links.{each_after}
 use Rattle.dob_runner.proofs.Keeping.{outbox_still}
 
 -- ---- the endpoint alone changed

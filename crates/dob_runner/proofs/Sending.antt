@@ -6,8 +6,9 @@ use Rattle.dob_runner.proofs.Common.{outbox_to, sent_by, SendEnd, HasChangedOne,
 use Rattle.dob_runner.proofs.Common.{CutsFor, CutsLeft, FillsFor, HasSentOne, HasToSend, IsMoreOut, IsSent, IsToFill, SendsBelow, SendsTo, Endpoint, Runner}
 use Rattle.dob_runner.proofs.Common.{Outlet}
 use Rattle.dob_runner.specs.Paces.{kept_member}
-use Rattle.dob_runner.proofs.Keeping.{endpoint_same, goes_by, goes_same, goes_trans, still_same}
-use Rattle.dob_runner.proofs.Links.{changed_there, changed_at, changed_else}
+use Rattle.dob_endpoint.proofs.Keeping.{endpoint_same, still_same}
+use Rattle.dob_runner.proofs.Keeping.{goes_by, goes_same, goes_trans}
+use Rattle.dob_endpoint.proofs.Links.{changed_there, changed_at, changed_else}
 
 -- ---- to all nodes
 

@@ -1,13 +1,11 @@
 -- What the parts of a turn do, by what their steps do, how many batches go over each link, and turns one after another.
-use Rattle.dob_runner.proofs.Common.{◌+◌, ◌-◌, ◌<◌, ◌↔◌, ◌∙◌, ◌≡◌, ◌≢◌, ◌≤◌, ◌⊎◌, Bool, Err, IsTrue, List, MatchOption, None, Ok, Option, Result, Some, ap}
-use Rattle.dob_runner.proofs.Common.{arith, false, inl, inr, length, not, refl, subst, sym, true, ℕ, both_ways, cases_Bool, cases_eq, cases_lt, same_Some}
-use Rattle.dob_runner.proofs.Common.{slice_get_within, IfErr, MatchResult, slice_get, some_at, Cause, Memory, NodeView, IsExpanded, HistoryView, Halt}
-use Rattle.dob_runner.proofs.Common.{NodeSeat, taken_by, KeepsEndpoint, offered, GateIsAsked, GoesOn, HasFailed, IsReasonFor, IsReasoned, KeepsRunner, StepsBy}
-use Rattle.dob_runner.proofs.Common.{says_no, AddsFew, ExpandsOne, ExpandsSome, IsAbove, IsHeldUp, IsLevel, ExpandsUpTo, RunnerTakesBatch, SendsAll, SendsSmall}
-use Rattle.dob_runner.proofs.Common.{Works, GateIsTold, HasSameWork, HasTurned, Endpoint, Runner, Inlet, Outlet}
-use Rattle.dob_history.specs.Levels.{level_of}
-use Rattle.dob_node.specs.Levels.{HasLevel}
-use Rattle.dob_runner.specs.TurnToken.{HasLooked, HandsOn, MovesToken}
+use Rattle.dob_runner.proofs.Common.{◌+◌, ◌-◌, ◌<◌, ◌↔◌, ◌∙◌, ◌≡◌, ◌≤◌, ◌⊎◌, Bool, Err, IsTrue, List, MatchOption, None, Ok, Option, Result, Some, ap, arith}
+use Rattle.dob_runner.proofs.Common.{false, inl, inr, length, not, refl, subst, sym, true, ℕ, both_ways, cases_Bool, cases_eq, cases_lt, same_Some}
+use Rattle.dob_runner.proofs.Common.{slice_get_within, IfErr, MatchResult, slice_get, some_at, Cause, Memory, NodeView, IsExpanded, HistoryView, Halt, taken_by}
+use Rattle.dob_runner.proofs.Common.{KeepsEndpoint, offered, GateIsAsked, GoesOn, HasFailed, IsReasonFor, IsReasoned, KeepsRunner, StepsBy, says_no, AddsFew}
+use Rattle.dob_runner.proofs.Common.{ExpandsOne, ExpandsSome, IsAbove, IsHeldUp, IsLevel, ExpandsUpTo, RunnerTakesBatch, SendsAll, SendsSmall, Works}
+use Rattle.dob_runner.proofs.Common.{GateIsTold, HasSameWork, HasTurned, Endpoint, Runner, Inlet, Outlet}
+use Rattle.dob_node.specs.Levels.{level_of, HasLevel}
 use Rattle.dob_runner.proofs.Keeping.{goes_trans, reasoned_failed, reasoned_unfailed}
 use Rattle.dob_runner.specs.declared.turn_loop.Until.{Until}
 use Rattle.dob_runner.specs.declared.turn_loop.Until.TheVariants.{Turns, Halted}
@@ -17,19 +15,6 @@ use Rattle.dob_runner.specs.TurnLoop.{IsThrough, EndsBy, IsLetOn}
 
 pub same_answer : (did other : Bool) → (let given : Result Bool Cause = Ok did in given ≡ Ok other) → did ≡ other
 same_answer did other is = cc
-
--- ---- the token
-
--- it was looked for, and moved just where it is there
-pub token_by : (old found new : NodeSeat) (did is_there : Bool) → did ≡ is_there → HasLooked old found → (IsTrue did ↔ (found.stand.token ≢ None)) →
-    (is_there ≡ true → HandsOn found new) → (is_there ≡ false → new ≡ found) → MovesToken old new is_there
-token_by old found new did is_there is looked known moved stayed = record {
-  found = found;
-  looked = looked;
-  known = subst (λ (b : Bool). IsTrue b ↔ (found.stand.token ≢ None)) is known;
-  moved = moved;
-  stayed = stayed;
-}
 
 -- ---- settlements
 

@@ -9,11 +9,11 @@ use Rattle.dob_stops.specs.declared.cause.Cause.{Cause}
 use Rattle.dob_stops.specs.declared.cause.Cause.TheVariants.{TooDeep, Contradiction, Memory, Held, Counts}
 use Rattle.dob_node.specs.declared.node.Node.{Node}
 use Rattle.dob_node.specs.Nodes.{outbox_to, IsSound, IsIdle}
-use Rattle.dob_runner.specs.declared.slots.Outlet.{Outlet}
-use Rattle.dob_runner.specs.declared.slots.Inlet.{Inlet}
-use Rattle.dob_runner.specs.declared.endpoint.Endpoint.{Endpoint}
-use Rattle.dob_runner.specs.Links.{offered, worked_from}
-use Rattle.dob_runner.specs.Endpoints.{AreOut}
+use Rattle.dob_endpoint.specs.declared.slots.Outlet.{Outlet}
+use Rattle.dob_endpoint.specs.declared.slots.Inlet.{Inlet}
+use Rattle.dob_endpoint.specs.declared.endpoint.Endpoint.{Endpoint}
+use Rattle.dob_endpoint.specs.Links.{offered, worked_from}
+use Rattle.dob_endpoint.specs.Endpoints.{AreOut}
 use Rattle.dob_runner.specs.Knows.{KnowsRight}
 
 -- the items for a node of the settlements that the runner's node has expanded

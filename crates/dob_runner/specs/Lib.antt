@@ -1,14 +1,9 @@
 pub mod Batches
-pub mod Slots
-pub mod Keeps
 pub mod Knows
-pub mod Links
-pub mod Endpoints
 pub mod Paces
 pub mod Props
 pub mod TurnRounds
 pub mod Runners
-pub mod TurnToken
 pub mod Turns
 pub mod TurnLoop
 pub mod LawfulRunners

@@ -27,10 +27,10 @@ use Rattle.dob_history.specs.TakenItems.{HasItemEntries, HasParities, AreKept}
 use Rattle.dob_node.specs.Outboxes.{IsOutboxTo}
 use Rattle.dob_node.specs.Nodes.{outbox_to, IsSound, IsIdle}
 use Rattle.dob_board.specs.Props.{ℕ-set}
-use Rattle.dob_runner.specs.declared.slots.Outlet.{Outlet}
-use Rattle.dob_runner.specs.declared.endpoint.Endpoint.{Endpoint}
-use Rattle.dob_runner.specs.Links.{offered}
-use Rattle.dob_runner.specs.Endpoints.{AreOut}
+use Rattle.dob_endpoint.specs.declared.slots.Outlet.{Outlet}
+use Rattle.dob_endpoint.specs.declared.endpoint.Endpoint.{Endpoint}
+use Rattle.dob_endpoint.specs.Links.{offered}
+use Rattle.dob_endpoint.specs.Endpoints.{AreOut}
 use Rattle.dob_runner.specs.Knows.{AreCellsSummed, KnowsRight}
 use Rattle.dob_runner.specs.LawfulRunners.{SendsRight, IsLawfulRunner, applied_from}
 

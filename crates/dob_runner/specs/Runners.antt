@@ -1,8 +1,8 @@
 -- Runners, and what their steps make of them.
-use Rattle.std.specs.Prelude.{◌≡◌, ◌≢◌, ◌↔◌, ◌⊎◌, ⊤, ℕ, ◌^◌, ◌≤◌, ◌++◌, List, [], Bool, Some, None, Err, Result, MatchResult, true, false, slice_get}
+use Rattle.std.specs.Prelude.{◌≡◌, ◌≢◌, ◌↔◌, ◌⊎◌, ⊤, ℕ, ◌^◌, ◌≤◌, ◌++◌, List, [], Bool, Option, Some, None, Err, Result, MatchResult, true, false, slice_get}
 use Rattle.dob_pieces.specs.declared.profile.Family.{Family}
 use Rattle.dob_share.specs.declared.opening.Opening.{Opening}
-use Rattle.dob_board.specs.declared.halt.Halt.TheVariants.{Running}
+use Rattle.dob_board.specs.declared.halt.Halt.TheVariants.{Running, Ended}
 use Rattle.dob_board.specs.Seats.{MovesNothing}
 use Rattle.dob_stops.specs.declared.cause.Cause.{Cause}
 use Rattle.dob_stops.specs.declared.cause.Cause.TheVariants.{TooDeep, Contradiction, Memory, Held, Counts}
@@ -10,15 +10,15 @@ use Rattle.dob_node.specs.declared.node.Node.{Node}
 use Rattle.dob_lawful.specs.Openings.{AreOpenings}
 use Rattle.dob_node.specs.Nodes.{outbox_to, HasItemFault, HasTakenBefore, IsIdle, IsSound, IsOpened}
 use Rattle.dob_update.specs.Batches.{BatchView}
-use Rattle.dob_runner.specs.declared.slots.Outlet.{Outlet}
-use Rattle.dob_runner.specs.declared.endpoint.Endpoint.{Endpoint}
+use Rattle.dob_endpoint.specs.declared.slots.Outlet.{Outlet}
+use Rattle.dob_endpoint.specs.declared.endpoint.Endpoint.{Endpoint}
 use Rattle.dob_runner.specs.Batches.{IsBatchFor}
-use Rattle.dob_runner.specs.Links.{offered, worked}
+use Rattle.dob_endpoint.specs.Links.{offered, worked}
 use Rattle.dob_runner.specs.LawfulRunners.{items_worked}
 use Rattle.dob_runner.specs.declared.runner.Runner.{Runner}
-use Rattle.dob_runner.specs.Endpoints.{AreOut}
+use Rattle.dob_endpoint.specs.Endpoints.{AreOut}
 use Rattle.dob_runner.specs.Paces.{kept_member}
-use Rattle.dob_runner.specs.Keeps.{KeepsEndpoint, HasSameLinksAndColour}
+use Rattle.dob_endpoint.specs.Keeps.{KeepsEndpoint, HasSameLinksAndColour}
 
 -- The runner keeps its place in its crew and in the crew's pace, and nothing that went over its links is taken back.
 pub record KeepsRunner (old new : Runner) : Type 0 where
@@ -38,6 +38,15 @@ pub record GoesOn (old new : Runner) : Type 0 where
 pub record GoesRound (old new : Runner) : Type 0 where
   pub keeps : KeepsRunner old new
   pub unfailed : new.failed ≡ None
+
+-- It is noted why the endpoint's node failed, and its seat has said so: the seat moved no token, and found that the run goes on no more, or, if
+-- the node was white, maybe its end.
+pub record FailsFor (old new : Endpoint) (failed : Option Cause) (why : Cause) : Type 0 where
+  pub cause : failed ≡ Some why
+  pub still : MovesNothing old.seat new.seat
+  pub keeps : HasSameLinksAndColour old new
+  pub stopped : new.seat.stand.halt ≢ Running
+  pub black : old.seat.stand.black ≡ true → new.seat.stand.halt ≢ Ended
 
 -- it has failed for that cause, and its seat has said so
 pub record HasFailed (old new : Runner) (why : Cause) : Type 0 where

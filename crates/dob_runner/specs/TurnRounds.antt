@@ -8,12 +8,13 @@ use Rattle.dob_node.specs.NodeViews.{NodeView}
 use Rattle.dob_history.specs.Levels.{level_of}
 use Rattle.dob_node.specs.Levels.{HasLevel}
 use Rattle.dob_node.specs.Nodes.{outbox_to, IsExpanded, IsUnchanged}
-use Rattle.dob_runner.specs.declared.slots.Outlet.{Outlet}
-use Rattle.dob_runner.specs.declared.slots.Inlet.{Inlet}
-use Rattle.dob_runner.specs.declared.endpoint.Endpoint.{Endpoint}
+use Rattle.dob_endpoint.specs.declared.slots.Outlet.{Outlet}
+use Rattle.dob_endpoint.specs.declared.slots.Inlet.{Inlet}
+use Rattle.dob_endpoint.specs.declared.endpoint.Endpoint.{Endpoint}
 use Rattle.dob_runner.specs.declared.runner.Runner.{Runner}
-use Rattle.dob_runner.specs.Links.{offered, worked, HoldsFor, IsFull}
-use Rattle.dob_runner.specs.Endpoints.{HasChangedOne}
+use Rattle.dob_endpoint.specs.Links.{offered, worked, IsFull}
+use Rattle.dob_runner.specs.Batches.{HoldsFor}
+use Rattle.dob_endpoint.specs.Endpoints.{HasChangedOne}
 use Rattle.dob_runner.specs.Runners.{GoesOn}
 use Rattle.dob_runner.specs.Paces.{IsLimitFor}
 
@@ -73,11 +74,6 @@ pub record AppliesAllOwn (old new : Runner) (did : Bool) : Type 0 where
   pub none : new.node.own ≡ []
 
 -- ---- taking
-
--- The inbox gave at most one batch, and the slot is empty only where the inbox was.
-pub record IsReceived (before after : Inlet) : Type 0 where
-  pub few : length (taken_by after.end) ≤ length (taken_by before.end) + 1
-  pub empty : after.slot ≡ None → WasEmpty (taken_by after.end) (take_told after.end)
 
 -- The inbox gave at most one batch. One more was worked in; or none was, and the slot is empty only where the inbox was.
 pub record IsWorkedIn (did : Bool) (before after : Inlet) : Type 0 where

@@ -5,10 +5,10 @@ use Rattle.dob_board.specs.declared.halt.Halt.TheVariants.{Running}
 use Rattle.dob_board.specs.declared.seat.NodeSeat.{NodeSeat}
 use Rattle.dob_board.specs.Seats.{IsSameSeat, ObservesHalt, TellsHalt, MovesNothing}
 use Rattle.dob_runner.specs.declared.runner.Runner.{Runner}
-use Rattle.dob_runner.specs.Keeps.{HasSameLinks}
+use Rattle.dob_endpoint.specs.Keeps.{HasSameLinks}
 use Rattle.dob_runner.specs.Runners.{KeepsRunner, IsAtRest}
 use Rattle.dob_runner.specs.TurnRounds.{Works}
-use Rattle.dob_runner.specs.TurnToken.{MovesToken}
+use Rattle.dob_endpoint.specs.TokenMoves.{MovesToken}
 
 -- its node and its links are as they were
 pub record HasSameWork (old new : Runner) : Type 0 where

@@ -1,14 +1,33 @@
-// Which batches are a node's to work in.
-ghost use Rattle.std.specs.Prelude.{◌≡◌, ◌↔◌, IsTrue};
-ghost use Rattle.dob_runner.specs.Batches.{IsBatchFor};
+// Which batches are a node's to work in, and whether the one in its slot is.
+ghost use Rattle.std.specs.Prelude.{◌≡◌, ◌↔◌, ℕ, IsTrue, MatchOption};
+ghost use Rattle.dob_runner.specs.Batches.{IsBatchFor, HoldsFor};
 
-use dob_history::have_entries;
+use dob_endpoint::Inlet;
+use dob_node::have_entries;
 use dob_pieces::{Family, PieceSet, Profile};
 use dob_update::Batch;
 
+// The sender of the batch in the inlet's slot, if that is one that another node cut for the node `to` of that family, one of `nodes`,
+// with items that such a node can work in. Any other batch is none of the node's.
+pub(crate) fn sender_for(inlet: &Inlet, family: Family, nodes: usize, to: usize) -> Option<usize>
+    ensures { MatchOption result ((from : ℕ) → ¬ HoldsFor family nodes from to inlet.now) (λ from. HoldsFor family nodes from to inlet.now) }
+{
+    let Some(batch) = &inlet.slot else {
+        return None;
+    };
+    let from = batch.from();
+    if from == to {
+        return None;
+    }
+    if !is_for(batch, family, nodes, from, to) {
+        return None;
+    }
+    Some(from)
+}
+
 // Whether the batch is one of the family among `nodes` nodes, from that node to the other, with items that have such values
 // as a table can have.
-pub(crate) fn is_for(batch: &Batch, family: Family, nodes: usize, from: usize, to: usize) -> bool
+fn is_for(batch: &Batch, family: Family, nodes: usize, from: usize, to: usize) -> bool
     ensures { IsTrue result ↔ IsBatchFor family nodes from to batch.now }
 {
     if !is_one_family(batch.family(), family) || batch.nodes() != nodes {

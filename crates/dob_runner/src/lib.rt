@@ -2,11 +2,10 @@
 // inboxes of all nodes and the inlet of its own. It makes turns until the board says that the run has ended or that a node failed
 // it, or N turns.
 //
-// The files: `endpoint`, `slots` and `slot_steps` are what a runner sends and takes by; `turn*` are its turns.
+// The files: `batches` tells which batches are for the node; `turn*` are its turns; `pace` and `pause` are how it waits. What a runner sends and takes by is
+// `dob_endpoint`.
 //
 // Choices:
-// - A runner has an outlet for its own node too, unused, so that places are node numbers. A batch lies in a slot from its count until the inbox takes it, or
-//   from the inbox until it is counted: so a seat's counts are the batches of its links.
 // - A white runner may have a batch in a taking slot: it is still in flight. A runner that passes the token or announces the end tests both kinds of slots
 //   (`IsAtRest`).
 // - A runner takes a batch only if it is one for its node, of its family, with values that a table can have: no inbox promises that. Then the node makes
@@ -19,31 +18,24 @@
 //   two wait for each other. When its level rises it sends small batches too.
 // - A runner that has nothing to do sleeps after some yields, 50 microseconds at first and 1 ms at most. Nobody wakes a sleeper, and one with a batch in a
 //   slot doesn't sleep.
-// - A failure is an event of the board's log (`BoardEvent`), so the halt word follows from the log (`halt_told`). Each seat's log has all moves of its own
-//   node (`token_moves_of`), so that a call moved no token is a fact of two logs.
 // - `Gate::worked` has no default body: its clause says a relation of the gate's own. A runner's family stands beside its node, since nothing is said of a
 //   node out of memory. Each step reports its own failure: between its node's failure and its own the runner isn't one by its type, so no method can be
 //   called there.
 #![tactic(auto)]
 
 mod batches;
-mod endpoint;
 mod gate;
 mod pace;
 mod pause;
 mod runner;
-mod slot_steps;
-mod slots;
 mod turn;
 mod turn_loop;
 mod turn_rounds;
 mod turn_steps;
 mod turn_token;
-mod turn_words;
 
-pub use endpoint::Endpoint;
+pub use dob_endpoint::{Endpoint, Inlet, Outlet};
 pub use gate::{Free, Gate};
 pub use pace::Pace;
 pub use runner::Runner;
-pub use slots::{Inlet, Outlet};
 pub use turn_loop::Until;

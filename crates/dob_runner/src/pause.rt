@@ -1,8 +1,8 @@
 // How a runner that has nothing to do pauses: it spins and yields at first, and then sleeps, longer each time.
-ghost use Rattle.dob_runner.specs.Keeps.{HasEmptySlots};
+ghost use Rattle.dob_endpoint.specs.Keeps.{HasEmptySlots};
 
-use crate::endpoint::Endpoint;
 use crossbeam_utils::Backoff;
+use dob_endpoint::Endpoint;
 use std::sync::Wait;
 use std::sync::atomic::{AtomicU64, Ordering};
 use std::time::Duration;

@@ -6,9 +6,9 @@ ghost use Rattle.dob_stops.specs.declared.cause.Cause.{Cause};
 ghost use Rattle.dob_runner.specs.LawfulRunners.{IsLawfulRunner, IsSpared};
 ghost use Rattle.dob_runner.specs.Props.{IsLawfulRunner-prop};
 
-use crate::endpoint::Endpoint;
 use crate::pace::Pace;
 use crate::pause::Pause;
+use dob_endpoint::Endpoint;
 use dob_node::{Cause, Node};
 use dob_pieces::Family;
 use dob_update::BatchSize;

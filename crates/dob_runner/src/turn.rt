@@ -8,7 +8,6 @@ ghost use Rattle.dob_node.specs.NodeViews.{NodeView};
 ghost use Rattle.dob_runner.specs.TurnRounds.{IsLevel, IsAbove, HearsLimit, SendsSmall, Works};
 ghost use Rattle.dob_runner.specs.Turns.{HasTurned, HasSeen, EndsTurn, GateIsTold};
 
-use crate::endpoint::Endpoint;
 use crate::gate::Gate;
 use crate::pace::Pace;
 use crate::pause::Pause;
@@ -16,6 +15,7 @@ use crate::runner::Runner;
 use crate::turn_steps::fail_for;
 use dob_board::Halt;
 use dob_classes::Classes;
+use dob_endpoint::Endpoint;
 use dob_node::{Cause, Node};
 use dob_pieces::Family;
 use dob_update::BatchSize;

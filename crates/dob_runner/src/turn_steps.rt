@@ -3,13 +3,13 @@
 // A link is asked and moved here. The endpoint is borrowed before a link of it changes, so that what its type says of the counts is asked of it alone.
 ghost use Rattle.std.specs.Prelude.{◌≡◌, ◌≢◌, ◌↔◌, ◌<◌, IsTrue, Err, None};
 ghost use Rattle.dob_stops.specs.declared.cause.Cause.TheVariants.{Memory};
-ghost use Rattle.dob_runner.specs.Keeps.{FailsFor};
-ghost use Rattle.dob_runner.specs.Runners.{StepsBy};
+ghost use Rattle.dob_runner.specs.Runners.{FailsFor, StepsBy};
 ghost use Rattle.dob_runner.specs.TurnRounds.{RunnerTakesBatch, LeavesBatch, ExpandsOne, HasToSend, FillsFor, SendsTo};
 
-use crate::endpoint::Endpoint;
+use crate::batches::sender_for;
 use crate::runner::Runner;
 use dob_classes::Classes;
+use dob_endpoint::Endpoint;
 use dob_node::Cause;
 use std::sync::Wait;
 
@@ -42,7 +42,7 @@ impl Runner {
         let endpoint = &self.endpoint;
         let seat = &endpoint.seat;
         let inlet = &endpoint.inlet;
-        let Some(from) = inlet.sender_for(self.family, seat.nodes, seat.node) else {
+        let Some(from) = sender_for(inlet, self.family, seat.nodes, seat.node) else {
             return Ok(false);
         };
         match self.node.reserve(inlet.held_items()) {

@@ -20,28 +20,29 @@ use Rattle.dob_board.specs.declared.board.Closed.{Closed}
 use Rattle.dob_chan.specs.Ends.{IsRejoined, place_of, sent_by, taken_by, taken_of}
 use Rattle.dob_chan.specs.declared.ends.Rejoined.{Rejoined}
 use Rattle.dob_runner.proofs.Knowing.{applied_else, applied_here}
-use Rattle.dob_runner.proofs.Links.{few_of, front, parts}
+use Rattle.dob_endpoint.proofs.Links.{few_of, front, parts}
 use Rattle.dob_runner.specs.Knows.{KnowsRight}
 use Rattle.dob_runner.specs.LawfulRunners.{AreLast, IsLawfulRunner, SendsRight, applied_from, planned}
-use Rattle.dob_runner.specs.Links.{offered, worked, worked_from}
+use Rattle.dob_endpoint.specs.Links.{offered, worked, worked_from}
 use Rattle.dob_runner.specs.Runners.{KeepsRunner}
-use Rattle.dob_runner.specs.Slots.{held_from, in_slot, worked_of}
+use Rattle.dob_endpoint.specs.Slots.{held_from, in_slot, worked_of}
 use Rattle.dob_runner.specs.TurnLoop.{Ends}
-use Rattle.dob_runner.specs.declared.endpoint.Endpoint.{Endpoint}
+use Rattle.dob_endpoint.specs.declared.endpoint.Endpoint.{Endpoint}
 use Rattle.dob_runner.specs.declared.runner.Runner.{Runner}
-use Rattle.dob_runner.specs.declared.slots.Inlet.{Inlet}
-use Rattle.dob_runner.specs.declared.slots.Outlet.{Outlet}
+use Rattle.dob_endpoint.specs.declared.slots.Inlet.{Inlet}
+use Rattle.dob_endpoint.specs.declared.slots.Outlet.{Outlet}
 use Rattle.dob_runner.specs.declared.turn_loop.Until.{Until}
-use Rattle.dob_run.proofs.CrewRunners.{are_linked, crew_low, crew_many, fault_by, outlet_at, rejoined_at, seat_at, seat_there, still_crew, stops_so}
-use Rattle.dob_gather.proofs.Found.{map_got}
-use Rattle.dob_run.proofs.Places.{at_row, get_map}
-use Rattle.dob_run.specs.CrewClose.{AreClosed, AreLinked, IsCrew, row_of, seat_in, slots_in, slots_out}
-use Rattle.dob_run.specs.CrewRunners.{AreRunnersFor, endpoint_of, node_of}
+use Rattle.dob_crew.proofs.CrewRunners.{are_linked, crew_low, crew_many, outlet_at, rejoined_at, seat_at, seat_there}
+use Rattle.dob_run.proofs.CrewEnds.{fault_by, still_crew, stops_so}
+use Rattle.dob_endpoint.proofs.Places.{map_got, get_map}
+use Rattle.dob_inboxes.proofs.Rowed.{at_row}
+use Rattle.dob_crew.specs.CrewClose.{AreClosed, AreLinked, IsCrew, row_of, seat_in, slots_in, slots_out}
+use Rattle.dob_crew.specs.CrewRunners.{AreRunnersFor, endpoint_of, node_of}
 use Rattle.dob_run.specs.CrewStops.{AreUnfailed, IsFirstFailed, StopsSo}
 use Rattle.dob_run.specs.CrewTurns.{HasRun}
 use Rattle.dob_run.specs.Faults.{HasBuildFault}
-use Rattle.dob_run.specs.InboxClose.{outlet_slot}
-use Rattle.dob_run.specs.declared.crew_close.ClosedCrew.{ClosedCrew}
+use Rattle.dob_inboxes.specs.InboxClose.{outlet_slot}
+use Rattle.dob_crew.specs.declared.crew_close.ClosedCrew.{ClosedCrew}
 use Rattle.dob_turns.specs.BoundedRun.{AreWorkers, CarriesFew, HasLeft, IsLink, IsTurned, IsWorker}
 use Rattle.dob_turns.specs.declared.bounded_run.Turned.{Turned}
 use Rattle.dob_turns.specs.declared.bounded_run.Worker.{Worker}

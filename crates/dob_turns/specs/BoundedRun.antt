@@ -10,15 +10,15 @@ use Rattle.dob_chan.specs.Inboxes.{IsLawfulInbox}
 use Rattle.dob_chan.specs.Ends.{taken_by, IsRejoined}
 use Rattle.dob_node.specs.declared.node.Node.{Node}
 use Rattle.dob_node.specs.Nodes.{outbox_to}
-use Rattle.dob_runner.specs.declared.slots.Outlet.{Outlet}
-use Rattle.dob_runner.specs.declared.slots.Inlet.{Inlet}
+use Rattle.dob_endpoint.specs.declared.slots.Outlet.{Outlet}
+use Rattle.dob_endpoint.specs.declared.slots.Inlet.{Inlet}
 use Rattle.dob_runner.specs.declared.runner.Runner.{Runner}
 use Rattle.dob_turns.specs.declared.bounded_run.Worker.{Worker}
 use Rattle.dob_turns.specs.declared.bounded_run.Turned.{Turned}
-use Rattle.dob_run.specs.CrewClose.{AreLinked, seat_in, slots_out, slots_in}
-use Rattle.dob_runner.specs.Slots.{in_slot}
+use Rattle.dob_crew.specs.CrewClose.{AreLinked, seat_in, slots_out, slots_in}
+use Rattle.dob_endpoint.specs.Slots.{in_slot}
 use Rattle.dob_runner.specs.Knows.{KnowsRight}
-use Rattle.dob_run.specs.CrewRunners.{endpoint_of}
+use Rattle.dob_crew.specs.CrewRunners.{endpoint_of}
 use Rattle.dob_runner.specs.LawfulRunners.{planned}
 
 -- The worker is that of node i. It has applied what its node planned for itself and isn't left in its own list, and knows just

@@ -1,9 +1,10 @@
 // A crew whose runners make a number of turns each, and what they leave.
 ghost use Rattle.std.specs.Prelude.{◌≡◌, IfOk, IfErr, OnOk, map, length};
-ghost use Rattle.dob_run.specs.CrewClose.{IsCrew, row_of};
-ghost use Rattle.dob_run.specs.CrewRunners.{endpoint_of};
+ghost use Rattle.dob_crew.specs.CrewClose.{IsCrew, row_of};
+ghost use Rattle.dob_crew.specs.CrewRunners.{endpoint_of};
 ghost use Rattle.dob_run.specs.CrewStops.{IsFirstFailed, StopsSo};
-ghost use Rattle.dob_run.specs.Faults.{AreWithin, HasBuildFault};
+ghost use Rattle.dob_crew.specs.Faults.{AreWithin};
+ghost use Rattle.dob_run.specs.Faults.{HasBuildFault};
 ghost use Rattle.dob_runner.specs.Runners.{says_no};
 ghost use Rattle.dob_runner.specs.TurnLoop.{until_turns};
 ghost use Rattle.dob_turns.specs.BoundedRun.{IsTurned, CarriesFew, AreWorkers, HasLeft};

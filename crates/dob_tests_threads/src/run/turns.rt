@@ -1,6 +1,6 @@
 // Runners that are turned by hand, one after the other, in one thread.
 ghost use Rattle.std.specs.Prelude.{◌≡◌, IfOk, OnOk, None, ◌∷◌, []};
-ghost use Rattle.dob_run.specs.CrewRunners.{IsNewCrew};
+ghost use Rattle.dob_crew.specs.CrewRunners.{IsNewCrew};
 ghost use Rattle.dob_runner.specs.Runners.{KeepsRunner};
 ghost use Rattle.dob_runner.specs.declared.runner.Runner.{Runner as AnyRunner};
 

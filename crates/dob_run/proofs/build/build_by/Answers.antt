@@ -3,7 +3,8 @@ use Rattle.dob_run.proofs.Common.{subst, sym, refl, ℕ, Err, IfOk, Family, Memo
 use Rattle.dob_run.proofs.Common.{HasBuildFault, HasRun, IfErr-weaker, IfOk-weaker}
 use Rattle.std.proofs.lemmas.Result.{err_from_is_err_and}
 use Rattle.dob_run.specs.Builds.{Builds}
-use Rattle.dob_run.proofs.CrewRunners.{still_crew, have_stopped, is_built, fault_for, all_let_on, unheld, stops_so, by_crew, without_crew, sized}
+use Rattle.dob_run.proofs.CrewEnds.{still_crew, have_stopped, is_built, fault_for, all_let_on, unheld, stops_so, by_crew, without_crew}
+use Rattle.dob_crew.proofs.CrewRunners.{sized}
 use Rattle.dob_run.proofs.build.build_by.Goals as goal
 use Rattle.dob_run.proofs.build.build_by.Goals.{In_ok-classes}
 

@@ -1,6 +1,7 @@
 -- Sizes outside their limits are refused; a crew of sizes within them builds.
 use Rattle.dob_run.proofs.Common.{Err, Fault, Ok, OnOk, Result, rules, carried, says_no, Halted, IsUnheld, StopsSo, IsFailureOf, HasBuildFault}
-use Rattle.dob_run.proofs.CrewRunners.{outside_none, unbegun_fault, unbegun_stops, unbegun_unheld}
+use Rattle.dob_crew.proofs.CrewRunners.{outside_none}
+use Rattle.dob_run.proofs.CrewEnds.{unbegun_fault, unbegun_stops, unbegun_unheld}
 use Rattle.dob_run.proofs.build.run_nodes.Goals as goal
 
 pub returns-in_err-sizes : goal.returns-in_err-sizes

@@ -1,7 +1,7 @@
 -- Each node has its rows of slots, and the closed parts are what the runners leave.
 use Rattle.std.proofs.Common.{map, refl}
-use Rattle.dob_run.specs.CrewClose.{slots_in, slots_out}
-use Rattle.dob_run.specs.CrewRunners.{endpoint_of}
+use Rattle.dob_crew.specs.CrewClose.{slots_in, slots_out}
+use Rattle.dob_crew.specs.CrewRunners.{endpoint_of}
 use Rattle.dob_turns.proofs.TurnedCrews.{left_by, rows_long}
 use Rattle.dob_turns.proofs.bounded_run.close_crew.Goals as goal
 

@@ -4,7 +4,8 @@ use Rattle.dob_history.proofs.TakenLists.{carried}
 use Rattle.dob_runner.specs.Runners.{says_no}
 use Rattle.dob_runner.specs.declared.runner.Runner.{Runner}
 use Rattle.dob_runner.specs.declared.turn_loop.Until.TheVariants.{Turns}
-use Rattle.dob_run.proofs.CrewRunners.{outside_none, still_crew, unbegun_fault, unbegun_stops}
+use Rattle.dob_crew.proofs.CrewRunners.{outside_none}
+use Rattle.dob_run.proofs.CrewEnds.{still_crew, unbegun_fault, unbegun_stops}
 use Rattle.dob_run.specs.CrewStops.{AreUnfailed, IsFirstFailed, StopsSo}
 use Rattle.dob_run.specs.Faults.{HasBuildFault}
 use Rattle.dob_turns.proofs.TurnedCrews.{carries_few, first_fault, first_stops, has_turned}

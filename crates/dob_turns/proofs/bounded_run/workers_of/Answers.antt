@@ -1,7 +1,7 @@
 -- Each node finds a row of sending and one of taking slots left, those at its place, until all are workers.
 use Rattle.std.proofs.Common.{length, map, refl, rules, subst, ℕ, ⊎_elim, ◌∙◌, ◌≡◌}
-use Rattle.dob_run.proofs.Places.{each_more, get_map, gone_all, next_at, one_gone, one_longer}
-use Rattle.dob_run.specs.CrewClose.{row_of}
+use Rattle.dob_endpoint.proofs.Places.{each_more, get_map, gone_all, next_at, one_gone, one_longer}
+use Rattle.dob_crew.specs.CrewClose.{row_of}
 use Rattle.dob_turns.specs.BoundedRun.{AreWorkers}
 use Rattle.dob_turns.proofs.bounded_run.workers_of.Goals as goal
 

@@ -1,8 +1,8 @@
 -- So many nodes have their slots and are workers, and the other nodes and rows of slots are left.
 use Rattle.std.proofs.Common.{length, map}
 use Rattle.std.specs.Vec.Iter.{into_iter_items}
-use Rattle.dob_run.proofs.Places.{HaveGone}
-use Rattle.dob_run.specs.CrewClose.{row_of}
+use Rattle.dob_endpoint.proofs.Places.{HaveGone}
+use Rattle.dob_crew.specs.CrewClose.{row_of}
 use Rattle.dob_turns.specs.BoundedRun.{AreWorkers}
 use Rattle.dob_turns.proofs.bounded_run.workers_of.Given as goal
 

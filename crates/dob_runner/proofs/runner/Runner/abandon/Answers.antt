@@ -1,6 +1,6 @@
 -- A runner that fails has a cause; it is lawful, as it was before.
 use Rattle.dob_runner.proofs.Common.{inl, refl}
-use Rattle.dob_runner.proofs.Keeping.{links_kept}
+use Rattle.dob_endpoint.proofs.Keeping.{links_kept}
 use Rattle.dob_runner.proofs.Lawfuls.{still_coloured}
 use Rattle.dob_runner.proofs.runner.Runner.abandon.Goals as goal
 

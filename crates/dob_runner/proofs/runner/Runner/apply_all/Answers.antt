@@ -1,6 +1,7 @@
 -- The runner stays lawful where its first own items are applied, and none is left where all can be.
 use Rattle.dob_runner.proofs.Common.{◌↔◌, ◌∷◌, ◌≡◌, List, [], arith, false, inl, length, ltb, refl, subst, sym, ℕ, ltb-false, Item}
-use Rattle.dob_runner.proofs.Keeping.{endpoint_same, goes_by, broken_for, own_reason, node_goes}
+use Rattle.dob_endpoint.proofs.Keeping.{endpoint_same}
+use Rattle.dob_runner.proofs.Keeping.{goes_by, broken_for, own_reason, node_goes}
 use Rattle.dob_runner.proofs.Lawfuls.{applied_items, still_coloured}
 use Rattle.dob_runner.proofs.runner.Runner.apply_all.Goals as goal
 

@@ -1,7 +1,8 @@
 -- A slot is filled just where it is empty and there is something to send. A node that cuts a batch was black and had cut fewer than 2^40; with the batch in the slot the runner is lawful.
 use Rattle.dob_runner.proofs.Common.{◌^◌, ◌∙◌, ◌≡◌, ◌≤◌, Err, None, Ok, Option, Result, Some, ap, arith, false, inl, refl, subst, sym, true, both_ways, IfSome}
 use Rattle.dob_runner.proofs.Common.{some_at, BatchView, OutboxView, Cause, HasCut, outbox_to, token_moves_of, Stand, IsToFill}
-use Rattle.dob_runner.proofs.Keeping.{goes_by, own_still, broken_for, cut_reason, outbox_still, node_goes, agrees_going}
+use Rattle.dob_runner.proofs.Keeping.{goes_by, broken_for, cut_reason, outbox_still, node_goes, agrees_going}
+use Rattle.dob_endpoint.proofs.Keeping.{own_still}
 use Rattle.dob_runner.proofs.Lawfuls.{busy_black, cut_one, unchanged_failed}
 use Rattle.dob_runner.proofs.Sending.{outlet_at, slot_there, uncut, fills_of, cut_more}
 use Rattle.dob_runner.proofs.runner.Runner.cut_for.Goals as goal

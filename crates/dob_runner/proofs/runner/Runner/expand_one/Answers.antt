@@ -1,6 +1,7 @@
 -- An expanded settlement leaves the runner lawful, and so does lack of memory.
 use Rattle.dob_runner.proofs.Common.{Ok, ap, inl, inr, refl, subst, sym, cases_Bool, Node, IsLawfulRunner, no_gate}
-use Rattle.dob_runner.proofs.Keeping.{endpoint_same, goes_by, broken_for, memory_reason, node_goes, agrees_going}
+use Rattle.dob_endpoint.proofs.Keeping.{endpoint_same}
+use Rattle.dob_runner.proofs.Keeping.{goes_by, broken_for, memory_reason, node_goes, agrees_going}
 use Rattle.dob_runner.proofs.Lawfuls.{expanded_one, unchanged_failed}
 use Rattle.dob_runner.proofs.TurnParts.{same_answer}
 use Rattle.dob_runner.proofs.runner.Runner.expand_one.Goals as goal

@@ -1,6 +1,7 @@
 -- The runner is as it was, but for what it was told.
 use Rattle.dob_runner.proofs.Common.{◌∙◌, ap, refl, subst, sym, Option, Some}
-use Rattle.dob_runner.proofs.Keeping.{endpoint_same, goes_by}
+use Rattle.dob_endpoint.proofs.Keeping.{endpoint_same}
+use Rattle.dob_runner.proofs.Keeping.{goes_by}
 use Rattle.dob_runner.specs.declared.pace.Pace.{Pace}
 use Rattle.dob_runner.specs.Paces.{IsLimitFor, kept_member, last_level}
 use Rattle.dob_runner.proofs.runner.Runner.hear.Goals as goal

@@ -1,6 +1,6 @@
 -- A runner that looks for the halt stays lawful, and its seat finds its own failure only where it knew of it.
 use Rattle.dob_runner.proofs.Common.{inl, refl}
-use Rattle.dob_runner.proofs.Keeping.{own_before}
+use Rattle.dob_endpoint.proofs.Keeping.{own_before}
 use Rattle.dob_runner.proofs.Lawfuls.{still_coloured}
 use Rattle.dob_runner.proofs.runner.Runner.look.Goals as goal
 

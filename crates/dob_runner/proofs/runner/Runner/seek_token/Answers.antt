@@ -1,6 +1,7 @@
 -- A runner that isn't at rest does nothing. One that is moves the token, if its node has it, and stays lawful, of whatever colour.
 use Rattle.dob_runner.proofs.Common.{ap, inl, refl, both_ways, IsAtRest}
-use Rattle.dob_runner.proofs.Keeping.{own_before, work_same}
+use Rattle.dob_endpoint.proofs.Keeping.{own_before}
+use Rattle.dob_runner.proofs.Keeping.{work_same}
 use Rattle.dob_runner.proofs.Lawfuls.{recoloured, same_inlet}
 use Rattle.dob_runner.proofs.runner.Runner.seek_token.Goals as goal
 

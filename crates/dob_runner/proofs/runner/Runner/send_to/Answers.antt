@@ -1,8 +1,9 @@
 -- The slot's filling and the offer of its batch make one step. The offer leaves the counts and the offered batches, at most 2^40, as they were, and so the
 -- runner lawful, sent or not.
 use Rattle.dob_runner.proofs.Common.{◌<◌, ◌≡◌, ◌≢◌, None, Some, ap, inl, length, refl, slice_get, KeepsOutlet, offered, GoesOn, SendsTo}
-use Rattle.dob_runner.proofs.Links.{counts_stay, own_set}
-use Rattle.dob_runner.proofs.Keeping.{runner_same, broken_on, goes_by, goes_trans, outlet_same, inlet_same, one_kept, seat_same}
+use Rattle.dob_endpoint.proofs.Links.{counts_stay, own_set}
+use Rattle.dob_runner.proofs.Keeping.{runner_same, broken_on, goes_by, goes_trans}
+use Rattle.dob_endpoint.proofs.Keeping.{outlet_same, inlet_same, one_kept, seat_same}
 use Rattle.dob_runner.proofs.Lawfuls.{offered_again}
 use Rattle.dob_runner.proofs.Sending.{low_still, in_outlets, outlet_at, slot_there, few_there, own_unsent, sends_none, sends_offered}
 use Rattle.dob_runner.proofs.runner.Runner.send_to.Goals as goal

@@ -3,9 +3,10 @@
 use Rattle.dob_runner.proofs.Common.{◌++◌, ◌∙◌, ◌≡◌, ◌≢◌, Err, None, ap, arith, inl, inr, refl, subst, sym, Memory, IsSound, IsUnchanged, Node, IsSameSeat}
 use Rattle.dob_runner.proofs.Common.{TakesOne, NodeSeat, Stand, KeepsEndpoint, IsLawfulRunner, HoldsFor, KeepsInlet, KeepsOutlet, worked, no_gate, Endpoint}
 use Rattle.dob_runner.proofs.Common.{Runner, Inlet}
-use Rattle.dob_runner.proofs.Links.{taken_still, takes_none, takes_one, of_other, fits_node, unchanged_same}
-use Rattle.dob_runner.proofs.Keeping.{broken_by, endpoint_trans, goes_by, links_kept, own_still, failed_first, refused_reason, node_goes, agrees_going}
-use Rattle.dob_runner.proofs.Keeping.{unspared_reason, memory_reason, seat_same, each_same, outlet_same}
+use Rattle.dob_endpoint.proofs.Links.{taken_still}
+use Rattle.dob_runner.proofs.Taking.{takes_none, takes_one, of_other, fits_node, unchanged_same}
+use Rattle.dob_runner.proofs.Keeping.{broken_by, goes_by, failed_first, refused_reason, node_goes, agrees_going, unspared_reason, memory_reason}
+use Rattle.dob_endpoint.proofs.Keeping.{endpoint_trans, links_kept, own_still, seat_same, each_same, outlet_same}
 use Rattle.dob_node.proofs.TakenLists.{before_since}
 use Rattle.dob_runner.proofs.Knowing.{worked_again, worked_else, worked_more}
 use Rattle.dob_runner.proofs.Lawfuls.{recoloured, same_inlet, applied_batch, unchanged_node}

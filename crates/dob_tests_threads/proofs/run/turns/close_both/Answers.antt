@@ -6,11 +6,11 @@ use Rattle.dob_board.specs.declared.board.Board.{Board}
 use Rattle.dob_board.specs.declared.halt.Halt.TheVariants.{Running}
 use Rattle.dob_runner.specs.declared.runner.Runner.{Runner}
 use Rattle.dob_run.specs.BuildEnd.{HaveStopped}
-use Rattle.dob_run.specs.CrewClose.{IsCrew}
-use Rattle.dob_run.specs.CrewRunners.{IsNewCrew, endpoint_of}
+use Rattle.dob_crew.specs.CrewClose.{IsCrew}
+use Rattle.dob_crew.specs.CrewRunners.{IsNewCrew, endpoint_of}
 use Rattle.dob_runner.specs.Runners.{KeepsRunner}
 use Rattle.dob_pieces.proofs.Zips.{zip_at}
-use Rattle.dob_run.proofs.CrewRunners.{crew_kept}
+use Rattle.dob_crew.proofs.CrewRunners.{crew_kept}
 use Rattle.dob_tests_threads.proofs.run.turns.close_both.Goals as goal
 
 -- a runner keeps its place, and has stopped

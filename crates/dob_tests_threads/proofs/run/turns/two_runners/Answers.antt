@@ -3,7 +3,7 @@ use Rattle.std.proofs.Common.{◌≡◌, sym, [], ◌∷◌, refl, rules}
 use Rattle.dob_pieces.specs.declared.profile.Family.{Family}
 use Rattle.dob_board.specs.declared.board.Board.{Board}
 use Rattle.dob_runner.specs.declared.runner.Runner.{Runner}
-use Rattle.dob_run.specs.CrewRunners.{IsNewCrew}
+use Rattle.dob_crew.specs.CrewRunners.{IsNewCrew}
 use Rattle.dob_tests_threads.proofs.run.turns.two_runners.Goals as goal
 
 are_of : (family : Family) (board : Board) (one other : Runner) → IsNewCrew family 2 1 1 board (one ∷ other ∷ [])

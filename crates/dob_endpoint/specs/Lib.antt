@@ -1,0 +1,5 @@
+pub mod Slots
+pub mod Links
+pub mod Endpoints
+pub mod Keeps
+pub mod TokenMoves

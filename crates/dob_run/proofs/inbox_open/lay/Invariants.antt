@@ -1,6 +1,0 @@
--- The inboxes of the nodes below the counter are laid, with an outlet of each node to each of them.
-use Rattle.dob_run.proofs.Common.{AreLaidUpto}
-use Rattle.dob_run.proofs.inbox_open.lay.Given as goal
-
-abbrev pub invariant-loop : goal.invariant-loop
-invariant-loop l = AreLaidUpto l.capacity l.nodes l.counter l.rows.items l.inlets.items
