@@ -13,7 +13,7 @@ pub use Rattle.dob_pieces.specs.declared.profile.Family.{Family}
 pub use Rattle.dob_update.specs.Batches.{BatchView}
 pub use Rattle.dob_stops.specs.declared.fault.Fault.{Fault}
 pub use Rattle.dob_stops.specs.declared.fault.Fault.TheVariants.{Nodes, Sizes}
-pub use Rattle.dob_node.proofs.TakenLists.{carried}
+pub use Rattle.dob_history.proofs.TakenLists.{carried}
 pub use Rattle.dob_node.specs.Nodes.{IsOpened}
 pub use Rattle.dob_node.specs.declared.node.Node.{Node}
 pub use Rattle.dob_board.specs.Rule.{fresh}

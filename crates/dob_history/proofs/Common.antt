@@ -17,10 +17,9 @@ pub use Rattle.dob_pieces.specs.declared.profile.Family.{Family}
 pub use Rattle.dob_moves.specs.declared.position_status.Status.{Status}
 pub use Rattle.dob_moves.specs.declared.position_status.Status.TheVariants.{Open}
 pub use Rattle.dob_rank.specs.Families.{classes_of}
-pub use Rattle.dob_value.specs.Codes.{value_of_code}
-pub use Rattle.dob_value.specs.Follows.{IsEntry}
-pub use Rattle.dob_value.specs.declared.value.Value.{Value}
-pub use Rattle.dob_value.specs.declared.value.Value.TheVariants.{Draw, Loss, Win}
+pub use Rattle.dob_distance.specs.Codes.{value_of_code, IsEntry}
+pub use Rattle.dob_distance.specs.declared.value.Value.{Value}
+pub use Rattle.dob_distance.specs.declared.value.Value.TheVariants.{Draw, Loss, Win}
 pub use Rattle.dob_share.proofs.Owning.{cell_short}
 pub use Rattle.dob_share.specs.Cells.{Cell, CellCanTake, CellValue, KnowsLossWithin, SameCell, changed}
 pub use Rattle.dob_share.specs.Openings.{settled_among, settles}

@@ -8,7 +8,7 @@ use Rattle.dob_history.proofs.Common.{opening_settlement, opening_settlements, o
 use Rattle.dob_history.proofs.Common.{start_status, starts_count, starts_of, status_at, subst, suc, sym, zero, ℕ}
 use Rattle.dob_share.specs.Slots.{IsShortCell}
 use Rattle.dob_share.proofs.Opened.{settles_most}
-use Rattle.dob_value.specs.Bounds.{plies_of}
+use Rattle.dob_distance.specs.Distances.{plies_of}
 use Rattle.dob_history.specs.Levels.{level_of}
 
 -- ---- parity

@@ -1,11 +1,11 @@
 // Which items a node takes of others: those with values that a table can have.
 ghost use Rattle.std.specs.Prelude.{◌↔◌, IsTrue};
 ghost use Rattle.std.specs.List.{All};
-ghost use Rattle.dob_value.specs.Follows.{IsEntry};
+ghost use Rattle.dob_distance.specs.Codes.{IsEntry};
 ghost use Rattle.dob_history.specs.TakenItems.{HasItemEntries};
 
+use dob_distance::{MAX_DISTANCE, Value};
 use dob_share::Item;
-use dob_value::{MAX_DISTANCE, Value};
 
 /// Whether the values of each item, before and after, are such as a table can have: a draw, or a win in an odd or a loss in an even
 /// number of plies, of at most `MAX_DISTANCE`. `Node::apply_batch` takes no other items.

@@ -14,12 +14,12 @@ ghost use Rattle.dob_history.specs.Levels.{level_of};
 ghost use Rattle.dob_history.specs.TakenItems.{HasItemEntries, AreKept, StayKept, IsHistory, IsTaken, IsReason};
 
 use crate::start_statuses::{StartStatuses, StartValue};
+use dob_distance::{Value, code_of_value, value_of_code};
 use dob_lists::{SegmentLength, Segments};
 use dob_pieces::Memory;
 use dob_safra::NodeCount;
 use dob_share::{Item, Seen, Settlement, Share, quotient};
 use dob_stops::Cause;
-use dob_value::{Value, code_of_value, value_of_code};
 use std::alloc::Global;
 use std::marker::Model;
 

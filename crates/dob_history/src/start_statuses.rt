@@ -5,9 +5,9 @@ ghost use Rattle.dob_share.specs.Openings.{settled_among};
 ghost use Rattle.dob_history.specs.OpeningLists.{opening_value};
 ghost use Rattle.dob_history.specs.Stores.{start_status, starts_count};
 
+use dob_distance::Value;
 use dob_moves::Status;
 use dob_share::Statuses;
-use dob_value::Value;
 use std::marker::Model;
 
 /// The statuses; `settled` of them aren't open. `passed` of these stand before `place`, from where a walk to a later one begins.

@@ -30,13 +30,12 @@ pub use Rattle.dob_rank.specs.Families.{HasClasses, RepresentsClass, class_numbe
 pub use Rattle.dob_classes.proofs.OfFamilies.FamilyRepresentatives.{class_setup_is, class_setup_only}
 pub use Rattle.dob_value.proofs.Consistency.{consistent_is_right, not_draw_loss, not_draw_win}
 pub use Rattle.dob_value.proofs.Successors.{moves_keep_the_family}
-pub use Rattle.dob_value.specs.Bounds.{plies_of}
-pub use Rattle.dob_value.specs.Codes.{IsShort}
-pub use Rattle.dob_value.specs.Distances.{IsLeastLoss}
-pub use Rattle.dob_value.specs.Entries.{is_draw}
-pub use Rattle.dob_value.specs.Follows.{FollowsAt, FollowsFromSuccessors, HasInTable, HasSuccessor, IsConsistent, IsEntry}
-pub use Rattle.dob_value.specs.declared.value.Value.{Value}
-pub use Rattle.dob_value.specs.declared.value.Value.TheVariants.{Draw, Loss, Win}
+pub use Rattle.dob_distance.specs.Codes.{IsShort, IsEntry}
+pub use Rattle.dob_distance.specs.Distances.{IsLeastLoss, plies_of}
+pub use Rattle.dob_distance.specs.Entries.{is_draw}
+pub use Rattle.dob_value.specs.Follows.{FollowsAt, FollowsFromSuccessors, HasInTable, HasSuccessor, IsConsistent}
+pub use Rattle.dob_distance.specs.declared.value.Value.{Value}
+pub use Rattle.dob_distance.specs.declared.value.Value.TheVariants.{Draw, Loss, Win}
 pub use Rattle.dob_unmove.proofs.Edges.{ArePredecessors-predecessors, representative_below, times-predecessors}
 pub use Rattle.dob_unmove.specs.Edges.{predecessors}
 pub use Rattle.dob_share.proofs.Applied.{CellValue-same}

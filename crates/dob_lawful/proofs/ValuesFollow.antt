@@ -2,7 +2,7 @@
 use Rattle.dob_lawful.proofs.Common.{◌<◌, ◌∙◌, ◌∷◌, ◌≡◌, Cell, CellValue, Contains, Draw, FollowsFromKnown, IsGreatest, IsLeastLoss, List, Loss, None, SameCell}
 use Rattle.dob_lawful.proofs.Common.{Some, SumsUp, Value, Win, [], arith, count_by, counted, counts, eq-eqb, head_in, inl, inr, is_draw, is_win_in, length}
 use Rattle.dob_lawful.proofs.Common.{nat_tests, not_draw_win, refl, subst, sym, true, ℕ}
-use Rattle.dob_value.proofs.Tables.{draw_is}
+use Rattle.dob_distance.proofs.Outlooks.{draw_is}
 
 -- ---- the cell's value follows
 

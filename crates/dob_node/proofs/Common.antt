@@ -19,9 +19,10 @@ pub use Rattle.dob_moves.specs.Statuses.{HasStatus}
 pub use Rattle.dob_moves.specs.declared.position_status.Status.{Status}
 pub use Rattle.dob_moves.specs.declared.position_status.Status.TheVariants.{Open}
 pub use Rattle.dob_rank.specs.Families.{class_setup, classes_of}
-pub use Rattle.dob_value.specs.Follows.{AreGiven, IsEntry}
-pub use Rattle.dob_value.specs.declared.value.Value.{Value}
-pub use Rattle.dob_value.specs.declared.value.Value.TheVariants.{Draw}
+pub use Rattle.dob_distance.specs.Codes.{IsEntry}
+pub use Rattle.dob_value.specs.Follows.{AreGiven}
+pub use Rattle.dob_distance.specs.declared.value.Value.{Value}
+pub use Rattle.dob_distance.specs.declared.value.Value.TheVariants.{Draw}
 pub use Rattle.dob_unmove.specs.Edges.{predecessors}
 pub use Rattle.dob_share.specs.Cells.{Cell, CellValue, SameCell, fresh}
 pub use Rattle.dob_share.specs.Openings.{opening_of}

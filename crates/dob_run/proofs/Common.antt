@@ -14,8 +14,8 @@ pub use Rattle.dob_pieces.proofs.Zips.{zip_at}
 pub use Rattle.dob_pieces.specs.declared.profile.Family.{Family}
 pub use Rattle.dob_rank.specs.Families.{classes_of}
 pub use Rattle.dob_value.specs.Follows.{IsValueTable}
-pub use Rattle.dob_value.specs.declared.value.Value.{Value}
-pub use Rattle.dob_value.specs.declared.value.Value.TheVariants.{Draw}
+pub use Rattle.dob_distance.specs.declared.value.Value.{Value}
+pub use Rattle.dob_distance.specs.declared.value.Value.TheVariants.{Draw}
 pub use Rattle.dob_unmove.specs.Edges.{predecessors}
 pub use Rattle.dob_share.specs.Owners.{owner_of}
 pub use Rattle.dob_share.specs.Shares.{HasValueNow, IsValue, cell_at}
@@ -27,9 +27,9 @@ pub use Rattle.dob_share.specs.Items.{item_for, items_from, items_of}
 pub use Rattle.dob_stops.specs.declared.cause.Cause.{Cause}
 pub use Rattle.dob_stops.specs.declared.fault.Fault.{Fault}
 pub use Rattle.dob_stops.specs.declared.fault.Fault.TheVariants.{Memory, Stopped}
-pub use Rattle.dob_node.proofs.Rest.{below_owner}
-pub use Rattle.dob_node.proofs.TakenLists.{carried}
-pub use Rattle.dob_node.specs.Histories.{last_now, value_of}
+pub use Rattle.dob_lawful.proofs.Rest.{below_owner}
+pub use Rattle.dob_history.proofs.TakenLists.{carried}
+pub use Rattle.dob_lawful.specs.Histories.{last_now, value_of}
 pub use Rattle.dob_node.specs.Nodes.{IsIdle}
 pub use Rattle.dob_node.specs.declared.node.Node.{Node}
 pub use Rattle.dob_board.proofs.Halting.{same_halt}

@@ -9,16 +9,16 @@ use Rattle.dob_run.proofs.Common.{IsLawfulRunner, SendsRight, applied_from, item
 use Rattle.dob_run.proofs.Common.{Endpoint, Runner, Inlet, Outlet, AreUnfailed, IsFirstFailed, AllKnow, AreFailureless, AreOwners, AreShownBelow, HaveStopped}
 use Rattle.dob_run.proofs.Common.{IsFailure, IsFailureOf, IsOwner, share_in, IsBuilt, IsLinkDone, needed, AreClosed, IsCrew, seat_in, endpoint_of, node_of}
 use Rattle.dob_run.proofs.Common.{AreFinished, AreShown, IsLawfulAt, Built, predecessors}
-use Rattle.dob_node.proofs.Kept.{last_now-entry}
+use Rattle.dob_lawful.proofs.Kept.{last_now-entry}
 use Rattle.dob_endpoint.proofs.Places.{map_got, get_map}
 use Rattle.dob_moves.specs.declared.position_status.Status.{Status}
 use Rattle.dob_moves.specs.declared.position_status.Status.TheVariants.{Open}
 use Rattle.dob_share.specs.declared.opening.Opening.{Opening}
 use Rattle.dob_share.specs.Cells.{Cell}
-use Rattle.dob_node.specs.Quiet.{FollowsAtStatus}
-use Rattle.dob_node.specs.Lawful.{known_of, AreLawfulNodes as AreLawful}
-use Rattle.dob_node.specs.Openings.{AreOpenings}
-use Rattle.dob_node.proofs.Ends.{lawful_is_right}
+use Rattle.dob_lawful.specs.Quiet.{FollowsAtStatus}
+use Rattle.dob_lawful.specs.Lawful.{known_of, AreLawfulNodes as AreLawful}
+use Rattle.dob_lawful.specs.Openings.{AreOpenings}
+use Rattle.dob_lawful.proofs.Ends.{lawful_is_right}
 use Rattle.dob_crew.proofs.CrewRunners.{are_linked, seat_there, rejoined_at, seat_at, crew_many, crew_low, outlet_at}
 use Rattle.dob_crew.specs.declared.crew_close.ClosedCrew.{ClosedCrew as Left}
 use Rattle.dob_run.proofs.Needed.{needed_fits}

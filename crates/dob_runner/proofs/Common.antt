@@ -28,15 +28,15 @@ pub use Rattle.dob_update.specs.Batches.{BatchView, OutboxView, empty_outbox, it
 pub use Rattle.dob_share.specs.Items.{items_from, items_of}
 pub use Rattle.dob_stops.specs.declared.cause.Cause.{Cause}
 pub use Rattle.dob_stops.specs.declared.cause.Cause.TheVariants.{Counts, Held, Memory}
-pub use Rattle.dob_node.proofs.Kepts.{fits_own, kept_still, news_is}
+pub use Rattle.dob_history.proofs.Kepts.{fits_own, kept_still, news_is}
 pub use Rattle.dob_node.proofs.Nodes.{kept_sound, outbox_same}
 pub use Rattle.dob_lawful.proofs.Settles.{chained_more, emitted_grown, emitted_more, value_of-more}
 pub use Rattle.dob_lawful.proofs.ValuesFollow.{SumsUp-same}
 pub use Rattle.dob_lawful.specs.Histories.{IsChained, IsNext, all_known, value_of}
 pub use Rattle.dob_node.specs.NodeViews.{NodeView}
 pub use Rattle.dob_node.specs.Nodes.{HasApplied, HasAppliedItems, HasCut, HasItemFault, HasTaken, IsExpanded, IsIdle, IsOpened, IsSound, IsUnchanged, outbox_to}
-pub use Rattle.dob_node.specs.Stores.{HistoryView}
-pub use Rattle.dob_node.specs.TakenItems.{AreKept, AreTaken, HasItemEntries, IsReason, IsTaken, listed}
+pub use Rattle.dob_history.specs.Stores.{HistoryView}
+pub use Rattle.dob_history.specs.TakenItems.{AreKept, AreTaken, HasItemEntries, IsReason, IsTaken, listed}
 pub use Rattle.dob_node.specs.declared.node.Node.{Node}
 pub use Rattle.dob_board.specs.Histories.{token_moves_of}
 pub use Rattle.dob_board.specs.Seats.{IsSameSeat, MovesNothing, TakesOne}

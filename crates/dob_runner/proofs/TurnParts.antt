@@ -5,7 +5,8 @@ use Rattle.dob_runner.proofs.Common.{slice_get_within, IfErr, MatchResult, slice
 use Rattle.dob_runner.proofs.Common.{KeepsEndpoint, offered, GateIsAsked, GoesOn, HasFailed, IsReasonFor, IsReasoned, KeepsRunner, StepsBy, says_no, AddsFew}
 use Rattle.dob_runner.proofs.Common.{ExpandsOne, ExpandsSome, IsAbove, IsHeldUp, IsLevel, ExpandsUpTo, RunnerTakesBatch, SendsAll, SendsSmall, Works}
 use Rattle.dob_runner.proofs.Common.{GateIsTold, HasSameWork, HasTurned, Endpoint, Runner, Inlet, Outlet}
-use Rattle.dob_node.specs.Levels.{level_of, HasLevel}
+use Rattle.dob_history.specs.Levels.{level_of}
+use Rattle.dob_node.specs.Levels.{HasLevel}
 use Rattle.dob_runner.proofs.Keeping.{goes_trans, reasoned_failed, reasoned_unfailed}
 use Rattle.dob_runner.specs.declared.turn_loop.Until.{Until}
 use Rattle.dob_runner.specs.declared.turn_loop.Until.TheVariants.{Turns, Halted}

@@ -3,7 +3,7 @@ use Rattle.std.specs.Prelude.{◌≡◌, ◌≢◌, ℕ, Some}
 use Rattle.std.specs.List.{All}
 use Rattle.dob_pieces.specs.declared.profile.Family.{Family}
 use Rattle.dob_update.specs.Batches.{BatchView}
-use Rattle.dob_node.specs.TakenItems.{HasItemEntries}
+use Rattle.dob_history.specs.TakenItems.{HasItemEntries}
 use Rattle.dob_endpoint.specs.declared.slots.Inlet.{Inlet}
 
 -- a batch of the family among n nodes, from that node to the other, with items that have such values as a table can have

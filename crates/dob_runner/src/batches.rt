@@ -3,7 +3,7 @@ ghost use Rattle.std.specs.Prelude.{◌≡◌, ◌↔◌, ℕ, IsTrue, MatchOpti
 ghost use Rattle.dob_runner.specs.Batches.{IsBatchFor, HoldsFor};
 
 use dob_endpoint::Inlet;
-use dob_node::have_entries;
+use dob_history::have_entries;
 use dob_pieces::{Family, PieceSet, Profile};
 use dob_update::Batch;
 

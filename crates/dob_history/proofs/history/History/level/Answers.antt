@@ -1,7 +1,7 @@
 -- What is stored at the place is the settlement of that number, and those before are on the first level.
 use Rattle.dob_history.proofs.Common.{◌<◌, ◌∙◌, ◌≡◌, HistoryView, ap, arith, length, max, refl, same_Some, settlement_stored, settlements_from, slice_get}
 use Rattle.dob_history.proofs.Common.{starts_count, starts_of, sym, take, ℕ}
-use Rattle.dob_value.specs.Bounds.{plies_of}
+use Rattle.dob_distance.specs.Distances.{plies_of}
 use Rattle.dob_history.specs.Levels.{level_of}
 use Rattle.dob_history.proofs.Starts.{start_level}
 use Rattle.dob_history.proofs.Stored.{stored_there, got_stored}

@@ -2,7 +2,7 @@
 use Rattle.dob_world.proofs.Common.{◌<◌, ◌∙◌, ◌≡◌, List, ap, cond, eqb, refl, slice_get, subst, sym, ℕ, lt-ltb, classes_of, IsEntry, Draw, fresh, owner_of}
 use Rattle.dob_world.proofs.Common.{HasValueNow, IsOwn, cell_at, status_at, below_owner, value_shown, Node, part, nodes_shown, world_shown, IsNodeOf, Stand}
 use Rattle.dob_world.proofs.Common.{Nodes, Setting, value_in, Detector, Lane}
-use Rattle.dob_value.specs.declared.value.Value.{Value}
+use Rattle.dob_distance.specs.declared.value.Value.{Value}
 use Rattle.dob_lawful.proofs.Kept.{last_now-entry}
 use Rattle.dob_world.proofs.InPlace.{NodeAt, kept_of, node_there}
 use Rattle.dob_world.proofs.world.World.value_of.Goals as goal
