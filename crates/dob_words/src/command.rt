@@ -9,20 +9,20 @@
 //   find what the arm owes, as it finds that of `verify`; where the answer speaks of values and a value table's file makes it right, that in
 //   `AnswersLinesRight` and `rightly` of proofs/Orders.antt.
 // What is asked of a position by a file, as `best --db FILE POSITION`, is a form of a `Question` instead, and asked by `--each` too.
-ghost use Rattle.std.specs.Prelude.{◌≡◌, [], IfOk, IfSome, List, Option, false, is_some, map, true};
+ghost use Rattle.std.specs.Prelude.{◌≡◌, [], IfOk, IfSome, List, Option, drop, false, is_some, map, take, true};
 ghost use Rattle.std.specs.List.{list_any};
 ghost use Rattle.std.specs.Str.{bytes_eq};
 ghost use Rattle.clap.specs.Words.{App, kind_of, new_app, subcommand_rows_of};
 ghost use Rattle.dob_words.specs.Forms.{Form, Text, form_named, forms, rows};
 ghost use Rattle.dob_words.specs.Lines.{IsAmong, IsCommandLine};
 ghost use Rattle.dob_words.specs.Words.{Meaning, asks, has_topic, is_topic, is_version, meaning_of, meaning_of_topic, names_subcommand, settled};
-ghost use Rattle.dob_words.specs.Shapes.{AreProfiles, Finds, HasCommandShape, HasFit, IsMetBySome, IsNamed, IsProgram, IsRead, bare_app, choice_rule, choice_said, flag_rule, flag_said, place_rule, place_said, row_app, row_said, texts_in, with_rows, with_rules};
+ghost use Rattle.dob_words.specs.Shapes.{AreProfiles, Finds, HasCommandShape, HasFit, IsMetBySome, IsNamed, IsProgram, IsRead, bare_app, choice_rule, choice_said, flag_rule, flag_said, is_stream_in, place_rule, place_said, row_app, row_said, texts_in, with_rows, with_rules};
 ghost use Rattle.dob_words.specs.Readings.{AreNamed, ComesFromLine, IsReadFor, IsReadingOf, IsReadingOfKind, name_of};
 
 mod misplaced;
 mod orders;
 
-use crate::rows::{PROGRAM, ROWS, Subcommand, help_of};
+use crate::rows::{FIRST_ROWS, LAST_ROWS, MIDDLE_ROWS, PROGRAM, Subcommand, help_of};
 use crate::table::{Choice, Flag, Kind, Need, PROFILES, Place, Row};
 use clap::error::ErrorKind;
 use clap::{Arg, ArgAction, ArgMatches, Command, Error, value_parser};
@@ -127,11 +127,21 @@ fn has_topic(words: &[&str]) -> bool
 fn names_subcommand(name: &str) -> bool
     ensures { result ≡ names_subcommand name.now }
 {
-    name == "help" || subcommand_named(rows(), name).is_some()
+    name == "help" || subcommand_named(name).is_some()
 }
 
-// The subcommand of that name, if one of the rows is its.
-fn subcommand_named(rows: &[Row], name: &str) -> Option<Subcommand>
+// The subcommand of that name, if there is one.
+fn subcommand_named(name: &str) -> Option<Subcommand>
+    ensures named { IfSome result (λ s. name_of s ≡ name.now) }
+    ensures known { is_some result ≡ list_any (λ n. bytes_eq n name.now) (map (λ r. r.0) rows) }
+{
+    subcommand_among(first_rows(), name)
+        .or(subcommand_among(middle_rows(), name))
+        .or(subcommand_among(last_rows(), name))
+}
+
+// The subcommand of that name, if one of these rows is its.
+fn subcommand_among(rows: &[Row], name: &str) -> Option<Subcommand>
     requires { AreNamed rows.now }
     ensures named { IfSome result (λ s. name_of s ≡ name.now) }
     ensures known { is_some result ≡ list_any (λ n. bytes_eq n name.now) (map (λ r. r.0) (map row_said rows.now)) }
@@ -159,15 +169,33 @@ fn dobutsu_command<'a>(alloc: Global) -> Result<Command<'a>, AllocError>
         names: profile_names(),
     };
     let command = bare_command(alloc)?;
-    add_subcommands(alloc, command, profiles, rows())
+    let command = add_subcommands(alloc, command, profiles, first_rows())?;
+    let command = add_subcommands(alloc, command, profiles, middle_rows())?;
+    add_subcommands(alloc, command, profiles, last_rows())
 }
 
-// The subcommands.
-fn rows<'a>() -> &'a [Row]
-    ensures said { map row_said result.now ≡ rows }
+// The first six subcommands.
+fn first_rows<'a>() -> &'a [Row]
+    ensures said { map row_said result.now ≡ take 6 rows }
     ensures named { AreNamed result.now }
 {
-    ROWS
+    FIRST_ROWS
+}
+
+// The six behind them.
+fn middle_rows<'a>() -> &'a [Row]
+    ensures said { map row_said result.now ≡ take 6 (drop 6 rows) }
+    ensures named { AreNamed result.now }
+{
+    MIDDLE_ROWS
+}
+
+// The others.
+fn last_rows<'a>() -> &'a [Row]
+    ensures said { map row_said result.now ≡ drop 12 rows }
+    ensures named { AreNamed result.now }
+{
+    LAST_ROWS
 }
 
 // The command with a subcommand for each row.
@@ -180,7 +208,7 @@ fn add_subcommands<'a>(
     ensures { (app : App) → HasCommandShape app command.entry → IfOk result (HasCommandShape (with_rows profiles.entry.names app (map row_said rows.now))) }
 {
     for row in rows {
-        command = command.subcommand(row_command(alloc, profiles, *row)?)?;
+        command = command.subcommand(row_command(alloc, profiles, row)?)?;
     }
     Ok(command)
 }
@@ -189,11 +217,11 @@ fn add_subcommands<'a>(
 fn row_command<'a>(
     alloc: Global,
     profiles: Profiles<'a>,
-    row: Row,
+    row: &Row,
 ) -> Result<Command<'a>, AllocError>
-    ensures { IfOk result (HasCommandShape (row_app profiles.entry.names (row_said row.entry))) }
+    ensures { IfOk result (HasCommandShape (row_app profiles.entry.names (row_said row.now))) }
 {
-    let (subcommand, name, about, options, flags, places) = row;
+    let (subcommand, name, about, options, flags, places) = *row;
     let command = named_command(alloc, subcommand, name, about);
     let command = add_options(alloc, command, profiles, options)?;
     let command = add_flags(alloc, command, flags)?;
@@ -225,7 +253,7 @@ fn add_options<'a>(
         → IfOk result (HasCommandShape (with_rules app (map (choice_rule profiles.entry.names) (map choice_said options.now)))) }
 {
     for choice in options {
-        command = command.arg(choice_argument(alloc, profiles, *choice))?;
+        command = command.arg(choice_argument(alloc, profiles, choice))?;
     }
     Ok(command)
 }
@@ -239,7 +267,7 @@ fn add_flags<'a>(
     ensures { (app : App) → HasCommandShape app command.entry → IfOk result (HasCommandShape (with_rules app (map flag_rule (map flag_said flags.now)))) }
 {
     for flag in flags {
-        command = command.arg(flag_argument(alloc, *flag))?;
+        command = command.arg(flag_argument(alloc, flag))?;
     }
     Ok(command)
 }
@@ -255,7 +283,7 @@ fn add_places<'a>(
         → IfOk result (HasCommandShape (with_rules app (map (place_rule profiles.entry.names) (map place_said places.now)))) }
 {
     for place in places {
-        command = command.arg(place_argument(alloc, profiles, *place))?;
+        command = command.arg(place_argument(alloc, profiles, place))?;
     }
     Ok(command)
 }
@@ -271,28 +299,27 @@ fn profile_names<'a>() -> &'a [&'a str]
 fn bare_command<'a>(alloc: Global) -> Result<Command<'a>, AllocError>
     ensures { IfOk result (HasCommandShape bare_app) }
 {
-    let command = Command::new(alloc, "dobutsu")
-        .bin_name("dobutsu")?
+    Command::new(alloc, "dobutsu")
         .no_binary_name(true)
         .subcommand_required(true)
         .about("Values of positions of Dobutsu shogi, and the sizes of its piece sets")
-        .after_help(PROGRAM);
-    Ok(command)
+        .after_help(PROGRAM)
+        .bin_name("dobutsu")
 }
 
 // An option.
-fn choice_argument<'a>(alloc: Global, profiles: Profiles<'a>, choice: Choice) -> Arg<'a>
-    ensures { IsRead (choice_rule profiles.entry.names (choice_said choice.entry)) result }
+fn choice_argument<'a>(alloc: Global, profiles: Profiles<'a>, choice: &Choice) -> Arg<'a>
+    ensures { IsRead (choice_rule profiles.entry.names (choice_said choice.now)) result }
 {
     let (name, place) = choice;
     place_argument(alloc, profiles, place).long(name)
 }
 
 // A flag. Its text is empty if it is given.
-fn flag_argument<'a>(alloc: Global, flag: Flag) -> Arg<'a>
-    ensures { IsRead (flag_rule (flag_said flag.entry)) result }
+fn flag_argument<'a>(alloc: Global, flag: &Flag) -> Arg<'a>
+    ensures { IsRead (flag_rule (flag_said flag.now)) result }
 {
-    let (name, help) = flag;
+    let (name, help) = *flag;
     Arg::new(alloc, name)
         .long(name)
         .action(ArgAction::Set)
@@ -302,10 +329,10 @@ fn flag_argument<'a>(alloc: Global, flag: Flag) -> Arg<'a>
 }
 
 // A text by its place.
-fn place_argument<'a>(alloc: Global, profiles: Profiles<'a>, place: Place) -> Arg<'a>
-    ensures { IsRead (place_rule profiles.entry.names (place_said place.entry)) result }
+fn place_argument<'a>(alloc: Global, profiles: Profiles<'a>, place: &Place) -> Arg<'a>
+    ensures { IsRead (place_rule profiles.entry.names (place_said place.now)) result }
 {
-    let (label, kind, need, help) = place;
+    let (label, kind, need, help) = *place;
     let argument = Arg::new(alloc, label)
         .required(matches!(need, Need::Must))
         .help(help);
@@ -335,10 +362,10 @@ fn order_by<'a>(name: &str, inner: &ArgMatches<'a>) -> Option<Order<'a>>
     requires fit { HasFit (form_named name.now) inner.now }
     ensures { IsReadFor (settled (asks name.now (texts_in (form_named name.now) inner.now))) result }
 {
-    match misplaced::stream_of(rows(), name, inner) {
+    match misplaced_in(name, inner) {
         Some(_) => None,
         None => {
-            let subcommand = subcommand_named(rows(), name)?;
+            let subcommand = subcommand_named(name)?;
             orders::order_for(subcommand, inner)
         }
     }
@@ -378,7 +405,16 @@ fn refusal_text(alloc: Global, matches: &ArgMatches<'_>, name: &str) -> Result<S
 // The stream that is given where a file is written, if one is.
 fn stream_given<'a>(matches: &ArgMatches<'a>) -> Option<Misplaced<'a>> {
     let (name, inner) = matches.subcommand()?;
-    misplaced::stream_of(rows(), name, inner)
+    misplaced_in(name, inner)
+}
+
+// The option of the subcommand of that name for which its matches have a stream where a file is written, if there is one.
+fn misplaced_in<'a>(name: &str, inner: &ArgMatches<'a>) -> Option<Misplaced<'a>>
+    ensures { is_some result ≡ list_any (λ row. is_stream_in name.now inner.now row) rows }
+{
+    misplaced::stream_of(first_rows(), name, inner)
+        .or(misplaced::stream_of(middle_rows(), name, inner))
+        .or(misplaced::stream_of(last_rows(), name, inner))
 }
 
 // What is said where the subcommand is asked by a position and by `--each`, or by none of them.

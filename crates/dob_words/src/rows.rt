@@ -27,8 +27,8 @@ pub enum Subcommand {
     Reply,
 }
 
-/// The subcommands, in the order of the help.
-pub const ROWS: &[Row] = &[
+/// The first six subcommands, in the order of the help. A constant of all rows takes far longer to prove than three.
+pub const FIRST_ROWS: &[Row] = &[
     (
         Subcommand::Value,
         "value",
@@ -123,6 +123,10 @@ pub const ROWS: &[Row] = &[
         ],
         &[LONE_POSITION],
     ),
+];
+
+/// The six behind them.
+pub const MIDDLE_ROWS: &[Row] = &[
     (
         Subcommand::Check,
         "check",
@@ -196,6 +200,10 @@ pub const ROWS: &[Row] = &[
         ],
         &[],
     ),
+];
+
+/// The others.
+pub const LAST_ROWS: &[Row] = &[
     (
         Subcommand::Zugzwangs,
         "zugzwangs",

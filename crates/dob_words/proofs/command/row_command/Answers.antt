@@ -5,7 +5,7 @@ use Rattle.dob_words.proofs.command.row_command.Goals as goal
 
 pub returns : goal.returns
 returns c =
-    let row = c.args.row in
+    let row = c.args.row.now in
     let bare : App = new_app row.1.now in
     let with_options : App = with_rules bare (map (choice_rule c.args.profiles.names) (map choice_said row.3.now)) in
     let with_flags : App = with_rules with_options (map flag_rule (map flag_said row.4.now)) in

@@ -1,16 +1,23 @@
--- The row's name is the one.
-use Rattle.dob_words.proofs.Common.{◌∙◌, map, sym, list_any_at, bytes_eq-Decides, bytes_eq, list_any-map, row_said}
-use Rattle.dob_words.proofs.Matches.{named_at}
+-- One of the three lists has the name.
+use Rattle.dob_words.proofs.Common.{◌∙◌, ◌≡◌, Bool, List, ap, drop, map, take, bytes_eq, list_any, Text}
+use Rattle.dob_words.specs.Forms.{Row, rows}
+use Rattle.dob_words.specs.Readings.{name_of}
+use Rattle.dob_words.specs.declared.rows.Subcommand.{Subcommand}
+use Rattle.dob_words.proofs.ThreeLists.{found_in_three, holds_of_three}
 use Rattle.dob_words.proofs.command.subcommand_named.Goals as goal
 
-pub returns-then-eq-clause-named : goal.returns-then-eq-clause-named
-returns-then-eq-clause-named c =
-    named_at c.args.rows.now c.loop-row.row-index _ c.loop-row-test.true c.requires
-    ∙ (bytes_eq-Decides _ c.args.name.now).0 (sym c.eq.ensures ∙ c.if-eq.true)
+pub returns-clause-named : goal.returns-clause-named
+returns-clause-named c =
+    rw (c.or-2.ensures, c.or.ensures)
+    (holds_of_three (λ (s : Subcommand). name_of s ≡ c.args.name.now) c.subcommand_among.result c.subcommand_among-2.result c.subcommand_among-3.result
+    c.subcommand_among.ensures.named c.subcommand_among-2.ensures.named c.subcommand_among-3.ensures.named)
 
-pub returns-then-eq-clause-known : goal.returns-then-eq-clause-known
-returns-then-eq-clause-known c =
-    sym (sym (list_any-map (λ n. bytes_eq n c.args.name.now) (λ r. r.0) (map row_said c.args.rows.now))
-    ∙ (sym (list_any-map (λ r. bytes_eq r.0 c.args.name.now) row_said c.args.rows.now)
-    ∙ list_any_at (λ x. bytes_eq (row_said x).0 c.args.name.now) c.args.rows.now c.loop-row.row-index _ c.loop-row-test.true
-    (sym c.eq.ensures ∙ c.if-eq.true)))
+pub returns-clause-known : goal.returns-clause-known
+returns-clause-known c =
+    let names : List Row → List Text = map (λ r. r.0) in
+    let is : Text → Bool = λ n. bytes_eq n c.args.name.now in
+    let among : List Row → Bool = λ rs. list_any is (names rs) in
+    rw (c.or-2.ensures, c.or.ensures)
+    (found_in_three is (names (take 6 rows)) (names (take 6 (drop 6 rows))) (names (drop 12 rows))
+    c.subcommand_among.result c.subcommand_among-2.result c.subcommand_among-3.result (c.subcommand_among.ensures.known ∙ ap among c.first_rows.ensures.said)
+    (c.subcommand_among-2.ensures.known ∙ ap among c.middle_rows.ensures.said) (c.subcommand_among-3.ensures.known ∙ ap among c.last_rows.ensures.said))
