@@ -1,6 +1,6 @@
 // Building a database file.
 ghost use Rattle.std.specs.Prelude.{◌≡◌, ℕ, false, IfOk, IfErr, MatchResult};
-ghost use Rattle.dob_dbfile.specs.Sinks.{change};
+ghost use Rattle.dob_device.specs.Sinks.{change};
 ghost use Rattle.dob_pieces.specs.declared.profile.Family.{Family};
 ghost use Rattle.dob_files.specs.Keeping.{FillsSink};
 ghost use Rattle.dob_shelf.specs.Shelves.{Leaving, SameOthers};

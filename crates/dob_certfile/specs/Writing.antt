@@ -1,7 +1,7 @@
 -- What a sink has of a file where writing stops.
 use Rattle.std.specs.Prelude.{Bool, true, false}
 use Rattle.dob_dbfile.specs.declared.fault.Fault.TheVariants as file_fault
-use Rattle.dob_dbfile.specs.Sinks.{Change, IsUntouched}
+use Rattle.dob_device.specs.Sinks.{Change, IsUntouched}
 use Rattle.dob_dbfile.specs.Writing.{WriteStopsAt}
 use Rattle.dob_certfile.specs.declared.defect.WriteFault.{WriteFault}
 use Rattle.dob_certfile.specs.declared.defect.WriteFault.TheVariants.{Memory, Unfit, Io}

@@ -4,7 +4,7 @@ ghost use Rattle.byteorder.specs.Endian.{little_bytes};
 ghost use Rattle.dob_rank.specs.Families.{classes_of};
 ghost use Rattle.dob_certificate.specs.Ascending.{AreAscending};
 ghost use Rattle.dob_dbfile.specs.Faults.{fails};
-ghost use Rattle.dob_dbfile.specs.Sinks.{Puts, change};
+ghost use Rattle.dob_device.specs.Sinks.{Puts, change};
 ghost use Rattle.dob_certfile.specs.Format.{FitEntries, FitEntry, Fits, FitsClaim, FitsPlies, bytes_of, claim_bytes, content, contents_of, entry_bytes, entries_bytes, head_bytes, plies_byte};
 ghost use Rattle.dob_certfile.specs.Writing.{IsUnwritten, is_io};
 

@@ -4,7 +4,7 @@ pub use Rattle.std.proofs.Common.{sym, true≢false, ℕ}
 pub use Rattle.std.specs.Prelude.{Err, IsTrue}
 pub use Rattle.dob_pieces.specs.declared.profile.Profile.{Profile}
 pub use Rattle.dob_dbfile.specs.Format.{bytes_of}
-pub use Rattle.dob_dbfile.specs.Sinks.{Change, IsSame, IsUntouched, Says, SinkState, change}
+pub use Rattle.dob_device.specs.Sinks.{Change, IsSame, IsUntouched, Says, SinkState, change}
 pub use Rattle.dob_words.specs.Forms.{Text}
 pub use Rattle.dob_words.specs.Readings.{IsOrder, IsReadingOf}
 pub use Rattle.dob_words.specs.Words.{asks, meaning_of, number_in, profile_named}

@@ -1,6 +1,6 @@
 -- What the program does with its words, whatever they are.
 use Rattle.std.specs.Prelude.{◌≡◌, ◌⊎◌, ℕ, false, List, [], ◌∷◌, ◌++◌, Option, codes}
-use Rattle.dob_dbfile.specs.Sinks.{Change, IsSame, IsUntouched, Says}
+use Rattle.dob_device.specs.Sinks.{Change, IsSame, IsUntouched, Says}
 use Rattle.dob_words.specs.Words.{Text, meaning_of}
 use Rattle.dob_words.specs.declared.command.Order.{Order}
 use Rattle.dob_words.specs.declared.command.Reading.{Reading}

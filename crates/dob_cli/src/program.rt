@@ -3,7 +3,7 @@ ghost use Rattle.std.specs.Prelude.{◌≡◌, ◌≢◌, IfOk, IfErr, drop, map
 ghost use Rattle.std.specs.IoError.{error_kind};
 ghost use Rattle.std.specs.declared.io.ErrorKind.TheVariants.{OutOfMemory};
 ghost use Rattle.std.specs.Vec.Iter.{into_iter_items};
-ghost use Rattle.dob_dbfile.specs.Sinks.{Says, change};
+ghost use Rattle.dob_device.specs.Sinks.{Says, change};
 ghost use Rattle.dob_cli.specs.Runs.{LeavesShelf, Ran, RanOver, TellsNoText, contents};
 ghost use Rattle.dob_cli.specs.Orders.{AnswersEachLine, AnswersOrder, KeepsFiles, KeepsFilesFor, AreAskedLines, AreEachAsked, AreLinesFor, IsAskedFault, IsEachAskedFault, IsFaultFor};
 ghost use Rattle.dob_shelf.specs.Shelves.{Changes, Leaving, SameFiles};

@@ -4,7 +4,7 @@ use Rattle.dob_dbfile.proofs.Common.{sym, take, take_all, ℕ, drop-take, drop_a
 use Rattle.dob_dbfile.proofs.Common.{Stream, after, CountsClasses, HasHeader, HasHeaderFault, HasTitle, NamesClasses, NamesFamily, NamesSet, SaysProfile}
 use Rattle.dob_dbfile.proofs.Common.{count_place, header_len, HasFrontFault, GivesFewer, TakesBytes, Fault, Format, First, Second, put_mid}
 use Rattle.std.proofs.lemmas.List.{take-take}
-use Rattle.dob_dbfile.proofs.Pieces.{filled_more}
+use Rattle.dob_device.proofs.Streams.{filled_more}
 use Rattle.dob_dbfile.specs.declared.fault.Fault.TheVariants as fault
 
 -- the number of classes stands in the header's last eight bytes

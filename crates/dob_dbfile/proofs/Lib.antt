@@ -12,4 +12,4 @@ mod Verdicts  -- what the steps say of the whole stream
 pub mod Written  -- the file of a table passes
 pub mod Looked  -- what was read by place, and the records in a table's file
 -- Writing.
-mod Sinks  -- what sinks have received
+mod Parts  -- where writing stops in a whole

@@ -1,14 +1,10 @@
--- What is read piece after piece: codes, a room that fills, a stream that is cut, and the end of a file.
-use Rattle.dob_dbfile.proofs.Common.{◌*◌, ◌++◌, ◌+◌, ◌-◌, ◌∙◌, ◌≡◌, ◌≤◌, Bool, List, [], ap, append-nil, append_assoc, arith, drop, false, length, length-drop}
-use Rattle.dob_dbfile.proofs.Common.{length-take, length-take-le, min, refl, rules, subst, sym, take, take-add, take_all, true, ℕ, min-le_left, drop-drop}
-use Rattle.dob_dbfile.proofs.Common.{drop-take, length-append, take-append-le, flat_map-append, little_bytes, Holds256, sha256, GivesFirst, Stream, after}
-use Rattle.dob_dbfile.proofs.Common.{whole, code_bytes, EndsWith, GivesFewer, HasDigestFault, HashesNext, IsDigest, ReadsCodes, TakesBytes, Fault, post_of}
-use Rattle.dob_dbfile.proofs.Common.{put_mid}
+-- What is read piece after piece: codes, and the end of a file.
+use Rattle.dob_dbfile.proofs.Common.{◌*◌, ◌++◌, ◌+◌, ◌-◌, ◌∙◌, ◌≡◌, ◌≤◌, List, [], ap, append-nil, append_assoc, arith, drop, false, length, length-drop}
+use Rattle.dob_dbfile.proofs.Common.{length-take, min, rules, subst, sym, take, take-add, take_all, ℕ, min-le_left, length-append, flat_map-append, little_bytes}
+use Rattle.dob_dbfile.proofs.Common.{Holds256, sha256, Stream, after, whole, code_bytes, EndsWith, GivesFewer, HasDigestFault, HashesNext, IsDigest, ReadsCodes}
+use Rattle.dob_dbfile.proofs.Common.{TakesBytes, Fault}
 use Rattle.sha2.specs.declared.Sha256.{Sha256}
 use Rattle.dob_dbfile.specs.declared.fault.Fault.TheVariants.{Truncated, Memory, Io}
-use Rattle.std.proofs.Common.{drop_at, le_refl, nat_lt}
-use Rattle.std.proofs.lemmas.Slice.{take-put_mid_below}
-use Rattle.dob_dbfile.specs.Memory.{cut}
 
 -- ---- what is read piece after piece
 
@@ -60,45 +56,6 @@ few_more count done records longest room some piece =
     let front : min (2 * records) (length room) ≤ 2 * records = min-le_left (2 * records) (length room) in
     let left : min (count - done) longest ≤ count - done = min-le_left (count - done) longest in
     omega (arith, taken, front, left, piece, some)
-
--- ---- a room that fills with the bytes of a stream, piece by piece
-
--- the front of a room, a piece more of which was written
-take_more : (done count k : ℕ) (room part : List ℕ) → done ≤ length room → count ≤ length part
-    → take (done + count) (put_mid done k room part) ≡ take done room ++ take count part
-take_more done count k room part inside fits =
-    let rest = post_of done k room in
-    take-add done count (put_mid done k room part)
-    ∙ ap (λ (front : List ℕ). front ++ take count (drop done (put_mid done k room part))) (take-put_mid_below done k room part done (le_refl done) inside)
-    ∙ ap (λ (back : List ℕ). take done room ++ take count back) (drop_at (take done room) (part ++ rest) done (length-take-le done room inside))
-    ∙ ap (λ (back : List ℕ). take done room ++ back) (take-append-le count part rest fits)
-
--- a piece more of the stream has come
-pub filled_more : (stream : Stream) (done count k : ℕ) (room part : List ℕ) → done ≤ length room → count ≤ length part
-    → done ≤ length stream.bytes → take done room ≡ take done stream.bytes → GivesFirst (after done stream) count part
-    → (done + count ≤ length stream.bytes) × (take (done + count) (put_mid done k room part) ≡ take (done + count) stream.bytes)
-filled_more stream done count k room part inside fits there same gave = (
-  omega (arith, gave.within, length-drop done stream.bytes),
-  take_more done count k room part inside fits
-      ∙ ap (λ (front : List ℕ). front ++ take count part) same
-      ∙ ap (λ (back : List ℕ). take done stream.bytes ++ back) gave.same
-      ∙ sym (take-add done count stream.bytes),
-)
-
--- what comes after two pieces
-pub after-after : (stream : Stream) (a b : ℕ) → after b (after a stream) ≡ after (a + b) stream
-after-after stream a b = rw (drop-drop b a stream.bytes) refl
-
--- ---- a stream that is cut where it has so many bytes
-
--- the bytes before the cut, kept as a front of all of them
-pub cut-front : (count start : ℕ) (bytes : List ℕ) (fails : Bool) → count ≤ length bytes - start
-    → let old : Stream = record { bytes = drop start bytes; fails = fails } in
-    let new : Stream = record { bytes = drop start (take (start + count) bytes); fails = true } in
-    new ≡ cut count old
-cut-front count start bytes fails within =
-    let enough : nat_lt (length (drop start bytes)) count ≡ false = grind (arith, within, length-drop start bytes) in
-    rw (drop-take start count bytes, enough) refl
 
 -- ---- what the end of a file shows
 

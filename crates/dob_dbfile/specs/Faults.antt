@@ -10,7 +10,7 @@ use Rattle.dob_dbfile.specs.declared.fault.Fault.{Fault}
 use Rattle.dob_dbfile.specs.declared.fault.Fault.TheVariants.{Truncated, Magic, SetByte, ClassCount, Trailing, Digest, Io, ProfileByte}
 use Rattle.dob_dbfile.specs.declared.header.Format.{Format}
 use Rattle.dob_dbfile.specs.declared.header.Format.TheVariants.{First, Second}
-use Rattle.dob_dbfile.specs.Devices.{Stream}
+use Rattle.dob_device.specs.Devices.{Stream}
 use Rattle.dob_dbfile.specs.Format.{title, set_bytes, profile_number, count_bytes}
 
 -- whether it is the fault of a device that failed

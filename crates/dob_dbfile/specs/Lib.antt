@@ -1,6 +1,3 @@
-pub mod Devices
-pub mod Sinks
-pub mod Memory
 pub mod Format
 pub mod Faults
 pub mod FaultTexts

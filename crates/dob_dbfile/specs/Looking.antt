@@ -8,7 +8,7 @@ use Rattle.dob_value.specs.Follows.{ClassTable, IsTable}
 use Rattle.dob_dbfile.specs.declared.fault.Fault.{Fault}
 use Rattle.dob_dbfile.specs.declared.fault.Fault.TheVariants.{Truncated, Io}
 use Rattle.dob_dbfile.specs.declared.header.Format.{Format}
-use Rattle.dob_dbfile.specs.Devices.{Stream, whole}
+use Rattle.dob_device.specs.Devices.{Stream, whole}
 use Rattle.dob_dbfile.specs.Format.{IsFile}
 use Rattle.dob_dbfile.specs.Faults.{CountsClasses, HasHeaderFault, IsHeaderShort, header_len}
 

@@ -5,7 +5,7 @@ use Rattle.sha2.specs.Hashers.{Holds256}
 use Rattle.sha2.specs.declared.Sha256.{Sha256}
 use Rattle.dob_dbfile.specs.declared.fault.Fault.{Fault}
 use Rattle.dob_dbfile.specs.declared.fault.Fault.TheVariants.{Truncated, Trailing, Digest, Memory, Io}
-use Rattle.dob_dbfile.specs.Devices.{Stream}
+use Rattle.dob_device.specs.Devices.{Stream}
 use Rattle.dob_dbfile.specs.Format.{code_bytes}
 
 -- the room holds the next bytes of the stream

@@ -2,10 +2,10 @@
 use Rattle.std.specs.Prelude.{◌≡◌, ◌+◌, ◌++◌, List, ℕ}
 use Rattle.sha2.specs.Hashers.{Holds256}
 use Rattle.sha2.specs.declared.Sha256.{Sha256}
-use Rattle.dob_dbfile.specs.declared.device.FailedAfter.{FailedAfter}
+use Rattle.dob_device.specs.declared.device.FailedAfter.{FailedAfter}
 use Rattle.dob_dbfile.specs.declared.fault.Fault.{Fault}
 use Rattle.dob_dbfile.specs.declared.fault.Fault.TheVariants.{Memory, Io}
-use Rattle.dob_dbfile.specs.Sinks.{Change, IsUntouched, StopsAfter}
+use Rattle.dob_device.specs.Sinks.{Change, IsUntouched, StopsAfter}
 
 -- a sink that fails has received just so many bytes of those, and where memory is refused nothing happens to it
 abbrev pub WriteStopsAt : Change → List ℕ → Fault → Type 0

@@ -1,15 +1,15 @@
 // Reading what stands before the records.
 ghost use Rattle.std.specs.Prelude.{◌≡◌, ◌≢◌, ◌⊎◌, ◌||◌, length, take, IfOk, IfErr, OnOk};
-ghost use Rattle.dob_dbfile.specs.Devices.{Stream, after};
+ghost use Rattle.dob_device.specs.Devices.{Stream, after};
 ghost use Rattle.dob_dbfile.specs.Faults.{CountsClasses, NamesClasses, NamesSet, fails, header_len, is_io};
 ghost use Rattle.dob_dbfile.specs.Looking.{HasFrontFault};
 ghost use Rattle.dob_dbfile.specs.Reading.{TakesBytes};
 
-use crate::device::Source;
 use crate::fault::Fault;
 use crate::header::{FRONT_LEN, Format, classes_counted, front_named};
 use crate::read::fill;
 use dob_classes::Classes;
+use dob_device::Source;
 use dob_pieces::PieceSet;
 use std::alloc::Global;
 

@@ -6,7 +6,7 @@ ghost use Rattle.dob_rank.specs.Families.{classes_of};
 ghost use Rattle.dob_distance.specs.Codes.{IsEntry};
 ghost use Rattle.dob_dbfile.specs.declared.fault.Fault.{Fault as AnyFault};
 ghost use Rattle.dob_dbfile.specs.declared.header.Format.{Format as AnyFormat};
-ghost use Rattle.dob_dbfile.specs.Devices.{whole};
+ghost use Rattle.dob_device.specs.Devices.{whole};
 ghost use Rattle.dob_dbfile.specs.Format.{count_bytes};
 ghost use Rattle.dob_dbfile.specs.Faults.{CountsClasses, NamesFamily, HasReadFault, HasHeaderFault, IsHeaderShort, IsNoLonger, count_place, file_len, header_len};
 ghost use Rattle.dob_dbfile.specs.Fronts.{IsFrontOf};

@@ -1,17 +1,17 @@
 // Reading by place: what a file's header names, and the value of one class's record.
 ghost use Rattle.std.specs.Prelude.{◌≡◌, ◌⊎◌, ◌<◌, ◌||◌, ◌^◌, false, IfErr, IfOk};
 ghost use Rattle.dob_distance.specs.Codes.{IsEntry};
-ghost use Rattle.dob_dbfile.specs.Devices.{Stream};
+ghost use Rattle.dob_device.specs.Devices.{Stream};
 ghost use Rattle.dob_dbfile.specs.Faults.{CountsClasses, NamesClasses, fails, is_io};
 ghost use Rattle.dob_dbfile.specs.Looking.{HasFrontFault, HasRecord, HasRecordFault};
 
-use crate::device::{Failed, PlacedSource, Source};
 use crate::fault::Fault;
 use crate::front::{Header, read_header};
 use crate::header::{Format, HEADER_LEN};
 use crate::read::fill;
 use crate::records::{RECORD_LEN, value_in};
 use dob_classes::Classes;
+use dob_device::{Failed, PlacedSource, Source};
 use dob_value::Value;
 use std::alloc::Global;
 

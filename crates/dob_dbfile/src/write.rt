@@ -4,15 +4,14 @@ ghost use Rattle.dob_value.specs.Follows.{IsTable};
 ghost use Rattle.dob_dbfile.specs.Format.{bytes_of, digest_of, header_in, records};
 ghost use Rattle.dob_dbfile.specs.declared.header.Format.TheVariants.{Second};
 ghost use Rattle.dob_dbfile.specs.Faults.{fails, is_io};
-ghost use Rattle.dob_dbfile.specs.Sinks.{Puts, Writes, change};
+ghost use Rattle.dob_device.specs.Sinks.{Puts, Writes, change};
 ghost use Rattle.dob_dbfile.specs.Writing.{WriteStopsAt, StopsBehind};
 
-use crate::device::{FailedAfter, Sink};
 use crate::digest::{digest_of, header_piece};
 use crate::fault::Fault;
 use crate::header::HEADER_LEN;
 use crate::records::{PIECE_RECORDS, RECORD_LEN, put_records};
-use crate::transfer::{put_all, write_all};
+use dob_device::{FailedAfter, Sink, put_all, write_all};
 use dob_value::Table;
 use std::alloc::Global;
 

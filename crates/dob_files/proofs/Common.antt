@@ -8,7 +8,7 @@ pub use Rattle.dob_pieces.specs.declared.profile.Profile.{Profile}
 pub use Rattle.dob_pieces.specs.declared.setup.Setup.{Setup}
 pub use Rattle.dob_value.specs.Follows.{ClassTable, IsValueTable}
 pub use Rattle.dob_dbfile.specs.Faults.{fails}
-pub use Rattle.dob_dbfile.specs.Sinks.{Change, Puts, SinkState, Stops, change}
+pub use Rattle.dob_device.specs.Sinks.{Change, Puts, SinkState, Stops, change}
 pub use Rattle.dob_probe.specs.Faults.{IsRefusal}
 pub use Rattle.dob_shelf.proofs.Shelves.{others_chain, others_kept, unchanged}
 pub use Rattle.dob_shelf.specs.Shelves.{FailsWhere, Files, HasJust, SameFiles, SameOthers, ShelfChange, ShelfState, TakesLine, is_failed, shelf_change}

@@ -1,6 +1,6 @@
 -- How the program ends: an exit status, and what it writes on standard output and standard error.
 use Rattle.std.specs.Prelude.{◌≡◌, ℕ, ◌⊎◌, false, List, [], ◌∷◌, ◌++◌, codes, Result, Ok, Err, String, string_bytes}
-use Rattle.dob_dbfile.specs.Sinks.{Change, IsUntouched, Puts, Says, Stops}
+use Rattle.dob_device.specs.Sinks.{Change, IsUntouched, Puts, Says, Stops}
 use Rattle.dob_files.specs.declared.fault.Fault.{Fault}
 use Rattle.dob_files.specs.declared.fault.Fault.TheVariants.{Memory, Io}
 use Rattle.dob_files.specs.Faults.{AreFaultLines, fault_line, is_io, status_of}

@@ -1,7 +1,7 @@
 -- Files that are filled and kept.
 use Rattle.std.specs.Prelude.{◌≡◌, ◌≤◌, ℕ, IfErr, IfOk, IsTrue, List, ◌⊎◌, Option, Some, length}
 use Rattle.std.specs.Prelude.{Err, Ok, Result, String, string_bytes}
-use Rattle.dob_dbfile.specs.Sinks.{Change, TakesPiece}
+use Rattle.dob_device.specs.Sinks.{Change, TakesPiece}
 use Rattle.dob_value.specs.Follows.{ClassTable}
 use Rattle.dob_dbfile.specs.declared.fault.Fault.TheVariants as file_fault
 use Rattle.dob_dbfile.specs.Faults.{fails}

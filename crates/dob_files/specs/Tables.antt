@@ -9,7 +9,7 @@ use Rattle.dob_text.specs.Faults as text
 use Rattle.dob_value.specs.Follows.{ClassTable, IsTable, IsValueTable}
 use Rattle.dob_dbfile.specs.declared.fault.Fault as file
 use Rattle.dob_dbfile.specs.declared.fault.Fault.TheVariants as file_fault
-use Rattle.dob_dbfile.specs.Devices.{whole}
+use Rattle.dob_device.specs.Devices.{whole}
 use Rattle.dob_dbfile.specs.Faults as reading
 use Rattle.dob_dbfile.specs.Format.{IsFile}
 use Rattle.dob_probe.specs.declared.fault.Fault.TheVariants as table_fault

@@ -2,7 +2,7 @@
 use Rattle.std.specs.Prelude.{◌≡◌, ◌⊎◌, ◌||◌, ℕ, Bool, true, false, if◌then◌else◌, List, [], ◌∷◌, ◌++◌, None, Option, Some, Result, Ok, Err, flat_map, string_bytes}
 use Rattle.std.specs.List.{concat, list_any}
 use Rattle.std.specs.Str.Lines.{lines as lines_of}
-use Rattle.dob_dbfile.specs.Sinks.{Change, IsUntouched, Puts, SinkState, Stops, change}
+use Rattle.dob_device.specs.Sinks.{Change, IsUntouched, Puts, SinkState, Stops, change}
 use Rattle.dob_files.specs.declared.talk.LineAnswers.{LineAnswers}
 use Rattle.dob_files.specs.declared.fault.Fault.{Fault}
 use Rattle.dob_files.specs.declared.fault.Fault.TheVariants.{Memory, Io}

@@ -2,7 +2,7 @@
 ghost use Rattle.std.specs.Prelude.{◌≡◌, false, string_bytes};
 ghost use Rattle.dob_dbfile.specs.Faults.{fails};
 ghost use Rattle.dob_dbfile.specs.Format.{bytes_of, digest_of};
-ghost use Rattle.dob_dbfile.specs.Sinks.{change};
+ghost use Rattle.dob_device.specs.Sinks.{change};
 ghost use Rattle.dob_shelf.specs.Shelves.{Leaving, SameOthers};
 ghost use Rattle.dob_files.specs.Faults.{is_io};
 ghost use Rattle.dob_files.specs.Keeping.{AreThese, FillsSink, IsShelfFault, IsWritingFault, KeepsFilled};

@@ -1,7 +1,7 @@
 // The lines of standard input and what they come to: each is answered and told before the next one is waited for.
 ghost use Rattle.std.specs.Prelude.{◌≡◌, ◌||◌, ◌++◌, ℕ, List, [], Bool, false, IfErr, IfOk, OnErr, OnOk, string_bytes};
 ghost use Rattle.dob_dbfile.specs.Faults.{fails};
-ghost use Rattle.dob_dbfile.specs.Sinks.{Stops, change};
+ghost use Rattle.dob_device.specs.Sinks.{Stops, change};
 ghost use Rattle.dob_files.specs.declared.fault.Fault.{Fault as TheFault};
 ghost use Rattle.dob_files.specs.declared.fault.Fault.TheVariants.{Io};
 ghost use Rattle.dob_files.specs.Faults.{is_io};

@@ -11,9 +11,9 @@ pub use Rattle.dob_rank.specs.Families.{IsPositionOf}
 pub use Rattle.dob_value.specs.Follows.{ClassTable}
 pub use Rattle.dob_distance.specs.Values.{HasValue}
 pub use Rattle.dob_distance.specs.declared.value.Value.{Value}
-pub use Rattle.dob_dbfile.specs.Devices.{Stream, whole}
+pub use Rattle.dob_device.specs.Devices.{Stream, whole}
 pub use Rattle.dob_dbfile.specs.Faults.{CountsClasses}
-pub use Rattle.dob_dbfile.specs.Sinks.{change}
+pub use Rattle.dob_device.specs.Sinks.{change}
 pub use Rattle.dob_dbfile.specs.declared.header.Format.{Format}
 pub use Rattle.dob_probe.specs.Faults.{IsRefusal}
 pub use Rattle.dob_records.specs.Records.{IsRecorded}

@@ -13,7 +13,7 @@ use Rattle.dob_distance.specs.Values.{HasValue}
 use Rattle.dob_dbfile.specs.declared.fault.Fault as file
 use Rattle.dob_dbfile.specs.declared.fault.Fault.TheVariants as file_fault
 use Rattle.dob_dbfile.specs.declared.header.Format.{Format}
-use Rattle.dob_dbfile.specs.Devices.{Stream, whole}
+use Rattle.dob_device.specs.Devices.{Stream, whole}
 use Rattle.dob_dbfile.specs.Faults.{CountsClasses, fails}
 use Rattle.dob_dbfile.specs.Looking.{HasFrontFault}
 use Rattle.dob_probe.specs.declared.by_value.ValuedMove.{ValuedMove}

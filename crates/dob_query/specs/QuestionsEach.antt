@@ -8,7 +8,7 @@ use Rattle.dob_pieces.specs.Bytes.{line_feed}
 use Rattle.dob_text.specs.Faults.{HasTextFault}
 use Rattle.dob_rank.specs.Families.{IsPositionOf}
 use Rattle.dob_dbfile.specs.declared.fault.Fault.TheVariants as file_fault
-use Rattle.dob_dbfile.specs.Devices.{Stream}
+use Rattle.dob_device.specs.Devices.{Stream}
 use Rattle.dob_dbfile.specs.declared.header.Format.{Format}
 use Rattle.dob_dbfile.specs.Faults.{CountsClasses}
 use Rattle.dob_dbfile.specs.Looking.{HasFrontFault}

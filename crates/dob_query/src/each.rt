@@ -1,6 +1,6 @@
 // The answers to the lines of standard input, by the table of a database file.
 ghost use Rattle.std.specs.Prelude.{◌≡◌, false, IfOk, string_bytes};
-ghost use Rattle.dob_dbfile.specs.Sinks.{change};
+ghost use Rattle.dob_device.specs.Sinks.{change};
 ghost use Rattle.dob_query.specs.Each.{IsAnswer, IsGivenTo, IsToldValue, answer_line, AreEachLines, IsEachFault};
 ghost use Rattle.dob_files.specs.declared.fault.Fault.TheVariants.{Memory as OutOfMemory};
 ghost use Rattle.dob_shelf.specs.Shelves.{Leaving, SameFiles};

@@ -1,7 +1,7 @@
 // The answer to a question of a position by the header and the records of a database file that it needs, and how that is told.
 ghost use Rattle.std.specs.Prelude.{◌≡◌, false, IfErr, IfOk, string_bytes};
 ghost use Rattle.dob_rank.specs.Families.{IsPositionOf};
-ghost use Rattle.dob_dbfile.specs.Devices.{Stream};
+ghost use Rattle.dob_device.specs.Devices.{Stream};
 ghost use Rattle.dob_dbfile.specs.Faults.{fails};
 ghost use Rattle.dob_shelf.specs.Shelves.{Leaving, SameFiles};
 ghost use Rattle.dob_files.specs.Endings.{GivesLines};

@@ -1,8 +1,8 @@
 // The answers to the lines of standard input, each by the records of a database file that it needs, whatever the file's size.
 ghost use Rattle.std.specs.Prelude.{◌≡◌, ◌||◌, Ok, false, true, IfOk, MatchResult, string_bytes};
-ghost use Rattle.dob_dbfile.specs.Devices.{Stream};
+ghost use Rattle.dob_device.specs.Devices.{Stream};
 ghost use Rattle.dob_dbfile.specs.Faults.{fails};
-ghost use Rattle.dob_dbfile.specs.Sinks.{change};
+ghost use Rattle.dob_device.specs.Sinks.{change};
 ghost use Rattle.dob_files.specs.Faults.{is_io};
 ghost use Rattle.dob_query.specs.QuestionsEach.{EndsRecords, GivesRecordAnswer, IsRecordEnd, IsToldOf, TellsRecords, AnswersLine, ArePlaceLines, IsPlacesFault};
 ghost use Rattle.dob_query.specs.QuestionsEach.{bytes_of, end_of, ended_lines, ends_all, ends_all_in, fault_object};

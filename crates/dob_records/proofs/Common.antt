@@ -9,7 +9,7 @@ pub use Rattle.dob_rank.specs.Families.{IsPositionOf}
 pub use Rattle.dob_value.specs.Follows.{ClassTable, IsTable}
 pub use Rattle.dob_distance.specs.declared.value.Value.{Value}
 pub use Rattle.dob_dbfile.proofs.Looked.{one_record, table_has_record, table_record}
-pub use Rattle.dob_dbfile.specs.Devices.{Stream, whole}
+pub use Rattle.dob_device.specs.Devices.{Stream, whole}
 pub use Rattle.dob_dbfile.specs.Looking.{HasRecord}
 pub use Rattle.dob_dbfile.specs.declared.header.Format.{Format}
 pub use Rattle.dob_probe.proofs.ByValue.{said_valued}

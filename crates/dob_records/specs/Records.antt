@@ -6,7 +6,7 @@ use Rattle.dob_rank.specs.Families.{IsInClass, classes_of}
 use Rattle.dob_distance.specs.declared.value.Value.{Value}
 use Rattle.dob_dbfile.specs.declared.fault.Fault.{Fault}
 use Rattle.dob_dbfile.specs.declared.header.Format.{Format}
-use Rattle.dob_dbfile.specs.Devices.{Stream}
+use Rattle.dob_device.specs.Devices.{Stream}
 use Rattle.dob_dbfile.specs.Looking.{HasRecord, HasRecordFault}
 use Rattle.dob_probe.specs.Said.{IsAlong, IsNext}
 

@@ -1,7 +1,7 @@
 // The line of a position by the records of the positions on it and of those that their moves lead to.
 ghost use Rattle.std.specs.Prelude.{◌≡◌, ◌||◌, IfErr, IfOk};
 ghost use Rattle.dob_rank.specs.Families.{IsPositionOf};
-ghost use Rattle.dob_dbfile.specs.Devices.{Stream};
+ghost use Rattle.dob_device.specs.Devices.{Stream};
 ghost use Rattle.dob_dbfile.specs.Faults.{is_io};
 ghost use Rattle.dob_probe.specs.Lines.{IsLine};
 ghost use Rattle.dob_probe.specs.Said.{IsGapOfLine, fails, is_failing};

@@ -1,7 +1,7 @@
 // The moves of a position with their values by the records of the positions that they lead to, best first.
 ghost use Rattle.std.specs.Prelude.{◌≡◌, ◌||◌, IfErr, IfOk};
 ghost use Rattle.dob_rank.specs.Families.{IsPositionOf};
-ghost use Rattle.dob_dbfile.specs.Devices.{Stream};
+ghost use Rattle.dob_device.specs.Devices.{Stream};
 ghost use Rattle.dob_dbfile.specs.Faults.{is_io};
 ghost use Rattle.dob_probe.specs.Said.{IsGapOfMoves, fails, is_failing};
 ghost use Rattle.dob_probe.specs.ValuedMoves.{AreValuedMoves};

@@ -4,7 +4,7 @@ ghost use Rattle.std.specs.Prelude.{◌≡◌, None, false};
 use crate::line_reader::LineReader;
 use crate::said::{Heard, Note, Place};
 use crate::shelf::{Shelf, ShelfFault, is_failed};
-use dob_dbfile::{Sink, Source, Std};
+use dob_device::{Sink, Source, Std};
 use std::alloc::{AllocError, Global};
 use std::fs::{self, File, OpenFile, OpenOptions, Permissions, TryLockError};
 use std::io::{self, ErrorKind, Read, Write};

@@ -1,10 +1,10 @@
 // All the bytes of a source.
 ghost use Rattle.std.specs.Prelude.{◌≡◌, ◌||◌, List, ℕ, MatchResult};
-ghost use Rattle.dob_dbfile.specs.Devices.{whole};
+ghost use Rattle.dob_device.specs.Devices.{whole};
 ghost use Rattle.dob_shelf.specs.Shelves.{is_failed};
 
 use crate::shelf::ShelfFault;
-use dob_dbfile::{Failed, Source};
+use dob_device::{Failed, Source};
 use std::alloc::Global;
 
 // How many bytes are asked for at once.

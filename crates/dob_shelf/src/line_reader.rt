@@ -1,12 +1,12 @@
 // The lines of a source, one after the other.
 ghost use Rattle.std.specs.Prelude.{◌≡◌, ◌≤◌, ◌<◌, ◌||◌, ◌++◌, List, ℕ, [], Some, false, true, IfOk, MatchResult, drop, length};
-ghost use Rattle.dob_dbfile.specs.Devices.{whole};
+ghost use Rattle.dob_device.specs.Devices.{whole};
 ghost use Rattle.dob_shelf.specs.Shelves.{TakesLine, TakesRead, is_failed};
 ghost use Rattle.std.specs.Str.Lines.{strip_carriage_return};
 
 use crate::input_lines::{line_feed_of, without_return};
 use crate::shelf::ShelfFault;
-use dob_dbfile::{Failed, Source};
+use dob_device::{Failed, Source};
 use std::alloc::{AllocError, Global};
 
 /// How many bytes are asked for at once.

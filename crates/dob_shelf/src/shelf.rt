@@ -1,10 +1,10 @@
 // Where the program finds and keeps database files.
 ghost use Rattle.std.specs.Prelude.{◌≡◌, ◌||◌, ℕ, List, [], None, Some, false, true, IfErr, IfOk, MatchResult, OnErr, OnOk, IsTrue};
-ghost use Rattle.dob_dbfile.specs.Devices.{whole};
+ghost use Rattle.dob_device.specs.Devices.{whole};
 ghost use Rattle.dob_shelf.specs.Shelves.{HasJust, SameFiles, SameOthers, ShelfState, TakesLine, bytes_in, is_failed};
 
 use crate::input_lines::first_line;
-use dob_dbfile::{MemSink, MemSource, PlacedSource, Sink, Source};
+use dob_device::{MemSink, MemSource, PlacedSource, Sink, Source};
 use std::alloc::{AllocError, Global};
 use std::collections::BTreeMap;
 use std::io;

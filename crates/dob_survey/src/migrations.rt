@@ -1,7 +1,7 @@
 // Writing a database file anew, in the format of today.
 ghost use Rattle.std.specs.Prelude.{◌≡◌, IfOk, codes, false, length, string_bytes};
 ghost use Rattle.dob_dbfile.specs.Format.{bytes_of};
-ghost use Rattle.dob_dbfile.specs.Sinks.{change};
+ghost use Rattle.dob_device.specs.Sinks.{change};
 ghost use Rattle.dob_shelf.specs.Shelves.{Leaving, SameOthers};
 ghost use Rattle.dob_files.specs.Keeping.{AreThese, FillsSink, IsFillingFault};
 ghost use Rattle.dob_survey.specs.Migrations.{AreMigrateLines, IsMigrateFault};

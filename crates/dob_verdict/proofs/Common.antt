@@ -4,7 +4,7 @@ pub use Rattle.std.proofs.lemmas.Result.{err_from_is_err_and}
 pub use Rattle.std.specs.Prelude.{Err, IfErr, IfOk, IsTrue, Ok, Result, String}
 pub use Rattle.dob_pieces.specs.declared.setup.Setup.{Setup}
 pub use Rattle.dob_value.specs.Follows.{ClassTable}
-pub use Rattle.dob_dbfile.specs.Sinks.{Change}
+pub use Rattle.dob_device.specs.Sinks.{Change}
 pub use Rattle.dob_certfile.specs.Format.{Content, content}
 pub use Rattle.dob_certfile.specs.Reading.{HasCertFault}
 pub use Rattle.dob_shelf.proofs.Shelves.{others_kept}

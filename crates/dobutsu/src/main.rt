@@ -6,7 +6,7 @@
 #![tactic(auto)]
 
 use dob_cli::{DiskShelf, Heard, Note, Place, run_given};
-use dob_dbfile::Std;
+use dob_device::Std;
 use std::fs::OpenOptions;
 use std::process::ExitCode;
 

@@ -28,7 +28,7 @@ pub use Rattle.dob_distance.specs.Values.{HasValue}
 pub use Rattle.dob_distance.specs.declared.value.Value.{Value}
 pub use Rattle.dob_index.specs.Index.{IsIndex}
 pub use Rattle.dob_index.specs.Layout.{words_of}
-pub use Rattle.dob_dbfile.specs.Devices.{whole}
+pub use Rattle.dob_device.specs.Devices.{whole}
 pub use Rattle.dob_dbfile.specs.Faults.{CountsClasses, HasReadFault, IsNoLonger, NamesFamily, count_place, header_len}
 pub use Rattle.dob_dbfile.specs.Format.{IsFile, count_bytes}
 pub use Rattle.dob_dbfile.specs.declared.header.Format.{Format}

@@ -9,7 +9,7 @@ use Rattle.dob_rank.specs.Families.{IsPositionOf, IsInClass, classes_of}
 use Rattle.dob_distance.specs.declared.value.Value.{Value}
 use Rattle.dob_index.specs.Index.{IsIndex, IsMarked}
 use Rattle.dob_dbfile.specs.declared.header.Format.{Format}
-use Rattle.dob_dbfile.specs.Devices.{whole}
+use Rattle.dob_device.specs.Devices.{whole}
 use Rattle.dob_dbfile.specs.declared.fault.Fault.TheVariants as file_fault
 use Rattle.dob_dbfile.specs.Faults.{NamesFamily, HasReadFault, IsNoLonger, count_place, header_len}
 use Rattle.dob_dbfile.specs.Format.{count_bytes}

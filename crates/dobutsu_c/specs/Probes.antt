@@ -11,7 +11,7 @@ use Rattle.dob_distance.specs.declared.value.Value.{Value}
 use Rattle.dob_distance.specs.Distances.{plies_of}
 use Rattle.dob_dbfile.specs.declared.fault.Fault.TheVariants as file_fault
 use Rattle.dob_dbfile.specs.declared.header.Format.{Format}
-use Rattle.dob_dbfile.specs.Devices.{whole}
+use Rattle.dob_device.specs.Devices.{whole}
 use Rattle.dob_dbfile.specs.Faults.{HasReadFault, IsNoLonger}
 use Rattle.dob_dbfile.specs.Looking.{HasRecord}
 use Rattle.dob_foreign.specs.Values.{outcome_number}

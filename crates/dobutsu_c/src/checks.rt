@@ -2,7 +2,7 @@
 ghost use Rattle.std.specs.Prelude.{◌≡◌, ◌≢◌, ◌⊎◌};
 ghost use Rattle.dob_value.specs.Follows.{ClassTable, IsConsistent, IsTable, IsValueTable};
 ghost use Rattle.dob_dbfile.specs.declared.fault.Fault.{Fault as AnyFault};
-ghost use Rattle.dob_dbfile.specs.Devices.{whole};
+ghost use Rattle.dob_device.specs.Devices.{whole};
 ghost use Rattle.dob_dbfile.specs.Faults.{HasReadFault};
 ghost use Rattle.dob_dbfile.specs.Format.{IsFile};
 ghost use Rattle.dob_probe.specs.Checks.{IsFirstBroken};

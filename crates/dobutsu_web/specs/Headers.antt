@@ -4,7 +4,7 @@ use Rattle.dob_pieces.specs.declared.profile.Family.{Family}
 use Rattle.dob_rank.specs.Families.{classes_of}
 use Rattle.dob_dbfile.specs.declared.fault.Fault.{Fault}
 use Rattle.dob_dbfile.specs.declared.header.Format.{Format}
-use Rattle.dob_dbfile.specs.Devices.{whole}
+use Rattle.dob_device.specs.Devices.{whole}
 use Rattle.dob_dbfile.specs.Faults.{HasReadFault, IsNoLonger, header_len}
 use Rattle.dob_dbfile.specs.Fronts.{IsFrontOf}
 use Rattle.dob_foreign.specs.Faults.{file_number}

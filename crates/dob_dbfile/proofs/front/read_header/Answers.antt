@@ -1,7 +1,7 @@
 -- The two pieces are the header, and what it is refused for is a fault of the stream.
 use Rattle.dob_dbfile.proofs.Common.{◌++◌, ◌+◌, ◌-◌, ◌∙◌, ◌≡◌, List, ap, arith, drop, inl, inr, length, rules, subst, take, ℕ, err_from_is_err_and, Stream}
 use Rattle.dob_dbfile.proofs.Common.{after, CountsClasses, HasHeaderFault, NamesClasses, NamesSet, header_len, put_mid}
-use Rattle.dob_dbfile.proofs.Pieces.{after-after}
+use Rattle.dob_device.proofs.Streams.{after-after}
 use Rattle.dob_dbfile.proofs.Headers.{HasCome, counts_lifts, fault_lifts, front_cut, front_refused, header_came, header_long, names_lift, set_lifts}
 use Rattle.dob_dbfile.proofs.Headers.{takes_front}
 use Rattle.dob_dbfile.proofs.front.read_header.Goals.{In_ok-fill}

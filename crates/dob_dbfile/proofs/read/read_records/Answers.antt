@@ -1,7 +1,8 @@
 -- Piece after piece the codes and the digest grow by the bytes that were read.
 use Rattle.dob_dbfile.proofs.Common.{◌*◌, ◌∙◌, ◌≡◌, [], ap, arith, length, refl, rules, subst, sym, ℕ, or-false, err_from_is_err_and, after, HashesNext}
 use Rattle.dob_dbfile.proofs.Common.{ReadsCodes}
-use Rattle.dob_dbfile.proofs.Pieces.{after-after, reads_none, reads_more, hashes_none, hashes_more, cut_later, few_more}
+use Rattle.dob_device.proofs.Streams.{after-after}
+use Rattle.dob_dbfile.proofs.Pieces.{reads_none, reads_more, hashes_none, hashes_more, cut_later, few_more}
 use Rattle.dob_dbfile.proofs.read.read_records.Goals as goal
 
 pub records-init : goal.records-init

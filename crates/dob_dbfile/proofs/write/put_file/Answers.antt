@@ -2,7 +2,8 @@
 use Rattle.dob_dbfile.proofs.Common.{◌*◌, ◌++◌, ◌+◌, ◌∙◌, ◌≡◌, List, [], ap, length, refl, subst, sym, ℕ, IfErr-weaker, err_from_is_err_and, on_ok_weaker}
 use Rattle.dob_dbfile.proofs.Common.{classes_of, bytes_of, contents_in, header_in, records, Puts, Writes, change, Second}
 use Rattle.dob_dbfile.proofs.FileBytes.{digest_is, header_records, length-contents, parts_behind}
-use Rattle.dob_dbfile.proofs.Sinks.{puts_more, stops_behind, stops_last, writes_more, writes_none}
+use Rattle.dob_device.proofs.Sinks.{puts_more, writes_more, writes_none}
+use Rattle.dob_dbfile.proofs.Parts.{stops_behind, stops_last}
 use Rattle.dob_dbfile.proofs.write.put_file.Goals as goal
 use Rattle.dob_dbfile.proofs.write.put_file.Goals.{After-class_count-count, After-deref, In_ok-write_records}
 

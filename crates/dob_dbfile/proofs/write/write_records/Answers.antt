@@ -1,6 +1,7 @@
 -- Piece after piece the records go in.
 use Rattle.dob_dbfile.proofs.Common.{◌*◌, ◌++◌, ◌∙◌, ◌≡◌, List, ap, arith, drop, subst, take, ℕ, err_from_is_err_and, records, Writes, change}
-use Rattle.dob_dbfile.proofs.Sinks.{stops_behind, writes_more, writes_none}
+use Rattle.dob_device.proofs.Sinks.{writes_more, writes_none}
+use Rattle.dob_dbfile.proofs.Parts.{stops_behind}
 use Rattle.dob_dbfile.proofs.CodeBytes.{records_len, records_part}
 use Rattle.dob_dbfile.proofs.write.write_records.Goals.{After-deref}
 use Rattle.dob_dbfile.proofs.write.write_records.Goals as goal

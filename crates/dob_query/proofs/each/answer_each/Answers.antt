@@ -1,7 +1,7 @@
 -- What is told of each line is by the table of the file.
 use Rattle.dob_query.proofs.Common.{◌∙◌, ◌≡◌, false, inl, refl, sym, err_from_is_err_and, Result, is_err, Value, FailsWhere, shelf_change, AreEachLines}
 use Rattle.dob_query.proofs.Common.{IsAnswer, IsEachFault, IsGivenTo, IsToldValue, answer_line, is_io, TellsOf, Fault, Memory}
-use Rattle.dob_dbfile.specs.Sinks.{change as sink_change}
+use Rattle.dob_device.specs.Sinks.{change as sink_change}
 use Rattle.dob_files.proofs.EachLine.{each_weaker, ends_weaker, fails_on, tells_by}
 use Rattle.dob_query.proofs.EachRight.{lines_end, opening_ends}
 use Rattle.dob_files.proofs.Kept.{same_chain}

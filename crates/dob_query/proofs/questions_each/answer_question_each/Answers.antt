@@ -1,6 +1,6 @@
 -- What the source told is what the file has.
 use Rattle.dob_query.proofs.Common.{◌||◌, ◌∙◌, Bool, ap, false, sym, or-false, FailsWhere, shelf_change, is_io, GivesWhole}
-use Rattle.dob_dbfile.specs.Sinks.{change as sink_change}
+use Rattle.dob_device.specs.Sinks.{change as sink_change}
 use Rattle.dob_query.specs.QuestionsEach.{AnswersLine, ArePlaceLines, IsPlacesFault, TellsRecords}
 use Rattle.dob_files.proofs.EachLine.{each_weaker}
 use Rattle.dob_query.proofs.Placed.{places_ended, places_told}

@@ -1,6 +1,6 @@
 -- What was read so far is the front of the stream, and the source gives what is behind it.
 use Rattle.std.proofs.Common.{◌≡◌, ◌-◌, ◌^◌, length, take, vec_len}
-use Rattle.dob_dbfile.specs.Devices.{Stream, after}
+use Rattle.dob_device.specs.Devices.{Stream, after}
 use Rattle.dob_shelf.proofs.inputs.read_all.Given as goal
 
 abbrev pub invariant-loop-count : goal.invariant-loop-count

@@ -1,6 +1,6 @@
 -- The line ends with the piece that was taken, or with the source.
 use Rattle.std.proofs.Common.{◌≡◌, ◌∙◌, ◌++◌, List, Some, [], ap, append-nil, drop, rules, subst, sym, ℕ}
-use Rattle.dob_dbfile.specs.Devices.{whole}
+use Rattle.dob_device.specs.Devices.{whole}
 use Rattle.dob_shelf.proofs.FirstLine.{line_taken, read_taken, rest_taken}
 use Rattle.dob_shelf.proofs.line_reader.LineReader.next_line.Goals as goal
 

@@ -1,6 +1,6 @@
 -- What the line has, what was read and what the source still gives are all that there was; the line has no end yet.
 use Rattle.std.proofs.Common.{◌≡◌, ◌-◌, ◌+◌, ◌++◌, ◌^◌, ℕ, List, drop, length, vec_len}
-use Rattle.dob_dbfile.specs.Devices.{whole}
+use Rattle.dob_device.specs.Devices.{whole}
 use Rattle.dob_shelf.specs.Shelves.{LacksEnd}
 use Rattle.dob_shelf.proofs.line_reader.LineReader.next_line.Given as goal
 

@@ -100,7 +100,7 @@ impl MemSink {
 }
 
 impl Sink for MemSink {
-    ghost use Rattle.dob_dbfile.specs.Memory.{longest_piece};
+    ghost use Rattle.dob_device.specs.Memory.{longest_piece};
 
     ghost state = { λ sink. record { received = Some sink.bytes.items; flushes = Some sink.flushes.items; has_failed = sink.has_failed; writer = None } };
 

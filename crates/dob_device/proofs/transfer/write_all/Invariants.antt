@@ -1,6 +1,6 @@
 -- As many first bytes as are done have gone into the same sink, unflushed and unfailed; fewer are left each time.
-use Rattle.dob_dbfile.proofs.Common.{◌-◌, ◌≤◌, length, take, IsNotFlushed, IsSame, SinkWorks, TakesPiece, change}
-use Rattle.dob_dbfile.proofs.transfer.write_all.Given as goal
+use Rattle.dob_device.proofs.Common.{◌-◌, ◌≤◌, length, take, IsNotFlushed, IsSame, SinkWorks, TakesPiece, change}
+use Rattle.dob_device.proofs.transfer.write_all.Given as goal
 
 -- so many bytes have gone in, and nothing has failed or been flushed
 abbrev pub invariant-loop-done : goal.invariant-loop-done

@@ -1,7 +1,7 @@
 -- The room filled grows by what a call gives.
-use Rattle.dob_dbfile.proofs.Common.{◌-◌, ◌∙◌, arith, length, rules, subst, or-false, common_steps}
-use Rattle.dob_dbfile.proofs.Pieces.{filled_more, after-after}
-use Rattle.dob_dbfile.proofs.transfer.read_full.Goals as goal
+use Rattle.dob_device.proofs.Common.{◌-◌, ◌∙◌, arith, length, rules, subst, or-false, common_steps}
+use Rattle.dob_device.proofs.Streams.{filled_more, after-after}
+use Rattle.dob_device.proofs.transfer.read_full.Goals as goal
 
 pub loop-done-preserved : goal.loop-done-preserved
 loop-done-preserved g c =

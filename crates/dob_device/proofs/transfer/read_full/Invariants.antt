@@ -1,6 +1,6 @@
 -- The room filled so far has the stream's next bytes.
-use Rattle.dob_dbfile.proofs.Common.{◌-◌, ◌≡◌, ◌≤◌, length, take, Stream, after}
-use Rattle.dob_dbfile.proofs.transfer.read_full.Given as goal
+use Rattle.dob_device.proofs.Common.{◌-◌, ◌≡◌, ◌≤◌, length, take, Stream, after}
+use Rattle.dob_device.proofs.transfer.read_full.Given as goal
 
 -- the front of the room is the front of the stream, and nothing has failed
 abbrev pub invariant-loop-done : goal.invariant-loop-done

@@ -1,8 +1,8 @@
 // What bytes are read from and written to, and how these fail.
 ghost use Rattle.std.specs.Prelude.{◌≡◌, ℕ, ◌<◌, ◌≤◌, ◌||◌, [], Bool, length, is_err, IfOk, MatchResult, OnOk, OnErr};
 ghost use Rattle.std.specs.Io.KnownBytes.{Keeps, WriteAppends};
-ghost use Rattle.dob_dbfile.specs.Devices.{Stream, after, broken, GivesFirst};
-ghost use Rattle.dob_dbfile.specs.Sinks.{SinkState, AddsFlush};
+ghost use Rattle.dob_device.specs.Devices.{Stream, after, broken, GivesFirst};
+ghost use Rattle.dob_device.specs.Sinks.{SinkState, AddsFlush};
 
 /// A device didn't do what it was asked, and no byte was moved by that call.
 #[derive(Clone, Copy, PartialEq, Eq)]

@@ -1,8 +1,8 @@
 -- What the devices in memory give and hold.
 use Rattle.std.specs.Prelude.{ℕ, ◌-◌, nat_lt, if◌then◌else◌, length, min, take, drop}
-use Rattle.dob_dbfile.specs.Devices.{Stream, broken}
-use Rattle.dob_dbfile.specs.declared.mem_sink.MemSink.{MemSink}
-use Rattle.dob_dbfile.specs.declared.mem_source.MemSource.{MemSource}
+use Rattle.dob_device.specs.Devices.{Stream, broken}
+use Rattle.dob_device.specs.declared.mem_sink.MemSink.{MemSink}
+use Rattle.dob_device.specs.declared.mem_source.MemSource.{MemSource}
 
 -- how many bytes of a piece the sink takes: the whole piece, but no more than it takes at once, and no more than it has room for
 abbrev pub longest_piece : MemSink → ℕ → ℕ

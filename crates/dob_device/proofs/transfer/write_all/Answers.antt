@@ -1,8 +1,8 @@
 -- A piece more goes in after the first bytes; where the sink fails, it has just the bytes that went in before.
-use Rattle.dob_dbfile.proofs.Common.{◌∙◌, arith, length-drop, take_rest}
+use Rattle.dob_device.proofs.Common.{◌∙◌, arith, length-drop, take_rest}
 use Rattle.std.proofs.KnownBytes.{Keeps-trans}
-use Rattle.dob_dbfile.proofs.Sinks.{Appends-take, stops_after, works_on}
-use Rattle.dob_dbfile.proofs.transfer.write_all.Goals as goal
+use Rattle.dob_device.proofs.Sinks.{Appends-take, stops_after, works_on}
+use Rattle.dob_device.proofs.transfer.write_all.Goals as goal
 
 pub loop-done-preserved : goal.loop-done-preserved
 loop-done-preserved g c =

@@ -1,6 +1,6 @@
 // A source over bytes that are held elsewhere.
 ghost use Rattle.std.specs.Prelude.{◌≡◌, false};
-ghost use Rattle.dob_dbfile.specs.Devices.{whole};
+ghost use Rattle.dob_device.specs.Devices.{whole};
 
 use crate::device::{Failed, Source};
 

@@ -1,11 +1,9 @@
 -- What sinks have received after one call and another.
-use Rattle.dob_dbfile.proofs.Common.{◌++◌, ◌+◌, ◌∙◌, ◌∷◌, ◌≡◌, ◌≤◌, List, None, Option, Some, [], ap, append-nil, append_assoc, arith, drop, false, length}
-use Rattle.dob_dbfile.proofs.Common.{refl, sym, take, take-add, true, ℕ, or-false, or_right, drop_at, length-append, take-append-le, take_at, ◌||◌, AddsFlush}
-use Rattle.dob_dbfile.proofs.Common.{IsNotFlushed, IsSame, Puts, SinkState, SinkWorks, StopsAfter, TakesPiece, Writes, change}
+use Rattle.dob_device.proofs.Common.{◌++◌, ◌+◌, ◌∙◌, ◌∷◌, ◌≡◌, ◌≤◌, List, None, Option, Some, [], ap, append_assoc, arith, drop, false, length}
+use Rattle.dob_device.proofs.Common.{refl, take, take-add, true, ℕ, or-false, or_right, ◌||◌, AddsFlush}
+use Rattle.dob_device.proofs.Common.{IsNotFlushed, IsSame, Puts, SinkState, SinkWorks, StopsAfter, TakesPiece, Writes, change}
 use Rattle.std.proofs.KnownBytes.{Appends-nil, Appends-trans, Keeps-refl, Keeps-trans}
 use Rattle.std.specs.Io.KnownBytes.{Appends, Keeps, append_known}
-use Rattle.dob_dbfile.specs.declared.device.FailedAfter.{FailedAfter}
-use Rattle.dob_dbfile.specs.Writing.{StopsBehind}
 
 -- a beginning, and then the beginning of the rest
 pub Appends-take : (a b c : Option (List ℕ)) (xs : List ℕ) (k n : ℕ) → Appends a b (take k xs) → Appends b c (take n (drop k xs))
@@ -60,41 +58,3 @@ puts_more a b c xs ys first second = record {
   works = second.works ∙ first.works;
   same = second.same ∙ first.same;
 }
-
--- the front of a whole that ends in a piece
-front_is : (xs ys rest whole : List ℕ) (count : ℕ) → whole ≡ xs ++ (ys ++ rest) → count ≤ length ys
-    → take (length xs + count) whole ≡ xs ++ take count ys
-front_is xs ys rest whole count is within =
-    ap (take (length xs + count)) is
-    ∙ take-add (length xs) count (xs ++ (ys ++ rest))
-    ∙ ap (λ (front : List ℕ). front ++ take count (drop (length xs) (xs ++ (ys ++ rest)))) (take_at xs (ys ++ rest) (length xs) refl)
-    ∙ ap (λ (back : List ℕ). xs ++ take count back) (drop_at xs (ys ++ rest) (length xs) refl)
-    ∙ ap (λ (back : List ℕ). xs ++ back) (take-append-le count ys rest within)
-
--- one piece, and then a part of another one: a part of the whole
-pub stops_behind : (a b c : SinkState) (base before : ℕ) (xs ys rest whole : List ℕ) (failed : FailedAfter) → Writes (change a b) xs → length xs ≡ before
-    → whole ≡ xs ++ (ys ++ rest) → StopsBehind (change b c) (base + before) ys failed → StopsBehind (change a c) base whole failed
-stops_behind a b c base before xs ys rest whole failed first long is stops =
-    let count : ℕ = stops.0 in
-    let part : StopsAfter (change b c) ys count = stops.2 in
-    let le : count ≤ length ys = part.within in
-    let all : length whole ≡ length xs + length (ys ++ rest) = ap length is ∙ length-append xs (ys ++ rest) in
-    let behind : length (ys ++ rest) ≡ length ys + length rest = length-append ys rest in (
-      length xs + count,
-      omega (arith, stops.1, long),
-      record {
-        within = omega (arith, le, all, behind);
-        part = rw (front_is xs ys rest whole count is le)
-            (Appends-trans a.received b.received c.received xs (take count ys) first.all part.part);
-        unflushed = Keeps-trans a.flushes b.flushes c.flushes first.unflushed part.unflushed;
-        fails = part.fails;
-        same = part.same ∙ first.same;
-      },
-    )
-
--- the same of the last piece
-pub stops_last : (a b c : SinkState) (before : ℕ) (xs ys whole : List ℕ) (failed : FailedAfter) → Writes (change a b) xs → length xs ≡ before
-    → whole ≡ xs ++ ys → StopsBehind (change b c) before ys failed → StopsBehind (change a c) 0 whole failed
-stops_last a b c before xs ys whole failed first long is stops =
-    stops_behind a b c 0 before xs ys [] whole failed first long (is ∙ ap (λ (last : List ℕ). xs ++ last) (sym (append-nil ys)))
-    (stops.0, omega (arith, stops.1), stops.2)

@@ -1,7 +1,7 @@
 // Whole runs of bytes over devices that move them in pieces.
 ghost use Rattle.std.specs.Prelude.{◌≡◌, ℕ, ◌+◌, ◌-◌, ◌<◌, ◌≤◌, ◌||◌, [], take, drop, length, is_err, IfOk, IfErr, OnOk};
-ghost use Rattle.dob_dbfile.specs.Devices.{Stream, after, broken, Fills};
-ghost use Rattle.dob_dbfile.specs.Sinks.{Puts, StopsAfter, Writes, change};
+ghost use Rattle.dob_device.specs.Devices.{Stream, after, broken, Fills};
+ghost use Rattle.dob_device.specs.Sinks.{Puts, StopsAfter, Writes, change};
 
 use crate::device::{Failed, FailedAfter, Sink, Source};
 

@@ -1,6 +1,6 @@
 // A source of bytes in memory, for tests: in pieces of a set length, and failing where a test asks for it.
 ghost use Rattle.std.specs.Prelude.{◌≡◌, ◌<◌, ◌≤◌, ◌+◌, ◌-◌, ◌^◌, ◌||◌, [], false, IfOk, OnErr, is_err, length, vec_len};
-ghost use Rattle.dob_dbfile.specs.Devices.{GivesFirst, Stream, after, broken, whole};
+ghost use Rattle.dob_device.specs.Devices.{GivesFirst, Stream, after, broken, whole};
 
 use crate::device::{Failed, PlacedSource, Source};
 
@@ -17,7 +17,7 @@ pub struct MemSource {
 }
 
 impl MemSource {
-    ghost use Rattle.dob_dbfile.specs.Memory.{all_of, stream_of, cut};
+    ghost use Rattle.dob_device.specs.Memory.{all_of, stream_of, cut};
 
     /// A source of those bytes, which never fails.
     pub fn new(bytes: Vec<u8>) -> MemSource
@@ -95,7 +95,7 @@ impl MemSource {
 }
 
 impl Source for MemSource {
-    ghost use Rattle.dob_dbfile.specs.Memory.{all_of, longest_read, stream_of};
+    ghost use Rattle.dob_device.specs.Memory.{all_of, longest_read, stream_of};
 
     ghost gives = { λ source stream. stream ≡ stream_of source };
 
