@@ -20,7 +20,7 @@ pub struct CrewSizes {
     pub nodes: NodeCount,
     pub batch_size: BatchSize,
     pub capacity: Capacity,
-    ghost within: { AreWithin nodes batch_size capacity },
+    pub ghost within: { AreWithin nodes batch_size capacity },
 }
 
 impl CrewSizes {
