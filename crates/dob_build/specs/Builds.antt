@@ -12,7 +12,6 @@ use Rattle.dob_crew.specs.declared.limits.CrewSizes.{CrewSizes}
 use Rattle.dob_run.specs.Built.{IsBuilt}
 use Rattle.dob_run.specs.Builds.{IsLeftByCrew}
 use Rattle.dob_crew.specs.CrewSizes.{AreThese}
-use Rattle.dob_crew.specs.Faults.{AreWithin}
 use Rattle.dob_run.specs.Faults.{HasBuildFault}
 use Rattle.dob_run.specs.BuildEnd.{IsFailureOf}
 use Rattle.dob_run.specs.CrewStops.{StopsSo, IsUnheld}

@@ -1,8 +1,6 @@
 -- How the program ends: from what it tells of lines or a fault to what it owes.
 use Rattle.dob_files.proofs.Common.{List, ℕ, IfErr, IfOk, Result, FailsWhere, ShelfChange, Answers, Ending, GivesOver, Tells}
 use Rattle.dob_files.proofs.Common.{fails, is_io, Fault}
-use Rattle.dob_distance.specs.declared.fault.Fault as value
-use Rattle.dob_distance.specs.declared.fault.Fault.TheVariants as value_fault
 use Rattle.std.proofs.Common.{arith}
 
 -- what a call is known to have given by its result is answered

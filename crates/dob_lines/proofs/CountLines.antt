@@ -1,5 +1,5 @@
 -- Lines of counts, one after the other.
-use Rattle.dob_lines.proofs.Common.{◌++◌, ◌+◌, ◌∙◌, ◌∷◌, ◌≡◌, IsTally, List, Tally, Value, [], ap, append_assoc, class_lines, codes, count_line, decimal}
+use Rattle.dob_lines.proofs.Common.{◌++◌, ◌∙◌, ◌∷◌, ◌≡◌, IsTally, List, Tally, Value, [], ap, append_assoc, class_lines, codes, count_line, decimal}
 use Rattle.dob_lines.proofs.Common.{length, refl, ℕ}
 
 -- one after the other

@@ -1,7 +1,7 @@
 -- How many values of a table are wins, losses and draws, and lines of counts.
 use Rattle.std.specs.Fmt.{decimal}
 use Rattle.std.specs.List.{count_by}
-use Rattle.std.specs.Prelude.{◌++◌, ◌+◌, ◌<◌, ◌^◌, ◌∷◌, ◌≡◌, Bool, List, Some, [], codes, false, length, slice_get, true, ℕ}
+use Rattle.std.specs.Prelude.{◌++◌, ◌<◌, ◌^◌, ◌∷◌, ◌≡◌, Bool, List, Some, [], codes, false, length, slice_get, true, ℕ}
 use Rattle.dob_lines.specs.declared.tally.Tally.{Tally}
 use Rattle.dob_pieces.specs.Bytes.{line_feed}
 use Rattle.dob_distance.specs.Entries.{is_draw}

@@ -1,11 +1,11 @@
 -- The first line of bytes, by the place of their first line feed, and in pieces.
-use Rattle.std.proofs.Common.{◌≡◌, ◌∙◌, ◌+◌, ◌-◌, ◌<◌, ◌∷◌, ◌++◌, ◌==◌, ℕ, All, Bool, List, None, Option, Some, [], append_assoc, arith, ap, drop, false, get_or, length, refl, subst, suc, sym, take, true}
-use Rattle.std.specs.Prelude.{cond, if◌then◌else◌, not, slice_index}
+use Rattle.std.proofs.Common.{◌≡◌, ◌∙◌, ◌+◌, ◌<◌, ◌∷◌, ◌++◌, ◌==◌, ℕ, Bool, List, None, Option, Some, [], append_assoc, arith, ap, drop, false, get_or, length, refl, subst, suc, sym, take, true}
+use Rattle.std.specs.Prelude.{cond, not}
 use Rattle.std.specs.List.{position, position_or_len, slice_split}
 use Rattle.std.specs.Str.Lines.{lines, lines_of_parts, strip_carriage_return}
 use Rattle.std.proofs.lemmas.Bool.Decides.{nat_tests}
 use Rattle.std.proofs.lemmas.List.Quantifiers.{position-Some}
-use Rattle.std.proofs.Math.Seq.{split_at, take-length}
+use Rattle.std.proofs.Math.Seq.{split_at}
 use Rattle.std.proofs.lemmas.List.{get_or-take, length-take-le, nil_from_length}
 use Rattle.std.proofs.lemmas.List.Elements.{All-append}
 use Rattle.std.proofs.lemmas.List.Splits.{length-slice_split, slice_split_at, slice_split_first, slice_split_none}

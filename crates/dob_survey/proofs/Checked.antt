@@ -1,5 +1,5 @@
 -- A fault of checking a table is one of checking its file.
-use Rattle.dob_survey.proofs.Common.{ClassTable, Fault, IsFaultOfCheck, IsFileOf, List, Memory, Table, ℕ}
+use Rattle.dob_survey.proofs.Common.{ClassTable, IsFaultOfCheck, IsFileOf, List, Table, ℕ}
 use Rattle.dob_survey.specs.Checks.{IsCheckFault}
 use Rattle.dob_probe.specs.declared.fault.Fault as probing
 use Rattle.dob_probe.specs.declared.fault.Fault.TheVariants as table_fault

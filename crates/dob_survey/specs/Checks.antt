@@ -1,12 +1,11 @@
 -- What the program owes where it is asked whether a database file's table is the value table.
-use Rattle.std.specs.Prelude.{◌++◌, ◌+◌, ◌∷◌, ◌≡◌, List, [], codes, ℕ}
+use Rattle.std.specs.Prelude.{◌++◌, ◌∷◌, ◌≡◌, List, [], codes, ℕ}
 use Rattle.dob_files.specs.Tables.{HasFileFault, IsFileOf, IsShut}
 use Rattle.dob_files.specs.declared.fault.Fault.{Fault}
 use Rattle.dob_files.specs.declared.fault.Fault.TheVariants.{File, Io, Memory, Table}
 use Rattle.dob_pieces.specs.Bytes.{line_feed}
 use Rattle.dob_probe.specs.Checks.{IsFirstBroken}
 use Rattle.dob_value.specs.Follows.{ClassTable, IsValueTable}
-use Rattle.dob_probe.specs.Faults as table
 use Rattle.dob_probe.specs.declared.fault.Fault.TheVariants as table_fault
 
 -- the line that says that a table is consistent

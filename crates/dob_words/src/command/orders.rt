@@ -1,10 +1,11 @@
 // What the program is asked to do, and how the matches of a subcommand say it.
-ghost use Rattle.std.specs.Prelude.{◌≡◌, IfSome, Some, codes, is_some, option_map, true};
+ghost use Rattle.std.specs.Prelude.{◌≡◌, IfSome, Option, Some, codes, is_some, option_map, true};
 ghost use Rattle.clap.specs.Words.{first_value, found_of};
+ghost use Rattle.dob_words.specs.Forms.{Text};
 ghost use Rattle.dob_words.specs.Shapes.{HasFit, texts_in};
 ghost use Rattle.dob_words.specs.Readings.{IsLinesOrder, IsFlaggedBy, IsOneOf, IsReadFor, form_for, line_form, name_of, stats_form, subcommand_asked, text_given};
 ghost use Rattle.dob_words.specs.Words.{asks, cleared, is_number, number_in, profile_named};
-ghost use Rattle.dob_words.specs.declared.rows.Subcommand.TheVariants.{Build, Certify, Puzzles, Reach, Zugzwangs};
+ghost use Rattle.dob_words.specs.declared.rows.Subcommand.TheVariants.{Build, Certify, Line, Look, Moves, Puzzles, Reach, Zugzwangs};
 
 use crate::rows::Subcommand;
 use clap::ArgMatches;
@@ -213,22 +214,17 @@ pub(super) fn order_for<'a>(subcommand: Subcommand, inner: &ArgMatches<'a>) -> O
 {
     match subcommand {
         Subcommand::Probe => asked_order(inner, Asked::Probe),
-        Subcommand::Look => match inner.get_str("json") {
-            None => asked_order(inner, Asked::Records(Question::Value(ValueForm::Plain))),
-            Some(_) => asked_order(inner, Asked::Records(Question::Value(ValueForm::Object))),
-        },
-        Subcommand::Moves => match inner.get_str("json") {
-            None => asked_order(inner, Asked::Records(Question::Moves(MovesForm::Plain))),
-            Some(_) => asked_order(inner, Asked::Records(Question::Moves(MovesForm::Object))),
-        },
+        Subcommand::Look => asked_order(inner, look_asked(inner.get_str("json"))),
+        Subcommand::Moves => asked_order(inner, moves_asked(inner.get_str("json"))),
         Subcommand::Best => asked_order(inner, Asked::Records(Question::Moves(MovesForm::Best))),
-        Subcommand::Line => {
-            let form = line_form(inner.get_str("numbered"), inner.get_str("json"));
-            match inner.get_str("records") {
-                None => asked_order(inner, Asked::Line(form)),
-                Some(_) => asked_order(inner, Asked::Records(Question::Line(form))),
-            }
-        }
+        Subcommand::Line => asked_order(
+            inner,
+            line_asked(
+                inner.get_str("numbered"),
+                inner.get_str("records"),
+                inner.get_str("json"),
+            ),
+        ),
         Subcommand::Value => Some(Order::Lines(LinesOrder::Value {
             profile: profile_named(inner.get_str("PROFILE")),
             position: text(inner, "POSITION"),
@@ -343,6 +339,40 @@ fn certify_order<'a>(inner: &ArgMatches<'a>) -> LinesOrder<'a>
         is_watched: inner.get_str("progress").is_some(),
         position: text(inner, "POSITION"),
     })
+}
+
+// What `look` asks by its flag.
+fn look_asked(json: Option<&str>) -> Asked
+    ensures subcommand { subcommand_asked result ≡ Look }
+    ensures flagged { (numbered records : Option Text) → IsFlaggedBy result numbered records (text_given json.entry) }
+{
+    match json {
+        None => Asked::Records(Question::Value(ValueForm::Plain)),
+        Some(_) => Asked::Records(Question::Value(ValueForm::Object)),
+    }
+}
+
+// What `moves` asks by its flag.
+fn moves_asked(json: Option<&str>) -> Asked
+    ensures subcommand { subcommand_asked result ≡ Moves }
+    ensures flagged { (numbered records : Option Text) → IsFlaggedBy result numbered records (text_given json.entry) }
+{
+    match json {
+        None => Asked::Records(Question::Moves(MovesForm::Plain)),
+        Some(_) => Asked::Records(Question::Moves(MovesForm::Object)),
+    }
+}
+
+// What `line` asks by its flags.
+fn line_asked(numbered: Option<&str>, records: Option<&str>, json: Option<&str>) -> Asked
+    ensures subcommand { subcommand_asked result ≡ Line }
+    ensures flagged { IsFlaggedBy result (text_given numbered.entry) (text_given records.entry) (text_given json.entry) }
+{
+    let form = line_form(numbered, json);
+    match records {
+        None => Asked::Line(form),
+        Some(_) => Asked::Records(Question::Line(form)),
+    }
 }
 
 // How a line is told: as JSON, also where its moves are to be numbered.

@@ -1,5 +1,6 @@
 -- One more text comes to those before.
-use Rattle.std.proofs.Common.{◌∙◌, ◌≡◌, ◌++◌, ap, rules, string_bytes, subst, sym}
+use Rattle.std.proofs.Common.{◌∙◌, ◌≡◌, ◌++◌, ap, arith, rules, string_bytes, subst, sym}
+use Rattle.std.proofs.lemmas.Grind.{common_steps}
 use Rattle.std.specs.Prelude.{Contains}
 use Rattle.std.proofs.lemmas.List.Elements.{Contains-get_or}
 use Rattle.dob_lines.proofs.OneAfter.{next_text}
@@ -24,3 +25,6 @@ loop-item-preserved g c = λ text each.
     next_text text c.args.items.now c.loop-item.item-index c.item-item.result (string_bytes c.loop-item.told) (string_bytes c.push_str.new.self) c.loop-item-test.true
     (c.loop-item.invariant text each)
     (c.in_ok-push_str.ensures.bytes ∙ ap (λ ys. string_bytes c.loop-item.told ++ ys) (c.as_str.ensures.value ∙ one ∙ ap text c.item-item.is))
+
+pub returns : goal.returns
+returns g c = grind (arith, common_steps)

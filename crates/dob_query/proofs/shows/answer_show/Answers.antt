@@ -1,8 +1,9 @@
 -- The position that was read is the text's, and where a picture is asked for it is kept.
 use Rattle.dob_query.proofs.Common.{Bool, List, subst, sym, ℕ, IsTrue, shelf_change, AreDrawn}
+use Rattle.std.proofs.lemmas.Result.{err_from_is_err_and}
 use Rattle.dob_words.specs.Readings.{text_given}
 use Rattle.dob_files.proofs.Kept.{answered_later, others_after}
-use Rattle.dob_query.proofs.Shown.{picture_shows}
+use Rattle.dob_query.proofs.Shown.{drawing_shows, none_kept, picture_shows}
 use Rattle.dob_query.proofs.shows.answer_show.Goals as goal
 
 pub returns-in-Some : goal.returns-in-Some
@@ -23,4 +24,18 @@ returns-in-Some g c =
           (λ fault holds. picture_shows (shelf_change old new) (text_given c.args.file) c.args.text.now c.in_ok-position.position.setup c.in_ok-position.ensures
           mid c.in-Some.name.now fault drawn.1 holds.0 holds.1) kept.0,
       others_after c.in-Some.name.now _ _ _ drawn.1 kept.1,
+    )
+
+pub returns-in_err-lines : goal.returns-in_err-lines
+returns-in_err-lines g c =
+    let p = err_from_is_err_and c.from_residual-in_err-lines.result c.from_residual-in_err-lines.ensures.1 in
+    let drawn = c.in_err-lines.ensures.answered in
+    let picture = text_given c.args.picture in
+    rw (p.1, p.2) (
+      (
+        drawing_shows (shelf_change (g.S.Shelf.state c.args.shelf.now) (g.S.Shelf.state c.drawn_lines.new.shelf)) (text_given c.args.file) c.args.text.now
+            c.in_ok-position.position.setup c.in_ok-position.ensures picture c.in_err-lines.field-0.0 drawn.0.0 drawn.1,
+        drawn.0.1,
+      ),
+      none_kept picture _ _ drawn.1,
     )

@@ -1,6 +1,5 @@
 -- The piece ends at the first line feed, or is all that was read.
 use Rattle.std.proofs.Common.{◌∙◌, ◌+◌, ◌++◌, ◌∷◌, List, ap, drop, rules, take, ℕ}
-use Rattle.std.specs.Str.Lines.{strip_carriage_return}
 use Rattle.std.proofs.lemmas.List.{drop-drop, drop_all}
 use Rattle.dob_shelf.proofs.FirstLine.{lacks_end, piece_taken}
 use Rattle.dob_shelf.proofs.line_reader.LineReader.take_piece.Goals as goal

@@ -1,5 +1,5 @@
 -- What the map has under its names after `insert`.
-use Rattle.std.proofs.Common.{◌∙◌, ap, [], ℕ, List, string_bytes, Some}
+use Rattle.std.proofs.Common.{string_bytes}
 use Rattle.std.proofs.lemmas.Map.Text.{btree_map_updates_text}
 use Rattle.dob_pieces.proofs.Results.{on_err}
 use Rattle.dob_shelf.specs.Shelves.{bytes_in}

@@ -8,47 +8,11 @@ asked_order-requires-clause-fit c = grind arith
 pub asked_order-requires-clause-flagged : goal.asked_order-requires-clause-flagged
 asked_order-requires-clause-flagged c = grind arith
 
-pub asked_order-requires-in-None-clause-fit : goal.asked_order-requires-in-None-clause-fit
-asked_order-requires-in-None-clause-fit c = grind arith
-
-pub asked_order-requires-in-None-clause-flagged : goal.asked_order-requires-in-None-clause-flagged
-asked_order-requires-in-None-clause-flagged c = grind arith
-
-pub asked_order-requires-in-Some-clause-fit : goal.asked_order-requires-in-Some-clause-fit
-asked_order-requires-in-Some-clause-fit c = grind arith
-
-pub asked_order-requires-in-Some-clause-flagged : goal.asked_order-requires-in-Some-clause-flagged
-asked_order-requires-in-Some-clause-flagged c = grind arith
-
-pub asked_order-requires-in-None-get_str-clause-fit : goal.asked_order-requires-in-None-get_str-clause-fit
-asked_order-requires-in-None-get_str-clause-fit c = grind arith
-
-pub asked_order-requires-in-None-get_str-clause-flagged : goal.asked_order-requires-in-None-get_str-clause-flagged
-asked_order-requires-in-None-get_str-clause-flagged c = grind arith
-
-pub asked_order-requires-in-Some-get_str-clause-fit : goal.asked_order-requires-in-Some-get_str-clause-fit
-asked_order-requires-in-Some-get_str-clause-fit c = grind arith
-
-pub asked_order-requires-in-Some-get_str-clause-flagged : goal.asked_order-requires-in-Some-get_str-clause-flagged
-asked_order-requires-in-Some-get_str-clause-flagged c = grind arith
-
 pub asked_order-requires-in-Best-clause-fit : goal.asked_order-requires-in-Best-clause-fit
 asked_order-requires-in-Best-clause-fit c = grind arith
 
 pub asked_order-requires-in-Best-clause-flagged : goal.asked_order-requires-in-Best-clause-flagged
 asked_order-requires-in-Best-clause-flagged c = grind arith
-
-pub asked_order-requires-in-None-get_str-2-clause-fit : goal.asked_order-requires-in-None-get_str-2-clause-fit
-asked_order-requires-in-None-get_str-2-clause-fit c = grind arith
-
-pub asked_order-requires-in-None-get_str-2-clause-flagged : goal.asked_order-requires-in-None-get_str-2-clause-flagged
-asked_order-requires-in-None-get_str-2-clause-flagged c = grind arith
-
-pub asked_order-requires-in-Some-get_str-2-clause-fit : goal.asked_order-requires-in-Some-get_str-2-clause-fit
-asked_order-requires-in-Some-get_str-2-clause-fit c = grind arith
-
-pub asked_order-requires-in-Some-get_str-2-clause-flagged : goal.asked_order-requires-in-Some-get_str-2-clause-flagged
-asked_order-requires-in-Some-get_str-2-clause-flagged c = grind arith
 
 pub text-requires : goal.text-requires
 text-requires c = grind arith
@@ -98,26 +62,8 @@ text-requires-in-Reply-2 c = grind arith
 pub returns-in-Probe : goal.returns-in-Probe
 returns-in-Probe c = grind arith
 
-pub returns-in-None : goal.returns-in-None
-returns-in-None c = grind arith
-
-pub returns-in-Some : goal.returns-in-Some
-returns-in-Some c = grind arith
-
-pub returns-in-None-get_str : goal.returns-in-None-get_str
-returns-in-None-get_str c = grind arith
-
-pub returns-in-Some-get_str : goal.returns-in-Some-get_str
-returns-in-Some-get_str c = grind arith
-
 pub returns-in-Best : goal.returns-in-Best
 returns-in-Best c = grind arith
-
-pub returns-in-None-get_str-2 : goal.returns-in-None-get_str-2
-returns-in-None-get_str-2 c = grind arith
-
-pub returns-in-Some-get_str-2 : goal.returns-in-Some-get_str-2
-returns-in-Some-get_str-2 c = grind arith
 
 pub returns-in-Value : goal.returns-in-Value
 returns-in-Value c = grind arith
@@ -157,3 +103,30 @@ returns-in-Verify c = grind arith
 
 pub returns-in-Reply : goal.returns-in-Reply
 returns-in-Reply c = grind arith
+
+pub asked_order-requires-in-Look-clause-fit : goal.asked_order-requires-in-Look-clause-fit
+asked_order-requires-in-Look-clause-fit c = grind arith
+
+pub asked_order-requires-in-Look-clause-flagged : goal.asked_order-requires-in-Look-clause-flagged
+asked_order-requires-in-Look-clause-flagged c = grind (arith, c.look_asked.ensures.flagged)
+
+pub returns-in-Look : goal.returns-in-Look
+returns-in-Look c = grind arith
+
+pub asked_order-requires-in-Moves-clause-fit : goal.asked_order-requires-in-Moves-clause-fit
+asked_order-requires-in-Moves-clause-fit c = grind arith
+
+pub asked_order-requires-in-Moves-clause-flagged : goal.asked_order-requires-in-Moves-clause-flagged
+asked_order-requires-in-Moves-clause-flagged c = grind (arith, c.moves_asked.ensures.flagged)
+
+pub returns-in-Moves : goal.returns-in-Moves
+returns-in-Moves c = grind arith
+
+pub asked_order-requires-in-Line-clause-fit : goal.asked_order-requires-in-Line-clause-fit
+asked_order-requires-in-Line-clause-fit c = grind arith
+
+pub asked_order-requires-in-Line-clause-flagged : goal.asked_order-requires-in-Line-clause-flagged
+asked_order-requires-in-Line-clause-flagged c = grind arith
+
+pub returns-in-Line : goal.returns-in-Line
+returns-in-Line c = grind arith
