@@ -1,6 +1,6 @@
 -- What a step of reading takes from the front, bytes that are the same, and numbers that are read and written.
-use Rattle.dob_certfile.proofs.Common.{◌%◌, ◌*◌, ◌++◌, ◌+◌, ◌-◌, ◌/◌, ◌<◌, ◌↔◌, ◌∙◌, ◌∷◌, ◌≡◌, ◌≤◌, Bool, Err, List, Ok, Result, [], ap, append_assoc, arith}
-use Rattle.dob_certfile.proofs.Common.{rules, cond, drop, eqb, false, get_or, inl, inr, ltb, refl, subst, suc, sym, true, zero, ℕ, cases_Bool, eq-eqb, le-ltb}
+use Rattle.dob_certfile.proofs.Common.{◌%◌, ◌*◌, ◌++◌, ◌+◌, ◌-◌, ◌/◌, ◌<◌, ◌∙◌, ◌∷◌, ◌≡◌, ◌≤◌, Bool, Err, List, Ok, Result, [], ap, append_assoc, arith}
+use Rattle.dob_certfile.proofs.Common.{rules, cond, drop, eqb, false, get_or, inl, inr, ltb, refl, subst, suc, sym, true, zero, ℕ, cases_Bool, le-ltb}
 use Rattle.dob_certfile.proofs.Common.{lt-ltb, ltb-true, OnOk, ◌>>=◌, byte_at, wants, number_at, Defect, EntryNumber}
 use Rattle.std.specs.Prelude.{bytes_eq}
 use Rattle.std.proofs.lemmas.Slice.Eq.{bytes_eq-Decides}

@@ -1,5 +1,5 @@
 -- The numbers gathered from all ways count the moves that lead into a class.
-use Rattle.dob_unmove.proofs.Common.{◌++◌, ◌+◌, ◌-◌, ◌==◌, ◌∙◌, ◌∷◌, ◌≡◌, ◌≢◌, All, AllPairs, Contains, List, None, Option, Some, [], ap, arith, one_if}
+use Rattle.dob_unmove.proofs.Common.{◌++◌, ◌+◌, ◌==◌, ◌∙◌, ◌∷◌, ◌≡◌, ◌≢◌, All, AllPairs, Contains, List, None, Option, Some, [], ap, arith, one_if}
 use Rattle.dob_unmove.proofs.Common.{get_or, inl, inr, length, length-append, option_to_list, refl, subst, sym, ℕ, cases_eq, eq-eqb, ne_eqb, All-contains}
 use Rattle.dob_unmove.proofs.Common.{All-head, All-nil, All-push, All-tail, Contains-append_cases, Contains-append_left, Contains-append_right, AllPairs-cons}
 use Rattle.dob_unmove.proofs.Common.{sum_by_push, count_by, length-mirrored, length-turned, cons_cases, mirrored, turned, A, Setup, HasOutcome-is, HasOutcome}

@@ -1,6 +1,6 @@
 -- Taking a move back keeps the lions and the other pieces, and the profile allows what stood before just where the piece that was caught may stand again.
 use Rattle.dob_unmove.proofs.Common.{if◌then◌else◌, ◌<◌, ◌∙◌, ◌≡◌, Bool, Some, ap, arith, false, inl, inr, length, not, refl, subst, sym, true, true≢false, ℕ}
-use Rattle.dob_unmove.proofs.Common.{cases_eq, all_below, all_below-at, leads-to_board, within-from_piece, leads, is_far, may_stand, at, piece_of, row, Kind}
+use Rattle.dob_unmove.proofs.Common.{cases_eq, all_below, all_below-at, leads-to_board, within-from_piece, leads, is_far, may_stand, piece_of, row, Kind}
 use Rattle.dob_unmove.proofs.Common.{Chick, Mover, Profile, A, B, none_stands, enemy_cell, Unput, Unstep, IsLegal-mirrored, turned-mirrored, IsAllowed}
 use Rattle.dob_unmove.proofs.Common.{HasLionOffFarRow, IsLegal, mirrored, total, turned, Family, Setup, IsPositionOf, IsPositionOf-mirrored, AreBitboards}
 use Rattle.dob_unmove.proofs.Common.{IsShown, Bitboards, IsSeenTurned, CanUndo, earlier, may_give_back, Undo}

@@ -1,6 +1,6 @@
 -- The digits of a position of a set: each is below its base, and they give the position back.
 use Rattle.dob_rank.proofs.Common.{◌%◌, ◌+◌, ◌-◌, ◌<◌, ◌^◌, ◌∙◌, ◌∷◌, ◌≡◌, List, [], ap, arith, length, map, refl, replicate, subst, suc, sym, zero, ℕ}
-use Rattle.dob_rank.proofs.Common.{mod-eq_of_lt, pow-succ', pow-zero, length-map, count_by, Cell, IsLegal, at, held, holds_kind, holds_lion, total, HandKind}
+use Rattle.dob_rank.proofs.Common.{mod-eq_of_lt, pow-succ', pow-zero, length-map, count_by, Cell, IsLegal, held, holds_kind, holds_lion, total, HandKind}
 use Rattle.dob_rank.proofs.Common.{Enemy, Mover, PieceSet, Setup, HasDigits, base_of, bases_by, block_bases, board_of, choice, choose, count, count_from}
 use Rattle.dob_rank.proofs.Common.{digits, empty_layers, enemy_squares, forms_number, free_squares, layer, layers_by, numbers_by, on_board, order, own_squares}
 use Rattle.dob_rank.proofs.Common.{settle, setup_by, IsPositionOfSet, pieces_of, Chicks, Elephants, Empty, EnemyLion, Giraffes, OwnLion}

@@ -1,9 +1,13 @@
 -- The parts of the place are small, and what they count is what the run has up to there.
-use Rattle.dob_classes.proofs.Common.{◌%◌, ◌*◌, ◌/◌, ◌≤◌, [], arith, get_or, refl, mul-le-mul, AreFewOnBoard-digits, HasDigits-numbers}
+use Rattle.dob_classes.proofs.Common.{◌%◌, ◌*◌, ◌/◌, ◌≤◌, [], arith, get_or, refl, mul-le-mul, AreFewOnBoard, AreFewOnBoard-digits, HasDigits-numbers}
 use Rattle.dob_rank.proofs.ProfileB.PlaceParts.{others_squares_are, others_forms_are}
 use Rattle.dob_classes.proofs.Counting.FarCounts.{AreUptoParts, AreUptoSmall, upto_parts, upto_small, sums, count_is}
 use Rattle.dob_classes.proofs.far_counts.count_upto.Goals as goal
-use Rattle.dob_classes.proofs.far_counts.count_upto.Goals.{After-power-3, After-weight_of}
+use Rattle.dob_classes.proofs.far_counts.count_upto.Goals.{After-numbers_in-on_board, After-power-3, After-weight_of}
+
+-- few pieces of each kind stand on the board
+few_in : (c : After-numbers_in-on_board) → AreFewOnBoard c.numbers_in-on_board.result
+few_in c = AreFewOnBoard-digits c.args.set _ (HasDigits-numbers c.args.set c.args.block _ c.requires.block c.numbers_in-on_board.ensures)
 
 -- the choices of squares and of forms, as the code has them
 parts : (c : After-power-3) → AreUptoParts c.numbers_in-on_board.result c.args.last
@@ -23,15 +27,27 @@ small c =
     upto_small _ _ (c.power.result * c.power-2.result) c.before_choice.result c.weight_of.result at.few_squares at.parts.squares_below at.few_others
     c.before_choice.ensures.bound c.weight_of.ensures.bound
 
+pub choices_in-choices-requires : goal.choices_in-choices-requires
+choices_in-choices-requires c = few_in (goal.at.choices_in-choices-requires c).After-numbers_in-on_board
+
+pub power-requires : goal.power-requires
+power-requires c = record { small = omega arith; few = (few_in (goal.at.power-requires c).After-numbers_in-on_board).elephants }
+
+pub power-requires-2 : goal.power-requires-2
+power-requires-2 c = record { small = omega arith; few = (few_in (goal.at.power-requires-2 c).After-numbers_in-on_board).giraffes }
+
+pub power-requires-3 : goal.power-requires-3
+power-requires-3 c = record { small = omega arith; few = (few_in (goal.at.power-requires-3 c).After-numbers_in-on_board).chicks }
+
 pub overflow_mul-others : goal.overflow_mul-others
 overflow_mul-others c =
-    let few = AreFewOnBoard-digits c.args.set _ (HasDigits-numbers c.args.set c.args.block _ c.requires.block c.numbers_in-on_board.ensures) in
+    let few = few_in (goal.at.overflow_mul-others c).After-numbers_in-on_board in
     let of_squares = others_squares_are c.numbers_in-on_board.result [] c.choices_in-choices.result few c.choices_in-choices.ensures in
     omega (arith, of_squares.count_is, of_squares.count_few)
 
 pub overflow_mul-forms : goal.overflow_mul-forms
 overflow_mul-forms c =
-    let few = AreFewOnBoard-digits c.args.set _ (HasDigits-numbers c.args.set c.args.block _ c.requires.block c.numbers_in-on_board.ensures) in
+    let few = few_in (goal.at.overflow_mul-forms c).After-numbers_in-on_board in
     let of_forms = others_forms_are c.numbers_in-on_board.result [] c.power.result c.power-2.result few c.power.ensures c.power-2.ensures in
     omega (arith, of_forms.count_is, of_forms.count_few)
 

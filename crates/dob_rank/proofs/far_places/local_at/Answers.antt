@@ -75,3 +75,27 @@ returns c =
     place_found c.args.on_board.now c.args.lions _ (c.power.result * c.power-2.result) c.power-3.result c.args.number c.parts_at-parts.result.choice
     c.parts_at-parts.result.squares c.parts_at-parts.result.forms _ (squares_in at.After-choices_in-choices).count_is (forms_in_all at.After-power-2).count_is
     c.power-3.ensures c.parts_at-parts.ensures c.requires.lions refl
+
+pub choices_in-choices-requires : goal.choices_in-choices-requires
+choices_in-choices-requires c = c.requires.few
+
+pub power-requires : goal.power-requires
+power-requires c = record { small = omega arith; few = c.requires.few.elephants }
+
+pub power-requires-2 : goal.power-requires-2
+power-requires-2 c = record { small = omega arith; few = c.requires.few.giraffes }
+
+pub overflow_mul-forms : goal.overflow_mul-forms
+overflow_mul-forms c = omega (arith, (forms_in_all c).count_is, (forms_in_all c).count_few)
+
+pub nonzero_div-number : goal.nonzero_div-number
+nonzero_div-number c = some_forms c
+
+pub parts_at-parts-requires-clause-chicks : goal.parts_at-parts-requires-clause-chicks
+parts_at-parts-requires-clause-chicks c = c.requires.few.chicks
+
+pub parts_at-parts-requires-clause-lions : goal.parts_at-parts-requires-clause-lions
+parts_at-parts-requires-clause-lions c = c.requires.lions
+
+pub power-requires-3 : goal.power-requires-3
+power-requires-3 c = record { small = omega arith; few = c.requires.few.chicks }

@@ -56,3 +56,22 @@ returns c =
     c.forms_at-forms.result c.chick_squares.result.0 c.chick_squares.result.1 c.choice_at-choice.ensures.choice in_it
     c.before_choice.ensures.value c.weight_of-weight.ensures.value c.chick_squares.ensures
     c.forms_at-forms.ensures.below c.forms_at-forms.ensures.allowed c.forms_at-forms.ensures.number
+
+pub choice_at-choice-requires-clause-chicks : goal.choice_at-choice-requires-clause-chicks
+choice_at-choice-requires-clause-chicks c = c.requires.chicks
+
+pub choice_at-choice-requires-clause-lions : goal.choice_at-choice-requires-clause-lions
+choice_at-choice-requires-clause-lions c = c.requires.lions
+
+pub before_choice-requires : goal.before_choice-requires
+before_choice-requires c =
+    record { chicks = c.requires.chicks; lions = c.requires.lions; choice = omega (arith, c.choice_at-choice.ensures.choice) }
+
+pub weight_of-weight-requires : goal.weight_of-weight-requires
+weight_of-weight-requires c = record { chicks = c.requires.chicks; lions = c.requires.lions; choice = c.choice_at-choice.ensures.choice }
+
+pub chick_squares-requires : goal.chick_squares-requires
+chick_squares-requires c = record { chicks = c.requires.chicks; lions = c.requires.lions; choice = c.choice_at-choice.ensures.choice }
+
+pub forms_at-forms-requires-clause-chicks : goal.forms_at-forms-requires-clause-chicks
+forms_at-forms-requires-clause-chicks c = c.requires.chicks

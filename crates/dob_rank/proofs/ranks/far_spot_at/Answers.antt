@@ -83,3 +83,27 @@ overflow_mul-before-2 c = let low = (before_in (goal.at.overflow_mul-before-2 c)
 
 pub overflow_sub-number : goal.overflow_sub-number
 overflow_sub-number c = (before_in (goal.at.overflow_sub-number c).After-before_lions).low
+
+pub power-requires : goal.power-requires
+power-requires c = record { small = omega arith; few = c.requires.few.elephants }
+
+pub power-requires-2 : goal.power-requires-2
+power-requires-2 c = record { small = omega arith; few = c.requires.few.giraffes }
+
+pub overflow_mul-forms : goal.overflow_mul-forms
+overflow_mul-forms c = omega (arith, (others_in c).1.count_is, (others_in c).1.count_few)
+
+pub hand_size-in_hand-requires : goal.hand_size-in_hand-requires
+hand_size-in_hand-requires c = c.requires.few.chicks
+
+pub lions_at-lions-requires-clause-chicks : goal.lions_at-lions-requires-clause-chicks
+lions_at-lions-requires-clause-chicks c = c.requires.few.chicks
+
+pub before_lions-requires : goal.before_lions-requires
+before_lions-requires c = record { chicks = c.requires.few.chicks; lions = omega (arith, c.lions_at-lions.ensures.lions) }
+
+pub local_at-local-requires-clause-few : goal.local_at-local-requires-clause-few
+local_at-local-requires-clause-few c = c.requires.few
+
+pub local_at-local-requires-clause-lions : goal.local_at-local-requires-clause-lions
+local_at-local-requires-clause-lions c = c.lions_at-lions.ensures.lions

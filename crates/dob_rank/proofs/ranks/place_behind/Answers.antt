@@ -87,3 +87,21 @@ returns-clause-bound c =
     let forms = forms_in (goal.at.returns-clause-bound c).After-power in
     let whole = product_within c.add_product-placed.result _ _ 17179869184 16 forms.count_is placed forms.count_few in
     omega (arith, whole, forms.number_is, forms.count_few, c.requires.others, c.add_product.ensures)
+
+pub choices_in-choices-requires : goal.choices_in-choices-requires
+choices_in-choices-requires c = c.requires.few
+
+pub weight_of-requires : goal.weight_of-requires
+weight_of-requires c = record { chicks = c.requires.few.chicks; lions = c.requires.lions; choice = c.requires.choice }
+
+pub add_product-placed-requires-clause-a : goal.add_product-placed-requires-clause-a
+add_product-placed-requires-clause-a c = omega (arith, c.requires.chosen)
+
+pub power-giraffes-requires : goal.power-giraffes-requires
+power-giraffes-requires c = record { small = omega arith; few = c.requires.few.giraffes }
+
+pub power-requires : goal.power-requires
+power-requires c = record { small = omega arith; few = c.requires.few.elephants }
+
+pub overflow_mul-power : goal.overflow_mul-power
+overflow_mul-power c = omega (arith, (forms_in c).count_is, (forms_in c).count_few)

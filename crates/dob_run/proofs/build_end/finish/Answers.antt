@@ -41,3 +41,6 @@ returns-clause-unfailed g c =
     (subst IsNone c.deref.ensures.value c.in_default.ensures).1
     (all_know c.args.runners.items c.requires.crew c.requires.stopped.1 c.in_ok-shares.ensures.ended.words
     (ended g (goal.at.returns-clause-unfailed g c).In_ok-shares))
+
+pub returns-clause-words : goal.returns-clause-words
+returns-clause-words g c = c.in_ok-shares.ensures.ended.words

@@ -1,5 +1,6 @@
 -- Each class's status and successors go to the ends of the lists.
 use Rattle.dob_value.proofs.Common.{◌<◌, ◌∙◌, ◌≡◌, arith, subst, HasClasses-classes_of, classes_of, class_setup, AreNodes, ClassStandsFor, IsNode}
+use Rattle.std.proofs.lemmas.Result.{err_from_is_err_and}
 use Rattle.dob_value.proofs.Nodes.{nodes_grown}
 use Rattle.dob_value.proofs.Rows.{class_setup_only}
 use Rattle.dob_value.proofs.graph.graph_of.Goals as goal
@@ -28,3 +29,11 @@ returns-clause-graph c =
     let all : c.loop-number.number ≡ classes_of c.args.classes.now.family =
     omega (arith, c.class_count-number-end.ensures.number, c.loop-number-test.false, c.loop-number.auto.number-end) in
     subst (λ n. AreNodes c.args.classes.now.family n c.loop-number.statuses.items c.loop-number.starts.items c.loop-number.successors.items) all c.loop-number.invariant
+
+pub returns-in_err-status-clause-family : goal.returns-in_err-status-clause-family
+returns-in_err-status-clause-family c =
+    let p = err_from_is_err_and c.from_residual-in_err-status.result c.from_residual-in_err-status.ensures.1 in rw p.1 tt
+
+pub returns-in_err-status-clause-graph : goal.returns-in_err-status-clause-graph
+returns-in_err-status-clause-graph c =
+    let p = err_from_is_err_and c.from_residual-in_err-status.result c.from_residual-in_err-status.ensures.1 in rw p.1 tt

@@ -32,3 +32,12 @@ returns-clause-short c =
     let whole = put_back c.loop-depth.values.len c.sweep_once.new.values c.loop-depth.values.items (ap length unchanged) (c.loop-depth.values.ok.0) in
     subst (λ xs. All IsShort xs) (sym (whole ∙ unchanged))
     (all_short c.loop-depth.depth c.args.graph.now.family c.loop-depth.values.items c.loop-depth.invariant.below c.loop-depth.invariant.cut_off)
+
+pub loop-depth-preserved : goal.loop-depth-preserved
+loop-depth-preserved c =
+    let whole = put_back c.loop-depth.values.len c.sweep_once.new.values c.loop-depth.values.items
+    (c.sweep_once.auto.values ∙ ap length c.deref_mut.ensures.value) (c.loop-depth.values.ok.0) in
+    record {
+      cut_off = subst (λ xs. AreCutOff (c.loop-depth.depth + 1) c.args.graph.now.family xs) (sym whole) c.sweep_once.ensures.cut_off;
+      below = omega (arith, c.if-depth-gt-MAX_DISTANCE.false);
+    }
