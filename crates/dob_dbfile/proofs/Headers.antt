@@ -1,10 +1,11 @@
 -- What the tests say of the first bytes they say of all of them.
-use Rattle.dob_dbfile.proofs.Common.{◌++◌, ◌+◌, ◌-◌, ◌<◌, ◌∙◌, ◌≡◌, ◌≤◌, List, ap, arith, drop, inr, length, length-drop, length-take-le, refl, rules, subst}
+use Rattle.dob_dbfile.proofs.Common.{◌++◌, ◌+◌, ◌-◌, ◌<◌, ◌∙◌, ◌≡◌, ◌≤◌, ◌⊎◌, List, ap, arith, drop, false, inl, inr, length, length-drop, length-take-le, refl, rules, subst}
 use Rattle.dob_dbfile.proofs.Common.{sym, take, take_all, ℕ, drop-take, drop_at, length-append, take_at, PieceSet, Family, Profile, family_of, GivesFirst}
 use Rattle.dob_dbfile.proofs.Common.{Stream, after, CountsClasses, HasHeader, HasHeaderFault, HasTitle, NamesClasses, NamesFamily, NamesSet, SaysProfile}
 use Rattle.dob_dbfile.proofs.Common.{count_place, header_len, HasFrontFault, GivesFewer, TakesBytes, Fault, Format, First, Second, put_mid}
 use Rattle.std.proofs.lemmas.List.{take-take}
 use Rattle.dob_device.proofs.Streams.{filled_more}
+use Rattle.dob_dbfile.specs.Faults.{is_io}
 use Rattle.dob_dbfile.specs.declared.fault.Fault.TheVariants as fault
 
 -- the number of classes stands in the header's last eight bytes
@@ -116,6 +117,11 @@ by_fault bytes Holds magic set profile count fault.SetByte wrong = set wrong
 by_fault bytes Holds magic set profile count fault.ProfileByte wrong = profile wrong
 by_fault bytes Holds magic set profile count fault.ClassCount wrong = count wrong
 by_fault bytes Holds magic set profile count _ wrong = absurd wrong
+
+-- no test of a header is a failure of the source, nor is want of memory
+pub no_failure : (bytes : List ℕ) (given : Fault) → (given ≡ fault.Memory) ⊎ HasHeaderFault bytes given → is_io given ≡ false
+no_failure bytes given (inl memory) = ap is_io memory
+no_failure bytes given (inr wrong) = by_fault bytes (λ f. is_io f ≡ false) (λ _. refl) (λ _. refl) (λ _. refl) (λ _. refl) given wrong
 
 pub front_refused : (stream : Stream) (given : Fault) → HasHeaderFault stream.bytes given → HasFrontFault stream given
 front_refused stream = by_fault stream.bytes (HasFrontFault stream) (λ wrong. wrong) (λ wrong. wrong) (λ wrong. wrong) (λ wrong. wrong)

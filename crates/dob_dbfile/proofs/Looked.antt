@@ -2,7 +2,9 @@
 use Rattle.dob_dbfile.proofs.Common.{◌*◌, ◌++◌, ◌<◌, ◌∙◌, ◌∷◌, ◌≡◌, List, Some, [], ap, arith, drop, length, slice_get, subst, suc, sym, take, zero, ℕ}
 use Rattle.dob_dbfile.proofs.Common.{drop-drop, All-tail, All, unwrap_or, little_bytes, sha256, Family, classes_of, code_of_value, ClassTable, IsEntry, IsTable}
 use Rattle.dob_dbfile.proofs.Common.{Value, Stream, after, whole, CountsClasses, header_len, IsFile, records, contents_in, HasRecord, RecordsAreEntries}
-use Rattle.dob_dbfile.proofs.Common.{place_of, TakesBytes, Format}
+use Rattle.dob_dbfile.proofs.Common.{place_of, GivesFewer, TakesBytes, Fault, Format, length-drop, refl}
+use Rattle.dob_dbfile.specs.Looking.{HasRecordFault}
+use Rattle.dob_dbfile.specs.declared.fault.Fault.TheVariants.{Truncated, Memory, Io}
 use Rattle.std.proofs.lemmas.Option.{get_or_from_slice_get, same_Some, slice_get_within}
 use Rattle.dob_dbfile.proofs.CodeBytes.{same_records}
 use Rattle.dob_dbfile.proofs.FileBytes.{behind_header, format_of}
@@ -13,6 +15,14 @@ use Rattle.dob_dbfile.proofs.Written.{counts_file, table_classes}
 pub record_is : (stream : Stream) (format : Format) (class : ℕ) (room : List ℕ) (value : Value) → length room ≡ 2
     → TakesBytes (after (place_of format class) stream) room → little_bytes 2 (code_of_value value) ≡ room → IsEntry value → HasRecord stream format class value
 record_is stream format class room value two taken back entry = grind arith
+
+-- what is cut short at the class's place is cut short before the record's end
+pub record_cut : (stream : Stream) (format : Format) (class : ℕ) (given : Fault) → GivesFewer 2 (place_of format class) (after (place_of format class) stream) given
+    → (given ≡ Memory → ⊥) → HasRecordFault stream format class given
+record_cut stream format class Truncated cut known = (omega (arith, cut.0, length-drop (place_of format class) stream.bytes), cut.1)
+record_cut stream format class (Io bytes) cut known = (omega (arith, cut.0, length-drop (place_of format class) stream.bytes), cut.1, cut.2)
+record_cut stream format class Memory cut known = absurd (known refl)
+record_cut stream format class _ cut known = absurd cut
 
 -- ---- the record of a class in the file of a table
 

@@ -1,10 +1,11 @@
 -- What is read piece after piece: codes, and the end of a file.
-use Rattle.dob_dbfile.proofs.Common.{◌*◌, ◌++◌, ◌+◌, ◌-◌, ◌∙◌, ◌≡◌, ◌≤◌, List, [], ap, append-nil, append_assoc, arith, drop, false, length, length-drop}
-use Rattle.dob_dbfile.proofs.Common.{length-take, min, rules, subst, sym, take, take-add, take_all, ℕ, min-le_left, length-append, flat_map-append, little_bytes}
-use Rattle.dob_dbfile.proofs.Common.{Holds256, sha256, Stream, after, whole, code_bytes, EndsWith, GivesFewer, HasDigestFault, HashesNext, IsDigest, ReadsCodes}
+use Rattle.dob_dbfile.proofs.Common.{◌*◌, ◌++◌, ◌+◌, ◌-◌, ◌∙◌, ◌≡◌, ◌≤◌, ◌||◌, Bool, List, [], ap, append-nil, append_assoc, arith, drop, false, length, length-drop}
+use Rattle.dob_dbfile.proofs.Common.{length-take, min, or-false, rules, subst, sym, take, take-add, take_all, ℕ, min-le_left, length-append, flat_map-append, little_bytes}
+use Rattle.dob_dbfile.proofs.Common.{Holds256, sha256, Stream, after, whole, code_bytes, EndsWith, GivesFewer, HasDigestFault, HasRestFault, HashesNext, IsDigest, ReadsCodes}
 use Rattle.dob_dbfile.proofs.Common.{TakesBytes, Fault}
 use Rattle.sha2.specs.declared.Sha256.{Sha256}
-use Rattle.dob_dbfile.specs.declared.fault.Fault.TheVariants.{Truncated, Memory, Io}
+use Rattle.dob_dbfile.specs.Reading.{IsNoEnd}
+use Rattle.dob_dbfile.specs.declared.fault.Fault.TheVariants.{Truncated, Trailing, Digest, Memory, Io}
 
 -- ---- what is read piece after piece
 
@@ -39,6 +40,10 @@ hashes_more stream a b old mid new first second message holds =
     ∙ ap (λ (back : List ℕ). message ++ back) (sym (take-add a b stream.bytes)))
     (second (message ++ take a stream.bytes) (first message holds))
 
+-- a source that didn't fail at first has failed if it failed later
+pub failed_later : (old mid new late : Bool) → mid ≡ (old || false) → new ≡ (mid || late) → new ≡ (old || late)
+failed_later old mid new late first second = second ∙ ap (λ (b : Bool). b || late) (first ∙ or-false old)
+
 -- what is cut short after some bytes is cut short
 pub cut_later : (stream : Stream) (done wanted more before : ℕ) (fault : Fault) → done ≤ length stream.bytes → done + more ≤ wanted
     → GivesFewer more (before + done) (after done stream) fault → GivesFewer wanted before stream fault
@@ -65,6 +70,25 @@ digest_cut message before stream Truncated cut = cut
 digest_cut message before stream (Io count) cut = (omega (arith, cut.0), cut.1, cut.2)
 digest_cut message before stream Memory cut = tt
 digest_cut message before stream _ cut = absurd cut
+
+-- what is wrong where the digest is wanted is wrong after the header
+pub rest_wrong : (stream : Stream) (front : List ℕ) (count : ℕ) (given : Fault) → 2 * count ≤ length stream.bytes
+    → HasDigestFault (front ++ take (2 * count) stream.bytes) (length front + 2 * count) (after (2 * count) stream) given → HasRestFault front count stream given
+rest_wrong stream front count Trailing there wrong = omega (arith, there, wrong, length-drop (2 * count) stream.bytes)
+rest_wrong stream front count Digest there wrong = (omega (arith, there, wrong.0, length-drop (2 * count) stream.bytes), wrong.1, wrong.2)
+rest_wrong stream front count (Io bytes) there wrong =
+    (omega (arith, there, wrong.0, length-drop (2 * count) stream.bytes), wrong.1, omega (arith, there, wrong.2, length-drop (2 * count) stream.bytes))
+rest_wrong stream front count Truncated there wrong = (omega (arith, there, wrong.0, length-drop (2 * count) stream.bytes), wrong.1)
+rest_wrong stream front count Memory there wrong = tt
+rest_wrong stream front count _ there wrong = absurd wrong
+
+-- what is wrong behind the digest, where the stream should end
+pub end_wrong : (message : List ℕ) (before : ℕ) (stream : Stream) (given : Fault) → 32 ≤ length stream.bytes → IsNoEnd (before + 32) (after 32 stream) given
+    → HasDigestFault message before stream given
+end_wrong message before stream Trailing there wrong = omega (arith, there, wrong, length-drop 32 stream.bytes)
+end_wrong message before stream (Io bytes) there wrong =
+    (omega (arith, there, wrong.0, length-drop 32 stream.bytes), wrong.1, omega (arith, there, wrong.0, wrong.2, length-drop 32 stream.bytes))
+end_wrong message before stream _ there wrong = absurd wrong
 
 -- the room holds all of a stream that ends after as many bytes
 pub record IsAll (stream : Stream) (room : List ℕ) : Type 0 where

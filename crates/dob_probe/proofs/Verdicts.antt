@@ -1,5 +1,5 @@
 -- What a verdict of a class says, and the first fault among those of all classes.
-use Rattle.dob_probe.proofs.Common.{◌+◌, ◌<◌, ◌≡◌, ◌≤◌, ◌⊎◌, Err, IfErr, None, Ok, Option, Result, Some, arith, length, true, ℕ, ClassTable, IsConsistent}
+use Rattle.dob_probe.proofs.Common.{◌+◌, ◌<◌, ◌≡◌, ◌≤◌, ◌⊎◌, Err, IfErr, None, Ok, Option, Result, Some, arith, inr, length, refl, true, ℕ, ClassTable, IsConsistent}
 use Rattle.dob_probe.proofs.Common.{IsTable, ClassFollows, Fault, Inconsistent, Memory}
 use Rattle.std.specs.Prelude.{is_err}
 use Rattle.dob_probe.specs.Faults.{IsVerdict, IsFaultOfCheck}
@@ -14,6 +14,13 @@ module _ (table : ClassTable) where
   IsFirstFault from count None = (class : ℕ) → from ≤ class → class < from + count → ClassFollows table class
   IsFirstFault from count (Some verdict) = (class : ℕ) × (class < from + count) × IsVerdict table class verdict × (is_err verdict ≡ true)
       × ((other : ℕ) → from ≤ other → other < class → ClassFollows table other)
+
+  -- of a consistent table no class is refused
+  pub memory_alone : (class : ℕ) (fault : Fault) → IsVerdict table class (Err fault) → IsConsistent table.family table.values
+      → (let given : Verdict = Err fault in (given ≡ Ok tt) ⊎ (given ≡ Err Memory))
+  memory_alone class (Inconsistent other) broken consistent = absurd (consistent_has_no_break table class consistent broken.1)
+  memory_alone class Memory refused consistent = inr refl
+  memory_alone class _ wrong consistent = absurd wrong
 
   module _ (whole : IsTable table.family table.values) where
     -- what a fault says of the table

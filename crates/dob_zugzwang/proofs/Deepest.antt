@@ -1,8 +1,8 @@
 -- The deepest pair, one pair more each time.
-use Rattle.std.proofs.Common.{Contains}
+use Rattle.std.proofs.Common.{Contains, false}
 use Rattle.dob_zugzwang.proofs.Common.{◌++◌, ◌∙◌, ◌∷◌, ◌≡◌, List, None, Option, Some, [], arith, inl, inr, refl, subst, sym, true, true≢false, IsDeeper}
 use Rattle.dob_zugzwang.proofs.Common.{IsDeepest, is_lost_by_both, Zugzwang}
-use Rattle.std.proofs.lemmas.List.Elements.{Contains-push, Contains-push_cases}
+use Rattle.std.proofs.lemmas.List.Elements.{Contains-append_left, Contains-push, Contains-push_cases}
 
 -- no pair is deeper than itself
 pub not_itself : (pair : Zugzwang) → ¬ IsDeeper pair pair
@@ -34,6 +34,15 @@ module _ (done : List Zugzwang) (pair : Zugzwang) where
 
   abbrev NotDeeper : Zugzwang → Zugzwang → Type 0
   NotDeeper best other = is_lost_by_both other ≡ true → ¬ IsDeeper other best
+
+  -- one that isn't changes nothing
+  pub passed_over : (best : Option Zugzwang) → is_lost_by_both pair ≡ false → IsDeepest done best → IsDeepest (done ++ pair ∷ []) best
+  passed_over None not_lost none = each_more (λ other. is_lost_by_both other ≡ false) none not_lost
+  passed_over (Some best) not_lost is = (
+    Contains-append_left done (pair ∷ []) best is.0,
+    is.1,
+    each_more (NotDeeper best) is.2 (λ lost. absurd (true≢false (sym lost ∙ not_lost))),
+  )
 
   -- the first one that is
   pub begun : (best : Option Zugzwang) → ((other : Zugzwang) → ¬ (best ≡ Some other)) → is_lost_by_both pair ≡ true → IsDeepest done best

@@ -2,7 +2,7 @@
 use Rattle.std.specs.Prelude.{◌≡◌, ◌⊎◌, ℕ, ◌<◌, Bool, true, false, List, Option, None, Some, Contains, count_by, max, min}
 use Rattle.dob_distance.specs.Distances.{plies_of}
 use Rattle.dob_distance.specs.declared.value.Value.{Value}
-use Rattle.dob_distance.specs.declared.value.Value.TheVariants.{Win, Loss, Draw}
+use Rattle.dob_distance.specs.declared.value.Value.TheVariants.{Loss, Draw}
 use Rattle.dob_zugzwang.specs.declared.counts.PairCounts.{PairCounts}
 use Rattle.dob_zugzwang.specs.declared.pairs.Zugzwang.{Zugzwang}
 

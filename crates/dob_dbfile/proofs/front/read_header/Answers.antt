@@ -1,9 +1,10 @@
 -- The two pieces are the header, and what it is refused for is a fault of the stream.
-use Rattle.dob_dbfile.proofs.Common.{◌++◌, ◌+◌, ◌-◌, ◌∙◌, ◌≡◌, List, ap, arith, drop, inl, inr, length, rules, subst, take, ℕ, err_from_is_err_and, Stream}
+use Rattle.dob_dbfile.proofs.Common.{◌++◌, ◌+◌, ◌-◌, ◌∙◌, ◌≡◌, ◌||◌, Bool, List, ap, arith, drop, inl, inr, length, length-take-le, rules, subst, sym, take, ℕ, err_from_is_err_and, Stream}
 use Rattle.dob_dbfile.proofs.Common.{after, CountsClasses, HasHeaderFault, NamesClasses, NamesSet, header_len, put_mid}
 use Rattle.dob_device.proofs.Streams.{after-after}
 use Rattle.dob_dbfile.proofs.Headers.{HasCome, counts_lifts, fault_lifts, front_cut, front_refused, header_came, header_long, names_lift, set_lifts}
-use Rattle.dob_dbfile.proofs.Headers.{takes_front}
+use Rattle.dob_dbfile.proofs.Headers.{no_failure, takes_front}
+use Rattle.dob_dbfile.proofs.Pieces.{failed_later}
 use Rattle.dob_dbfile.proofs.front.read_header.Goals.{In_ok-fill}
 use Rattle.dob_dbfile.proofs.front.read_header.Goals as goal
 
@@ -71,3 +72,28 @@ returns-clause-taken g c = λ stream gives.
       takes_front stream (header_len c.in_ok-format.format) _ there.0.there there.0.same,
       subst (g.R.Source.gives c.fill.new.source) (after-after stream 20 (length c.fill.new.room) ∙ ap (λ (n : ℕ). after n stream) there.0.counted) there.1,
     )
+
+pub returns-clause-failed : goal.returns-clause-failed
+returns-clause-failed g c = failed_later _ _ _ _ c.in_ok-format.ensures.failed c.in_ok-fill.ensures.failed
+
+pub returns-in_err-fill-clause-failed : goal.returns-in_err-fill-clause-failed
+returns-in_err-fill-clause-failed g c =
+    let p = err_from_is_err_and c.from_residual-in_err-fill.result c.from_residual-in_err-fill.ensures.1 in
+    rw (p.1, p.2) (failed_later _ _ _ _ c.in_ok-format.ensures.failed c.in_err-fill.ensures.failed)
+
+pub returns-in_err-classes-clause-failed : goal.returns-in_err-classes-clause-failed
+returns-in_err-classes-clause-failed g c =
+    let p = err_from_is_err_and c.from_residual-in_err-classes.result c.from_residual-in_err-classes.ensures.1 in
+    rw (p.1, p.2) (failed_later _ _ _ _ c.in_ok-format.ensures.failed c.in_ok-fill.ensures.failed
+    ∙ ap (λ (b : Bool). g.R.Source.has_failed c.args.source.now || b) (sym (no_failure _ c.in_err-classes.field-0.0 c.in_err-classes.ensures.fault)))
+
+pub returns-in_err-classes-clause-counted : goal.returns-in_err-classes-clause-counted
+returns-in_err-classes-clause-counted g c = λ stream gives.
+    let p = err_from_is_err_and c.from_residual-in_err-classes.result c.from_residual-in_err-classes.ensures.1 in rw p.1 tt
+
+pub returns-in_err-classes-clause-taken : goal.returns-in_err-classes-clause-taken
+returns-in_err-classes-clause-taken g c = λ stream gives.
+    let p = err_from_is_err_and c.from_residual-in_err-classes.result c.from_residual-in_err-classes.ensures.1 in rw p.1 tt
+
+pub read_front-requires : goal.read_front-requires
+read_front-requires g c = length-take-le 20 c.args.room.now (omega (arith, c.requires))

@@ -1,5 +1,6 @@
 -- The record of a class more is appended.
-use Rattle.dob_dbfile.proofs.Common.{◌++◌, ◌<◌, ◌∙◌, List, ap, append_assoc, arith, length, sym, take, ℕ, little_bytes, code_of_value, records}
+use Rattle.dob_dbfile.proofs.Common.{◌++◌, ◌<◌, ◌∙◌, List, ap, append_assoc, arith, length, subst, sym, take, ℕ, little_bytes, IsEntry, code_of_value, records}
+use Rattle.std.proofs.lemmas.Option.{get_or_from_slice_get}
 use Rattle.dob_dbfile.proofs.CodeBytes.{records_more}
 use Rattle.dob_dbfile.proofs.records.put_records.Goals as goal
 
@@ -19,3 +20,15 @@ loop-class-preserved c =
       omega (arith, c.push_record.ensures.capacity, c.loop-class.invariant.2),
       omega (arith, c.loop-class.invariant.3),
     )
+
+pub code_of_value-requires : goal.code_of_value-requires
+code_of_value-requires c =
+    let values = c.args.table.now.values in
+    let value = c.value.result in
+    subst IsEntry (get_or_from_slice_get values c.loop-class.class value value c.value.ensures)
+    (c.requires.entries c.loop-class.class value (omega (arith, c.requires.within, c.loop-class-test.true)))
+
+pub returns-clause-records : goal.returns-clause-records
+returns-clause-records c =
+    c.loop-class.invariant.0
+    ∙ ap (λ (n : ℕ). records (take n c.args.table.now.values)) (omega (arith, c.loop-class-test.false, c.loop-class.auto.class-end c.requires.order))

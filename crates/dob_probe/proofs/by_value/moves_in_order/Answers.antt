@@ -1,5 +1,6 @@
 -- Each move is later than those listed, and its value is the one that is said of the position after it.
 use Rattle.dob_probe.proofs.Common.{refl, rules, slice_get_read, move_goes, ValuedMove}
+use Rattle.std.proofs.lemmas.Result.{err_from_is_err_and}
 use Rattle.dob_probe.proofs.ByValue.{listed_all, listed_more, listed_none}
 use Rattle.dob_probe.proofs.InOrder.{before_next, none_first, none_ordered, one_more}
 use Rattle.dob_probe.proofs.by_value.moves_in_order.Goals as goal
@@ -18,6 +19,18 @@ returns-in-Err-clause-fault g c = λ held is. (
   (c.played-item.result, c.outcome_of-next.ensures.goes),
   c.in-Err.ensures.fault held (c.loop-played.invariant.held held is),
 )
+
+pub returns-in-Err-clause-held : goal.returns-in-Err-clause-held
+returns-in-Err-clause-held g c = λ held is. c.in-Err.ensures.held held (c.loop-played.invariant.held held is)
+
+pub returns-in_err-insert_by_value-clause-moves : goal.returns-in_err-insert_by_value-clause-moves
+returns-in_err-insert_by_value-clause-moves g c = λ held is. let p = err_from_is_err_and c.from_residual.result c.from_residual.ensures.1 in rw p.1 tt
+
+pub returns-in_err-insert_by_value-clause-fault : goal.returns-in_err-insert_by_value-clause-fault
+returns-in_err-insert_by_value-clause-fault g c = λ held is. let p = err_from_is_err_and c.from_residual.result c.from_residual.ensures.1 in rw (p.1, p.2) tt
+
+pub returns-in_err-insert_by_value-clause-held : goal.returns-in_err-insert_by_value-clause-held
+returns-in_err-insert_by_value-clause-held g c = λ held is. c.in-Ok.ensures.held held (c.loop-played.invariant.held held is)
 
 pub insert_by_value-requires-clause-later : goal.insert_by_value-requires-clause-later
 insert_by_value-requires-clause-later g c =

@@ -2,7 +2,7 @@
 use Rattle.dob_probe.proofs.Common.{Err, arith, inl, inr, refl, IsConsistent, consistent_is_right}
 use Rattle.std.proofs.lemmas.Result.{err_from_is_err_and}
 use Rattle.dob_probe.proofs.Following.{consistent_of_all}
-use Rattle.dob_probe.proofs.Verdicts.{fault_holds}
+use Rattle.dob_probe.proofs.Verdicts.{fault_holds, memory_alone}
 use Rattle.dob_probe.proofs.checks.check.Goals as goal
 use Rattle.dob_probe.proofs.checks.check.Goals.{After-loop-class}
 use Rattle.std.proofs.lemmas.Bool.{cases_eq}
@@ -23,6 +23,11 @@ returns-in_err-check_class-clause-fault c =
       refl,
       λ other low below. c.loop-class.invariant other below,
     ))
+
+pub returns-in_err-check_class-clause-passed : goal.returns-in_err-check_class-clause-passed
+returns-in_err-check_class-clause-passed c = λ consistent.
+    let p = err_from_is_err_and c.from_residual.result c.from_residual.ensures.1 in
+    rw (p.1, p.2) (memory_alone c.args.table.now c.loop-class.class c.in_err-check_class.field-0.0 c.in_err-check_class.ensures consistent)
 
 all_follow : (c : After-loop-class) → IsConsistent c.args.table.now.family c.args.table.now.values
 all_follow c =

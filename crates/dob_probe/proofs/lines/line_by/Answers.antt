@@ -22,6 +22,14 @@ returns-in_err-played-clause-fault g c =
     c.in_default.ensures (sym c.value_wanted.ensures ∙ c.in-Some-value_wanted.is)
     (c.in_err-played.ensures.missing held (c.loop-catch.invariant.held held is)))
 
+pub returns-in_err-push_move-2-clause-line : goal.returns-in_err-push_move-2-clause-line
+returns-in_err-push_move-2-clause-line g c = λ held is says.
+    let p = err_from_is_err_and c.from_residual-in_err-push_move-2.result c.from_residual-in_err-push_move-2.ensures.1 in rw p.1 tt
+
+pub returns-in_err-push_move-2-clause-fault : goal.returns-in_err-push_move-2-clause-fault
+returns-in_err-push_move-2-clause-fault g c = λ held is says.
+    let p = err_from_is_err_and c.from_residual-in_err-push_move-2.result c.from_residual-in_err-push_move-2.ensures.1 in rw (p.1, p.2) tt
+
 pub loop-catch-preserved : goal.loop-catch-preserved
 loop-catch-preserved g c =
     record {

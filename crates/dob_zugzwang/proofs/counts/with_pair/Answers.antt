@@ -1,7 +1,11 @@
 -- A pair that isn't lost by both changes nothing; else the deeper one stays.
 use Rattle.std.proofs.Common.{◌∙◌, sym}
-use Rattle.dob_zugzwang.proofs.Deepest.{begun, replaced}
+use Rattle.dob_zugzwang.proofs.Deepest.{begun, passed_over, replaced}
 use Rattle.dob_zugzwang.proofs.counts.with_pair.Goals as goal
+
+pub returns-then-not-is_lost_by_both : goal.returns-then-not-is_lost_by_both
+returns-then-not-is_lost_by_both c = λ done is.
+    passed_over done c.args.pair c.args.best (sym c.is_lost_by_both.ensures ∙ c.if-not-is_lost_by_both.true) is
 
 pub returns-in_default : goal.returns-in_default
 returns-in_default c = λ done is.
