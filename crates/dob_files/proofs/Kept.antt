@@ -20,6 +20,10 @@ others_after name Old Mid New same others = others_chain name Old Mid New (other
 pub fails_later : (old mid new failed : Bool) → mid ≡ (old || false) → new ≡ (mid || failed) → new ≡ (old || failed)
 fails_later old mid new failed first second = second ∙ ap (λ (b : Bool). b || failed) (first ∙ or-false old)
 
+-- what fails where a source that is given back did
+pub source_fails : (old mid new source failed : Bool) → mid ≡ (old || false) → new ≡ (mid || source) → source ≡ failed → new ≡ (old || failed)
+source_fails old mid new source failed first second is = fails_later old mid new failed first (second ∙ ap (λ (b : Bool). mid || b) is)
+
 -- what holds of lack of memory and of a device that failed holds of a fault of keeping a file
 pub of_shelf_fault : (P : Fault → Type 0) → P Memory → P Io → (fault : Fault) → IsShelfFault fault → P fault
 of_shelf_fault P memory io fault holds = grind arith

@@ -100,10 +100,13 @@ module _ {k : Setting} {nodes : List Node} {lanes : List Lane} {detector : Detec
 
   -- ---- what the detector may count
 
+  pub ring_lawful : IsLawfulRing detector.nodes (ring_of detector)
+  ring_lawful = subst (λ (m : ℕ). IsLawfulRing m (ring_of detector)) (sym stand.same_n) stand.matches.lawful
+
   pub can_count : (i j : ℕ) → i < k.n → j < k.n → CanCount detector i j
   can_count i j low_i low_j = record {
     counted = stand.counted;
-    lawful = subst (λ (m : ℕ). IsLawfulRing m (ring_of detector)) (sym stand.same_n) stand.matches.lawful;
+    lawful = ring_lawful;
     from = omega (arith, low_i, stand.same_n);
     to = omega (arith, low_j, stand.same_n);
   }

@@ -89,3 +89,13 @@ returns-clause-told g c = inl (
         (put_or_stopped _ _ c.tell-told-2.result c.tell-told-2.ensures.done c.tell-told-2.ensures.part),
   ),
 )
+
+pub returns-in-Err-clause-files : goal.returns-in-Err-clause-files
+returns-in-Err-clause-files g c =
+    let shelf = g.S.Shelf.state c.args.shelf.now in
+    same_chain shelf.has (g.S.Shelf.state c.loop.shelf).has (g.S.Shelf.state c.hear_next.new.shelf).has c.loop.invariant.3 c.in-Err.ensures.files
+
+pub returns-in-Ok-false-clause-files : goal.returns-in-Ok-false-clause-files
+returns-in-Ok-false-clause-files g c =
+    let shelf = g.S.Shelf.state c.args.shelf.now in
+    same_chain shelf.has (g.S.Shelf.state c.loop.shelf).has (g.S.Shelf.state c.hear_next.new.shelf).has c.loop.invariant.3 c.in-Ok-false.ensures.files

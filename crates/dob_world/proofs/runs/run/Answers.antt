@@ -1,5 +1,6 @@
 -- The opening world is the one after no events, and each event makes a run longer.
-use Rattle.dob_world.proofs.Common.{◌<◌, Ok, [], ap, arith, inr, refl, subst, sym, classes_of, state_of, IsWorldStart, Setting, setting_by}
+use Rattle.dob_world.proofs.Common.{◌<◌, List, Ok, [], ap, arith, inr, refl, subst, sym, take_all, classes_of, state_of, HasRunEvents, IsWorldStart, Setting, setting_by}
+use Rattle.dob_world.specs.declared.event.Event.{Event}
 use Rattle.dob_world.proofs.Driven.{ran, stepped, ran_more, run_stops}
 use Rattle.dob_world.proofs.runs.run.Goals as goal
 
@@ -25,6 +26,11 @@ loop-event-preserved c =
           step out.going.0 out.going.1;
       steps = omega (arith, step.steps, c.loop-event.invariant.steps);
     }
+
+pub returns-clause-run : goal.returns-clause-run
+returns-clause-run c =
+    subst (λ (done : List Event). HasRunEvents (setting_by c.args.family c.args.nodes c.args.batch c.args.capacity) done c.loop-event.world)
+    (take_all c.loop-event.event-index c.args.events.now c.loop-event-test.false) c.loop-event.invariant.run
 
 pub returns-in-Err-step-clause-memory : goal.returns-in-Err-step-clause-memory
 returns-in-Err-step-clause-memory c = λ few.

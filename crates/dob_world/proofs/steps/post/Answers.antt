@@ -1,7 +1,24 @@
 -- The batch cut is the last that waits on the lane, whose link has room, and its items are listed as sent.
 use Rattle.dob_world.proofs.Common.{◌++◌, ◌∙◌, ◌∷◌, ◌≡◌, ◌≤◌, IfSome, [], ap, length, refl, subst, BatchView, HasCut, link_of}
 use Rattle.dob_world.proofs.Firsts.{went_well}
+use Rattle.std.proofs.Common.{◌+◌, ap₂, arith, length-take, min, ℕ}
+use Rattle.std.specs.Prelude.{vec_len}
+use Rattle.dob_node.specs.Nodes.{outbox_to}
 use Rattle.dob_world.proofs.steps.post.Goals as goal
+
+-- there is room for what was counted, the lesser of two numbers
+fits_as_counted : (len listed count a b room : ℕ) → listed ≡ min a b → count ≡ min b a → len + count ≤ room → len + listed ≤ room
+fits_as_counted len listed count a b room is counted fits = grind arith
+
+pub list_items-requires : goal.list_items-requires
+list_items-requires c =
+    let size : ℕ = c.args.batch_size in
+    let items = (outbox_to c.args.node.now c.args.to).items in
+    let cut = subst (λ given. IfSome given (λ (b : BatchView). HasCut c.args.to size b c.args.node.now c.cut_for.new.self)) c.in-Some.is
+    c.in_ok-batch.ensures.step.cut in
+    let listed : length c.items.result.now ≡ min size (length items) = ap length (c.items.ensures.items ∙ cut.cut.items) ∙ length-take size items in
+    let count : c.min-count.result ≡ min (length items) size = c.min-count.ensures ∙ ap₂ min c.left_for.ensures c.get.ensures.value in
+    fits_as_counted (vec_len c.reserve.new.self) (length c.items.result.now) c.min-count.result size (length items) _ listed count c.in_ok-reserve.ensures.ok
 
 pub returns-clause-posted : goal.returns-clause-posted
 returns-clause-posted c = λ e.

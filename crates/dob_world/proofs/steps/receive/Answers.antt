@@ -1,5 +1,5 @@
 -- The lane's first batch is one for the node, which takes and lists its items, or stops at one of them.
-use Rattle.dob_world.proofs.Common.{◌++◌, ◌∙◌, ◌∷◌, ap, refl, rules, subst, sym, take, All-head, All, BatchView, before_since, taken_since, IsBatchTo, link_of}
+use Rattle.dob_world.proofs.Common.{◌++◌, ◌∙◌, ◌∷◌, ap, length, refl, rules, subst, sym, take, All-head, All, BatchView, before_since, taken_since, IsBatchTo, link_of}
 use Rattle.dob_world.proofs.Firsts.{front_is}
 use Rattle.dob_world.proofs.steps.receive.Goals as goal
 
@@ -15,6 +15,14 @@ apply_batch-requires c =
       entries = first.entries;
       going = search rules;
     }
+
+pub slice_bounds-list_items-end : goal.slice_bounds-list_items-end
+slice_bounds-list_items-end c =
+    let before = before_since c.in-Some-next.batch.items c.args.node.now c.reserve-2.new.self c.apply_batch.new.self c.in-Err.cause
+    c.reserve-2.ensures.step.unchanged c.in-Err.ensures.step.before in
+    let counted = before.counted ∙ sym c.taken.ensures in
+    sym (ap length (front_is c.items-in-Err.result.now before.front before.behind before.item c.taken.result
+    (c.items-in-Err.ensures.items ∙ before.items_are) counted) ∙ counted)
 
 pub returns-in-Err-clause-front : goal.returns-in-Err-clause-front
 returns-in-Err-clause-front c = λ other.

@@ -26,6 +26,30 @@ loop-other-preserved c =
       few_taken = omega (arith, on.few_taken, taken, order, column_few);
     }
 
+pub overflow_add-posted : goal.overflow_add-posted
+overflow_add-posted c =
+    let d = c.args.self.now in
+    let node = c.args.node in
+    let other = c.loop-other.other in
+    let nodes = c.get-nodes.ensures.value in
+    let low : other < d.nodes = omega (arith, c.loop-other-test.true, nodes) in
+    let posted = read_at d.nodes _ d.posted.items node other c.index.result.now nodes c.requires.node low c.requires.counted.posted c.index.ensures in
+    let few : slice_index d.posted.items (node * d.nodes + other) ≤ 2 ^ 40 = c.requires.lawful.few node other c.requires.node low in
+    omega (arith, c.loop-other.invariant.few_posted, posted, few, low, c.requires.counted.nodes.1)
+
+pub overflow_add-taken : goal.overflow_add-taken
+overflow_add-taken c =
+    let d = c.args.self.now in
+    let node = c.args.node in
+    let other = c.loop-other.other in
+    let nodes = c.get-nodes.ensures.value in
+    let low : other < d.nodes = omega (arith, c.loop-other-test.true, nodes) in
+    let taken = read_at d.nodes _ d.taken.items other node c.index-in-loop-other.result.now nodes low c.requires.node c.requires.counted.taken c.index-in-loop-other.ensures in
+    let order : slice_index d.taken.items (other * d.nodes + node) ≤ slice_index d.posted.items (other * d.nodes + node) =
+    c.requires.lawful.in_order other node low c.requires.node in
+    let few : slice_index d.posted.items (other * d.nodes + node) ≤ 2 ^ 40 = c.requires.lawful.few other node low c.requires.node in
+    omega (arith, c.loop-other.invariant.few_taken, taken, order, few, low, c.requires.counted.nodes.1)
+
 pub returns : goal.returns
 returns c =
     let d = c.args.self.now in

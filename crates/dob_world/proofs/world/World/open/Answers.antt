@@ -1,9 +1,20 @@
 -- The world as it is opened.
-use Rattle.dob_world.proofs.Common.{◌*◌, ◌<◌, refl, subst, sym, ℕ, IsSize, ring_of, world_shown, IsSetting, AreEmptyLanes, AreOpenedNodes, Setting}
+use Rattle.dob_world.proofs.Common.{◌*◌, ◌<◌, refl, subst, sym, ℕ, IsSize, ring_of, world_shown, IsSetting, classes_of, AreEmptyLanes, AreOpenedNodes, Setting}
 use Rattle.dob_update.specs.Batches.{IsBatchSize, IsCapacity}
 use Rattle.dob_world.proofs.Promise.{places_start, falls_shown, lawful_shown, linked_start, waits_start, matches_start, few_start}
 use Rattle.dob_world.proofs.Stood.{cuts_start}
+use Rattle.std.proofs.lemmas.Result.{err_from_is_err_and}
+use Rattle.dob_pieces.specs.declared.profile.Family.{Family}
+use Rattle.dob_lawful.specs.Openings.{AreOpeningsBelow}
+use Rattle.dob_world.specs.Results.{HasSettingFault}
+use Rattle.dob_world.specs.Worlds.{setting_by}
+use Rattle.dob_stops.specs.declared.fault.Fault.TheVariants as fault
 use Rattle.dob_world.proofs.world.World.open.Goals as goal
+
+-- memory was refused, and all numbers are in their limits
+refused : (family : Family) (nodes batch capacity : ℕ) → IsSize nodes → IsBatchSize batch → IsCapacity capacity
+    → HasSettingFault (setting_by family nodes batch capacity) fault.Memory
+refused family nodes batch capacity of_nodes of_batch of_capacity = record { nodes = of_nodes; sizes = (of_batch, of_capacity) }
 
 pub returns-clause-standing : goal.returns-clause-standing
 returns-clause-standing c =
@@ -44,3 +55,47 @@ returns-clause-standing c =
       refl,
       refl,
     )
+
+pub returns-in_err-openings : goal.returns-in_err-openings
+returns-in_err-openings c =
+    let p = err_from_is_err_and c.from_residual-in_err-openings.result c.from_residual-in_err-openings.ensures.1 in
+    record {
+      setting = rw p.1 tt;
+      standing = rw p.1 tt;
+      opened = rw p.1 tt;
+      fault = rw (p.1, p.2) (refused c.args.family c.args.nodes c.args.batch c.args.capacity c.in-Some.ensures.1 c.in-Some-new.ensures.1 c.in-Some-new-2.ensures.1);
+    }
+
+pub returns-in_err-nodes : goal.returns-in_err-nodes
+returns-in_err-nodes c =
+    let p = err_from_is_err_and c.from_residual-in_err-nodes.result c.from_residual-in_err-nodes.ensures.1 in
+    record {
+      setting = rw p.1 tt;
+      standing = rw p.1 tt;
+      opened = rw p.1 tt;
+      fault = rw (p.1, p.2) (refused c.args.family c.args.nodes c.args.batch c.args.capacity c.in-Some.ensures.1 c.in-Some-new.ensures.1 c.in-Some-new-2.ensures.1);
+    }
+
+pub returns-in_err-lanes : goal.returns-in_err-lanes
+returns-in_err-lanes c =
+    let p = err_from_is_err_and c.from_residual-in_err-lanes.result c.from_residual-in_err-lanes.ensures.1 in
+    record {
+      setting = rw p.1 tt;
+      standing = rw p.1 tt;
+      opened = rw p.1 tt;
+      fault = rw (p.1, p.2) (refused c.args.family c.args.nodes c.args.batch c.args.capacity c.in-Some.ensures.1 c.in-Some-new.ensures.1 c.in-Some-new-2.ensures.1);
+    }
+
+pub returns-in_err-detector : goal.returns-in_err-detector
+returns-in_err-detector c =
+    let p = err_from_is_err_and c.from_residual-in_err-detector.result c.from_residual-in_err-detector.ensures.1 in
+    record {
+      setting = rw p.1 tt;
+      standing = rw p.1 tt;
+      opened = rw p.1 tt;
+      fault = rw (p.1, p.2) (refused c.args.family c.args.nodes c.args.batch c.args.capacity c.in-Some.ensures.1 c.in-Some-new.ensures.1 c.in-Some-new-2.ensures.1);
+    }
+
+pub open_nodes-requires : goal.open_nodes-requires
+open_nodes-requires c =
+    subst (λ (f : Family). AreOpeningsBelow f (classes_of f) c.in_ok-openings.openings) c.in_ok-classes.ensures.family c.in_ok-openings.ensures

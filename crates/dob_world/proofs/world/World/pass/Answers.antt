@@ -2,13 +2,19 @@
 use Rattle.dob_world.proofs.Common.{◌∙◌, ◌≡◌, refl, subst, sym, ℕ, Moved, WorldMayEnd, ring_of, setting_of, state_of, Pass}
 use Rattle.dob_safra.specs.declared.event.RingEvent.TheVariants as ring
 use Rattle.dob_world.proofs.InPlace.{NodeAt, node_there}
-use Rattle.dob_world.proofs.Stood.{cuts_same, event_done, moved_here, announceable_there, idle_shown, shown_idle}
+use Rattle.dob_world.proofs.Stood.{cuts_same, event_done, moved_here, announceable_there, idle_shown, ring_lawful, shown_idle}
 use Rattle.dob_world.proofs.world.World.pass.Goals as goal
 use Rattle.dob_world.proofs.world.World.pass.Goals.{else-node-eq0-via-then-node-eq0+else-may_end, else-node-eq0-via-else-node-eq0, After-index}
 
 -- the node stands at its place
 here : (c : After-index) → NodeAt c.args.self.now.nodes.items c.args.node c.index.result.now
 here c = node_there c.requires.standing.places c.args.node c.index.result.now (c.has.ensures.0 c.if-not-has.false) c.index.ensures
+
+pub may_end-requires-clause-lawful : goal.may_end-requires-clause-lawful
+may_end-requires-clause-lawful c = ring_lawful c.requires.standing
+
+pub pass_token-requires-clause-lawful : goal.pass_token-requires-clause-lawful
+pass_token-requires-clause-lawful c = ring_lawful c.requires.standing
 
 pub returns-then-not-is_idle-clause-skipped : goal.returns-then-not-is_idle-clause-skipped
 returns-then-not-is_idle-clause-skipped c = λ e.
