@@ -1,7 +1,7 @@
 -- A slot is filled just where it is empty and there is something to send. A node that cuts a batch was black and had cut fewer than 2^40; with the batch in the slot the runner is lawful.
 use Rattle.dob_runner.proofs.Common.{◌^◌, ◌∙◌, ◌≡◌, ◌≤◌, Err, None, Ok, Option, Result, Some, ap, arith, false, inl, refl, subst, sym, true, both_ways, IfSome}
 use Rattle.dob_runner.proofs.Common.{some_at, BatchView, OutboxView, Cause, HasCut, outbox_to, token_moves_of, Stand, IsToFill}
-use Rattle.dob_runner.proofs.Keeping.{goes_by, broken_for, cut_reason, outbox_still, node_goes, agrees_going}
+use Rattle.dob_runner.proofs.Keeping.{goes_by, broken_for, cut_reason, outbox_still, node_goes, agrees_going, noted_agrees, noted_failed}
 use Rattle.dob_endpoint.proofs.Keeping.{own_still}
 use Rattle.dob_runner.proofs.Lawfuls.{busy_black, cut_one, unchanged_failed}
 use Rattle.dob_runner.proofs.Sending.{outlet_at, slot_there, uncut, fills_of, cut_more}
@@ -112,3 +112,16 @@ returns-then-not-has_to_send c = (
   uncut c.args.to c.args.self.now c.args.self.now c.requires.unfailed refl refl refl refl refl,
   (λ never. absurd (cc), λ fill. absurd (both_ways _ c.if-not-has_to_send.true (c.has_to_send.ensures.1 fill.0))),
 )
+
+pub invariant_of-self-clause-going : goal.invariant_of-self-clause-going
+invariant_of-self-clause-going c = λ running. absurd (c.fail_for.ensures.fails.stopped running)
+
+pub invariant_of-self-clause-own : goal.invariant_of-self-clause-own
+invariant_of-self-clause-own c = λ found. noted_failed c.fail_for.new.failed c.in-Err.why c.fail_for.ensures.fails.cause
+
+pub invariant_of-self-clause-agrees : goal.invariant_of-self-clause-agrees
+invariant_of-self-clause-agrees c = noted_agrees _ _ c.in-Err.why c.in-Err.ensures.keeps.failed c.fail_for.ensures.fails.cause
+
+pub post-requires-clause-empty : goal.post-requires-clause-empty
+post-requires-clause-empty c = slot_there c.args.self.now.endpoint c.args.to c.index.result.now c.requires.node c.index.ensures (λ s. s ≡ None)
+    (c.is_full.ensures.empty c.if-is_full.false)

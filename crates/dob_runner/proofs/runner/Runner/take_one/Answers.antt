@@ -5,7 +5,7 @@ use Rattle.dob_runner.proofs.Common.{TakesOne, NodeSeat, Stand, KeepsEndpoint, I
 use Rattle.dob_runner.proofs.Common.{Runner, Inlet}
 use Rattle.dob_endpoint.proofs.Links.{taken_still}
 use Rattle.dob_runner.proofs.Taking.{takes_none, takes_one, of_other, fits_node, unchanged_same}
-use Rattle.dob_runner.proofs.Keeping.{broken_by, goes_by, failed_first, refused_reason, node_goes, agrees_going, unspared_reason, memory_reason}
+use Rattle.dob_runner.proofs.Keeping.{broken_by, goes_by, failed_first, refused_reason, node_goes, agrees_going, noted_agrees, noted_failed, unspared_reason, memory_reason}
 use Rattle.dob_endpoint.proofs.Keeping.{endpoint_trans, links_kept, own_still, seat_same, each_same, outlet_same}
 use Rattle.dob_node.proofs.TakenLists.{before_since}
 use Rattle.dob_runner.proofs.Knowing.{worked_again, worked_else, worked_more}
@@ -182,3 +182,21 @@ pub returns-clause-refused : goal.returns-clause-refused
 returns-clause-refused g c memory =
     let same : c.in-Err-apply_batch.why ≡ Memory = cc (c.fail_for-in-Err-apply_batch.ensures.given, memory) in
     absurd (not_memory g (goal.at.returns-clause-refused g c).In-Err-apply_batch same)
+
+pub invariant_of-self-in-Err-clause-going : goal.invariant_of-self-in-Err-clause-going
+invariant_of-self-in-Err-clause-going g c = λ running. absurd (c.fail_for.ensures.fails.stopped running)
+
+pub invariant_of-self-in-Err-clause-own : goal.invariant_of-self-in-Err-clause-own
+invariant_of-self-in-Err-clause-own g c = λ found. noted_failed c.fail_for.new.failed c.in-Err.refused c.fail_for.ensures.fails.cause
+
+pub invariant_of-self-in-Err-clause-agrees : goal.invariant_of-self-in-Err-clause-agrees
+invariant_of-self-in-Err-clause-agrees g c = noted_agrees _ _ c.in-Err.refused c.in-Err.ensures.keeps.failed c.fail_for.ensures.fails.cause
+
+pub invariant_of-self-in-Err-apply_batch-clause-going : goal.invariant_of-self-in-Err-apply_batch-clause-going
+invariant_of-self-in-Err-apply_batch-clause-going g c = λ running. absurd (c.fail_for-in-Err-apply_batch.ensures.fails.stopped running)
+
+pub invariant_of-self-in-Err-apply_batch-clause-own : goal.invariant_of-self-in-Err-apply_batch-clause-own
+invariant_of-self-in-Err-apply_batch-clause-own g c = λ found. noted_failed c.fail_for-in-Err-apply_batch.new.failed c.in-Err-apply_batch.why c.fail_for-in-Err-apply_batch.ensures.fails.cause
+
+pub invariant_of-self-in-Err-apply_batch-clause-agrees : goal.invariant_of-self-in-Err-apply_batch-clause-agrees
+invariant_of-self-in-Err-apply_batch-clause-agrees g c = noted_agrees _ _ c.in-Err-apply_batch.why c.in-Err-apply_batch.ensures.keeps.failed c.fail_for-in-Err-apply_batch.ensures.fails.cause
