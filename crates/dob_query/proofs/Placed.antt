@@ -8,9 +8,10 @@ use Rattle.dob_probe.specs.declared.fault.Fault as probing
 use Rattle.dob_dbfile.specs.declared.fault.Fault.TheVariants as file_fault
 use Rattle.dob_probe.specs.declared.fault.Fault.TheVariants as table_fault
 use Rattle.dob_query.specs.QuestionsEach.{AnswersLine, AnswersQuestionEachRight, ArePlaceLines, EndsRecords, GivesRecordAnswer}
-use Rattle.dob_query.specs.QuestionsEach.{IsPlaceAnswer, IsPlacesFault, IsRecordAnswer, IsRecordEnd, TellsRecords, end_of, ended_lines, ends_all}
+use Rattle.dob_query.specs.QuestionsEach.{IsPlaceAnswer, IsPlacesFault, IsRecordAnswer, IsRecordEnd, IsToldOf, TellsRecords, end_of, ended_lines, ends_all}
 use Rattle.dob_query.proofs.Asking.{answer_allowed, answer_right}
 use Rattle.dob_files.proofs.EachLine.{lines_weaker, tells_are}
+use Rattle.dob_files.specs.Telling.{Told}
 use Rattle.std.proofs.Common.{arith}
 
 module _ (question : Question) (Has : List ℕ → Type 0) (Gives Shows : Stream → Type 0) (gives : (bytes : List ℕ) → Has bytes → Gives (whole bytes))
@@ -69,6 +70,11 @@ pub record_weaker : (question : Question) (Shows Fewer : Stream → Type 0) → 
     (family : Family) (line : List ℕ) (answer : Result (List ℕ) Fault) → IsRecordAnswer question Shows format family line answer
     → IsRecordAnswer question Fewer format family line answer
 record_weaker question Shows Fewer shows format family line answer is = grind (arith, shows)
+
+pub told_weaker : (question : Question) (Shows Fewer : Stream → Type 0) → ((stream : Stream) → Fewer stream → Shows stream) → (format : Format) (family : Family)
+    (line : List ℕ) (told : Told) → IsToldOf question Shows format family line told → IsToldOf question Fewer format family line told
+told_weaker question Shows Fewer shows format family line told is =
+    (is.0, record_weaker question Shows Fewer shows format family line is.0 is.1, is.2, is.3)
 
 -- ---- what a line came to
 
