@@ -12,6 +12,7 @@ const EVER: u16 = 65535;
 /// Classes, ascending, each with its plies.
 type List = Vec<(u32, u16)>;
 
+/// A certificate that was read: what it claims of its root, and its entries. Nothing of it is checked before [`Certificate::verify`].
 pub struct Certificate {
     family: Family,
     root: u32,
@@ -92,7 +93,7 @@ pub fn read(file: &[u8]) -> Result<Certificate, String> {
 }
 
 impl Certificate {
-    /// Checks each entry and then the claim; says what is proved.
+    /// Checks each entry and then the claim; says what is proved, and where it is so by rules B that too.
     pub fn verify(&self, threads: usize) -> Result<String, String> {
         let unsupported = |list: &List, supports: fn(&Self, &Position, u16) -> bool| {
             first(threads, list.len(), |n| {
@@ -118,7 +119,8 @@ impl Certificate {
         };
         let position = text::position(&root);
         if shown {
-            Ok(format!("{position} {claim}"))
+            let by = if self.family.rules == Rules::B { " by rules B" } else { "" };
+            Ok(format!("{position} {claim}{by}"))
         } else {
             Err(format!("E31 Claim: the entries don't show `{position} {claim}`"))
         }

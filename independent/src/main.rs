@@ -1,24 +1,9 @@
-//! A second opinion on the endgame tables of dobutsu shogi: see README.md.
-//!
-//! It is changed only from docs/RULES.md, docs/FORMAT.md and docs/CLASSES.md. Whoever mends it doesn't read the proved
-//! program for it, or the two would be one opinion.
+//! The command line of the second program: see README.md and the library beside it.
 
-mod certificate;
-mod check;
-mod classes;
-mod file;
-mod rules;
-mod sha256;
-mod solve;
-#[cfg(test)]
-mod tests;
-mod text;
-mod threads;
-mod unmove;
-
-use classes::Family;
-use file::Table;
-use rules::{Position, Rules};
+use independent::classes::Family;
+use independent::file::{self, Opened, Records};
+use independent::rules::{Position, Rules};
+use independent::{certificate, check, solve, text};
 use std::collections::HashMap;
 use std::ffi::OsString;
 use std::io::{BufRead, Write};
@@ -28,8 +13,9 @@ use std::process::ExitCode;
 const USAGE: &str = "usage: independent COMMAND
   build --set CEG [--rules A|B] [--threads N] --out FILE
                                  builds the database file of a piece set
-  value [--rules A|B] POSITION   prints a position's value, without a file
-  probe --db FILE POSITION       prints a position's value by a file
+  value [--rules A|B] [--threads N] POSITION
+                                 prints a position's value, without a file
+  probe --db FILE POSITION       prints a position's value by a file; `look` is the same
   moves --db FILE POSITION       prints each move with its value, best first
   check --db FILE [--threads N]  whether each value follows from those one ply later
   stats --db FILE                how many classes have which value
@@ -37,8 +23,9 @@ const USAGE: &str = "usage: independent COMMAND
                                  checks what a certificate claims, and prints it
 CEG are the numbers of chicks, elephants and giraffes, each 0 to 2. A POSITION is as
 \"gle/.c./.C./ELG - -\": rows from row 4 down, then both hands. Where probe and moves get - in its
-place, each line of standard input is one. The status is 0 if done, 1 if refused, 2 for a wrong
-command line.
+place, each line of standard input is one. They test a file's header and read the records that
+they need; check, stats and verify read the whole file, and test its digest. The status is 0 if
+done, 1 if refused, 2 for a wrong command line.
 ";
 
 const NO_MEMORY: &str = "E23 Memory: no memory is left";
@@ -124,7 +111,7 @@ fn run(mut words: impl Iterator<Item = OsString>) -> Result<String, Fault> {
     let known: &[&str] = match command {
         "build" => &["--set", "--rules", "--threads", "--out"],
         "value" => &["--rules", "--threads", "POSITION"],
-        "probe" | "moves" => &["--db", "POSITION"],
+        "probe" | "look" | "moves" => &["--db", "POSITION"],
         "check" => &["--db", "--threads"],
         "stats" => &["--db"],
         "verify" => &["--cert", "--threads"],
@@ -146,15 +133,15 @@ fn run(mut words: impl Iterator<Item = OsString>) -> Result<String, Fault> {
             let solution = solve::solve(&family, threads, &|_| ()).ok_or(NO_MEMORY.to_string())?;
             Ok(text::value(solution.record(&p)) + "\n")
         }
-        "probe" | "moves" if words.position() == "-" => {
-            let table = file::read(file::bytes(words.path("--db")?)?)?;
+        "probe" | "look" | "moves" if words.position() == "-" => {
+            let table = Opened::open(words.path("--db")?)?;
             let end = if command == "moves" { "\n" } else { "" };
             each_line(end, |line| asked(&table, command, &text::read_position(line)?))
         }
-        "probe" | "moves" => {
+        "probe" | "look" | "moves" => {
             let path = words.path("--db")?;
             let p = text::read_position(words.position())?;
-            Ok(asked(&file::read(file::bytes(path)?)?, command, &p)?)
+            Ok(asked(&Opened::open(path)?, command, &p)?)
         }
         _ => {
             let table = file::read(file::bytes(words.path("--db")?)?)?;
@@ -169,13 +156,16 @@ fn run(mut words: impl Iterator<Item = OsString>) -> Result<String, Fault> {
     }
 }
 
-/// What `probe` or `moves` prints of a position by a table.
-fn asked(table: &Table, command: &str, p: &Position) -> Result<String, String> {
-    of_rules(p, table.family.rules)?;
-    if p.set() != table.family.set {
+/// What `probe` or `moves` prints of a position by a file.
+fn asked(table: &Opened, command: &str, p: &Position) -> Result<String, String> {
+    of_rules(p, table.family().rules)?;
+    if p.set() != table.family().set {
         return Err("E7 OtherSet: the position's piece set isn't the file's".into());
     }
-    Ok(if command == "moves" { check::moves(table, p) } else { text::value(table.record(p)) + "\n" })
+    match command {
+        "moves" => check::moves(table, p),
+        _ => Ok(text::value(table.record(p)?) + "\n"),
+    }
 }
 
 /// Prints the answer to each line of standard input, or in its place the line's fault, and the end behind each. If a

@@ -4,7 +4,7 @@
 use crate::certificate;
 use crate::check;
 use crate::classes::{twin, Family};
-use crate::file::{self, Table};
+use crate::file::{self, Opened, Records, Table};
 use crate::rules::*;
 use crate::sha256::Sha256;
 use crate::solve::solve;
@@ -299,8 +299,8 @@ fn the_file_of_lions_alone() {
     assert_eq!(hex(&bytes[128..136]), "098be50ec1ac9052");
     let table = file::read(bytes).unwrap();
     assert!(check::stats(&table).starts_with("classes 54\nwin 38\nloss 12\ndraw 4\nloss 0 7\n"));
-    assert!(check::moves(&table, &read("..l/.../L../... - -")).starts_with("La2-a3 win 3\n"));
-    assert_eq!(check::moves(&table, &read(".../L../.../..l - -")), "end\n");
+    assert!(check::moves(&table, &read("..l/.../L../... - -")).unwrap().starts_with("La2-a3 win 3\n"));
+    assert_eq!(check::moves(&table, &read(".../L../.../..l - -")).unwrap(), "end\n");
 }
 
 #[test]
@@ -317,6 +317,40 @@ fn a_file_is_whole_or_as_it_was() {
     for wrong in ["/dev/null", "/", "", "no such folder/file"] {
         assert!(file::make(wrong.as_ref(), write("")).unwrap_err().starts_with("E24"), "{wrong}");
     }
+}
+
+/// A file with these bytes, opened.
+fn opened(bytes: &[u8], name: &str) -> Result<Opened, String> {
+    let path = std::env::temp_dir().join(format!("independent-{}-{name}", std::process::id()));
+    std::fs::write(&path, bytes).unwrap();
+    let opened = Opened::open(&path);
+    std::fs::remove_file(&path).unwrap();
+    opened
+}
+
+#[test]
+fn records_are_read_one_by_one() {
+    for rules in BOTH {
+        let bytes = built([1, 0, 0], rules);
+        let whole = file::read(bytes.clone()).unwrap();
+        let one_by_one = opened(&bytes, "records").unwrap();
+        for class in 0..whole.family.classes {
+            assert_eq!(Records::at(&one_by_one, class), Ok(whole.at(class)));
+        }
+        for length in 0..21 {
+            assert!(opened(&bytes[..length], "header").err().unwrap().starts_with("E15"), "{length} bytes");
+        }
+        let cut = opened(&bytes[..21 + 2 * 7 + 1], "cut").unwrap();
+        assert_eq!(Records::at(&cut, 6), Ok(whole.at(6)));
+        assert!(Records::at(&cut, 7).unwrap_err().starts_with("E15"));
+        for (place, byte, fault) in [(0, b'd', "E16"), (8, 3, "E17"), (12, 2, "E27"), (13, 1, "E18")] {
+            let mut wrong = bytes.clone();
+            wrong[place] = byte;
+            assert!(opened(&wrong, "wrong").err().unwrap().starts_with(fault), "byte {place}");
+        }
+    }
+    assert!(Opened::open("/".as_ref()).err().unwrap().starts_with("E24"));
+    assert!(Opened::open("no such file".as_ref()).err().unwrap().starts_with("E24"));
 }
 
 #[test]
@@ -371,8 +405,7 @@ fn certificates() {
         verify(&sealed(&bytes))
     };
     let exact = table([1, 0, 0], Rules::A);
-    for at in 0..body {
-        let was = whole[at];
+    for (at, &was) in whole[..body].iter().enumerate() {
         for byte in [0, 1, 2, 3, 4, 127, 128, 255, was ^ 1, was ^ 2, was ^ 128].into_iter().filter(|&byte| byte != was)
         {
             let Ok(shown) = with(at, byte) else { continue };

@@ -1,0 +1,34 @@
+//! A second opinion on the endgame tables of dobutsu shogi: the rules, the order of positions, values, files and
+//! certificates, in plain Rust without dependencies and without `unsafe`, unproved.
+//!
+//! It is changed only from docs/RULES.md, docs/FORMAT.md and docs/CLASSES.md. Whoever mends it doesn't read the proved
+//! program for it, or the two would be one opinion.
+//!
+//! A call that refuses what it is given answers a text that begins with the fault's number and name, as
+//! `E7 OtherSet: ..`; docs/FAULTS.md has them all.
+//!
+//! ```no_run
+//! use independent::file::{Opened, Records};
+//! use independent::{check, text};
+//!
+//! let table = Opened::open("222.db".as_ref())?;
+//! let start = text::read_position("gle/.c./.C./ELG - -")?;
+//! println!("{}", text::value(table.record(&start)?)); // loss 78
+//! print!("{}", check::moves(&table, &start)?);
+//! # Ok::<(), String>(())
+//! ```
+
+#![warn(missing_docs)]
+
+pub mod certificate;
+pub mod check;
+pub mod classes;
+pub mod file;
+pub mod rules;
+mod sha256;
+pub mod solve;
+#[cfg(test)]
+mod tests;
+pub mod text;
+mod threads;
+pub mod unmove;
