@@ -17,7 +17,7 @@ class Certificate:
     >>> certificate.verify()
     >>> certificate.reply("..l/.../..L/.C. - -")
     ('Cb1-b2', 7)
-    >>> Certificate("testdata/one_chick.db")
+    >>> Certificate("testdata/one_chick.db")  # doctest: +IGNORE_EXCEPTION_DETAIL
     Traceback (most recent call last):
     ...
     dobutsu.plain.Fault: E16 Magic
@@ -31,6 +31,7 @@ class Certificate:
     engine: str
 
     def __init__(self, path: str | os.PathLike[str], library: str | None = None) -> None:
+        self._path = path
         with open(path, "rb") as file:
             self._data = file.read()
         self._plain = plain.Certificate(self._data)
@@ -64,7 +65,10 @@ class Certificate:
     @property
     def claim(self) -> str:
         """What it claims: `draw`, `win D`, `loss D`, `win within D` or `loss within D`."""
-        return str(self._plain)[len(self.position) + 1 :]
+        return self._plain.claimed()
+
+    def __repr__(self) -> str:
+        return f"<Certificate {os.fspath(self._path)!r}: set {self.set} by rules {self.rules}, {self.position} {self.claim}>"
 
     def __str__(self) -> str:
         return str(self._plain)

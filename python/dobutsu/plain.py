@@ -27,6 +27,8 @@ import sys
 from collections.abc import Callable, Iterator, Sequence
 from typing import Any, NamedTuple, Optional, TypedDict, Union
 
+from .faults import SENTENCES
+
 Pieces = tuple[int, int, int]  # how many chicks, elephants and giraffes
 Position = tuple[str, Pieces, Pieces]  # the twelve squares from a1 to c4, and the mover's and the enemy's hand
 Move = tuple[str, Optional[int], int]  # letter, from-square or None, to-square
@@ -48,15 +50,27 @@ STEPS = {  # columns to the right and rows forward, of the mover
 
 
 class Fault(ValueError):
-    """What is wrong with a file or a text: the program's number and name of it, as `E7 OtherSet`.
+    """What is wrong with a file or a text: the program's number and name of it, as `E7 OtherSet`. A traceback says what that means, from Python 3.11 on.
 
     >>> Fault("E7 OtherSet").number
     7
+    >>> print(Fault("E7 OtherSet").sentence)
+    the position's set isn't the table's
     """
+
+    def __init__(self, text: str) -> None:
+        super().__init__(text)
+        if sys.version_info >= (3, 11) and self.sentence:
+            self.add_note(self.sentence)
 
     @property
     def number(self) -> int:
         return int(str(self).split()[0][1:])
+
+    @property
+    def sentence(self) -> str:
+        """What docs/FAULTS.md says of it."""
+        return SENTENCES.get(self.number, "")
 
 
 # ---- positions
@@ -624,7 +638,7 @@ class Certificate:
             raise Fault("E33 RootClass")
         if kind > 4 or self.plies == 255 or (kind == 0 and self.plies):
             raise Fault("E34 ClaimByte")
-        self.claim = CLAIMS[kind]
+        self.claim: str = CLAIMS[kind]
         if lost > classes or held > classes:
             raise Fault("E35 EntryCount")
         self.lost, place = entries_at(data, 28, lost, classes, is_ever_told=False)
@@ -641,8 +655,11 @@ class Certificate:
         return self.position_at(self.root)
 
     def __str__(self) -> str:
-        """The claim in a line, as `..l/.../L../... - - win 3`."""
-        return f"{write_position(self.position())} {self.claim}" + (f" {self.plies}" if self.claim != "draw" else "")
+        """The claim in a line, as `..l/.../L../... - - win 3`, with ` by rules B` behind it where it is made by these."""
+        return f"{write_position(self.position())} {self.claimed()}" + (" by rules B" if self.profile == "B" else "")
+
+    def claimed(self) -> str:
+        return self.claim if self.claim == "draw" else f"{self.claim} {self.plies}"
 
     @functools.cache
     def position_at(self, number: int) -> Position:

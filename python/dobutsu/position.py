@@ -55,6 +55,28 @@ class Position:
         Raises `IllegalMove` where the position has no such move, `Fault` (E26) where by the rules no chick stands where one does, and ValueError
         where there are no such rules.
         """
+        position, moves, is_caught = self._moves(rules)
+        for each in moves:
+            if plain.move_text(position, each) == move:
+                return None if is_caught else Position(plain.write_position(plain.apply(position, each)))
+        raise IllegalMove(move)
+
+    def moves(self, rules: str = "A") -> list[str]:
+        """The legal moves, in move order: steps and then drops. Where the lion can be captured these are the captures of it, and where the game is over
+        there are none.
+
+        >>> Position(".l./.../.../.L. - -").moves()
+        ['Lb1-a1', 'Lb1-c1', 'Lb1-a2', 'Lb1-b2', 'Lb1-c2']
+        >>> Position(".../.l./H../L.. - -").moves()
+        ['Ha2xb3']
+
+        Raises what `after` does, but no `IllegalMove`.
+        """
+        position, moves, _is_caught = self._moves(rules)
+        return [plain.move_text(position, each) for each in moves]
+
+    def _moves(self, rules: str) -> tuple[plain.Position, list[plain.Move], bool]:
+        """The position, its moves, and whether they capture the lion."""
         if rules not in ("A", "B"):
             raise ValueError(f"no rules: {rules!r}; there are A and B")
         position = plain.read_position(self.text)
@@ -63,11 +85,7 @@ class Position:
         squares = position[0]
         steps, drops = plain.all_moves(rules, position)
         catches = [step for step in steps if squares[step[2]] == "l"]
-        moves = catches or ([] if squares.index("l") < 3 else steps + drops)
-        for each in moves:
-            if plain.move_text(position, each) == move:
-                return None if catches else Position(plain.write_position(plain.apply(position, each)))
-        raise IllegalMove(move)
+        return position, catches or ([] if squares.index("l") < 3 else steps + drops), bool(catches)
 
     @classmethod
     def from_sfen(cls, sfen: str) -> Position:

@@ -31,7 +31,7 @@ class Table:
     win 3
     >>> table.line("..l/.../L../... - -")
     ['La2-a3', 'lc4-b4', 'La3xb4']
-    >>> table["..l/.../L../... C -"]
+    >>> table["..l/.../L../... C -"]  # doctest: +IGNORE_EXCEPTION_DETAIL
     Traceback (most recent call last):
     ...
     dobutsu.plain.Fault: E7 OtherSet
@@ -66,12 +66,14 @@ class Table:
         self.engine = f"libdobutsu {found.version}" if found else "plain Python"
 
     def __repr__(self) -> str:
-        return f"Table({self._path!r})"
+        if self._db is None:
+            return f"<Table {self._path!r}, closed>"
+        return f"<Table {self._path!r}: set {self.set} by rules {self.rules}, {len(self)} classes>"
 
     def _open(self) -> plain.Db:
         """The file, which isn't closed."""
         if self._db is None:
-            raise ValueError(f"{self!r} is closed")
+            raise ValueError(f"the table {self._path!r} is closed")
         return self._db
 
     @property
