@@ -27,8 +27,16 @@ const Answers = (() => {
     const { value } = moves.find((it) => isSame(it.move, move));
     return value && best.kind !== "unknown" ? { value, best } : null;
   }
+  // A move that leaves a lion which could be caught is worth what the position behind it is; a lion that has reached its far row so has won.
+  async function judgeMissed(table, engine, position, move) {
+    const after = Core.apply(position, move), best = { kind: "win", plies: 1 };
+    if (after.squares.indexOf("L") >= 9) return { value: { kind: "loss", plies: 0 }, best };
+    const { kind, plies, isWithin } = (await lookUp(table, engine, after)).value;
+    return kind === "unknown" ? null : { value: { kind: { win: "loss", loss: "win", draw: "draw" }[kind], plies: kind === "draw" ? 0 : plies + 1, isWithin }, best };
+  }
   // What a move that was played was worth, and what the best one would have been, each for the side that made it.
   async function judge(table, engine, position, move) {
+    if (position.squares[move.to] !== "l" && engine.moves(table.profile, position).status === "caught") return judgeMissed(table, engine, position, move);
     if (table.isCertificate) return judgeBy(Certificates.lookUp(table, engine, position), move);
     const { profile } = table, best = engine.valueOf(await table.record(engine.classOf(profile, position)));
     if (engine.moves(profile, position).status === "caught") return { value: best, best };

@@ -162,7 +162,7 @@ const Board = (() => {
     drawPiece(button, letter);
     button.lastChild.textContent = value ? Texts.tag(value, shown.inMoves) : "";
     button.lastChild.className = `tag ${value ? value.kind : ""}`;
-    const name = text("square", Core.squareName(square), text("sides")[sideOf(letter)], letter === "." ? "" : text("pieces")[letter.toUpperCase()]);
+    const name = text("square", Notation.squareName(square), text("sides")[sideOf(letter)], letter === "." ? "" : text("pieces")[letter.toUpperCase()]);
     const more = [isChosen && text("chosen"), isTarget && text("reached"), value && Texts.value(value, shown.inMoves)];
     button.setAttribute("aria-label", [name, ...more].filter(Boolean).join(", "));
   }
@@ -203,8 +203,8 @@ const Board = (() => {
   // squares of the last move, the chosen place, the squares that it reaches with the values of these moves, and the best move's two squares.
   function draw(shown) {
     squares.forEach((button, place) => drawSquare(button, place, shown));
-    document.querySelectorAll(".row-label").forEach((label, i) => { label.textContent = isFlipped ? i + 1 : 4 - i; });
-    document.querySelectorAll(".column-label").forEach((label, i) => { label.textContent = "abc"[isFlipped ? 2 - i : i]; });
+    document.querySelectorAll(".row-label").forEach((label, i) => { label.textContent = Notation.rowName(isFlipped ? i : 3 - i); });
+    document.querySelectorAll(".column-label").forEach((label, i) => { label.textContent = Notation.columnName(isFlipped ? 2 - i : i); });
     for (const side of [0, 1]) drawHand(side, shown);
     drawArrow(shown.arrow);
     element("table").classList.toggle("setting", shown.isSetUp);

@@ -9,12 +9,13 @@ import base64
 import gzip
 import json
 import pathlib
+import re
 import sys
 
 HERE = pathlib.Path(__file__).resolve().parent
 ENGINE = ["core.js", "certificate.js"]  # a worker runs these too
 SCRIPTS = [
-    "alone.js", "texts.js", "fence.js", "english.js", "japanese.js", "hiragana.js", "pieces.js", "file.js", "shuffle.js", "answers.js", "game.js", "board.js", "setup.js", "view.js",
+    "alone.js", "texts.js", "fence.js", "english.js", "japanese.js", "hiragana.js", "pieces.js", "file.js", "shuffle.js", "answers.js", "game.js", "notation.js", "board.js", "setup.js", "view.js",
     "worksheet.js", "settings.js", "exercise.js", "practice.js",
     "lesson.js", "mistakes.js", "results.js", "glance.js", "page.js",
 ]
@@ -26,9 +27,21 @@ def read(name):
 
 
 def shortened(text):
-    """A script without its indentation and without the lines that are comments alone."""
-    lines = (line.strip() for line in text.split("\n"))
+    """A script without its indentation and its comments: lines of their own, and what stands behind code and has no quote."""
+    lines = (re.sub(r"(?<=[;{},[(]) // [^\"'`]*$", "", line.strip()) for line in text.split("\n"))
     return "\n".join(line for line in lines if line and not line.startswith("//"))
+
+
+def tight(script):
+    """A script without the spaces around signs, in lines that have no text, no pattern and no comment."""
+    return "\n".join(
+        line if re.search(r"[\"'`/]", line) else re.sub(r" (=>|===|!==|&&|\|\||=) ", r"\1", re.sub(r"([,;]) ", r"\1", line)) for line in script.split("\n"))
+
+
+def pressed(text):
+    """The looks without comments, and without spaces beside what parts them."""
+    bare = re.sub(r"/\*.*?\*/", "", text, flags=re.DOTALL)
+    return re.sub(r"\s*([{};,>])\s*", r"\1", bare).replace(": ", ":").replace("}", "}\n").strip()
 
 
 def packed(data):
@@ -53,9 +66,9 @@ def engine(module):
 
 def build(module=None, file=None):
     """The page's bytes."""
-    page = read("page.html")
-    code = (file_line(file) if file else "") + joined(SCRIPTS)
-    for mark, text in [("/*STYLE*/", read("style.css") + read("cards.css")), ("/*ENGINE*/", engine(module)), ("/*CODE*/", code)]:
+    page = "\n".join(line.strip() for line in read("page.html").split("\n"))
+    code = (file_line(file) if file else "") + tight(joined(SCRIPTS))
+    for mark, text in [("/*STYLE*/", pressed(read("style.css") + read("cards.css"))), ("/*ENGINE*/", engine(module)), ("/*CODE*/", code)]:
         if page.count(mark) != 1 or "</script" in text or "</style" in text:
             raise SystemExit(f"page/build.py: {mark} can't be put in")
         page = page.replace(mark, text)

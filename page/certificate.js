@@ -14,6 +14,7 @@ const Certificates = (() => {
   // ---- reading
 
   const isOne = (bytes) => String.fromCharCode(...bytes.slice(0, 8)) === TITLE;
+  const setOf = (bytes) => [...bytes.slice(9, 12)].join("");
 
   // A list of entries: classes, which ascend, with their plies.
   class Entries {
@@ -312,6 +313,6 @@ const Certificates = (() => {
     return new Open(file.name, certificate, checked, engine);
   }
 
-  return { limits, isOne, read, check, examine, serve, open, lookUp, line };
+  return { limits, isOne, setOf, read, check, examine, serve, open, lookUp, line };
 })();
 if (typeof module === "object") module.exports = Certificates;

@@ -104,23 +104,33 @@
     return ends.sort((a, b) => a - b);
   }
 
-  // The status and the moves in move order: all catches of the lion at `caught`, none at `tried` and `stuck`.
-  function statusAndMoves(profile, position) {
-    const squares = position.squares, moves = [];
+  function stepsOf({ squares }) {
+    const moves = [];
     for (let s = 0; s < 12; s++) {
       if (isOwn(squares[s])) for (const to of stepsFrom(squares, s)) moves.push({ letter: squares[s], from: s, to });
     }
-    const catches = moves.filter((move) => squares[move.to] === "l");
-    if (catches.length) return { status: "caught", moves: catches };
-    if (squares.indexOf("l") < 3) return { status: "tried", moves: [] };
+    return moves;
+  }
+  function dropsOf(profile, { squares, mover }) {
+    const moves = [];
     [...KINDS].forEach((letter, i) => {
-      if (!position.mover[i]) return;
+      if (!mover[i]) return;
       for (let to = 0; to < 12; to++) {
         if (squares[to] === "." && mayStand(profile, letter, to)) moves.push({ letter, from: -1, to });
       }
     });
+    return moves;
+  }
+  // The status and the moves in move order: all catches of the lion at `caught`, none at `tried` and `stuck`.
+  function statusAndMoves(profile, position) {
+    const { squares } = position, steps = stepsOf(position), catches = steps.filter((move) => squares[move.to] === "l");
+    if (catches.length) return { status: "caught", moves: catches };
+    if (squares.indexOf("l") < 3) return { status: "tried", moves: [] };
+    const moves = [...steps, ...dropsOf(profile, position)];
     return { status: moves.length ? "open" : "stuck", moves };
   }
+  // All steps and drops, in move order, whether or not the lion can be caught.
+  const everyMove = (profile, position) => [...stepsOf(position), ...dropsOf(profile, position)];
 
   const grows = (move) => move.letter === "C" && move.from >= 0 && move.to >= 9;
 
@@ -470,7 +480,7 @@
   };
 
   root.DobutsuCore = {
-    engine, Fault, readPosition, writePosition, check, turned, mirrored, setOf, isAllowed, statusAndMoves, apply, grows, moveText, squareName,
+    engine, Fault, readPosition, writePosition, check, turned, mirrored, setOf, isAllowed, mayStand, statusAndMoves, everyMove, apply, grows, moveText, squareName,
     classNumber, positionAt, positionsOf, ranksOf, countClasses, recordOf, recordBy, valueOf, afterMove, goodness, readHeader, isOwn, kindOf, STEPS, KINDS,
   };
   if (typeof module === "object") module.exports = root.DobutsuCore;

@@ -55,6 +55,8 @@ const Exercise = (() => {
   }
 
   const plies = () => +element("exercise-length").value;
+  // Unless they are asked for, exercises have no chick on its own far row, where it never moves: by rules B there is none.
+  const isWanted = (position) => !Settings.leavesStuck() || Core.isAllowed("B", position);
   // Draws one and gives its { position, profile } to be put on the board, or null.
   async function drawOne() {
     const mine = ++turn, from = table(), length = plies();
@@ -62,7 +64,7 @@ const Exercise = (() => {
     drawing = from;
     notice = "drawing";
     draw();
-    const found = await Answers.drawExercise(from, Game.engine(), length, () => mine !== turn).catch(() => {
+    const found = await Answers.drawExercise(from, Game.engine(), length, () => mine !== turn, isWanted).catch(() => {
       known.delete(from);
       why = "lostExercises";
       return null;
@@ -75,10 +77,11 @@ const Exercise = (() => {
     return open && { start: open.start, profile: from.profile };
   }
 
-  // Judges a move of { move, text, value }: whether it is the one.
-  function judge({ move, text: words, value }) {
+  // Judges a move of { move, value }: whether it is the one.
+  const shown = (move) => Notation.shown(Core.readPosition(open.start), move, 0);
+  function judge({ move, value }) {
     const isRight = move.letter === open.move.letter && move.from === open.move.from && move.to === open.move.to;
-    open.verdict = () => (isRight ? text("right", words) : text("wrong", words, Texts.value(value, View.options.inMoves)));
+    open.verdict = () => (isRight ? text("right", shown(move)) : text("wrong", shown(move), Texts.value(value, View.options.inMoves)));
     if (isRight && !open.isTried) right++;
     count();
     open.isSolved = isRight;
@@ -86,9 +89,8 @@ const Exercise = (() => {
     return isRight;
   }
   function answer() {
-    const words = Game.moveText(Core.readPosition(open.start), open.move, 0);
     count();
-    Object.assign(open, { isSolved: true, verdict: () => text("answered", words) });
+    Object.assign(open, { isSolved: true, verdict: () => text("answered", shown(open.move)) });
     draw();
   }
   // Leaves the exercise that is open, and counts it.
@@ -111,7 +113,7 @@ const Exercise = (() => {
     const length = plies(), asked = +element("sheet-number").value;
     notice = "drawing";
     draw();
-    const drawn = await Worksheet.drawSome(table(), Game.engine(), length, asked).catch(() => []);
+    const drawn = await Worksheet.drawSome(table(), Game.engine(), length, asked, isWanted).catch(() => []);
     notice = drawn.length ? null : "noSheet";
     draw();
     if (drawn.length) Worksheet.draw(drawn, length, asked, element("sheet-answers").value === "apart");
@@ -130,7 +132,7 @@ const Exercise = (() => {
   function draw() {
     if (!isOnBoard() && notice !== "drawing") open = null;
     const isThere = !!open && notice !== "drawing";
-    element("task").textContent = isThere ? task() : notice ? text(notice) : table() ? "" : text("needFile");
+    element("task").textContent = isThere ? task() : notice ? text(notice) : table() ? "" : text(Files.all().length || Files.work()?.set ? "needTable" : "needFile");
     element("verdict").textContent = isThere && open.verdict ? open.verdict() : "";
     element("verdict").className = isThere && open.isSolved ? "good" : "fault";
     element("exercise-card").classList.toggle("asked", isThere);
@@ -138,5 +140,5 @@ const Exercise = (() => {
     element("score").textContent = asked ? text("score", right, asked) : "";
   }
 
-  return { offer, chooseLast, drawOne, leave, end, makeSheet, isAsked, judge, told, answer, count, draw };
+  return { offer, chooseLast, drawOne, leave, end, makeSheet, isAsked, isOpen: () => isOnBoard() && !open.isSolved, judge, told, answer, count, draw };
 })();

@@ -36,10 +36,11 @@ const Files = (() => {
   }
 
   const tables = new Map(); // the open ones, by set and profile
-  let work = null; // { name, part, wait, at, stop } of the file that is opened; `part` of a certificate that was checked `at` then, about how long the rest takes
-  // where that is known, and what stops it
+  let work = null; // { name, set, part, wait, at, stop } of the file that is opened; of a certificate its set, the `part` that was checked `at` then, about how long
+  // the rest takes where that is known, and what stops it
   let queue = Promise.resolve(); // files that are given while others are opened wait for them
   let refused = []; // { name, fault } of the files that were given last and aren't open
+  let closed = ""; // the name of the file that was closed since then
 
   // Whether the digest was tested: not of a large file, nor where the browser has no SHA-256 for a page of a file. A wrong one is E20.
   async function testDigest(file) {
@@ -52,7 +53,9 @@ const Files = (() => {
 
   // Opens a table, or a certificate: `tell` is called as the check of one goes on.
   async function open(file, engine, tell) {
-    if (Certificates.isOne(new Uint8Array(await file.slice(0, 8).arrayBuffer()))) {
+    const head = new Uint8Array(await file.slice(0, 12).arrayBuffer());
+    if (Certificates.isOne(head)) {
+      work.set = Certificates.setOf(head);
       const note = (part, wait = null) => { Object.assign(work, { part, wait, at: performance.now() }); tell(work); };
       return Certificates.open(file, engine, note, (stop) => { work.stop = stop; note(0); });
     }
@@ -69,8 +72,9 @@ const Files = (() => {
   async function openEach(files, engine, tell) {
     let last = null;
     refused = [];
+    closed = "";
     for (const file of files) {
-      work = { name: file.name, part: null, stop: null };
+      work = { name: file.name, set: null, part: null, stop: null };
       tell(work);
       await new Promise((done) => setTimeout(done, SEEN)); // so that this is seen while classes are counted
       try {
@@ -97,7 +101,10 @@ const Files = (() => {
   };
   const all = () => [...tables.values()];
 
-  const close = (table) => tables.delete(table.key);
+  function close(table) {
+    tables.delete(table.key);
+    closed = table.name;
+  }
 
-  return { openAll, close, tableFor, all, withRecords: () => all().filter((it) => !it.isCertificate), refused: () => refused, last: () => all().pop() || null, work: () => work };
+  return { openAll, close, tableFor, all, withRecords: () => all().filter((it) => !it.isCertificate), refused: () => refused, closed: () => closed, last: () => all().pop() || null, work: () => work };
 })();

@@ -128,6 +128,11 @@ const Glance = (() => {
 
   // ---- clicks
 
+  // A move of the starting layout, by its text.
+  function shownMove(words) {
+    const position = Core.readPosition(Game.START), { moves } = Core.statusAndMoves("A", position);
+    return Notation.shown(position, moves.find((move) => Core.moveText(position, move, false) === words), 0);
+  }
   const show = (start, profile, moves = []) => restart(() => {
     Game.load(start);
     Game.state.profile = profile;
@@ -202,7 +207,7 @@ const Glance = (() => {
       if (deepest) add(text("glanceDeepest", said(deepest.plies + 1), said(deepest.turnPlies + 1)), () => show(deepest.text, profile));
     }
     if (table) add(text("glanceSaved"), () => search(isSaved));
-    for (const move of oneAnswer || []) add(text("glanceOneAnswer", move), () => show(Game.START, profile, [move]));
+    for (const move of oneAnswer || []) add(text("glanceOneAnswer", shownMove(move)), () => show(Game.START, profile, [move]));
     return found;
   }
   function draw() {

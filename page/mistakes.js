@@ -7,7 +7,7 @@ const Mistakes = (() => {
   const { options, node, button } = View;
   const WORTH = { loss: 0, draw: 1, win: 2 };
   const GIVEN = { win: { draw: "gaveWin", loss: "gaveAll" }, draw: { loss: "gaveDraw" } }; // the name of what a ply gave away, by the best and by what it was worth
-  const MARKS = { gaveWin: "?", gaveDraw: "?", gaveAll: "??" };
+  const MARKS = { missed: "??", gaveWin: "?", gaveDraw: "?", gaveAll: "??" };
   const LONGEST = 200; // a bar of so many plies would be empty
   const SHOWN = 4; // plies of a line that was left
   const element = (id) => document.getElementById(id);
@@ -16,12 +16,13 @@ const Mistakes = (() => {
   // ---- what is known of a game
 
   const isMine = (ply) => 1 - ply.side; // the side that made a ply
-  // What a ply gave away: the name of a text, or undefined.
-  const given = ({ judged }) => judged && (GIVEN[judged.best.kind] || {})[judged.value.kind];
+  // What a ply gave away: the name of a text, or undefined. That a lion could be caught is known without a file.
+  const lost = ({ judged }) => judged && (GIVEN[judged.best.kind] || {})[judged.value.kind];
+  const given = (ply) => (ply.isMissed ? "missed" : lost(ply));
   // The value of a position by that of the move that led to it: who wins it, or null of a draw, and in how many plies.
   function behind({ kind, plies, isWithin }, side) {
     if (kind === "draw") return { winner: null, plies: 0, isWithin: false };
-    const left = plies - 1;
+    const left = Math.max(0, plies - 1);
     return { winner: kind === "win" ? side : 1 - side, plies: left, isWithin: !!isWithin && left > 1 };
   }
   // The value behind so many plies of the line on the board, or null where no file says it.
@@ -45,7 +46,7 @@ const Mistakes = (() => {
   }
   function cell(number, cursor) {
     const ply = number ? Game.state.plies[number - 1] : null, value = valueBehind(number), gave = ply && given(ply);
-    const name = ply ? text("stripPly", number, ply.text) : text("beginning");
+    const name = ply ? text("stripPly", number, Notation.ofPly(ply)) : text("beginning");
     const made = button("", "move cell", [`${name}: ${told(value)}`, gave && text(gave)].filter(Boolean).join(", "), () => calls.goTo(number));
     made.title = made.getAttribute("aria-label");
     const way = !value ? "unknown" : value.winner === null ? "even" : value.winner ? "down" : "up", bar = node("span", "", `bar ${way}`);
@@ -64,18 +65,17 @@ const Mistakes = (() => {
     const { plies } = Game.state;
     if (!plies.length) return [text("gameNone")];
     if (options.isHidden) return [text("hiddenShort")];
-    const known = plies.filter((ply) => ply.judged), gave = known.filter(given), unknown = plies.length - known.length;
-    if (!known.length) return [text("gameUnknown")];
-    const of = (side) => gave.filter((ply) => isMine(ply) === side).length;
-    const isBounded = known.some(({ judged }) => judged.value.isWithin);
+    const known = plies.filter((ply) => ply.judged), gave = known.filter(lost), missed = plies.filter((ply) => ply.isMissed), unknown = plies.length - known.length;
+    const counts = (name, list) => (list.length ? text(name, text("sides"), [0, 1].map((side) => list.filter((ply) => isMine(ply) === side).length)) : "");
+    const isClean = known.length && !gave.length && !missed.length, isBounded = known.some(({ judged }) => judged.value.isWithin);
     return [
-      gave.length ? text("gameGave", text("sides"), [of(0), of(1)]) : text("gameClean", !unknown), unknown ? text("gamePartly", unknown) : "",
-      isBounded ? text("gameBounds") : "", text("stripHelp", text("sides")),
+      counts("gameMissed", missed), counts("gameGave", gave), isClean ? text("gameClean", !unknown) : "", !known.length ? text("gameUnknown") : unknown ? text("gamePartly", unknown) : "",
+      isBounded ? text("gameBounds") : "", known.length ? text("stripHelp", text("sides")) : "",
     ].filter(Boolean);
   }
-  const comment = ({ judged }) => [judged.value, judged.best].map((it) => Texts.value(it, options.inMoves));
+  const comment = ({ judged }) => (judged ? [judged.value, judged.best].map((it) => Texts.value(it, options.inMoves)) : []);
   function mistake(ply, number) {
-    const words = text("gaveTold", number, ply.text, text(given(ply)), ...comment(ply)), item = node("li", "");
+    const words = text("gaveTold", number, Notation.ofPly(ply), text(given(ply)), ...comment(ply)), item = node("li", "");
     item.append(button(words, "", text("goBefore", words), () => calls.goTo(number - 1)));
     return item;
   }
@@ -85,14 +85,14 @@ const Mistakes = (() => {
     return end < 0 ? line.length : end;
   }
   function branch(line) {
-    const from = alike(line, Game.state.plies), rest = line.slice(from), words = rest.slice(0, SHOWN).map((ply) => ply.text).join(" ");
+    const from = alike(line, Game.state.plies), rest = line.slice(from), words = rest.slice(0, SHOWN).map(Notation.ofPly).join(" ");
     const item = node("li", ""), shown = text("branch", from + 1, rest.length > SHOWN ? `${words} …` : words);
     item.append(button(shown, "", shown, () => calls.goTo(from + 1, line)));
     return item;
   }
 
   function draw() {
-    const { plies, cursor, lines } = Game.state, isTold = plies.length > 0 && !options.isHidden && plies.some((ply) => ply.judged);
+    const { plies, cursor, lines } = Game.state, isTold = !options.isHidden && plies.some((ply) => ply.judged || ply.isMissed);
     if (element("game-told").textContent !== summary().join(" ")) element("game-told").textContent = summary().join(" "); // heard where it changes
     View.drawSteps("strip", isTold ? [...Array(plies.length + 1).keys()].map((number) => cell(number, cursor)) : [], cursor);
     element("mistakes").replaceChildren(...(isTold ? plies.flatMap((ply, i) => (given(ply) ? [mistake(ply, i + 1)] : [])) : []));
@@ -103,11 +103,12 @@ const Mistakes = (() => {
 
   // ---- as a text: what stands before the game in brackets, then the moves, each left line in parentheses behind the ply that it isn't
 
+  // A ply with its mark, and what is said of it, as far as that is known and shown.
+  const marked = (ply) => Notation.ofPly(ply) + ((!options.isHidden && MARKS[given(ply)]) || "");
   const isKnown = (ply) => !!ply.judged && !options.isHidden;
   function plyWords(ply) {
-    if (!isKnown(ply)) return ply.text;
-    const [value, best] = comment(ply), gave = given(ply);
-    return `${ply.text}${gave ? MARKS[gave] : ""} {${gave ? text("gaveBest", value, best) : value}}`;
+    const [value, best] = comment(ply);
+    return isKnown(ply) ? `${marked(ply)} {${given(ply) ? text("gaveBest", value, best) : value}}` : marked(ply);
   }
   // The lines, which begin alike up to that ply, from there on.
   function written([main, ...others], from) {
@@ -126,20 +127,7 @@ const Mistakes = (() => {
     return `[Rules "${profile}"] [First "${side ? "Sky" : "Forest"}"] [Position "${start}"]\n\n${written([plies, ...lines], 0)}\n`;
   }
 
-  // The ways to write a move: also without its signs, and by its squares alone.
-  function ways(written) {
-    const bare = written.toLowerCase(), grown = bare.replace("+", "");
-    return [bare, grown, ...[bare, grown].map((it) => it.replace(/[-x]/, ""))].flatMap((it) => [it, it.slice(1)]);
-  }
-  // The move of a word, where it is one alone.
-  function moveOf(word) {
-    const { moves } = Game.moves(), same = moves.find((move) => Game.textOf(move) === word);
-    const like = moves.filter((move) => ways(Game.textOf(move)).includes(word.toLowerCase()));
-    return same || (like.length === 1 ? like[0] : null);
-  }
-  const words = (given) => given.replace(/\{[^}]*\}/g, " ").replace(/\[[^\]]*\]/g, " ").replace(/([()])/g, " $1 ").split(/[\s,]+/)
-    .map((word) => word.replace(/^\d*\.+/, "").replace(/[?!]+$/, "")).filter(Boolean);
-  // Plays the words of a game, up to the first that is no move there: gives that one as { word, number }, or null.
+  // Plays the words of a game, up to the first that is no move there: gives that one as { word, number, why }, or null.
   function playWords(list) {
     const left = []; // the lines that are gone back to at the end of a parenthesis
     let wrong = null;
@@ -148,9 +136,10 @@ const Mistakes = (() => {
         left.push([Game.state.plies, Game.state.cursor]);
         Game.goTo(Game.state.cursor - 1);
       } else if (word === ")" && left.length) back(left.pop());
+      else if (Notation.isEnd(word)) break;
       else {
-        const move = moveOf(word);
-        if (!move) { wrong = { word, number: Game.state.cursor + 1 }; break; }
+        const { move, why } = Notation.read(word);
+        if (!move) { wrong = { word: word.replace(/<(..)>/, "($1)"), number: Game.state.cursor + 1, why }; break; }
         Game.play(move);
       }
     }
@@ -168,11 +157,11 @@ const Mistakes = (() => {
     const rules = ["A", "B"].includes(tag("Rules")) ? tag("Rules") : profile;
     if (found) return { start: found[0], side: tag("First") === "Sky" ? 1 : 0, profile: rules };
     Game.goTo(0);
-    return moveOf(first) ? { start, side, profile: rules } : { start: Game.START, side: 0, profile: rules };
+    return Notation.read(first).move ? { start, side, profile: rules } : { start: Game.START, side: 0, profile: rules };
   }
-  // Loads the game of a text, or of a link; gives the first word that is no move as { word, number }, or null. What is no game at all is a fault.
+  // Loads the game of a text, or of a link; gives the first word that is no move as { word, number, why }, or null. What is no game at all is a fault.
   function load(given) {
-    const list = words(given.replace(POSITION, " "));
+    const list = Notation.words(given.replace(POSITION, " "));
     if (given.includes("#")) return Game.readAddress(given.slice(given.indexOf("#")).trim());
     if (!list.length) throw new Core.Fault("empty");
     const { start, side, profile } = beginningOf(given, list[0]);
@@ -188,7 +177,7 @@ const Mistakes = (() => {
     await calls.restart(() => {
       try {
         const wrong = load(element("game-text").value);
-        if (wrong) fault = text("gameWrong", wrong.word, wrong.number);
+        if (wrong) fault = text("gameWrong", wrong.word, wrong.number, wrong.why);
         if (wrong && !Game.state.plies.length) restore();
       } catch (why) {
         restore();
@@ -210,16 +199,16 @@ const Mistakes = (() => {
   function diagram(number) {
     const { plies } = Game.state, ply = number ? plies[number - 1] : { position: Core.readPosition(Game.state.start), side: Game.state.side };
     const { squares, hands: [mover, enemy] } = Setup.seen(ply), item = node("div", "", "sheet-item");
-    const gave = number && isKnown(ply) ? given(ply) : null, value = number && isKnown(ply) ? Texts.value(ply.judged.value, options.inMoves) : "";
-    item.append(node("b", number ? `${number}. ${ply.text}${gave ? MARKS[gave] : ""}` : text("beginning")), node("span", ` ${value}`));
+    const value = number && isKnown(ply) ? Texts.value(ply.judged.value, options.inMoves) : "";
+    item.append(node("b", number ? `${number}. ${marked(ply)}` : text("beginning")), node("span", ` ${value}`));
     item.append(...Worksheet.diagram({ squares: squares.join(""), mover, enemy }));
-    item.classList.toggle("gave", !!gave);
+    item.classList.toggle("gave", !!number && !options.isHidden && !!given(ply));
     return item;
   }
   function print() {
     const { plies, profile, start } = Game.state, items = node("div", "", "sheet-items game-items");
     items.append(...[...Array(plies.length + 1).keys()].map(diagram));
-    const told = options.isHidden ? [] : summary().slice(0, -1);
+    const told = options.isHidden ? [] : summary().filter((it) => it !== text("stripHelp", text("sides")));
     element("sheet").replaceChildren(node("h2", text("gameTitle")), node("p", [text("gameRules", profile), start, ...told].join(" · ")), items);
     element("sheet").className = "";
     document.body.classList.add("sheet"); // until the page is told that it was printed

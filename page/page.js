@@ -14,6 +14,8 @@
   let replying = null; // the timer of the page's answer to one who practises
   let playing = null; // the timer of a line that is played out, or `true` until it is set
   let unfit = null; // what is wrong with the position that is being set up
+  let isMissing = false; // whether no open file has the position
+  let isPeeked = false; // whether values are shown before an exercise or practice has ended
   let wasHidden = false; // whether values were hidden when the files were drawn
   let written = ""; // the address as it was written last
 
@@ -28,7 +30,7 @@
     if (!place || Setup.isOn()) return [];
     const { side } = Game.now(), seen = seenFrom(side);
     const isDrop = ({ letter, from }) => from < 0 && letter === place.hand.toUpperCase(), isStep = ({ from }) => from >= 0 && seen(from) === place.square;
-    return Game.moves().moves.filter(place.hand ? isDrop : isStep);
+    return Game.legal().filter(place.hand ? isDrop : isStep);
   }
   const drawBoard = Fence.around("boardSection", () => {
     const { cursor, plies } = Game.state, now = Game.now(), seen = seenFrom(now.side), last = cursor ? plies[cursor - 1] : null;
@@ -87,7 +89,7 @@
   // Whether in practice a certificate says nothing of a move, and the rules alone don't say that it loses.
   function isOutside(move) {
     const tried = found.moves.find((it) => isSame(it.move, move)), { profile } = Game.state, engine = Game.engine();
-    if (tried.value || found.status !== "open") return false;
+    if (found.status !== "open" || tried.value) return false;
     return engine.moves(profile, engine.apply(profile, Game.now().position, move)).status !== "caught";
   }
   // A move of the reader: it is played, unless it is a wrong answer to an exercise, or in practice one of which nothing is known, or the page's to make.
@@ -96,7 +98,8 @@
     if (isPagesTurn() || (Practice.isOn() && !found)) return;
     if (Practice.isOn() && isOutside(move)) {
       chosen = null;
-      Practice.sayOutside(Game.textOf(found.moves[0].move), Game.textOf(move));
+      const { position, side } = Game.now(), words = (it) => () => Notation.shown(position, it, side);
+      Practice.sayOutside(words(found.moves[0].move), words(move));
       if (options.isHidden) View.tellNone(Practice.told());
       drawControls();
       return drawBoard();
@@ -106,17 +109,17 @@
       const tried = found && found.moves.find((it) => isSame(it.move, move));
       if (!tried) return;
       chosen = null;
-      if (!Exercise.judge({ move, text: Game.textOf(move), value: tried.value })) {
+      if (!Exercise.judge({ move, value: tried.value })) {
         if (options.isHidden) View.tellNone(Exercise.told());
         return drawBoard();
       }
-      Settings.hideValues(false);
     }
     playOne(move);
     refresh();
   }
   function playOne(move) {
-    say(`${text("sides")[Game.now().side]}: ${Game.textOf(move)}`);
+    const { position, side } = Game.now();
+    say(`${text("sides")[side]}: ${Notation.shown(position, move, side)}`);
     chosen = null;
     Game.play(move);
   }
@@ -194,16 +197,24 @@
   };
   const drawMoves = Fence.around("movesWait", (list) => View.drawMoves(list, Game.now(), ofThisTurn(Fence.around("movesWait", tryMove))));
 
+  const overWords = ({ side, winner }) => text(winner === side ? "overHome" : "over", text("sides")[winner]);
+  // Why there is no value: no open file has the position, or a certificate of its set is checked still.
+  function tellMissing() {
+    const { profile } = Game.state, set = Core.setOf(Game.now().position).join(""), work = Files.work(), isChecked = !!work && work.set === set;
+    const open = Files.all().map((it) => `${it.name} (${it.set}, ${it.profile})`);
+    element("value").setAttribute("aria-busy", isChecked); // not each percent is read out
+    tellNothing(isChecked ? text("checkingValue", View.percentOf(work)) : open.length ? text("otherSet", set, profile, open) : text("openSet", set));
+  }
   // Looks the position up and shows what was found, or why nothing is; what comes too late is dropped.
   async function tell(isLate) {
     const { position, side, isOver } = Game.now(), { profile } = Game.state, table = Files.tableFor(profile, position);
     View.headLine(!!table && table.isCertificate);
-    if (isOver) { drawMoves([]); return tellNothing(text("over", text("sides")[1 - side])); }
+    if (isOver) { drawMoves([]); return tellNothing(overWords(Game.now())); }
     if (!Core.isAllowed(profile, position)) throw new Core.Fault("E26 FarChick");
     if (!table) {
-      const set = Core.setOf(position).join(""), open = Files.all().map((it) => `${it.name} (${it.set}, ${it.profile})`);
+      isMissing = true;
       drawMoves(plainMoves());
-      return tellNothing(open.length ? text("otherSet", set, profile, open) : text("openSet", set));
+      return tellMissing();
     }
     const answer = await Answers.lookUp(table, Game.engine(), position);
     if (isLate()) return;
@@ -247,7 +258,7 @@
     if (!Practice.isOn()) return;
     const { cursor, plies } = Game.state, move = Practice.answer(Game.now(), cursor, found, plies[cursor - 1]);
     if (move) replying = setTimeout(Fence.around("practise", () => { playOne(move); refresh(); }), Settings.pace() / 2);
-    else if (!Practice.isOn()) { Settings.hideValues(false); refresh(); }
+    else if (!Practice.isOn()) refresh();
   }
   async function tellLine(table, position, side, isLate) {
     if (found.value.kind === "draw") return tellNoLine(text("drawLine"));
@@ -258,13 +269,18 @@
     if (best.end === "broken") table.isBroken = true;
     drawn(best);
   }
+  // An exercise and practice hide values until they end, unless their reader shows them; else it is as the reader chose.
+  const isAsking = () => Practice.isOn() || Exercise.isOpen();
   async function refresh() {
     const mine = ++turn, isLate = () => mine !== turn;
     for (const timer of [replying, slow, playing]) clearTimeout(timer); // a line that is played out goes on behind this
     slow = setTimeout(() => { drawMoves([]); tellNothing(text("looking")); }, SLOW);
     document.documentElement.dataset.busy = "1";
     found = line = null;
+    isMissing = false;
+    element("value").setAttribute("aria-busy", false);
     Fence.keep("exercise", () => Exercise.draw());
+    options.isHidden = isAsking() ? !isPeeked : Settings.hides();
     drawBoard();
     Fence.keep("setUpSection", () => Setup.draw());
     drawControls();
@@ -292,8 +308,8 @@
 
   function writePosition() {
     const { position, side, isOver } = Game.now();
-    const words = isOver ? "" : Core.writePosition(position), sides = text("sides");
-    element("caption").textContent = isOver ? text("over", sides[1 - side]) : `${text("caption", sides[side])}: ${words}`;
+    const words = isOver ? "" : Core.writePosition(position);
+    element("caption").textContent = isOver ? overWords(Game.now()) : `${text("caption", text("sides")[side])}: ${words}`;
     if (document.activeElement !== element("text")) element("text").value = words;
     element("text-fault").textContent = "";
     written = Game.address();
@@ -398,7 +414,12 @@
   async function openFiles(files) {
     if (!files.length) return;
     stopPlaying();
-    const tellWork = (work) => View.tellWork(work, drawFiles), clock = setInterval(() => { if (Files.work()) tellWork(Files.work()); }, SLOW * 5);
+    const tellWork = (work) => {
+      View.tellWork(work, drawFiles);
+      if (isMissing) tellMissing();
+      Fence.keep("exercise", () => Exercise.draw());
+    };
+    const clock = setInterval(() => { if (Files.work()) tellWork(Files.work()); }, SLOW * 5);
     const last = await Files.openAll(files, Game.engine(), tellWork).finally(() => clearInterval(clock));
     const isUntouched = Game.state.start === Game.START && !Game.state.plies.length && !Setup.isOn();
     if (last) {
@@ -422,7 +443,7 @@
     if (!drawn) return say(element("task").textContent);
     Setup.end();
     Game.state.profile = drawn.profile;
-    Settings.hideValues(true);
+    isPeeked = false;
     await begin(drawn.start);
     bringBoard();
     Board.takeFocus();
@@ -439,7 +460,7 @@
     else if (found && found.value.kind === "win" && !Setup.isOn()) {
       Exercise.leave();
       Practice.begin(Game.now(), Game.state.cursor);
-      Settings.hideValues(true);
+      isPeeked = false;
     } else Practice.refuse();
     await refresh();
     if (Practice.isOn()) bringBoard();
@@ -468,17 +489,25 @@
     refresh();
   }
 
+  function hideOrShow() {
+    const { isHidden } = options;
+    stopPlaying();
+    if (isHidden) Exercise.count();
+    if (isAsking()) isPeeked = isHidden;
+    else Settings.hideValues(!isHidden);
+    refresh();
+  }
   const acts = {
     undo: goBack,
     redo: () => goTo(Game.state.cursor + 1),
     flip: () => { Board.flip(); drawBoard(); },
     edit: toggleSetUp,
     start: () => { Setup.end(); begin(Files.last() ? startOf(Files.last()) : Game.START); },
-    hide: () => { stopPlaying(); Settings.hideValues(!options.isHidden); if (!options.isHidden) Exercise.count(); refresh(); },
+    hide: hideOrShow,
     next: () => { stopPlaying(); step(); },
     play: () => { if (playing) stopPlaying(); else { Practice.stop(); playing = true; step(); } },
     draw: drawExercise,
-    answer: () => { Exercise.answer(); Settings.hideValues(false); refresh(); },
+    answer: () => { Exercise.answer(); refresh(); },
     practise, worksheet: printSheet,
     print: () => { endSheet(); window.print(); },
     copy: () => copy(element("text").value, element("copy")),
@@ -524,7 +553,7 @@
     chosen = null;
     try {
       const wrong = Game.readAddress(hash);
-      if (wrong) told = text("badMove", wrong.word, wrong.number);
+      if (wrong) told = text("badMove", wrong.word, wrong.number, wrong.why);
     } catch (fault) {
       told = text("badAddress", Texts.wrong(fault));
       if (hash === location.hash) Game.load(Game.START);

@@ -32,6 +32,7 @@ const Practice = (() => {
   function answer(now, cursor, found, last) {
     const winner = side, plies = cursor - first;
     if (plies < 0) end(() => text("practiceLeft"));
+    else if (now.isOver && now.winner !== winner) end(() => View.lostWords(last, { kind: "win", plies: 0 }));
     else if (now.isOver || (found && now.side !== winner && found.status !== "open" && found.status !== "caught")) end(() => text("practiceWon", sideName(winner), plies));
     else if (!found) end(() => text("practiceBlind"));
     else if (now.side === winner) return null;
@@ -42,7 +43,7 @@ const Practice = (() => {
   }
   // A certificate says nothing of a move that was tried: it is for another one.
   function sayOutside(known, tried) {
-    tell = () => text("practiceUnlisted", known, tried);
+    tell = () => text("practiceUnlisted", known(), tried());
   }
 
   // What was said of practice that is over, or of a move that was tried, goes with the next move.

@@ -1,4 +1,4 @@
-// What the reader chose, kept between visits where the browser keeps anything: language, colours, how values are said, keys, arrow, speed, and
+// What the reader chose, kept between visits where the browser keeps anything: language, colours, how values are said, keys, arrow, speed, exercises, and
 // whether values are hidden.
 const Settings = (() => {
   "use strict";
@@ -8,7 +8,7 @@ const Settings = (() => {
   const SPEEDS = { slow: 2400, normal: 1200, fast: 500 }; // milliseconds between moves that are played out
   const element = (id) => document.getElementById(id);
   const wantsDark = matchMedia("(prefers-color-scheme: dark)");
-  let theme = "system", changed = null;
+  let theme = "system", changed = null, hides = false;
 
   const stored = {
     get: (name) => { try { return localStorage.getItem(`dobutsu-${name}`); } catch { return null; } },
@@ -47,7 +47,7 @@ const Settings = (() => {
   const switchKana = () => speak(Texts.language() === "kana" ? "ja" : "kana");
 
   function hideValues(isHidden) {
-    options.isHidden = isHidden;
+    hides = isHidden;
     stored.set("hidden", isHidden ? "yes" : "no");
   }
 
@@ -67,13 +67,14 @@ const Settings = (() => {
     changed = whenChanged;
     Texts.choose(stored.get("language") || (/^ja\b/.test(navigator.language) ? "ja" : "en"));
     if (THEMES.includes(stored.get("theme"))) theme = stored.get("theme");
-    options.isHidden = stored.get("hidden") === "yes";
+    options.isHidden = hides = stored.get("hidden") === "yes";
     Worksheet.make();
-    for (const name of ["letters", "arrow"]) keepChecked(name);
+    for (const name of ["letters", "arrow", "no-stuck"]) keepChecked(name);
     keepSelected("measure", ["plies", "moves"]);
     keepSelected("speed", Object.keys(SPEEDS));
     keepSelected("sheet-number", Array.from({ length: Worksheet.MOST }, (_, i) => String(i + 1)));
     keepSelected("sheet-answers", ["below", "apart"]);
+    keepSelected("sheet-measure", ["moves", "plies"]);
     take();
     wantsDark.addEventListener("change", drawTheme);
     drawLanguage();
@@ -81,6 +82,6 @@ const Settings = (() => {
 
   return {
     make, nextTheme, otherLanguage, switchKana, hideValues, drawLanguage,
-    hasLetters: () => isChecked("letters"), hasArrow: () => isChecked("arrow"), pace: () => SPEEDS[element("speed").value],
+    hides: () => hides, hasLetters: () => isChecked("letters"), leavesStuck: () => isChecked("no-stuck"), hasArrow: () => isChecked("arrow"), pace: () => SPEEDS[element("speed").value],
   };
 })();

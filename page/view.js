@@ -30,21 +30,33 @@ const View = (() => {
 
   // ---- files
 
-  function fileLine(name, words, isWrong, close) {
+  function fileLine(name, words, isWrong) {
     const line = node("p", "", isWrong ? "bad" : "");
     line.append(node("b", name), node("span", ` ${words}`));
-    if (close) line.append(button("✕", "close", text("closeFile", name), close));
     return line;
   }
-  // The open files with a button to close each, more than one as a menu, and those that were refused; `close` is called with a file.
+  // Of a double click the second doesn't close the file that has come to the first one's place.
+  function closeButton(name, close) {
+    const made = button("✕", "close", text("closeFile", name), (event) => { if (event.detail < 2) close(); });
+    made.title = text("closeFile", name);
+    return made;
+  }
+  // The open files with a button to close each, more than one as a menu in which the buttons have names, and those that were refused; then which was closed.
+  // `close` is called with a file.
   function drawFiles(close) {
     const words = (table) => (table.isBroken ? text("brokenFile") : table.isCertificate ? text("certificateInfo", table, options.isHidden ? "" : Texts.value(table.said, options.inMoves)) : text("fileInfo", table));
-    const lineOf = (table) => fileLine(table.name, words(table), table.isBroken, () => close(table));
-    const open = Files.all(), lines = open.map(lineOf), refused = Files.refused().map(({ name, fault }) => fileLine(name, Texts.wrong(fault), true));
+    const lineOf = (table) => {
+      const line = fileLine(table.name, words(table), table.isBroken);
+      line.append(closeButton(table.name, () => close(table)));
+      return line;
+    };
+    const open = Files.all(), closed = Files.closed() ? [node("div", text("closedFile", Files.closed(), open.map(({ name }) => name)))] : [];
+    const lines = open.map(lineOf), refused = Files.refused().map(({ name, fault }) => fileLine(name, Texts.wrong(fault), true));
     if (lines.length > 1) {
       const menu = document.createElement("details"), wasOpen = !!element("files").querySelector("details[open]");
       const list = document.createElement("div");
-      list.append(...lines);
+      for (const { lastChild } of lines) lastChild.textContent = lastChild.title;
+      list.append(...lines, ...closed.splice(0));
       menu.append(node("summary", text("filesOpen", lines.length)), list);
       menu.open = wasOpen;
       if (open.some((table) => table.isBroken)) menu.className = "bad";
@@ -52,15 +64,15 @@ const View = (() => {
     }
     const work = workLine();
     element("files").setAttribute("aria-busy", work.length > 0);
-    element("files").replaceChildren(...(lines.length + refused.length + work.length ? [...lines, ...refused, ...work] : [node("p", text("noFile"))]));
+    element("files").replaceChildren(...(lines.length + refused.length + work.length ? [...lines, ...refused, ...work] : [node("p", text("noFile"))]), ...closed);
   }
   // The file that is opened, with how far its check is and a button to stop it.
   const MOST = 0.97; // of the rest, while it goes on
-  function workWords({ name, part, wait, at }) {
-    if (part === null) return text("opening", name);
+  function percentOf({ part, wait, at }) {
     const rest = wait ? Math.min(MOST, (performance.now() - at) / wait) : 0;
-    return text("checking", name, Math.floor(100 * (part + rest * (1 - part))));
+    return Math.floor(100 * (part + rest * (1 - part)));
   }
+  const workWords = (work) => (work.part === null ? text("opening", work.name) : text("checking", work.name, percentOf(work)));
   function workLine() {
     const work = Files.work();
     if (!work) return [];
@@ -92,47 +104,39 @@ const View = (() => {
 
   // What a move that was played is said to be worth, beside the best one.
   // Bounds aren't compared, since the greater one may be of the worse move: of a bound it is said that it stands.
-  function judgedWords({ text: words, judged }) {
-    const { value, best } = judged, said = (it) => Texts.value(it, options.inMoves);
+  function judgedWords(ply) {
+    const { judged } = ply, words = Notation.ofPly(ply), said = (it) => Texts.value(it, options.inMoves);
+    if (ply.isMissed) return text("missedTold", words, judged ? said(judged.value) : "");
+    const { value, best } = judged;
     if (value.kind === best.kind && (value.isWithin || best.isWithin)) return text("judgedWithin", words, value.kind, value.plies, options.inMoves);
     return text("judged", words, said(value), said(best), said(value) === said(best));
   }
   // What is said of a move that gave a win away, `now` being the other side's value behind it: where no file judged the move, that alone.
-  function lostWords({ text: words, judged }, now) {
-    const said = (value) => Texts.value(value, options.inMoves);
+  function lostWords(ply, now) {
+    const { judged } = ply, words = Notation.ofPly(ply), said = (value) => Texts.value(value, options.inMoves);
     return judged ? text("practiceLost", words, said(judged.value), said(judged.best)) : text("practiceGiven", words, said(now));
   }
-  // A mistake gives away a win or a draw.
-  const isMistake = (ply) => !!ply.judged && ply.judged.value.kind !== ply.judged.best.kind;
+  // A mistake gives away a win or a draw, or leaves a lion that could be caught.
+  const isMistake = (ply) => ply.isMissed || (!!ply.judged && ply.judged.value.kind !== ply.judged.best.kind);
+  const isSaid = (ply) => (!!ply.judged || ply.isMissed) && !options.isHidden;
   function drawJudged(ply) {
-    const isTold = !!ply && !!ply.judged && !options.isHidden;
+    const isTold = !!ply && isSaid(ply);
     element("judged").textContent = isTold ? judgedWords(ply) : "";
     element("judged").className = isTold && isMistake(ply) ? "mistake" : "";
   }
 
   // ---- the moves
 
-  // A move as it is written; in Japanese its piece is a picture, since records there don't name pieces by Latin letters.
-  function moveNode(words) {
-    const made = node("span", "", "move");
-    if (Texts.language() === "en") made.textContent = words;
-    else {
-      made.innerHTML = Pieces.drawing(words[0], true);
-      made.append(words.slice(1));
-      made.classList.add("pictured");
-    }
-    return made;
-  }
   // A move in words, for who hears it.
   function moveWords(position, { letter, from, to }, side) {
-    const name = (square) => Core.squareName(side ? 11 - square : square), piece = text("pieces")[letter];
+    const name = (square) => Notation.squareName(side ? 11 - square : square), piece = text("pieces")[letter];
     if (from < 0) return text("dropped", piece, name(to));
     return text("step", piece, name(from), name(to), position.squares[to] !== ".", Core.grows({ letter, from, to }));
   }
   // A move's value in words, behind the reply that keeps the win where a certificate has one.
   function valueWords(value, reply, other) {
     const words = Texts.value(value, options.inMoves);
-    return reply ? text("replied", Game.moveText(reply.position, reply.move, other), words) : words;
+    return reply ? text("replied", Notation.shown(reply.position, reply.move, other), words) : words;
   }
   // The moves of { move, order, value, reply }, by value where it is shown and else in move order; `play` is called with the move.
   function drawMoves(list, { position, side }, play) {
@@ -140,9 +144,9 @@ const View = (() => {
     element("moves-head").textContent = text("moves", list.length);
     element("moves").classList.toggle("replied", list.some(({ reply }) => reply));
     replace(element("moves"), shown.map(({ move, value, reply }) => {
-      const words = Game.moveText(position, move, side), told = value && !options.isHidden ? valueWords(value, reply, 1 - side) : "";
+      const words = Notation.shown(position, move, side), told = value && !options.isHidden ? valueWords(value, reply, 1 - side) : "";
       const made = button("", "", [words, moveWords(position, move, side), told].filter(Boolean).join(", "), () => play(move));
-      made.append(moveNode(words));
+      made.append(node("span", words, "move"));
       if (told) made.append(node("span", told, `told ${value.kind}`));
       const squares = [move.from, move.to].filter((square) => square >= 0).map((square) => (side ? 11 - square : square));
       for (const name of ["pointerenter", "focus"]) made.addEventListener(name, () => Board.hint(squares));
@@ -160,7 +164,7 @@ const View = (() => {
     return words.map((word, i) => {
       const pair = node("span", "", "step"), made = button("", "move", label(word, i), () => click(i));
       if (i % 2 === 0) pair.append(node("span", `${i + 1}.`, "number"));
-      made.append(...moveNode(word).childNodes);
+      made.append(word);
       pair.append(made);
       return pair;
     });
@@ -189,10 +193,17 @@ const View = (() => {
     for (const name of ["line", "record", "strip"]) element(name).addEventListener("keydown", arrowIn);
   }
 
-  // A line by a certificate is headed as such, since its bounds don't say which play is best.
-  const headLine = (isCertificate) => { element("line-head").textContent = text(isCertificate ? "lineOfCertificate" : "line"); };
+  // A line by a certificate is headed as such, and a note says it: bounds don't say which play is best.
+  const noteLine = (isNoted) => { element("line-note").hidden = !isNoted; };
+  let isOfCertificate = false;
+  function headLine(isCertificate) {
+    isOfCertificate = isCertificate;
+    element("line-head").textContent = text(isCertificate ? "lineOfCertificate" : "line");
+    noteLine(false);
+  }
   function drawLine({ steps, end }, side, playUpTo) {
-    const words = steps.map(({ position, move }, i) => Game.moveText(position, move, (side + i) % 2));
+    noteLine(isOfCertificate && steps.length > 1);
+    const words = steps.map(({ position, move }, i) => Notation.shown(position, move, (side + i) % 2));
     const parts = numbered(words, (word, i) => text("playUpTo", word, i + 1), (i) => playUpTo(steps.slice(0, i + 1)));
     drawSteps("line", [...parts, node("span", text("ends")[end], end === "broken" ? "end bad" : "end")], 0);
   }
@@ -200,17 +211,17 @@ const View = (() => {
 
   // A move that was played says what it was worth, where that is known and shown; a mistake is marked.
   function valueMark(ply) {
-    if (!ply.judged || options.isHidden) return [];
-    const mark = node("span", `${isMistake(ply) ? "?" : ""} ${Texts.tag(ply.judged.value, options.inMoves)}`, `mark ${ply.judged.value.kind}`);
-    return [mark];
+    if (!isSaid(ply)) return [];
+    const { kind } = ply.judged ? ply.judged.value : { kind: "loss" }, tag = ply.judged ? ` ${Texts.tag(ply.judged.value, options.inMoves)}` : "";
+    return [node("span", (ply.isMissed ? "??" : isMistake(ply) ? "?" : "") + tag, `mark ${kind}`)];
   }
   function recordLabel(ply, number) {
-    const told = ply.judged && !options.isHidden ? [judgedWords(ply), isMistake(ply) && text("mistake")] : [];
-    return [text("goTo", ply.text, number), ...told].filter(Boolean).join(", ");
+    const told = isSaid(ply) ? [judgedWords(ply), isMistake(ply) && text("mistake")] : [];
+    return [text("goTo", Notation.ofPly(ply), number), ...told].filter(Boolean).join(", ");
   }
   function drawRecord(plies, cursor, goTo) {
     const first = button(text("beginning"), "move", text("goToStart"), () => goTo(0));
-    const rest = numbered(plies.map((ply) => ply.text), (word, i) => recordLabel(plies[i], i + 1), (i) => goTo(i + 1));
+    const rest = numbered(plies.map(Notation.ofPly), (word, i) => recordLabel(plies[i], i + 1), (i) => goTo(i + 1));
     rest.forEach((step, i) => {
       step.append(...valueMark(plies[i]));
       step.classList.toggle("mistake", isMistake(plies[i]) && !options.isHidden);
@@ -220,5 +231,5 @@ const View = (() => {
     drawSteps("record", plies.length ? [first, ...rest] : [node("span", text("noneYet"), "end")], cursor);
   }
 
-  return { options, node, button, replace, makeSteps, drawSteps, drawFiles, tellWork, tellNone, drawValue, drawJudged, lostWords, drawMoves, headLine, drawLine, tellLine, drawRecord };
+  return { options, node, button, replace, makeSteps, drawSteps, drawFiles, tellWork, percentOf, tellNone, drawValue, drawJudged, lostWords, drawMoves, headLine, drawLine, tellLine, drawRecord };
 })();

@@ -25,13 +25,13 @@ const Worksheet = (() => {
   // Whether two positions, or one and the other's mirror image, differ in one piece at most.
   const areAlike = (a, b) => differences(a, b) < 2 || differences(a, Core.mirrored(b)) < 2;
 
-  // Up to so many exercises { position, move, words } of that length, no two of them alike; the words are the move's text by the file's rules.
-  async function drawSome(table, engine, plies, number) {
-    const drawn = [], isNew = (position) => drawn.every((it) => !areAlike(position, it.position));
+  // Up to so many exercises { position, move, profile } of that length that are wanted, no two of them alike.
+  async function drawSome(table, engine, plies, number, isWanted = () => true) {
+    const drawn = [], isNew = (position) => isWanted(position) && drawn.every((it) => !areAlike(position, it.position));
     while (drawn.length < number) {
       const found = await Answers.drawExercise(table, engine, plies, () => false, isNew);
       if (!found) break;
-      drawn.push({ ...found, words: engine.moveText(table.profile, found.position, found.move, false) });
+      drawn.push({ ...found, profile: table.profile });
     }
     return drawn;
   }
@@ -56,8 +56,8 @@ const Worksheet = (() => {
   }
   const label = (words) => node("span", "sheet-label", words);
   function board(position) {
-    const rows = [3, 2, 1, 0].map((row) => node("div", "sheet-row", label(row + 1), ...[0, 1, 2].map((column) => piece(position.squares[3 * row + column]))));
-    return node("div", "sheet-board", ...rows, node("div", "sheet-row", label(""), ...[..."abc"].map(label)));
+    const rows = [3, 2, 1, 0].map((row) => node("div", "sheet-row", label(Notation.rowName(row)), ...[0, 1, 2].map((column) => piece(position.squares[3 * row + column]))));
+    return node("div", "sheet-board", ...rows, node("div", "sheet-row", label(""), ...[0, 1, 2].map((column) => label(Notation.columnName(column)))));
   }
   // A board between both hands.
   const diagram = (position) => [hand(position.enemy, false), board(position), hand(position.mover, true)];
@@ -67,11 +67,11 @@ const Worksheet = (() => {
   }
   // Draws what was drawn of so many that were asked for; where they are fewer the sheet says so.
   function draw(drawn, plies, asked, isApart) {
-    const answers = drawn.map(({ words }, i) => `${i + 1}. ${words}`).join("   ");
+    const answers = drawn.map(({ position, move, profile }, i) => `${i + 1}. ${Notation.shown(position, move, 0, profile)}`).join("   "), isInMoves = element("sheet-measure").value === "moves";
     const fewer = drawn.length < asked ? [node("p", "sheet-fewer", text("sheetFewer", drawn.length, asked))] : [];
     element("sheet").className = drawn.length > LARGE ? "many" : "";
     element("sheet").replaceChildren(
-      node("h2", "", text("sheetTitle")), node("p", "", `${text("sheetTask", text("length", plies, View.options.inMoves))} ${text("sheetName")} ____________________`), ...fewer,
+      node("h2", "", text("sheetTitle")), node("p", "", `${text("sheetTask", text("length", plies, isInMoves))} ${text("sheetName")} ____________________`), ...fewer,
       node("div", "sheet-items", ...drawn.map(exercise)), node("p", isApart ? "sheet-answers apart" : "sheet-answers", `${text("sheetAnswers")} ${answers}`));
   }
   // Offers the numbers that a sheet may have.

@@ -100,11 +100,11 @@ globalThis.Acts = (() => {
     if (isOver || !Core.isAllowed(profile, position)) return [""];
     const table = Files.tableFor(profile, position), looked = table && Answers.lookUp(table, Game.engine(), position);
     await held.settle(0);
-    const found = await looked, plain = Game.moves().moves.map((move) => `${Game.moveText(position, move, side)} `);
+    const found = await looked, plain = Game.moves().moves.map((move) => `${Notation.shown(position, move, side)} `);
     if (!found || isHidden) return ["", ...plain];
     const said = (value) => (!value || value.kind === "unknown" ? "" : Texts.value(value, inMoves));
-    const told = ({ value, reply }) => (reply ? Texts.text("replied", Game.moveText(reply.position, reply.move, 1 - side), said(value)) : said(value));
-    return [said(found.value), ...found.moves.map((it) => `${Game.moveText(position, it.move, side)} ${told(it)}`)];
+    const told = ({ value, reply }) => (reply ? Texts.text("replied", Notation.shown(reply.position, reply.move, 1 - side), said(value)) : said(value));
+    return [said(found.value), ...found.moves.map((it) => `${Notation.shown(position, it.move, side)} ${told(it)}`)];
   }
   // What is shown and isn't so, or nothing.
   async function differs(held) {

@@ -1,5 +1,6 @@
 """Headless Chromium over its debugging pipe (file descriptors 3 and 4): no port, no network, and nothing but Python and chromium."""
 import base64
+import contextlib
 import json
 import os
 import pathlib
@@ -14,11 +15,14 @@ FLAGS = [
     "--disable-component-update", "--disable-sync", "--disable-extensions", "--hide-scrollbars", "--lang=en-US", "--host-resolver-rules=MAP * ~NOTFOUND",
     # A mouse, as at a desk: fine, and it hovers.
     "--blink-settings=primaryHoverType=2,availableHoverTypes=2,primaryPointerType=4,availablePointerTypes=4",
+    # A page that isn't in front runs as quickly as one that is.
+    "--disable-background-timer-throttling", "--disable-renderer-backgrounding", "--disable-backgrounding-occluded-windows",
     # A test changes the address more often than a browser bears of a page.
     "--disable-ipc-flooding-protection",
 ]
 KEYS = {"Enter": 13, "Escape": 27, "Delete": 46, "ArrowLeft": 37, "ArrowUp": 38, "ArrowRight": 39, "ArrowDown": 40}
-ANSWER_SECONDS, WAIT_SECONDS = 120, float(os.environ.get("DOBUTSU_WAIT", 60))
+WAIT_SECONDS = float(os.environ.get("DOBUTSU_WAIT", 60))
+ANSWER_SECONDS = 2 * WAIT_SECONDS
 
 
 class Browser:
@@ -40,10 +44,28 @@ class Browser:
         os.close(to_child)
         os.close(from_child)
         self.number, self.buffer, self.events, self.session = 0, b"", [], None
-        target = self.call("Target.createTarget", url="about:blank")["targetId"]
+        self.attach()
+
+    def attach(self, **about):
+        """Goes over to a new page."""
+        self.session = None
+        target = self.call("Target.createTarget", url="about:blank", **about)["targetId"]
         self.session = self.call("Target.attachToTarget", targetId=target, flatten=True)["sessionId"]
         for domain in ("Page", "Runtime", "DOM", "Network", "Log"):
             self.call(domain + ".enable")
+
+    @contextlib.contextmanager
+    def other_page(self):
+        """Another page meanwhile, with a store of its own."""
+        kept, self.session = self.session, None
+        context = self.call("Target.createBrowserContext")["browserContextId"]
+        self.attach(browserContextId=context)
+        try:
+            yield
+        finally:
+            self.session = None
+            self.call("Target.disposeBrowserContext", browserContextId=context)
+            self.session = kept
 
     # ---- calls
 

@@ -70,168 +70,10 @@ class Maker:
         return path
 
 
-def claims(checks, screen, program):
-    """Each kind of claim: what is said of the file and of its position."""
-    maker, by = Maker(program), "checked by proved code" if screen.js("Game.engine().isProved") else "checked by plain JavaScript"
-    for root, claim, plies, value, words in [
-        (LOSS, "loss", 6, "loss 6", "Forest, to move, loses: Sky wins in 6 plies."),
-        (LOSS, "loss within", 8, "loss within 6", "Forest, to move, loses: Sky wins in at most 6 plies."),
-        (WON, "win", 5, "win 5", "Forest, to move, wins in 5 plies."),
-        (WON, "win within", 5, "win within 5", "Forest, to move, wins in at most 5 plies."),
-        (DRAWN, "draw", 0, "draw", "Neither Forest, to move, nor Sky can force a win."),
-    ]:
-        screen.afresh()
-        screen.give(maker.write("a.cert", root, claim, plies))
-        said = f"{claim} {plies}" if plies else claim
-        checks.expect(f"{claim}: the file", screen.files(), [[f"a.cert certificate of set 100, rules A: a position, {said}; {by}", False]])
-        checks.expect(f"{claim}: its position is on the board", maker.number(screen.position()), maker.number(root))
-        screen.enter(root)
-        checks.expect(f"{claim}: its value", [screen.value(), screen.told()], [value, words])
-
-
-def solution(checks, screen, program):
-    """Each move of the side that loses has a reply that keeps the win; a position outside says so."""
-    maker = Maker(program)
-
-    def only_lost(head, lost, held):
-        held.clear()
-
-    screen.give(maker.write("lost.cert", LOSS, "loss within", 6, only_lost))
-    by = "proved code" if screen.js("Game.engine().isProved") else "plain JavaScript"
-    checks.expect("by what it was checked", screen.files(), [[f"lost.cert certificate of set 100, rules A: a position, loss within 6; checked by {by}", False]])
-    screen.enter(LOSS)
-    db, position = read_db.open_db(maker.path), read_db.read_position(LOSS)
-    wanted = {}
-    for move in read_db.status_and_moves("A", position)[1]:
-        after = read_db.write_position(read_db.apply(position, move))
-        plies = int(db.value(after).split()[1])
-        best = {text for text, value in db.moves(after) if value == f"win {plies}"}
-        wanted[read_db.move_text(position, move)] = (best, plies + 1)
-    shown = {line.split(" → ")[0]: line.split(" → ")[1].split(", ") for line in screen.moves()}
-    checks.expect("each move has a reply", sorted(shown), sorted(wanted))
-    turned = lambda text: text[0].upper() + text[1:].translate(str.maketrans("abc1234", "cba4321"))
-    for text, (best, plies) in wanted.items():
-        reply, value = shown[text]
-        checks.expect(f"the reply to {text} keeps the win", [turned(reply) in best, value], [True, f"loss within {plies}"])
-    screen.in_both(checks, "what is said of a win", lambda: screen.moves()[0].split(" → ")[1][6:], ", loss within 6", "、負け 6手以内")
-    screen.play(screen.moves()[0].split(" → ")[0])
-    checks.expect("the other side wins", [screen.value(), screen.told()], ["win within 5", "Sky, to move, wins in at most 5 plies."])
-    outside = "This position isn't in the certificate: its value isn't known here.", "この局面は証明書にないので、評価はわかりません。"
-    screen.enter(DRAWN)
-    screen.in_both(checks, "outside", screen.told, *outside)
-    checks.expect("no value there", screen.value(), "")
-    screen.enter(WON)
-    screen.choose("speed", "fast")
-    screen.press("practise")
-    screen.play("Lb1-a2")
-    screen.settle("Game.state.cursor === 2")
-    checks.expect("practice by a certificate", len(screen.record()), 3)
-    screen.enter(DRAWN)
-    screen.give(maker.path)
-    screen.press("hide")
-    checks.expect("a table of the same set comes first", screen.value(), "draw")
-
-
-def needed(path, root):
-    """The classes that a solution of a won position needs, by one move of the winner each: those that are lost, with their plies."""
-    db, found, left = read_db.open_db(path), {}, [read_db.read_position(root)]
-    while left:
-        position = left.pop()
-        status, moves = read_db.status_and_moves("A", position)
-        if status != "open":
-            continue
-        best = min((db.record(read_db.apply(position, move)), order, move) for order, move in enumerate(moves) if db.record(read_db.apply(position, move)) % 2)
-        after = read_db.apply(position, best[2])
-        number = read_db.class_number("A", after)
-        if best[0] > 1 and number not in found:
-            found[number] = best[0] - 1
-            left += [read_db.apply(after, move) for move in read_db.status_and_moves("A", after)[1]]
-    return sorted(found.items())
-
-
-def bounds(checks, screen, program):
-    """Bounds aren't values: no move is called the best by them, a line by a certificate isn't called best play, and tags say so."""
-    screen.js("window.checked = Certificates.limits.checked; Certificates.limits.checked = 10")  # whole_game has it checked, which takes a minute
-    screen.give(pathlib.Path(__file__).resolve().parents[2] / "testdata" / "222_A.cert")
-    screen.js("Certificates.limits.checked = window.checked")
-    screen.enter("gle/.c./.C./ELG - -")
-    heads = "A line of the certificate", "証明書の手順"
-    screen.in_both(checks, "the line's head", lambda: screen.text("line-head").lower().capitalize(), *heads)
-    checks.expect("no arrow to a move that isn't known as the best", screen.seen("arrow"), [])
-    screen.play("Cb2xb3")  # by the table the loss is 76 behind it, and 78 behind others
-    screen.in_both(checks, "what a bound says of a move", lambda: screen.text("judged"), "Cb2xb3 keeps the loss within 78.", "Cb2xb3：78手以内の負けのままです。")
-    checks.expect("its mark", screen.marks(), ["L ≤78"])
-    screen.choose("measure", "moves")
-    screen.in_both(checks, "and in moves", lambda: screen.text("judged"), "Cb2xb3 keeps the loss within 39 moves.", "Cb2xb3：相手の39手目までの負けのままです。")
-    screen.choose("measure", "plies")
-    maker = Maker(program)
-    longest = max((int(value.split()[1]), of) for of, value in enumerate(maker.values) if value.startswith("loss"))  # no other entry rests on it
-    text = read_db.write_position(read_db.position_at("A", (1, 0, 0), longest[1]))
-
-    def loose(head, lost, held):
-        lost[:] = [(of, plies + 20 if of == longest[1] else plies) for of, plies in lost]
-
-    screen.give(maker.write("loose.cert", text, "loss within", longest[0] + 20, loose))
-    screen.enter(text)
-    least = f"loss within {longest[0]}"
-    checks.expect("a loss within the least of its bound and what its moves say", [screen.value(), screen.moves()[0].split(", ")[1]], [least, least])
-    screen.enter(".../.l./.L./.C. - -")
-    checks.expect("an exact win", screen.value(), "win 1")
-    screen.play("Lb2xb3")
-    checks.expect("where both are exact they are compared", screen.text("judged"), "Lb2xb3: win 1, as good as any move.")
-    screen.give(maker.path)
-    screen.enter(WON)
-    checks.expect("a table's line is the best", screen.text("line-head").lower(), "best line")
-    checks.expect("and its arrow", screen.seen("arrow"), ["b1", "a2"])
-
-
-def unlisted(checks, screen, program):
-    """In practice a winning move that isn't listed is told, and practice goes on with another one."""
-    maker = Maker(program)
-
-    def one_solution(head, lost, held):
-        lost[:] = needed(maker.path, WON)
-        held.clear()
-
-    screen.give(maker.write("one.cert", WON, "win within", 5, one_solution))
-    screen.enter(WON)
-    screen.choose("speed", "fast")
-    screen.press("practise")
-    screen.play("Lb1-a1")  # by the table it wins, in 11 plies
-    told = "The certificate's move is Lb1-a2; of Lb1-a1 it says nothing. Play on.", "証明書の手は Lb1-a2 です。Lb1-a1 については何もわかりません。続けてください。"
-    screen.in_both(checks, "a move that isn't listed", screen.told, *told)
-    checks.expect("practice goes on", [screen.js("Practice.isOn()"), screen.record(), screen.position()], [True, [], WON])
-    screen.play("Lb1-a2")
-    screen.settle("Game.state.cursor === 2")
-    checks.expect("the page answers the certificate's move", len(screen.record()), 3)
-    checks.expect("then the task is told again", screen.told(), "Forest wins from here. Play its moves; the page answers with best play.")
-
-
-def unchecked(checks, screen, program):
-    """A large certificate isn't checked in plain JavaScript, and the page says so; one that says nothing true is open then."""
-    maker = Maker(program)
-    if screen.js("Game.engine().isProved"):
-        return
-    screen.js("Certificates.limits.checked = 10")
-    screen.give(maker.write("large.cert", LOSS, "loss", 6))
-    english = "large.cert certificate of set 100, rules A: a position, loss 6; not checked here: dobutsu verify checks it"
-    japanese = "large.cert 証明書、セット 100、ルール A：ある局面、負け 6手。未検査（dobutsu verify で検査できます）"
-    screen.in_both(checks, "a large certificate", screen.files, [[english, False]], [[japanese, False]])
-
-
 def spoil(place, byte):
     def change(head, lost, held):
         head[place] = byte
     return change
-
-
-def shorter(head, lost, held):
-    lost[200] = (lost[200][0], lost[200][1] - 2)
-
-
-def longer(head, lost, held):
-    place = next(i for i, (_, plies) in enumerate(held) if 3 < plies < 255)
-    held[place] = held[place][0], held[place][1] + 2
 
 
 def faulty(data):
@@ -272,39 +114,6 @@ def mutated(checks, screen, program):
         checks.expect(f"certificate {number}, {what} by {by}", found, wanted)
         told.add(wanted.split(" ")[0])
     checks.expect("some pass, and some don't by each fault", sorted(told), ["", "E30", "E31"])
-
-
-def backwards(head, lost, held):
-    lost[10], lost[11] = lost[11], lost[10]
-
-
-def wrong(checks, screen, program):
-    """Wrong certificates are refused by their faults, and what was open stays."""
-    maker = Maker(program)
-    screen.give(maker.path)
-    good = made(maker.values, maker.number(LOSS), "loss", 6)
-    cut = lambda whole, to: whole[:to] + hashlib.sha256(whole[:to]).digest()
-    spoilt = [
-        ("version", spoil(8, 2), "The certificate is of another version. (E32)"), ("set", spoil(9, 3), "The file names no piece set. (E17)"),
-        ("rules", spoil(13, 2), "The file names no rules. (E27)"), ("root", spoil(17, 1), "The certificate names no position. (E33)"),
-        ("claim", spoil(18, 5), "The certificate's claim is none. (E34)"), ("a claim of 255 plies", spoil(19, 255), "The certificate's claim is none. (E34)"),
-        ("an entry that holds", longer, "An entry of the certificate isn't shown by the others. (E30)"),
-        ("a bound told as a distance", spoil(19, 8), "The certificate's entries don't show its claim. (E31)"), ("a shorter loss", spoil(19, 4), "The certificate's entries don't show its claim. (E31)"),
-        ("an entry", shorter, "An entry of the certificate isn't shown by the others. (E30)"),
-    ]
-    for name, change, words in spoilt:
-        screen.give(maker.write("wrong.cert", LOSS, "loss", 6, change))
-        checks.expect(f"a wrong {name}", screen.files()[-1], [f"wrong.cert {words}", True])
-    raw = [
-        ("nothing", good[:20], "The file ends too early. (E15)"), ("half", cut(good, 900), "An entry of the certificate is of no class. (E38)"), ("a byte more", good + b"x", "The file is longer than its set. (E19)"),
-        ("a digest", good[:-1] + bytes([good[-1] ^ 1]), "The file's digest isn't that of its bytes: it is damaged. (E20)"),
-    ]
-    for name, whole, words in raw:
-        path = program.folder / "wrong.cert"
-        path.write_bytes(whole)
-        screen.give(path)
-        checks.expect(name, screen.files()[-1], [f"wrong.cert {words}", True])
-    checks.expect("the table is open still", screen.files()[0][0].split()[0], "100A.db")
 
 
 def given(checks, screen, program):
@@ -410,4 +219,5 @@ def beside(checks, screen, program):
     checks.expect("where there is no worker the page itself checks", screen.files()[-1][0], f"here.cert certificate of set 100, rules A: a position, loss 6; checked by {by}")
 
 
-PARTS = {"beside": beside, "claims": claims, "solution": solution, "bounds": bounds, "unlisted": unlisted, "unchecked": unchecked, "wrong": wrong, "mutated": mutated, "given": given, "whole_A": whole_game("A"), "whole_B": whole_game("B")}
+PARTS = {"beside": beside, "mutated": mutated, "given": given, "whole_A": whole_game("A"), "whole_B": whole_game("B")}
+NAMED = {"whole_B"}  # which Firefox and the proved engine check

@@ -122,44 +122,6 @@ def whole(checks, screen, program):
     checks.expect("the deepest zugzwang", screen.position(), deepest[1])
 
 
-def chosen(checks, screen, program):
-    """What is counted: the file that was opened last, of more than one the chosen one; large ones aren't; the page answers meanwhile."""
-    screen.js("""(() => {
-      window.counting = new Set();
-      new MutationObserver(() => window.counting.add(document.getElementById('glance-told').textContent)).observe(document.getElementById('glance-told'), { childList: true });
-    })()""")
-    screen.give(program.build("100", "A"), program.build("101", "A"))
-    begin(screen)
-    names = lambda: screen.seen("texts", "#glance-set option")
-    checks.expect("what is offered", names(), ["The open file of set 100, rules A", "The open file of set 101, rules A", "The whole game, rules A", "The whole game, rules B"])
-    checks.expect("the last one is counted, in slices", [told(screen).split()[0], screen.js("[...window.counting].filter(it => /Counting… [1-9]/.test(it)).length > 3")], ["41,976", True])
-    screen.choose("glance-set", "100A")
-    screen.settle(COUNTED)
-    checks.expect("another one is chosen", told(screen).split()[0], "2,124")
-    screen.middle("#glance-chart")  # which brings it into view
-    box = screen.seen("box", "#glance-chart")
-    x, y = box["left"] + (box["right"] - box["left"]) * 10.5 / 20, (box["top"] + box["bottom"]) / 2
-    for kind in ("mousePressed", "mouseReleased"):
-        screen.browser.call("Input.dispatchMouseEvent", type=kind, x=x, y=y, button="left", clickCount=1)
-    checks.expect("a click on the chart's eleventh bar of twenty", screen.text("glance-value").split(":")[0], "loss 10")
-    screen.js("document.querySelector('#files .close').click()")
-    screen.settle(COUNTED)
-    checks.expect("a closed file isn't offered", names()[0], "The open file of set 101, rules A")
-    screen.js("Glance.limits.classes = 3000")
-    screen.give(program.build("100", "A"))
-    screen.settle(COUNTED)
-    checks.expect("nor a large one, which is told", [names()[0], told(screen).split(". ")[-1]], ["The open file of set 100, rules A", "Of the open files those of more than 3,000 classes aren't counted here."])
-    path = program.folder / "lost.db"
-    path.write_bytes(program.build("100", "B").read_bytes())
-    screen.js("document.getElementById('glance').open = false")
-    screen.give(path)
-    path.write_bytes(b"DOBUTSU2")
-    screen.js("document.getElementById('glance').open = true")
-    screen.settle("document.getElementById('glance').ariaBusy === 'false'")
-    lost = screen.js("Texts.text('lostFile')")
-    checks.expect("a file that is lost is told", [told(screen).startswith(lost), screen.seen("visible", "glance-of")], [True, []])
-
-
 def sizes(checks, screen, program):
     """The card fits at each width in each language and theme."""
     screen.give(program.build("010", "A"))
@@ -180,4 +142,4 @@ def sizes(checks, screen, program):
         checks.expect(f"{language}: its texts", screen.js("/undefined|NaN|object/.test(document.getElementById('glance-card').innerText)"), False)
 
 
-PARTS = {"files": files, "whole": whole, "chosen": chosen, "sizes": sizes}
+PARTS = {"files": files, "whole": whole, "sizes": sizes}

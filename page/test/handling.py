@@ -2,9 +2,6 @@
 from program import read_db
 
 PLAIN = ".l./.../.C./.L. - -"
-HAND = "..l/.../..c/.L. C -"
-
-
 def square(name):
     return f"[data-square='{'abc'.index(name[0]) + 3 * (int(name[1]) - 1)}']"
 
@@ -71,21 +68,6 @@ def mouse(checks, screen, program):
     checks.expect("a second click on a move of an earlier position does nothing", len(screen.record()), 2)
     screen.enter("..l/.../L../... -")
     checks.expect("a text that is none leaves the position", [screen.record()[0], "E1" in screen.text("text-fault")], ["start", True])
-
-
-def drops(checks, screen, program):
-    path = program.build("200", "A")
-    screen.give(path)
-    screen.enter(HAND)
-    checks.expect("what is heard of a hand", screen.label(hand("C")), "Forest has 1 chick in hand")
-    screen.browser.click(hand("C"))
-    screen.browser.click(square("b2"))
-    screen.settle()
-    checks.expect("a drop by two clicks", after(screen, "C*b2"))
-    screen.press("undo")
-    screen.drag(hand("C"), square("a3"))
-    checks.expect("a drop by dragging", after(screen, "C*a3"))
-    screen.press("undo")
 
 
 def twelve(checks, screen, program):
@@ -166,37 +148,6 @@ def dragging(checks, screen, program):
     screen.settle()
 
 
-def letters(checks, screen, program):
-    """All letters that are keys."""
-    screen.give(program.build("100", "A"))
-    screen.enter(PLAIN)
-    screen.js("window.print = () => { window.wasPrinted = true; }; document.activeElement.blur()")
-    screen.key("n")
-    checks.expect("n plays the next move", screen.record(), ["start", "Lb1-a2"])
-    screen.key("u")
-    checks.expect("u takes it back", screen.current(), "start")
-    screen.key("r")
-    checks.expect("r plays it again", screen.current(), "Lb1-a2")
-    screen.key("f")
-    checks.expect("f turns the board", screen.js("document.querySelector('.square').dataset.square"), "2")
-    screen.key("f")
-    screen.key("h")
-    checks.expect("h hides values", screen.value(), "")
-    screen.key("h")
-    screen.key("p")
-    checks.expect("p plays out, and prints nothing", [screen.text("play"), screen.js("!!window.wasPrinted")], ["Stop", False])
-    screen.key("p")
-    checks.expect("p stops", screen.text("play"), "Play out")
-    screen.key("e")
-    checks.expect("e sets up", screen.js("Setup.isOn()"))
-    screen.key("e")
-    checks.expect("and is done", screen.js("Setup.isOn()"), False)
-    screen.key("x")
-    screen.settle("Exercise.isAsked()")
-    checks.expect("x draws an exercise", screen.text("task") != "")
-    screen.js("document.getElementById('exercise-card').scrollIntoView()")
-
-
 def keys(checks, screen, program):
     screen.give(program.build("100", "A"))
     screen.enter(PLAIN)
@@ -249,112 +200,9 @@ def fingers(checks, screen, program):
     screen.open()
 
 
-def setting(checks, screen, program):
-    path = program.build("100", "A")
-    screen.give(path)
-    screen.press("start")
-    screen.press("edit")
-    screen.press("lions")
-    checks.expect("lions alone", screen.position(), ".l./.../.../.L. - -")
-    screen.drag(tool("C"), square("b2"))
-    checks.expect("a piece of the palette by dragging", screen.position(), PLAIN)
-    checks.expect("and its value", screen.value(), program.values(path, [PLAIN])[0])
-    screen.drag(square("b2"), square("c3"))
-    checks.expect("a piece of the board by dragging", screen.position(), ".l./..C/.../.L. - -")
-    screen.drag(square("c3"), hand("c"))
-    checks.expect("a piece into a hand", screen.position(), ".l./.../.../.L. - c")
-    screen.drag(hand("c"), square("a3"))
-    checks.expect("a piece out of a hand", screen.position(), ".l./c../.../.L. - -")
-    screen.drag(square("a3"), (screen.middle("#files")[0], 5))
-    checks.expect("a piece off the board", screen.position(), ".l./.../.../.L. - -")
-    screen.drag(square("b1"), square("b4"))
-    checks.expect("lions change places, which is no position", "E6" in screen.text("editor-fault"))
-    screen.drag(square("b4"), square("b1"))
-    screen.browser.click(tool("h"))
-    screen.browser.click(square("c2"))
-    screen.settle()
-    checks.expect("a chosen piece by a click", screen.position(), ".l./.../..h/.L. - -")
-    screen.browser.click(square("c2"))
-    screen.settle()
-    checks.expect("and taken away by another", screen.position(), ".l./.../.../.L. - -")
-    screen.focus(square("a2"))
-    screen.key("C")
-    checks.expect("a piece by its letter", screen.position(), ".l./.../C../.L. - -")
-    screen.key("Delete")
-    screen.focus(hand("C"))
-    screen.key("1")
-    checks.expect("a hand by a digit", screen.position(), ".l./.../.../.L. C -")
-    for number, shown in ((2, "2"), (0, ""), (1, "")):
-        screen.browser.click(hand("C"))
-        screen.settle()
-        checks.expect(f"a click on a hand gives {number}", [screen.js(f"Setup.board().hands[0][0]"), screen.js(f"document.querySelector(\"{hand('C')} .number\").textContent")],
-                      [number, shown])
-    screen.press("undo")
-    screen.press("next")
-    checks.expect("nothing is undone or played while a position is set up", screen.position(), ".l./.../.../.L. C -")
-    screen.browser.click(tool("L"))
-    screen.browser.click(square("c1"))
-    screen.settle()
-    checks.expect("a lion is moved, not doubled", screen.position(), ".l./.../.../..L C -")
-    screen.browser.click(square("b1"))
-    screen.settle()
-    screen.press("move-1")
-    checks.expect("the other side to move", [screen.position(), screen.js("location.hash[1]")], [".l./.../.../.L. - c", "~"])
-    screen.focus(hand("C"))
-    screen.key("0")
-    screen.focus(square("b1"))
-    screen.key("Delete")
-    checks.expect("a missing lion is told", "E4" in screen.text("editor-fault"))
-    checks.expect("and it can't be done", screen.js("document.getElementById('edit').disabled"))
-    screen.press("language")
-    checks.expect("in the other language too", screen.text("editor-fault"), "ライオンは両者に1枚ずつ必要です。（E4）")
-    screen.press("language")
-    screen.key("L")
-    checks.expect("a lion that is back is no fault", screen.text("editor-fault"), "")
-    screen.choose("rules", "B")
-    screen.focus(square("a4"))
-    screen.key("C")
-    found = ["E26" in screen.text("editor-fault"), screen.value(), screen.told()]
-    checks.expect("a chick on its far row by rules B has no value", found, [True, "", "No position yet."])
-    screen.key("Delete")
-    screen.choose("rules", "A")
-    screen.press("edit")
-    checks.expect("done", [screen.js("document.getElementById('editor').hidden"), screen.position()], [True, ".l./.../.../.L. - -"])
-    screen.press("start")
-    hens = "..l/H.h/.../L.. - -"
-    screen.enter(hens)
-    seen = ["c4 l sky turned", "a3 H forest", "c3 h sky turned", "a1 L forest"]
-    checks.expect("hens are drawn as hens", screen.seen("pieces"), seen)
-    screen.press("edit")
-    checks.expect("and while a position is set up", screen.seen("pieces"), seen)
-    sides = lambda: screen.js("[0, 1].map(it => document.getElementById(`move-${it}`).getAttribute('aria-pressed'))")
-    checks.expect("Forest is to move", sides(), ["true", "false"])
-    screen.press("move-1")
-    checks.expect("Sky is to move", sides(), ["false", "true"])
-    screen.press("move-0")
-    screen.press("edit")
-    checks.expect("nothing was set up", screen.position(), hens)
-    screen.enter("..l/.../.../L.. CE g")
-    screen.press("edit")
-    screen.press("lions")
-    checks.expect("lions alone, with no hand either", screen.position(), ".l./.../.../.L. - -")
-    screen.press("edit")
-
-
 def no_values(screen):
     """Whether no value is seen or heard anywhere but in what the reader asked for."""
     return screen.value() == "" and not screen.seen("hasValues")
-
-
-def hidden(checks, screen, program):
-    screen.give(program.build("100", "A"))
-    screen.enter(PLAIN)
-    screen.press("hide")
-    screen.browser.click(square("b1"))
-    checks.expect("hidden values are nowhere", no_values(screen))
-    checks.expect("the moves are in move order then", [it for it in screen.moves()], ["Lb1-a1", "Lb1-c1", "Lb1-a2", "Lb1-c2", "Cb2-b3"])
-    screen.press("hide")
-    checks.expect("and shown again", not no_values(screen))
 
 
 def draw_one(screen):
@@ -368,8 +216,9 @@ def exercises(checks, screen, program):
     lengths = screen.js("[...document.getElementById('exercise-length').options].map(it => +it.value)")
     counted = [int(line.split()[1]) for line in program.run("stats", "--db", path).split("\n") if line.startswith("win ") and len(line.split()) == 3]
     checks.expect("the lengths that are offered", lengths, [plies for plies in counted if plies >= 3])
+    goes = lambda text: "C" not in text[:3] and "c" not in text[12:15]  # no chick stands where it never moves
     for plies in lengths[:4] + lengths[-1:]:
-        known = program.puzzles(path, plies)
+        known = {text: move for text, move in program.puzzles(path, plies).items() if goes(text)}
         screen.choose("exercise-length", str(plies))
         for _ in range(3):
             draw_one(screen)
@@ -421,26 +270,5 @@ def chosen_file(checks, screen, program):
         checks.expect(f"an exercise of {pieces} by rules {rules}", found, [pieces, rules, True])
 
 
-def steps(checks, screen, program):
-    path = program.build("100", "A")
-    screen.give(path)
-    screen.enter(PLAIN)
-    line = program.line(path, PLAIN).split()
-    for number in range(len(line)):
-        screen.press("next")
-        checks.expect(f"{number + 1} plies of the line", screen.record()[1:], line[: number + 1])
-    checks.expect("no next move behind it", screen.is_enabled("next"), False)
-    screen.enter("..l/.../L../... - -")
-    screen.give(program.build("000", "A"))
-    screen.press("play")
-    screen.settle("document.getElementById('play').textContent === 'Play out' && document.querySelectorAll('#record .move').length === 4")
-    checks.expect("a line that is played out", screen.record(), ["start", "La2-a3", "lc4-b4", "La3xb4"])
-    screen.enter("..l/.../L../... - -")
-    screen.js("document.querySelectorAll('#line .move')[1].click()")
-    screen.settle()
-    checks.expect("a line that is played up to a move", screen.record(), ["start", "La2-a3", "lc4-b4"])
-
-
 PARTS = {
-    "mouse": mouse, "drops": drops, "twelve": twelve, "edges": edges, "dragging": dragging, "letters": letters, "keys": keys, "fingers": fingers, "setting": setting, "hidden": hidden, "exercises": exercises, "steps": steps,
-}
+    "mouse": mouse, "twelve": twelve, "edges": edges, "dragging": dragging, "keys": keys, "fingers": fingers, "exercises": exercises}

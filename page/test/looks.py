@@ -1,7 +1,6 @@
-"""Both languages, widths, sizes, contrasts, what is heard, what is printed; and that nothing leaves the page."""
+"""Languages of one shape, widths, sizes, contrasts; and that nothing leaves the page."""
 import json
 
-from browser import Browser
 
 PLAIN = ".l./.../.C./.L. - -"
 WIDTHS = (320, 360, 480, 768, 1024, 1280, 1600, 1920)
@@ -72,89 +71,6 @@ def contrasts(checks, screen, program):
     screen.press("theme")
 
 
-def hover(checks, screen, program):
-    """A pointer marks what it is over, but not above the last move or a chosen piece, and not where nothing can hover. A browser of its own, since one
-    that once had fingers hovers no more."""
-    browser = Browser()
-    try:
-        own = screen.another(browser)
-        own.afresh()
-        own.give(program.build("100", "A"))
-        own.enter(PLAIN)
-        own.play("Lb1-a2")
-        shadow = lambda selector: own.js(f"getComputedStyle(document.querySelector({selector!r})).boxShadow")
-        plain, last = shadow("#start"), shadow("[data-square='3']")
-
-        def over(selector):
-            x, y = own.seen("middle", selector)
-            browser.call("Input.dispatchMouseEvent", type="mouseMoved", x=x, y=y)
-            return shadow(selector)
-
-        checks.expect("a button under the pointer is marked", over("#start") != plain)
-        checks.expect("a square of the last move looks as it did", over("[data-square='3']"), last)
-        browser.size(1180, 1000, 1, True)
-        checks.expect("nothing is marked where nothing hovers", over("#start"), plain)
-    finally:
-        browser.close()
-
-
-def no_script(checks, screen, program):
-    """Without JavaScript the page says what is needed, in both languages."""
-    screen.browser.call("Emulation.setScriptExecutionDisabled", value=True)
-    try:
-        screen.browser.call("Page.navigate", url="about:blank")
-        screen.browser.call("Page.navigate", url=screen.url)
-        screen.browser.wait("document.readyState === 'complete' && !!document.querySelector('main')")
-        told = screen.js("[...document.querySelectorAll('noscript p')].filter(it => it.checkVisibility()).map(it => it.textContent)")
-    finally:
-        screen.browser.call("Emulation.setScriptExecutionDisabled", value=False)
-        screen.open()
-    checks.expect("what is needed", told, ["This page needs JavaScript: allow it for this file, then load the page again. It sends nothing.",
-                                           "このページには JavaScript が必要です。このファイルで許可してから、もう一度読み込んでください。通信はしません。"])
-
-
-def heard(checks, screen, program):
-    screen.give(program.build("100", "A"))
-    screen.enter(PLAIN)
-    nodes = screen.browser.call("Accessibility.getFullAXTree")["nodes"]
-    told = [(n["role"]["value"], n.get("name", {}).get("value", "")) for n in nodes if not n.get("ignored") and "role" in n]
-    named = ("button", "textbox", "combobox", "checkbox", "group", "list")
-    checks.expect("controls without a name", [it for it in told if it[0] in named and not it[1] and it[0] != "list"], [])
-    names = [name for role, name in told if role == "button"]
-    for wanted in ("b1 Forest lion", "b2 Forest chick", "b4 Sky lion", "a1 empty", "Lb1-a2, lion b1 to a2, win 5", "Cb2-b3, chick b2 to b3, loss 6"):
-        checks.expect(f"{wanted!r} is heard", wanted in names)
-    checks.expect("the value is a status", [(n["role"]["value"]) for n in nodes if n.get("role", {}).get("value") == "status"] != [])
-    checks.expect("the value's text is in a live region", screen.js("document.getElementById('value').getAttribute('role')"), "status")
-    screen.play("Lb1-a2")
-    checks.expect("a move is told", screen.js("document.getElementById('live').textContent"), "Forest: Lb1-a2")
-    screen.language("ja")
-    checks.expect("a square in Japanese", screen.label("[data-square='3']"), "a2 もりのライオン")
-    screen.language("en")
-    labels = screen.seen("misnamed")
-    checks.expect("what is seen on a button is in its name", labels, [])
-
-
-def printed(checks, screen, program):
-    """A page of paper: the board with its position, and values only where they aren't hidden."""
-    screen.give(program.build("100", "A"))
-    screen.enter(PLAIN)
-    parts = ["table", "caption", "value-card", "moves-card", "line-card", "undo", "text-card", "help-card", "editor"]
-    for hide, wanted in [(False, ["table", "caption", "value-card", "moves-card", "line-card"]), (True, ["table", "caption"])]:
-        if hide:
-            screen.press("hide")
-        screen.browser.call("Emulation.setEmulatedMedia", media="print")
-        checks.expect(f"what is printed, values {'hidden' if hide else 'shown'}", screen.seen("visible", *parts), wanted)
-        checks.expect("the position's text is printed", screen.js("document.getElementById('caption').innerText"), f"Forest to move: {PLAIN}")
-        screen.browser.call("Emulation.setEmulatedMedia", media="")
-        checks.expect("it is one page of paper", screen.pages(), 1)
-    screen.press("hide")
-    screen.play("Lb1-a2")
-    screen.in_both(checks, "Sky's caption", lambda: screen.js("document.getElementById('caption').textContent"), "Sky to move: .../.cl/.../.L. - -", "そらの番: .../.cl/.../.L. - -")
-    screen.js("window.print = () => { window.wasPrinted = true; }")
-    screen.press("print")
-    checks.expect("the button prints", screen.js("window.wasPrinted"))
-
-
 # What a page might do to send something, and the rule of the policy that refuses it.
 ATTEMPTS = {
     "a request": "connect-src", "a request to this machine": "connect-src", "a request of a file": "connect-src", "a beacon": "connect-src",
@@ -184,4 +100,4 @@ def private(checks, screen, program):
     screen.browser.events.clear()  # what was tried stands in the log too
 
 
-PARTS = {"languages": languages, "widths": widths, "contrasts": contrasts, "hover": hover, "no_script": no_script, "heard": heard, "paper": printed, "privacy": private}
+PARTS = {"languages": languages, "widths": widths, "contrasts": contrasts, "privacy": private}

@@ -1,13 +1,14 @@
 #!/usr/bin/env python3
 """Tests the page in headless Chromium, offline: page/test/page_test.py PAGE PROGRAM [--firefox] [--jobs N] [--until-failure] [--seconds] [TOPIC[/PART]..]
 
-Expected values come from the program `dobutsu`, of small files that it builds, and expected texts stand in the tests. A topic is a module here with a
-dictionary PARTS; `--list` in place of the page prints topics and parts. Some parts are left out where they aren't named: `told/short`, which is `told/values`
-with few positions, and `lasting/acts_4` and further seeds. With `--firefox` the browser is Firefox, by default with the parts that need no call of Chromium's
+Scenes say what is seen and heard, and scenes.py plays them; the topics here test what a scene can't say. Their values come from the program `dobutsu`, of small files that it
+builds. A topic is a module here with a dictionary PARTS; `--list` in place of the page prints topics and parts. Some parts are left out where they aren't
+named: `told/short`, which is `told/values` with few positions, `certificates/whole_B`, and `lasting/acts_4` and further seeds; `scenes/elsewhere` names a
+quarter of the scenes. With `--firefox` the browser is Firefox, by default with the parts that need no call of Chromium's
 own. N browsers work side by side, by default one for each processor; the next part goes to the next one that is free. With `--until-failure` the parts that
-are named come first, then all others, up to the first one that counts a failure, in one browser. `--seconds` tells how long each part took. Prints a line for
+are named come first, then all others, up to the first one that counts a failure, in one browser; with `--no-scenes` scenes aren't played. `--seconds` tells how long each part took. Prints a line for
 each failure, the engine that the page uses, and last `N passed, M failed`; the status is 0 where none failed. DOBUTSU_FILES may name a folder in which built
-files are kept, DOBUTSU_WAIT the seconds until a test gives up waiting (60).
+files are kept, DOBUTSU_WAIT the seconds until a test gives up waiting (60), DOBUTSU_SCENES a folder in which Chromium leaves what Firefox has to show too.
 """
 import argparse
 import multiprocessing
@@ -22,7 +23,6 @@ sys.path.insert(0, str(pathlib.Path(__file__).resolve().parent))
 import board
 import certificates
 import classroom
-import faults
 import glance
 import handling
 import lasting
@@ -32,8 +32,8 @@ import links
 import looks
 import mistakes
 import opening
+import scenes
 import told
-import words
 from browser import Browser
 from checks import Checks
 from firefox import Firefox
@@ -41,24 +41,27 @@ from program import Program
 from screen import Screen
 
 TOPICS = {
-    "told": told, "words": words, "opening": opening, "board": board, "links": links, "certificates": certificates, "classroom": classroom,
-    "faults": faults, "glance": glance, "handling": handling, "lasting": lasting, "layout": layout, "lesson": lesson, "looks": looks,
+    "scenes": scenes, "told": told, "opening": opening, "board": board, "links": links, "certificates": certificates, "classroom": classroom,
+    "glance": glance, "handling": handling, "lasting": lasting, "layout": layout, "lesson": lesson, "looks": looks,
     "mistakes": mistakes,
 }
 
-# The parts that Firefox runs where none is named: the others ask Chromium's own calls for fingers, paper, contrasts and the log.
-IN_FIREFOX = ["told/short", "words", "opening/dropped", "opening/starts", "opening/format_1", "opening/late", "opening/rules", "certificates/beside", "certificates/claims",
-              "certificates/solution", "certificates/bounds", "certificates/unlisted", "certificates/whole_A", "certificates/wrong", "classroom/score", "classroom/judged", "classroom/practice",
-              "classroom/longer", "classroom/closed", "faults/files", "faults/records", "handling/twelve", "handling/edges", "handling/letters", "lasting", "layout/filled"]
+# The parts that Firefox runs where none is named: the others ask Chromium's own calls for fingers, paper, contrasts and the log. Its scenes are compared with
+# what Chromium showed, where DOBUTSU_SCENES names the folder that has it.
+IN_FIREFOX = [*(f"scenes/{it}" for it in scenes.ELSEWHERE if scenes.ELSEWHERE_AT), "told/short", "certificates/beside", "certificates/whole_B", "handling/twelve", "handling/edges",
+              "lasting/acts_2", "lasting/outlived", "layout/filled"]
 
-# The parts that take longest, which come first, so that no browser works on alone at the end.
-LONG = [("certificates", "whole_A"), ("certificates", "whole_B"), ("lasting", "acts_1"), ("lasting", "acts_2"), ("lasting", "acts_3"), ("told", "values"), ("lasting", "same"),
+# The parts that take longest, which come first, so that no browser works on alone at the end; then scenes, before any part that has fingers.
+LONG = [("certificates", "whole_A"), ("lasting", "acts_1"), ("lasting", "acts_2"), ("lasting", "acts_3"), ("told", "values"), ("lasting", "same"),
         ("classroom", "evenly"), ("certificates", "mutated"), ("opening", "large")]
 
 
 def parts_of(names):
     """The (topic, part) pairs that the words name: of a topic all parts but those that have to be named, of no word all topics."""
-    for name in names or TOPICS:
+    for name in names or [it for it in TOPICS if it != "scenes"]:  # which scenes.py plays, one after the other
+        if name == "scenes/elsewhere":
+            yield from [("scenes", it) for it in scenes.ELSEWHERE]
+            continue
         topic, _, part = name.partition("/")
         if topic not in TOPICS or (part and part not in TOPICS[topic].PARTS):
             raise SystemExit(__doc__)
@@ -103,7 +106,8 @@ class Run:
             screen = Screen(browser, self.page)
             for topic, part in iter(self.parts.get, None):
                 since = time.monotonic()
-                screen.afresh()
+                if topic != "scenes":  # which have a page of their own
+                    screen.afresh()
                 checks.topic(f"{topic}/{part}", lambda: TOPICS[topic].PARTS[part](checks, screen, program))
                 done.append(part)
                 if self.tells_seconds:
@@ -120,7 +124,7 @@ class Run:
 
 def main():
     words = argparse.ArgumentParser(description=__doc__, formatter_class=argparse.RawDescriptionHelpFormatter)
-    for option in ("--list", "--firefox", "--until-failure", "--seconds"):
+    for option in ("--list", "--firefox", "--until-failure", "--seconds", "--no-scenes"):
         words.add_argument(option, action="store_true")
     words.add_argument("--jobs", type=int, default=len(os.sched_getaffinity(0)))
     words.add_argument("page", nargs="?")
@@ -134,8 +138,9 @@ def main():
         words.error("the page and the program are needed")
     stops, names = given.until_failure, given.parts or (IN_FIREFOX if given.firefox else [])
     chosen = list(dict.fromkeys([*(parts_of(names) if names or not stops else ()), *(parts_of(()) if stops else ())]))
+    chosen = [it for it in chosen if not (given.no_scenes and it[0] == "scenes")]
     if not stops:
-        chosen.sort(key=lambda it: it not in LONG)
+        chosen.sort(key=lambda it: (it not in LONG, it[0] != "scenes"))
     with tempfile.TemporaryDirectory() as folder:
         passed, failed = Run(given).test(chosen, os.environ.get("DOBUTSU_FILES", folder), 1 if stops else given.jobs)
     print(f"{passed} passed, {failed} failed")

@@ -13,10 +13,6 @@ class Screen:
         self.browser, self.page, self.url = browser, page, page.as_uri()
         self.js = browser.js
 
-    def another(self, browser):
-        """The same page in another browser."""
-        return Screen(browser, self.page)
-
     def open(self, fragment=""):
         self.browser.open(self.url + fragment)
         self.js(SEEN)

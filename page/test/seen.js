@@ -31,11 +31,6 @@ globalThis.Seen = (() => {
   // Whether a value is seen or heard beside the value's own card.
   const hasValues = () => all("#moves, #line, .square, #next")
     .some((it) => /\b(win|loss|[WL]) \d|\bdraw\b|\d pl/.test(it.textContent + it.getAttribute("aria-label") + it.title));
-  // The class numbers of the best line's positions, of a file by rules A.
-  async function lineNumbers() {
-    const { steps } = await Answers.bestLine(Files.last(), Game.engine(), Game.now().position, () => false, () => {});
-    return steps.map((step) => DobutsuCore.classNumber("A", step.position));
-  }
 
   const classNumber = (profile, text) => DobutsuCore.classNumber(profile, DobutsuCore.readPosition(text));
   // The texts of the positions that the moves of a position lead to.
@@ -48,31 +43,10 @@ globalThis.Seen = (() => {
 
   const nameOf = (it) => DobutsuCore.squareName(+it.dataset.square);
   const squares = (marked) => all(`.square${marked}`).map(nameOf).sort();
-  const pieces = () => all(".square:has(.piece)").map((it) => {
-    const art = it.querySelector(".piece"), letter = art.querySelector(".letter").textContent;
-    return [nameOf(it), letter, art.classList[1], ...(art.querySelector("g").getAttribute("transform") ? ["turned"] : [])].join(" ");
-  });
-  // The squares from which and to which an arrow goes, or that of a ring or circle.
-  function squaresOf(drawn) {
-    const name = ([x, y]) => nameOf(all(".square")[Math.floor(x) + 3 * Math.floor(y)]);
-    if (drawn.tagName === "circle") return [name([+drawn.getAttribute("cx"), +drawn.getAttribute("cy")])];
-    const points = drawn.getAttribute("d").match(/[\d.]+ [\d.]+/g).map((it) => it.split(" ").map(Number));
-    return [name(points[0]), name(points[3])];
-  }
-  // Of the best move's arrow, and of all that is drawn in class mode.
-  const arrow = () => all(".arrow path, .arrow circle").flatMap(squaresOf);
-  const ink = () => shown("#ink path, #ink circle").map(squaresOf);
   const texts = (selector) => all(selector).map((it) => it.textContent);
 
-  // ---- files and the clipboard
+  // ---- the clipboard
 
-  // Drops a file of that name with those bytes on the page.
-  function dropFile(name, base64) {
-    const dataTransfer = new DataTransfer(), bytes = Uint8Array.from(atob(base64), (c) => c.charCodeAt(0));
-    dataTransfer.items.add(new File([bytes], name));
-    element("files").textContent = "";
-    dispatchEvent(new DragEvent("drop", { dataTransfer, bubbles: true, cancelable: true }));
-  }
   // Keeps what is copied from now on in `window.copied`.
   function catchCopies() {
     Object.defineProperty(navigator, "clipboard", { value: { writeText: async (words) => { window.copied = words; } }, configurable: true });
@@ -88,10 +62,6 @@ globalThis.Seen = (() => {
     const words = (it.dataset.text ? it.textContent : "") + it.getAttribute("aria-label");
     return /undefined|object/.test(words) || (it.dataset.text && !it.textContent);
   }).map((it) => it.outerHTML);
-  // The buttons whose names lack what is seen on them.
-  const misnamed = () => shown("button[aria-label]").filter((it) => /[a-z]/i.test(it.innerText) && !it.closest("#board, .hand"))
-    .filter((it) => !it.getAttribute("aria-label").includes(it.innerText.trim().split("\n")[0])).map((it) => it.outerHTML.slice(0, 120));
-
   // ---- sizes
 
   const cut = () => shown("button, .open, h1, h2, label").filter((it) => it.scrollWidth > it.clientWidth + 1 && getComputedStyle(it).display !== "inline" && it.clientWidth > 1)
@@ -205,8 +175,8 @@ globalThis.Seen = (() => {
   };
 
   return {
-    enter, choose, middle, tags, hasValues, lineNumbers, shapes, missing, misnamed, cut, onTwoLines, tooSmall, tooPale, paleMarks, visible,
-    classNumber, outcomes, arrow, ink, crowded, box, overlaps, fillLists, squares, pieces, texts, dropFile, catchCopies,
+    enter, choose, middle, tags, hasValues, shapes, missing, cut, onTwoLines, tooSmall, tooPale, paleMarks, visible,
+    classNumber, outcomes, crowded, box, overlaps, fillLists, squares, texts, catchCopies,
     refused: (name) => refusal(attempts[name]),
   };
 })();

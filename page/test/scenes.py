@@ -1,0 +1,417 @@
+#!/usr/bin/env python3
+"""Scenes: named states of the page, each compared with a text of all that a person sees and hears there.
+
+page/test/scenes.py [--renew] [--page PAGE] [--seconds] [--steady] [--until-failure] [--list] [NAME..]
+
+A scene of stories.py is played in headless Chromium on the page that the sources make, or on PAGE. Its first state is told whole (scene.js), or by what differs
+from that of the scene `table`; and behind each further act what it changes. The text has to be that of page/test/scenes/NAME.txt; where it isn't, the lines that differ are printed. With `--renew` the files
+are written instead: look at `git diff page/test/scenes` then. Where a table is open all values that are shown are compared with plain Python's besides. NAMEs
+choose scenes, all without, or with `--steady` those that hang on nothing else than the page. The last line is `N passed, M failed`.
+"""
+import argparse
+import contextlib
+import difflib
+import json
+import os
+import pathlib
+import subprocess
+import sys
+import tempfile
+import time
+
+sys.dont_write_bytecode = True
+HERE = pathlib.Path(__file__).resolve().parent
+sys.path[:0] = [str(HERE), str(HERE.parent)]
+import stories
+from browser import WAIT_SECONDS, Browser
+from checks import Checks
+from scene_files import Files
+from scene_values import wrong_values
+from screen import Screen
+
+GOLDEN = HERE / "scenes"
+# The scenes that are played in the other browser and by the other engine too: a quarter of them.
+ELSEWHERE = ("start", "table", "values", "ends", "chosen", "drops", "line", "texts", "rules", "file_names", "refused", "refused_certificates", "claims", "practice", "exercise", "game", "pasted_kifu")
+# Scenes that show work that is under way, so that what is seen hangs on how busy the machine is: `--steady` leaves them out.
+NAMED = {"broken", "exercise_drawn", "lesson_ink", "line", "lost", "pasted", "practice", "practice_thinks", "stuck"}
+ELSEWHERE_AT = os.environ.get("DOBUTSU_SCENES")  # a folder that has what Chromium shows, where that is to be compared with what Firefox shows
+# What the page says of the engine: as the proved one, and as the plain one, by which the files are written.
+ENGINES = [
+    ("✓ proved engine", "plain engine"), ("✓ 証明済みエンジン", "普通のエンジン"), ("✓ しょうめいずみ エンジン", "ふつうの エンジン"), ("checked by proved code", "checked by plain JavaScript"),
+    ("証明済みエンジン", "普通のエンジン"), ("しょうめいずみ エンジン", "ふつうの エンジン"), ("proved engine", "plain engine"),
+    ("証明されたコードで検査済み", "普通の JavaScript で検査済み"), ("しょうめいされた コードで けんさずみ", "ふつうの JavaScript で けんさずみ"),
+]
+TOUCHED = ("phone", "small", "lesson_phone")
+WHOLE = ("table", "start", "phone", "wide", "dark", "japanese", "kana", "lesson")  # whose first state is told whole, that of others beside the first one's
+WALKER = (HERE / "scene.js").read_text()
+SEED = """Math.random = ((seed) => () => {
+  seed = (seed + 0x6d2b79f5) | 0;
+  let word = Math.imul(seed ^ (seed >>> 15), 1 | seed);
+  word = (word + Math.imul(word ^ (word >>> 7), 61 | word)) ^ word;
+  return ((word ^ (word >>> 14)) >>> 0) / 4294967296;
+})(7)"""
+SIZE = (1180, 1000)
+
+
+SHORT = 44
+
+
+def changes(before, now):
+    """The lines that came, with `~` where they stand in the place of others, else with `+`; of those that went alone the beginnings."""
+    out = []
+    for kind, a, b, c, d in difflib.SequenceMatcher(None, before, now, autojunk=False).get_opcodes():
+        if kind == "equal":
+            continue
+        instead, gone = min(b - a, d - c), (b - a) - (d - c)
+        out += [f"{'~' if place < instead else '+'} {line.strip()}" for place, line in enumerate(now[c:d])]
+        if kind == "delete":
+            out += [f"- {line.strip()[:SHORT]}" for line in before[a:b]]
+        elif gone > 0:
+            out.append(f"- {gone} more")
+    return out or ["nothing changes"]
+
+
+class Differs(Exception):
+    """A scene isn't as it has to be: the line that is there."""
+
+
+class Stage:
+    """The page on which one scene is played: acts of its user, and behind each the lines that it changed."""
+
+    def __init__(self, screen, files, base, wanted=None):
+        self.wanted = wanted  # the lines of its file, where it is left at the first one that differs
+        self.base = base  # the lines that the first state is told beside, or none where it is told whole
+        self.screen, self.browser, self.files, self.js = screen, screen.browser, files, screen.js
+        self.out, self.states, self.said, self.last, self.wrong, self.colours = [], [], set(), None, [], False
+        self.is_firefox = not hasattr(self.browser, "other_page")
+        self.heard = len(self.browser.events)
+
+    # ---- what is told
+
+    def write(self, words, found, is_looked_up=True):
+        lines = found["lines"]
+        if self.last is None and self.base:
+            self.out += [f"== {words}; beside the scene table", *changes(self.base, lines)]
+        else:
+            self.out += [f"== {words}", *(lines if self.last is None else changes(self.last, lines))]
+        self.out += self.logged()
+        if ELSEWHERE_AT:
+            self.states.append([words, self.js("Scene.write({ isPlainly: true })")])
+        self.last = lines
+        if found["facts"] and is_looked_up:
+            self.wrong += [f"{words}: {it}" for it in wrong_values(found["facts"], self.files)]
+        self.stop_early()
+
+    def stop_early(self):
+        if self.wanted is None:
+            return
+        for place, line in enumerate(self.out):
+            if place + 1 >= len(self.wanted) or line != self.wanted[place + 1]:
+                raise Differs(f"{line}, where {self.wanted[place + 1] if place + 1 < len(self.wanted) else 'nothing more'} has to be")
+
+    def options(self):
+        return f"{{ withColours: {str(self.colours).lower()} }}"
+
+    def tell(self, words, is_looked_up=True):
+        self.write(words, self.js(f"({{ lines: Scene.write({self.options()}), facts: Scene.facts() }})"), is_looked_up)
+
+    def logged(self):
+        """What went wrong or was said in the console since the last state."""
+        events, self.heard = self.browser.events[self.heard:], len(self.browser.events)
+        thrown = [it["params"]["exceptionDetails"].get("exception", {}).get("description", it["params"]["exceptionDetails"]["text"]) for it in events if it["method"] == "Runtime.exceptionThrown"]
+        said = [f"{it['params']['type']} {it['params']['args'][0].get('description', it['params']['args'][0].get('value'))}" for it in events if it["method"] == "Runtime.consoleAPICalled"]
+        return [f"console: {words.splitlines()[0]}" for words in [*thrown, *said]]
+
+    def says(self, *languages):
+        """What is told of the position in the other languages, then in English again: the texts that weren't told before."""
+        names = languages or ("ja", "kana")
+        for name, told in zip(names, self.js(f"Scene.saidIn({list(names)})")):
+            lines = [line for line in dict.fromkeys(told) if line not in self.said]
+            self.said.update(lines)
+            self.out += [f"== in {name}", *lines]
+        self.stop_early()
+
+    def paper(self, words="on paper"):
+        """What the browser would print, and on how many sheets."""
+        if self.is_firefox:
+            return
+        self.browser.call("Emulation.setEmulatedMedia", media="print")
+        lines = self.js("Scene.paper()")
+        self.browser.call("Emulation.setEmulatedMedia", media="")
+        self.out += [f"== {words}, {self.screen.pages()} sheets", *lines]
+        self.stop_early()
+
+    # ---- the page
+
+    def open(self, fragment="", stored=None, size=None, touch=False, before="", tell=None):
+        if size or touch:
+            self.browser.size(*(size or SIZE), 1, touch)
+        if stored is not None:
+            self.load("")
+            self.js("".join(f"localStorage.setItem('dobutsu-{name}', '{value}');" for name, value in stored.items()) or "0")
+        self.load(fragment)
+        if before:
+            self.js(before)
+        if tell:
+            self.tell(tell)
+
+    number = 0  # makes each address a page of its own
+
+    def load(self, fragment):
+        Stage.number += 1
+        url = f"{self.screen.url}?{Stage.number}{fragment}"
+        if self.is_firefox:
+            self.browser.open(url)
+        else:
+            self.browser.call("Page.navigate", url=url)
+        self.js("new Promise((done) => { const look = () => (document.documentElement && document.documentElement.dataset.ready === '1' ? done() : setTimeout(look, 4)); look(); })")
+        self.js(f"{WALKER};\n{SEED}; Scene.patience = {WAIT_SECONDS}")
+
+    def table(self, position=None, name="100A", tell=None, before="", **about):
+        """The page with a table open, and that position."""
+        self.open(before=before, **about)
+        self.act(f"await Scene.give([{self.file(name)}]);" + (f"Scene.enter({position!r})" if position else ""), tell, tell)
+
+    def close(self):
+        self.js("localStorage.clear()")
+
+    # ---- acts; each is told, unless it is said that it isn't
+
+    def act(self, script, words, tell=True, until="true"):
+        """Does that in the page, waits until it has come to rest, and tells what it changed."""
+        found = self.js(f"Scene.act(async () => {{ {script} }}, () => {until}, {str(bool(tell)).lower()}, {self.options()})")
+        if tell:
+            self.write(tell if isinstance(tell, str) else words, found)
+
+    def did(self, words, tell, until="true"):
+        if tell or until != "true":
+            self.act("", words, tell, until)
+
+    def run(self, script, tell=True, until="true"):
+        """Something that isn't done by a person, or by no other act."""
+        self.act(script, tell, tell, until)
+
+    def file(self, name):
+        return f"{{ name: {self.files[name].name!r}, base64: {self.screen.base64(self.files[name])!r} }}"
+
+    def give(self, *names, tell=True, until="true"):
+        self.act(f"await Scene.give([{', '.join(self.file(name) for name in names)}])", f"give {', '.join(self.files[name].name for name in names)}", tell, until)
+
+    def pick(self, name, tell=True):
+        """A file that is picked, and read where it lies."""
+        self.screen.give(self.files[name])
+        self.did(f"pick {name}", tell)
+
+    def enter(self, text, tell=True):
+        self.act(f"Scene.enter({text!r})", f"enter {text}", tell)
+
+    def press(self, name, tell=True, until="true"):
+        self.act(f"document.getElementById({name!r}).click()", f"press {name}", tell, until)
+
+    def click(self, selector, tell=True, until="true"):
+        """A click on a square by its name, in a hand by its letter, else by selector."""
+        self.act(f"document.querySelector({self.found(selector)!r}).click()", f"click {selector}", tell, until)
+
+    def on(self, words, tell=True, until="true", within="main"):
+        """Presses the button whose text begins so."""
+        self.act(f"Scene.press({words!r}, {within!r})", f"press «{words}»", tell, until)
+
+    def play(self, *moves, tell=True):
+        self.act(f"await Scene.play({list(moves)})", f"play {' '.join(moves)}", tell)
+
+    def key(self, *keys, tell=True, until="true"):
+        for key in keys:
+            self.browser.key(key)
+        self.did(f"key {' '.join(keys)}", tell, until)
+
+    def choose(self, select, value, tell=True, until="true"):
+        self.act(f"Scene.choose({select!r}, {value!r})", f"choose {value} of {select}", tell, until)
+
+    def language(self, name, tell=True):
+        self.act(f"await Scene.speak({name!r})", f"in {name}", tell)
+
+    def size(self, width, height, touch=False, tell=True):
+        self.browser.size(width, height, 1, touch)
+        self.did(f"in a window of {width} by {height}", tell)
+
+    def focus(self, selector, tell=False):
+        self.act(f"document.querySelector({self.found(selector)!r}).focus()", f"the focus goes to {selector}", tell)
+
+    def middle(self, selector):
+        return self.js(f"(() => {{ const it = document.querySelector({self.found(selector)!r}); if (!it.closest('#table, .palette')) it.scrollIntoView({{ block: 'center' }}); "
+                       "const box = it.getBoundingClientRect(); return [box.x + box.width / 2, box.y + box.height / 2]; })()")
+
+    def mouse(self, kind, point, button="left", held=0):
+        self.browser.call("Input.dispatchMouseEvent", type=kind, x=point[0], y=point[1], button=button if kind != "mouseMoved" or held else "none", buttons=held, clickCount=0 if kind == "mouseMoved" else 1)
+
+    def hover(self, selector, tell=True):
+        """The mouse comes over an element."""
+        self.mouse("mouseMoved", self.middle(selector))
+        self.did(f"the mouse is over {selector}", tell)
+
+    def hold(self, start, end, tell=True):
+        """A drag that isn't ended."""
+        at, to = self.middle(start), end if isinstance(end, tuple) else self.middle(end)
+        self.mouse("mousePressed", at, held=1)
+        self.mouse("mouseMoved", ((at[0] + to[0]) / 2, (at[1] + to[1]) / 2), held=1)
+        self.mouse("mouseMoved", to, held=1)
+        if tell:
+            self.did(f"hold {start} over {end}", tell)
+        return to
+
+    def drag(self, start, end, tell=True, until="true"):
+        self.mouse("mouseReleased", self.hold(start, end, False))
+        self.did(f"drag {start} to {end}", tell, until)
+
+    def stroke(self, start, end, button="right", tell=True):
+        held = 2 if button == "right" else 1
+        for kind, name, is_held in (("mousePressed", start, held), ("mouseMoved", end, held), ("mouseReleased", end, 0)):
+            self.mouse(kind, self.middle(name), button, is_held)
+        self.did(f"draw from {start} to {end} with the {button} button", tell)
+
+    def touch(self, start, end=None, tell=True):
+        at, to = self.middle(start), self.middle(end or start)
+        finger = lambda kind, *points: self.browser.call("Input.dispatchTouchEvent", type=kind, touchPoints=[{"x": x, "y": y} for x, y in points])
+        finger("touchStart", at)
+        for part in (0.3, 0.7, 1) if end else ():
+            finger("touchMove", (at[0] + part * (to[0] - at[0]), at[1] + part * (to[1] - at[1])))
+        finger("touchEnd")
+        self.did(f"a finger on {start}{f' to {end}' if end else ''}", tell)
+
+    def wait(self, until, tell=True):
+        self.act("", "after a while", tell, until)
+
+    @staticmethod
+    def found(name):
+        if len(name) == 2 and name[0] in "abc" and name[1] in "1234":
+            return f".square[data-square='{'abc'.index(name[0]) + 3 * (int(name[1]) - 1)}']"
+        if len(name) == 1 and name.isalpha():
+            return f".slot[data-hand='{name}']"
+        if name.startswith("tool "):
+            return f"[data-tool='{name[5:]}']"
+        return name
+
+
+def played(name, screen, files, is_left_early=False):
+    """The lines of a scene, and the values in it that aren't plain Python's. One that has fingers is played on a page of its own, since a page that once had
+    them knows no mouse that hovers any more."""
+    browser = screen.browser
+    if not hasattr(browser, "other_page"):
+        return played_here(name, screen, files, is_left_early)
+    told = len(browser.events)
+    try:
+        with browser.other_page() if name in TOUCHED else contextlib.nullcontext():
+            return played_here(name, screen, files, is_left_early)
+    finally:
+        browser.events[told:] = [it for it in browser.events[told:] if it["method"].startswith("Network.")]
+
+
+def played_here(name, screen, files, is_left_early):
+    screen.browser.size(*SIZE)
+    stage, story = Stage(screen, files, None if name in WHOLE else first_state(golden("table")), golden(name) if is_left_early else None), stories.STORIES[name]
+    stage.colours = name in ("start", "dark", "flipped")
+    try:
+        story(stage)
+        is_proved = stage.js("Game.engine().isProved === true")
+    finally:
+        stage.close()
+    lines = [f"scene {name}: {' '.join(story.__doc__.split())}", *stage.out]
+    return [as_plain(line) for line in lines] if is_proved else lines, stage.wrong, [[words, [as_plain(line) for line in told]] for words, told in stage.states]
+
+
+def as_plain(line):
+    """A line as it is where the plain engine is at work."""
+    for proved, plain in ENGINES:
+        line = line.replace(proved, plain)
+    return line
+
+
+def golden(name):
+    path = GOLDEN / f"{name}.txt"
+    return path.read_text(encoding="utf-8").split("\n")[:-1] if path.exists() else []
+
+
+def first_state(lines):
+    """The lines of a scene's first state."""
+    ends = [place for place, line in enumerate(lines) if line.startswith("== ")] + [len(lines)]
+    return lines[ends[0] + 1 : ends[1]] if len(ends) > 1 else []
+
+
+def write(name, lines):
+    GOLDEN.mkdir(exist_ok=True)
+    (GOLDEN / f"{name}.txt").write_text("".join(line + "\n" for line in lines), encoding="utf-8")
+
+
+def part(name):
+    """The scene as a part of page_test.py. In Chromium it is compared with its file; in Firefox, where things stand a little elsewhere, with what Chromium
+    showed before."""
+    def run(checks, screen, program):
+        lines, wrong, states = played(name, screen, Files.at(program.folder))
+        at = pathlib.Path(ELSEWHERE_AT or program.folder, f"{name}.json")
+        if hasattr(screen.browser, "other_page"):
+            compare(checks, name, lines, wrong)
+            if ELSEWHERE_AT and name in ELSEWHERE:
+                at.write_text(json.dumps(states))
+            return
+        checks.expect(f"values of scene {name} by plain Python", wrong, [])
+        for (words, told), (_, wanted) in zip(states, json.loads(at.read_text()), strict=True):
+            checks.expect(f"scene {name}, {words}", [it for it in told if it not in wanted], [it for it in wanted if it not in told])
+    return run
+
+
+def differences(name, lines):
+    """The lines by which a scene isn't as its file says."""
+    return [it for it in list(difflib.unified_diff(golden(name), lines, n=0, lineterm=""))[2:] if not it.startswith("@@")]
+
+
+def compare(checks, name, lines, wrong):
+    checks.expect(f"values of scene {name} by plain Python", wrong, [])
+    checks.expect(f"scene {name}", differences(name, lines), [])
+
+
+PARTS = {name: part(name) for name in stories.STORIES}
+
+
+def main():
+    words = argparse.ArgumentParser(description=__doc__, formatter_class=argparse.RawDescriptionHelpFormatter)
+    for option in ("--renew", "--seconds", "--steady", "--until-failure", "--list"):
+        words.add_argument(option, action="store_true")
+    words.add_argument("--page", type=pathlib.Path)
+    words.add_argument("names", nargs="*")
+    given = words.parse_args()
+    if given.list:
+        print(*stories.STORIES, sep="\n")
+        return 0
+    checks = Checks()
+    with tempfile.TemporaryDirectory() as folder:
+        page = given.page or pathlib.Path(folder, "dobutsu.html")
+        if not given.page:
+            subprocess.run([sys.executable, HERE.parent / "build.py", "-", page], check=True, stdout=subprocess.DEVNULL)
+        browser, files = Browser(), Files.at(folder)
+        try:
+            screen = Screen(browser, page.resolve())
+            chosen = given.names or [it for it in stories.STORIES if not (given.steady and it in NAMED)]
+            for name in sorted(chosen, key=lambda it: it != "table"):
+                since = time.monotonic()
+                checks.topic(f"scene {name}", lambda: one(checks, name, screen, files, given.renew))
+                if given.seconds:
+                    print(f"{name}: {time.monotonic() - since:.1f} s", flush=True)
+                if given.until_failure and checks.failed:
+                    break
+        finally:
+            browser.close()
+    print(f"{checks.passed} passed, {checks.failed} failed")
+    return checks.failed > 0
+
+
+def one(checks, name, screen, files, renews):
+    lines, wrong, _ = played(name, screen, files)
+    if renews:
+        write(name, lines)
+    else:
+        print(*[f"{name}: {line}" for line in differences(name, lines)], sep="\n", end="\n" if differences(name, lines) else "")
+    compare(checks, name, lines, wrong)
+
+
+if __name__ == "__main__":
+    sys.exit(main())
