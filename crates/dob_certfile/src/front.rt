@@ -15,23 +15,24 @@ use dob_distance::Value;
 use dob_pieces::{Family, PieceSet, Profile};
 
 /// How many bytes stand before the entries.
-pub(crate) const FRONT_LEN: usize = 28;
+pub const FRONT_LEN: usize = 28;
 
 /// What the title says after it.
 pub(crate) const VERSION: u8 = 1;
 
 /// What stands before the entries: the claim and its class, and how many entries each list has.
 #[derive(Clone, Copy)]
-pub(crate) struct Front {
-    pub(crate) family: Family,
-    pub(crate) root: u32,
-    pub(crate) claim: Claim,
-    pub(crate) lost_count: u32,
-    pub(crate) held_count: u32,
+pub struct Front {
+    pub family: Family,
+    /// The class of the position of the claim.
+    pub root: u32,
+    pub claim: Claim,
+    pub lost_count: u32,
+    pub held_count: u32,
 }
 
-// Whether those are the title.
-fn is_title(bytes: &[u8]) -> bool
+/// Whether those are what each certificate's file begins with.
+pub fn is_title(bytes: &[u8]) -> bool
     ensures { result ≡ bytes_eq bytes.now certificate_title }
 {
     are_same(bytes, b"DOBUCERT")
@@ -104,17 +105,18 @@ fn word_of(bytes: &[u8]) -> u32
     LittleEndian::read_u32(bytes)
 }
 
-/// What the first bytes say.
+/// What the first bytes say, and how many classes the family has. What comes behind them isn't looked at.
 ///
 /// # Errors
 ///
 /// The first of these that holds: `Truncated`, fewer than 28 bytes; `Magic`, `Version`, `SetByte`, `ProfileByte`, `RootClass`,
 /// `ClaimByte`, `EntryCount`.
 #[tactic(auto, unfolding(crate::specs::Reading::front_at))]
-pub(crate) fn front_of(bytes: &[u8]) -> Result<(Front, u64), Defect>
+pub fn front_of(bytes: &[u8]) -> Result<(Front, u64), Defect>
     ensures front { Gives (λ x. front_content x.0) result (front_at bytes.now) }
     ensures classes { IfOk result (λ x. x.1 ≡ classes_of x.0.family) }
     ensures few { IfOk result (λ x. x.1 < 2 ^ 31) }
+    ensures root { IfOk result (λ x. x.0.root < classes_of x.0.family) }
     ensures long { OnOk result (28 ≤ length bytes.now) }
 {
     let family = family_of(bytes)?;

@@ -20,5 +20,6 @@ mod write;
 pub use check::verify_file;
 pub use defect::{Defect, ReadFault, WriteFault};
 pub use file::CertificateFile;
+pub use front::{FRONT_LEN, Front, front_of, is_title};
 pub use read::read_certificate;
 pub use write::{certificate_bytes, write_certificate};

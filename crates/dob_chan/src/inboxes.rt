@@ -106,9 +106,9 @@ impl SendEnd {
         self.sent
     }
 
-    /// Sends a batch of its owner, if the inbox has room; tries once. `Full` with the batch only if the inbox held its
-    /// capacity, of all senders together, at some moment of the call; then nothing is sent. The end learns what all had sent
-    /// and what was taken when its batch went in, and the inbox was full after that. Its promises hold if it returns.
+    /// Sends a batch of its owner, if the inbox has room; tries once. The end learns what all had sent and what was taken when
+    /// its batch went in. `Full` with the batch only if the inbox held its capacity, of all senders together, at some moment
+    /// after the end's last batch; then nothing is sent. Its promises hold if it returns.
     pub fn offer<R: Wait>(&mut self, rt: &R, batch: Batch) -> Result<(), Full>
         requires few { length (sent_by self.old) < most_deliveries }
         requires own { batch.from ≡ place_of self.old }
@@ -136,9 +136,8 @@ impl TakeEnd {
         &self.taken
     }
 
-    /// Takes the next batch, if the inbox has one; tries once. `None` only if it was empty at some moment of the call. With a
-    /// batch the end learns what had been sent when it came out, and the inbox was empty after that. Its promises hold if it
-    /// returns.
+    /// Takes the next batch, if the inbox has one; tries once. The end learns what had been sent when the batch came out.
+    /// `None` only if the inbox was empty at some moment after the end's last batch. Its promises hold if it returns.
     pub fn next<R: Wait>(&mut self, rt: &R) -> Option<Batch>
         ensures same { TakesFromSame self.old self.new }
         ensures next { MatchOption result

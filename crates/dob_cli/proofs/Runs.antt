@@ -1,15 +1,16 @@
 -- From what the program does with what it read to what it owes for the words.
-use Rattle.dob_cli.proofs.Common.{◌∙◌, ◌∷◌, ◌≡◌, Bool, List, [], ap, inl, inr, refl, subst, sym, ℕ, Err, Change, IsSame, IsUntouched, Says, SinkState, change}
+use Rattle.dob_cli.proofs.Common.{◌∙◌, ◌∷◌, ◌≡◌, Bool, List, [], ap, false, inl, inr, refl, subst, sym, ℕ, Err, Change, IsSame, IsUntouched, Says, SinkState, change}
 use Rattle.dob_cli.proofs.Common.{Text, IsReadingOf, meaning_of, Reading, Order, EachLine, Lines, unchanged, ShelfChange, ShelfState, shelf_change}
 use Rattle.dob_cli.proofs.Common.{AnswersOver, Ending, TellsOneFault, AnswersLines, PutsAll, PutsText, StopsText, TellsOver, Fault}
 use Rattle.dob_files.specs.declared.fault.Fault.TheVariants.{Io}
 use Rattle.dob_words.specs.declared.command.Reading.TheVariants as reading
-use Rattle.dob_files.specs.Endings.{AnswersHelp, AnswersUsage, AnswersVersion, Tells, TellsMemory, version_line}
+use Rattle.dob_files.specs.Endings.{AnswersHelp, AnswersUsage, AnswersVersion, Tells, TellsMemory, ended, version_line}
 use Rattle.dob_cli.specs.Orders.{AnswersOrder, AreEachAsked, AreLinesFor, IsEachAskedFault, IsFaultFor, KeepsFiles}
-use Rattle.dob_cli.specs.Runs.{Does, LeavesShelf, Ran}
+use Rattle.dob_cli.specs.Runs.{Does, LeavesShelf, Ran, RanAt}
+use Rattle.dob_files.specs.Faults.{fault_line, is_io}
 use Rattle.std.proofs.Math.Bool.{or-false}
 use Rattle.dob_cli.proofs.Orders.{order_right}
-use Rattle.std.proofs.Common.{arith}
+use Rattle.std.proofs.Common.{arith, true}
 
 -- ---- the streams are those that they were
 
@@ -88,8 +89,18 @@ module _ (c : ShelfChange) (words : List Text) (e : Ending) where
   ran_memory told leaves = let same = memory_same e told in record { done = inr (told, leaves); same_out = same.0; same_err = same.1 }
 
 -- these are the words
-pub ran_on : (c : ShelfChange) (given words : List Text) (e : Ending) → given ≡ words → Ran c given e → Ran c words e
-ran_on c given words e same done = subst (λ ws. Ran c ws e) same done
+pub ran_at_on : (is_terminal : Bool) (c : ShelfChange) (given words : List Text) (e : Ending) → given ≡ words → RanAt is_terminal c given e
+    → RanAt is_terminal c words e
+ran_at_on is_terminal c given words e same done = subst (λ ws. RanAt is_terminal c ws e) same done
+
+-- nothing came below what was told
+pub ran_alone : (is_terminal : Bool) (c : ShelfChange) (words : List Text) (e : Ending) → Ran c words e → RanAt is_terminal c words e
+ran_alone false c words e ran = ran
+ran_alone true c words e ran = (e.err, ran, inl refl)
+
+-- the fault of a device has one line
+pub io_line : (fault : Fault) → is_io fault ≡ true → fault_line fault ≡ fault_line Io
+io_line fault is = grind arith
 
 -- where nothing is called no call failed, nor is anything else done with the shelf
 pub leaves : (shelf : ShelfState) → LeavesShelf (shelf_change shelf shelf)

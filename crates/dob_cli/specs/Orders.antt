@@ -5,7 +5,7 @@ use Rattle.dob_files.specs.declared.fault.Fault.{Fault}
 use Rattle.dob_words.specs.declared.command.orders.Asked.{Asked}
 use Rattle.dob_words.specs.declared.command.orders.Asked.TheVariants as ask
 use Rattle.dob_words.specs.declared.command.orders.LinesOrder.{LinesOrder}
-use Rattle.dob_words.specs.declared.command.orders.LinesOrder.TheVariants.{Ask, Build, Certify, Check, Count, Migrate, Puzzles, Reach, Reply, Show, Stats, Value, Verify, Zugzwangs}
+use Rattle.dob_words.specs.declared.command.orders.LinesOrder.TheVariants.{Ask, Build, Certify, Check, Count, Info, Migrate, Puzzles, Reach, Reply, Show, Stats, Value, Verify, Zugzwangs}
 use Rattle.dob_words.specs.declared.command.orders.Order.{Order}
 use Rattle.dob_words.specs.declared.command.orders.Order.TheVariants.{EachLine, Lines}
 use Rattle.dob_files.specs.Endings.{AnswersOver, Ending}
@@ -22,12 +22,13 @@ use Rattle.dob_query.specs.QuestionsEach.{AnswersLine, AnswersQuestionEachRight,
 use Rattle.dob_survey.specs.Migrations.{AreMigrateLines, IsMigrateFault}
 use Rattle.dob_survey.specs.Reaches.{AnswersReachRight, AreReachLinesFor, IsReachFaultFor}
 use Rattle.dob_verdict.specs.Certificates.{AreCertifyLines, IsCertifyFault, IsVerifyFault, IsVerifyLine, most_entries}
+use Rattle.dob_verdict.specs.Headers.{AreInfoLines, IsInfoFault}
 use Rattle.dob_verdict.specs.Replying.{IsReplyFaultOf, IsReplyLine}
 use Rattle.dob_survey.specs.Puzzles.{AnswersPuzzlesRight, ArePuzzleLines, IsPuzzlesFault}
 use Rattle.dob_words.specs.Readings.{text_given}
 use Rattle.dob_query.specs.Shows.{AnswersShowRight, AreShowLines, IsShowFault, KeepsButPicture}
 use Rattle.dob_survey.specs.Stats.{AnswersStatsRight, AreStatsLines}
-use Rattle.dob_files.specs.Tables.{HasValueFile, IsFileOf, IsOpeningFault, IsPositionFault}
+use Rattle.dob_files.specs.Tables.{HasValueFile, IsFileOf, IsOpeningFault, IsPlayFault, IsPositionFault}
 use Rattle.dob_survey.specs.Checks.{IsCheckFault, IsCheckLine}
 use Rattle.dob_survey.specs.Zugzwangs.{AnswersZugzwangsRight, AreZugzwangLines}
 
@@ -41,8 +42,9 @@ AreAskedLines (ask.Records asked) = AreAnswerLines asked
 
 -- the fault is one of that
 abbrev pub IsAskedFault : Asked → (List ℕ → Type 0) → List ℕ → Fault → Type 0
+IsAskedFault ask.Probe = IsPositionFault
+IsAskedFault (ask.Line form) = IsPlayFault
 IsAskedFault (ask.Records asked) = IsAskFault asked
-IsAskedFault _ = IsPositionFault
 
 -- by the file of a value table it is answered rightly
 abbrev pub AnswersAskedRight : Asked → ShelfChange → Profile → List ℕ → List ℕ → Ending → Type 0
@@ -89,6 +91,7 @@ AreLinesFor c (Migrate file out) = AreMigrateLines c file.now out.now
 AreLinesFor c (Certify order) = AreCertifyLines c order.file.now order.out.now order.is_exact (most_entries order.most) order.position.now
 AreLinesFor c (Verify file is_watched) = IsVerifyLine (c.before.has file.now)
 AreLinesFor c (Reply file position) = IsReplyLine (c.before.has file.now) position.now
+AreLinesFor c (Info file is_object) = AreInfoLines (c.before.has file.now) is_object
 
 -- the fault holds of the order
 abbrev pub IsFaultFor : ShelfChange → LinesOrder → Fault → Type 0
@@ -106,6 +109,7 @@ IsFaultFor c (Migrate file out) = IsMigrateFault c file.now
 IsFaultFor c (Certify order) = IsCertifyFault c order.file.now order.is_exact (most_entries order.most) order.position.now
 IsFaultFor c (Verify file is_watched) = IsVerifyFault (c.before.has file.now)
 IsFaultFor c (Reply file position) = IsReplyFaultOf (c.before.has file.now) position.now
+IsFaultFor c (Info file is_object) = IsInfoFault (c.before.has file.now)
 
 -- the order leaves each file what it had, but for the one that it names to be made
 abbrev pub KeepsFilesFor : LinesOrder → Files → Files → Type 0

@@ -1,6 +1,6 @@
 -- What the program does with its words, whatever they are.
-use Rattle.std.specs.Prelude.{◌≡◌, ◌⊎◌, ℕ, false, List, [], ◌∷◌, ◌++◌, Option, codes}
-use Rattle.dob_device.specs.Sinks.{Change, IsSame, IsUntouched, Says}
+use Rattle.std.specs.Prelude.{◌≡◌, ◌⊎◌, ℕ, Bool, false, true, List, [], ◌∷◌, ◌++◌, Option, codes}
+use Rattle.dob_device.specs.Sinks.{Change, IsSame, IsUntouched, Says, change}
 use Rattle.dob_words.specs.Words.{Text, meaning_of}
 use Rattle.dob_words.specs.declared.command.Order.{Order}
 use Rattle.dob_words.specs.declared.command.Reading.{Reading}
@@ -8,7 +8,9 @@ use Rattle.dob_words.specs.declared.command.Reading.TheVariants as reading
 use Rattle.dob_words.specs.Readings.{IsReadingOf}
 use Rattle.dob_pieces.specs.Bytes.{line_feed}
 use Rattle.dob_files.specs.Endings.{AnswersHelp, AnswersUsage, AnswersVersion, Ending, TellsMemory, ended}
-use Rattle.dob_shelf.specs.Shelves.{FailsWhere, SameFiles, ShelfChange}
+use Rattle.dob_files.specs.Faults.{fault_line}
+use Rattle.dob_files.specs.declared.fault.Fault.TheVariants.{Io}
+use Rattle.dob_shelf.specs.Shelves.{FailsWhere, LacksEnd, SameFiles, ShelfChange}
 use Rattle.dob_cli.specs.Orders.{AnswersOrder, AnswersRight, KeepsFiles}
 
 -- it does what is ordered: by the file of a value table rightly, and with no change of other files than the order names to be made
@@ -43,6 +45,28 @@ pub record Ran (c : ShelfChange) (words : List Text) (e : Ending) : Type 0 where
   pub done : DoesAsked c words e ⊎ LacksMemory c e
   pub same_out : IsSame e.out
   pub same_err : IsSame e.err
+
+-- ---- at a terminal
+
+-- a line that begins with two spaces: the cause stands behind them, and no line feed within it
+abbrev pub IsCauseLine : List ℕ → Type 0
+IsCauseLine line = (cause : List ℕ) × LacksEnd cause × (line ≡ codes "  " ++ cause ++ line_feed ∷ [])
+
+-- nothing more came to standard error, or a line with a cause did
+abbrev pub MaySayCause : Change → Type 0
+MaySayCause c = IsUntouched c ⊎ ((line : List ℕ) × IsCauseLine line × Says c line)
+
+-- what was told is all that standard error got; or it was E24 alone, and below it there may be the cause
+abbrev pub AddsCause : Change → Change → Type 0
+AddsCause told err = (err ≡ told)
+    ⊎ (Says told (fault_line Io) × (err.before ≡ told.before) × MaySayCause (change told.after err.after))
+
+-- It does what these words ask for. Where standard error is a terminal the cause may stand below E24 there.
+abbrev pub RanAt : Bool → ShelfChange → List Text → Ending → Type 0
+RanAt false c words e = Ran c words e
+RanAt true c words e = (told : Change) × Ran c words (ended e.status e.out told) × AddsCause told e.err
+
+-- ---- by the standard library
 
 -- what a writer of the standard library tells: the bytes that it held, and those that it holds after, where they are known
 pub record Contents : Type 0 where

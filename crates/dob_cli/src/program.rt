@@ -1,16 +1,16 @@
 // The program: from its words to what it prints and its exit status.
-ghost use Rattle.std.specs.Prelude.{◌≡◌, ◌≢◌, IfOk, IfErr, drop, map, string_bytes};
+ghost use Rattle.std.specs.Prelude.{◌≡◌, ◌≢◌, ℕ, List, IfOk, IfErr, IfSome, IsTrue, drop, false, map, string_bytes};
 ghost use Rattle.std.specs.IoError.{error_kind};
 ghost use Rattle.std.specs.declared.io.ErrorKind.TheVariants.{OutOfMemory};
 ghost use Rattle.std.specs.Vec.Iter.{into_iter_items};
 ghost use Rattle.dob_device.specs.Sinks.{Says, change};
-ghost use Rattle.dob_cli.specs.Runs.{LeavesShelf, Ran, RanOver, TellsNoText, contents};
+ghost use Rattle.dob_cli.specs.Runs.{IsCauseLine, LeavesShelf, MaySayCause, Ran, RanAt, RanOver, TellsNoText, contents};
 ghost use Rattle.dob_cli.specs.Orders.{AnswersEachLine, AnswersOrder, KeepsFiles, KeepsFilesFor, AreAskedLines, AreEachAsked, AreLinesFor, IsAskedFault, IsEachAskedFault, IsFaultFor};
 ghost use Rattle.dob_shelf.specs.Shelves.{Changes, Leaving, SameFiles};
-ghost use Rattle.dob_files.specs.Endings.{TellsAs, TellsFaultAs, TellsMemory, TellsOneFault, ended, GivesLines};
-ghost use Rattle.dob_files.specs.Faults.{AreFaultLines};
+ghost use Rattle.dob_files.specs.Endings.{Tells, TellsFaultAs, TellsMemory, TellsOneFault, ended, GivesLines};
+ghost use Rattle.dob_files.specs.Faults.{fault_line};
 ghost use Rattle.dob_files.specs.Telling.{status_of_lines, TellsOver};
-ghost use Rattle.dob_files.specs.declared.fault.Fault.TheVariants.{Memory};
+ghost use Rattle.dob_files.specs.declared.fault.Fault.TheVariants.{Io, Memory};
 
 use dob_build::answer_build;
 use dob_dbfile::{Lent, Sink, put_all, write_all};
@@ -24,7 +24,7 @@ use dob_shelf::Shelf;
 use dob_survey::{
     answer_check, answer_migrate, answer_puzzles, answer_reach, answer_stats, answer_zugzwangs,
 };
-use dob_verdict::{answer_certify, answer_reply, answer_verify};
+use dob_verdict::{answer_certify, answer_info, answer_reply, answer_verify};
 use dob_words::command::{Asked, LinesOrder, Order, Question, Reading, read_words};
 use std::alloc::{AllocError, Global};
 use std::env::Args;
@@ -40,6 +40,26 @@ const VERSION: &str = "dobutsu 0.1.0\n";
 
 /// What is said where an argument isn't UTF-8.
 const NO_TEXT: &[u8] = b"error: an argument is not UTF-8\n\nFor more information, try '--help'.\n";
+
+// How it ended: the exit status, and whether that is because a device failed (E24).
+#[derive(Clone, Copy)]
+struct Told {
+    status: u8,
+    is_io: bool,
+}
+
+impl Told {
+    // That status, where no device failed.
+    fn ending(status: u8) -> Told
+        ensures status { result.status ≡ status }
+        ensures io { result.is_io ≡ false }
+    {
+        Told {
+            status,
+            is_io: false,
+        }
+    }
+}
 
 /// Runs the program by its words, those after the program's name. Database files come from the shelf, and the one of a
 /// build goes there; its promises hold if it returns, since the threads of a build may wait. What it prints goes
@@ -84,13 +104,29 @@ pub fn run_over<'a, S: Shelf, O: Sink, E: Sink>(
     ensures { Changes S.state shelf.old shelf.new (λ c. Ran c (map (λ w. w.now) words.now)
         (ended result (change (O.state out.old) (O.state out.new)) (change (E.state err.old) (E.state err.new)))) }
 {
+    run_told(rt, alloc, words, shelf, out, err).status
+}
+
+// Runs the program so, and tells whether it ended because a device failed.
+fn run_told<'a, S: Shelf, O: Sink, E: Sink>(
+    rt: &(impl Threads + Wait + Sync + Console),
+    alloc: Global,
+    words: &'a [&'a str],
+    shelf: &mut S,
+    out: &mut O,
+    err: &mut E,
+) -> Told
+    ensures ran { Changes S.state shelf.old shelf.new (λ c. Ran c (map (λ w. w.now) words.now)
+        (ended result.status (change (O.state out.old) (O.state out.new)) (change (E.state err.old) (E.state err.new)))) }
+    ensures io { IsTrue result.is_io → Says (change (E.state err.old) (E.state err.new)) (fault_line Io) }
+{
     match read_words(alloc, words) {
-        Err(AllocError) => tell_memory(err),
-        Ok(Reading::Help(text)) => tell(alloc, 0, text.as_str(), shelf, out, err),
-        Ok(Reading::Version) => tell(alloc, 0, VERSION, shelf, out, err),
+        Err(AllocError) => Told::ending(tell_memory(err)),
+        Ok(Reading::Help(text)) => tell(alloc, text.as_str(), out, err),
+        Ok(Reading::Version) => tell(alloc, VERSION, out, err),
         Ok(Reading::Usage(text)) => {
             say(err, text.as_bytes());
-            USAGE
+            Told::ending(USAGE)
         }
         Ok(Reading::Order(order)) => run_order(rt, alloc, order, shelf, out, err),
     }
@@ -104,14 +140,15 @@ fn run_order<S: Shelf, O: Sink, E: Sink>(
     shelf: &mut S,
     out: &mut O,
     err: &mut E,
-) -> u8
-    ensures { Leaving (KeepsFiles order.entry) S.state shelf.old shelf.new (λ c. AnswersOrder c order.entry
-        (ended result (change (O.state out.old) (O.state out.new)) (change (E.state err.old) (E.state err.new)))) }
+) -> Told
+    ensures done { Leaving (KeepsFiles order.entry) S.state shelf.old shelf.new (λ c. AnswersOrder c order.entry
+        (ended result.status (change (O.state out.old) (O.state out.new)) (change (E.state err.old) (E.state err.new)))) }
+    ensures io { IsTrue result.is_io → Says (change (E.state err.old) (E.state err.new)) (fault_line Io) }
 {
     match order {
         Order::Lines(order) => match answer(rt, alloc, order, shelf) {
-            Ok(lines) => tell(alloc, 0, lines.as_str(), shelf, out, err),
-            Err(fault) => tell_fault(alloc, fault, shelf, err),
+            Ok(lines) => tell(alloc, lines.as_str(), out, err),
+            Err(fault) => tell_fault(alloc, fault, err),
         },
         Order::EachLine { file, asked } => run_each(alloc, file, asked, shelf, out, err),
     }
@@ -125,13 +162,14 @@ fn run_each<S: Shelf, O: Sink, E: Sink>(
     shelf: &mut S,
     out: &mut O,
     err: &mut E,
-) -> u8
-    ensures { Leaving SameFiles S.state shelf.old shelf.new (λ c. AnswersEachLine c file.now asked
-        (ended result (change (O.state out.old) (O.state out.new)) (change (E.state err.old) (E.state err.new)))) }
+) -> Told
+    ensures done { Leaving SameFiles S.state shelf.old shelf.new (λ c. AnswersEachLine c file.now asked
+        (ended result.status (change (O.state out.old) (O.state out.new)) (change (E.state err.old) (E.state err.new)))) }
+    ensures io { IsTrue result.is_io → Says (change (E.state err.old) (E.state err.new)) (fault_line Io) }
 {
     match tell_each(alloc, shelf, out, file, asked) {
-        Ok(is_refused) => status_of_lines(is_refused),
-        Err(fault) => tell_fault(alloc, fault, shelf, err),
+        Ok(is_refused) => Told::ending(status_of_lines(is_refused)),
+        Err(fault) => tell_fault(alloc, fault, err),
     }
 }
 
@@ -199,6 +237,7 @@ fn answer<S: Shelf>(
             rt, alloc, shelf, file, is_watched,
         ),
         LinesOrder::Reply { file, position } => answer_reply(alloc, shelf, file, position),
+        LinesOrder::Info { file, is_object } => answer_info(alloc, shelf, file, is_object),
     }
 }
 
@@ -220,20 +259,14 @@ fn answer_asked<S: Shelf>(
     }
 }
 
-// Prints a line, or a few, on standard output. The answer is that status where that works; the shelf knows what a device said.
-fn tell<S: Shelf, O: Sink, E: Sink>(
-    alloc: Global,
-    status: u8,
-    line: &str,
-    shelf: &S,
-    out: &mut O,
-    err: &mut E,
-) -> u8
-    ensures { TellsAs status line.now (ended result (change (O.state out.old) (O.state out.new)) (change (E.state err.old) (E.state err.new))) }
+// Prints a line, or a few, on standard output. The status is 0 where that works.
+fn tell<O: Sink, E: Sink>(alloc: Global, line: &str, out: &mut O, err: &mut E) -> Told
+    ensures told { Tells line.now (ended result.status (change (O.state out.old) (O.state out.new)) (change (E.state err.old) (E.state err.new))) }
+    ensures io { IsTrue result.is_io → Says (change (E.state err.old) (E.state err.new)) (fault_line Io) }
 {
     match put_all(out, line.as_bytes()) {
-        Ok(()) => status,
-        Err(_failed) => tell_fault(alloc, Fault::Io, shelf, err),
+        Ok(()) => Told::ending(0),
+        Err(_failed) => tell_fault(alloc, Fault::Io, err),
     }
 }
 
@@ -244,30 +277,56 @@ fn say<E: Sink>(err: &mut E, bytes: &[u8])
     let _written = write_all(err, bytes);
 }
 
-// The fault's line. Below that of a device that failed stands the cause, where the shelf knows it.
-fn fault_lines<S: Shelf>(alloc: Global, fault: Fault, shelf: &S) -> Result<String, AllocError>
-    ensures { IfOk result (λ lines. AreFaultLines fault (string_bytes lines)) }
+// The fault's line.
+fn line_of_fault(alloc: Global, fault: Fault) -> Result<String, AllocError>
+    ensures { IfOk result (λ line. string_bytes line ≡ fault_line fault) }
 {
-    let line = format!(in alloc; "dobutsu: {fault}\n")?;
-    if !fault.is_io() {
-        return Ok(line);
-    }
-    match shelf.said(alloc)? {
-        None => Ok(line),
-        Some(cause) => format!(in alloc; "{line}  {cause}\n"),
-    }
+    format!(in alloc; "dobutsu: {fault}\n")
 }
 
 // Prints a fault on standard error, or that no memory was left for it.
-fn tell_fault<S: Shelf, E: Sink>(alloc: Global, fault: Fault, shelf: &S, err: &mut E) -> u8
-    ensures { TellsOneFault fault result (change (E.state err.old) (E.state err.new)) }
+fn tell_fault<E: Sink>(alloc: Global, fault: Fault, err: &mut E) -> Told
+    ensures told { TellsOneFault fault result.status (change (E.state err.old) (E.state err.new)) }
+    ensures io { IsTrue result.is_io → Says (change (E.state err.old) (E.state err.new)) (fault_line Io) }
 {
-    match fault_lines(alloc, fault, shelf) {
-        Ok(lines) => {
-            say(err, lines.as_bytes());
-            fault.status()
+    match line_of_fault(alloc, fault) {
+        Ok(line) => {
+            say(err, line.as_bytes());
+            Told {
+                status: fault.status(),
+                is_io: fault.is_io(),
+            }
         }
-        Err(AllocError) => tell_memory(err),
+        Err(AllocError) => Told::ending(tell_memory(err)),
+    }
+}
+
+// The line of a cause, with `\n` for each line feed in it.
+fn cause_line(alloc: Global, cause: &str) -> Result<Vec<u8>, AllocError>
+    ensures { IfOk result (λ line. IsCauseLine line.items) }
+{
+    let mut line = Vec::new(alloc);
+    line.extend_from_slice(b"  ")?;
+    for byte in cause.bytes() {
+        if byte == b'\n' {
+            line.extend_from_slice(b"\\n")?;
+        } else {
+            line.push(byte)?;
+        }
+    }
+    line.push(b'\n')?;
+    Ok(line)
+}
+
+// Prints the cause, where the shelf knows it and memory is left for its line.
+fn tell_cause<S: Shelf, E: Sink>(alloc: Global, shelf: &S, err: &mut E)
+    ensures { MaySayCause (change (E.state err.old) (E.state err.new)) }
+{
+    let Ok(Some(cause)) = shelf.said(alloc) else {
+        return;
+    };
+    if let Ok(line) = cause_line(alloc, cause.as_str()) {
+        say(err, &line);
     }
 }
 
@@ -283,8 +342,8 @@ pub fn tell_memory<E: Sink>(err: &mut E) -> u8
 /// Runs the program by what it was given: its name and arguments, or why they can't be had.
 /// Database files come from the shelf, and go there.
 ///
-/// It does what `run_over` does with the words after the name. Where memory for them was refused, it says so (E23,
-/// status 3); where one of them isn't UTF-8, it says that (status 2).
+/// It does what `run_over` does with the words after the name. Where `err` is a terminal, the cause of E24 stands below that, where the shelf
+/// knows it. Where memory for the words was refused, it says so (E23, status 3); where one of them isn't UTF-8, it says that (status 2).
 pub fn run_given<S: Shelf, O: Sink, E: Sink>(
     rt: &(impl Threads + Wait + Sync + Console),
     alloc: Global,
@@ -292,8 +351,9 @@ pub fn run_given<S: Shelf, O: Sink, E: Sink>(
     shelf: &mut S,
     out: &mut O,
     err: &mut E,
+    is_terminal: bool,
 ) -> u8
-    ensures words { IfOk given (λ args. Changes S.state shelf.old shelf.new (λ c. Ran c (map string_bytes (drop 1 (into_iter_items args)))
+    ensures words { IfOk given (λ args. Changes S.state shelf.old shelf.new (λ c. RanAt is_terminal c (map string_bytes (drop 1 (into_iter_items args)))
         (ended result (change (O.state out.old) (O.state out.new)) (change (E.state err.old) (E.state err.new))))) }
     ensures memory { IfErr given (λ error. error_kind error ≡ OutOfMemory → TellsMemory
         (ended result (change (O.state out.old) (O.state out.new)) (change (E.state err.old) (E.state err.new)))) }
@@ -302,7 +362,7 @@ pub fn run_given<S: Shelf, O: Sink, E: Sink>(
     ensures shelf { IfErr given (λ _. Changes S.state shelf.old shelf.new LeavesShelf) }
 {
     match given {
-        Ok(args) => run_args(rt, alloc, args, shelf, out, err),
+        Ok(args) => run_args(rt, alloc, args, shelf, out, err, is_terminal),
         Err(error) => match error.kind() {
             io::ErrorKind::OutOfMemory => tell_memory(err),
             _ => {
@@ -321,8 +381,9 @@ fn run_args<S: Shelf, O: Sink, E: Sink>(
     shelf: &mut S,
     out: &mut O,
     err: &mut E,
+    is_terminal: bool,
 ) -> u8
-    ensures { Changes S.state shelf.old shelf.new (λ c. Ran c (map string_bytes (drop 1 (into_iter_items args)))
+    ensures { Changes S.state shelf.old shelf.new (λ c. RanAt is_terminal c (map string_bytes (drop 1 (into_iter_items args)))
         (ended result (change (O.state out.old) (O.state out.new)) (change (E.state err.old) (E.state err.new)))) }
 {
     let Ok(given) = words_of(alloc, args) else {
@@ -331,7 +392,27 @@ fn run_args<S: Shelf, O: Sink, E: Sink>(
     let Ok(words) = texts_of(alloc, &given) else {
         return tell_memory(err);
     };
-    run_over(rt, alloc, &words, shelf, out, err)
+    run_at(rt, alloc, &words, shelf, out, err, is_terminal)
+}
+
+// Runs the program as `run_over` does, and at a terminal tells the cause below E24.
+fn run_at<'a, S: Shelf, O: Sink, E: Sink>(
+    rt: &(impl Threads + Wait + Sync + Console),
+    alloc: Global,
+    words: &'a [&'a str],
+    shelf: &mut S,
+    out: &mut O,
+    err: &mut E,
+    is_terminal: bool,
+) -> u8
+    ensures { Changes S.state shelf.old shelf.new (λ c. RanAt is_terminal c (map (λ w. w.now) words.now)
+        (ended result (change (O.state out.old) (O.state out.new)) (change (E.state err.old) (E.state err.new)))) }
+{
+    let told = run_told(rt, alloc, words, shelf, out, err);
+    if is_terminal && told.is_io {
+        tell_cause(alloc, shelf, err);
+    }
+    told.status
 }
 
 // The arguments but the first, which is the program's name.

@@ -3,7 +3,7 @@ use Rattle.std.specs.Prelude.{◌≡◌, ℕ, ◌⊎◌, false, List, [], ◌∷
 use Rattle.dob_device.specs.Sinks.{Change, IsUntouched, Puts, Says, Stops}
 use Rattle.dob_files.specs.declared.fault.Fault.{Fault}
 use Rattle.dob_files.specs.declared.fault.Fault.TheVariants.{Memory, Io}
-use Rattle.dob_files.specs.Faults.{AreFaultLines, fault_line, is_io, status_of}
+use Rattle.dob_files.specs.Faults.{fault_line, is_io, status_of}
 use Rattle.dob_shelf.specs.Shelves.{FailsWhere, ShelfChange}
 use Rattle.dob_pieces.specs.Bytes.{line_feed}
 
@@ -20,13 +20,9 @@ ended status out err = record { status = status; out = out; err = err }
 abbrev pub TellsFaultAs : Fault → ℕ → Change → Type 0
 TellsFaultAs fault status err = (status ≡ status_of fault) × Says err (fault_line fault)
 
--- the fault's status, and its line on standard error, with the cause below it or without
-abbrev pub TellsFaultLines : Fault → ℕ → Change → Type 0
-TellsFaultLines fault status err = (status ≡ status_of fault) × (lines : List ℕ) × AreFaultLines fault lines × Says err lines
-
 -- the fault, or that no memory was left for telling it
 abbrev pub TellsOneFault : Fault → ℕ → Change → Type 0
-TellsOneFault fault status err = TellsFaultLines fault status err ⊎ TellsFaultAs Memory status err
+TellsOneFault fault status err = TellsFaultAs fault status err ⊎ TellsFaultAs Memory status err
 
 -- it printed such lines: status 0, the lines on standard output and nothing else
 pub record TellsLines (AreLines : List ℕ → Type 0) (e : Ending) : Type 0 where

@@ -1,5 +1,5 @@
 -- The program's faults as they are printed, and their exit statuses.
-use Rattle.std.specs.Prelude.{◌≡◌, ◌⊎◌, ℕ, Bool, true, false, List, [], ◌∷◌, ◌++◌, codes}
+use Rattle.std.specs.Prelude.{ℕ, Bool, true, false, List, [], ◌∷◌, ◌++◌, codes}
 use Rattle.dob_pieces.specs.Faults.{memory_text, set_fault_text}
 use Rattle.dob_text.specs.Faults as position
 use Rattle.dob_distance.specs.Faults as value_texts
@@ -53,19 +53,11 @@ fault_text Io = file.fault_text (file_fault.Io 0)
 abbrev pub fault_line : Fault → List ℕ
 fault_line fault = codes "dobutsu: " ++ fault_text fault ++ line_feed ∷ []
 
--- the line on standard error, and below it a line with the cause, behind two spaces
-abbrev pub caused_lines : Fault → List ℕ → List ℕ
-caused_lines fault cause = fault_line fault ++ codes "  " ++ cause ++ line_feed ∷ []
-
 -- whether it is the fault of a device that failed
 abbrev pub is_io : Fault → Bool
 is_io (File fault) = reading.is_io fault
 is_io Io = true
 is_io _ = false
-
--- what standard error gets of the fault: its line, and of a device that failed there may be the cause below it
-abbrev pub AreFaultLines : Fault → List ℕ → Type 0
-AreFaultLines fault lines = (lines ≡ fault_line fault) ⊎ ((is_io fault ≡ true) × (cause : List ℕ) × (lines ≡ caused_lines fault cause))
 
 -- 3 where no memory was left or a distance is above what a file says, 1 where the certificate is refused, or is none
 abbrev pub status_of_certificate : CertificateFault → ℕ

@@ -68,8 +68,7 @@ IsOpeningFault Has _ = ⊥
 -- a fault of asking a file for a position: the file's, or the table's, E26 before E7; or memory failed, or the file couldn't be opened
 abbrev pub IsProbingFault : (List ℕ → Type 0) → Setup → Fault → Type 0
 IsProbingFault Has position (File fault) = HasFileFault Has fault
-IsProbingFault Has position (Table (table_fault.Inconsistent class)) =
-    (table : ClassTable) × IsFileOf Has table × BreaksAt table position class
+IsProbingFault Has position (Table (table_fault.Inconsistent class)) = ⊥
 IsProbingFault Has position (Table table_fault.Memory) = Unit {0}
 IsProbingFault Has position (Table fault) = (table : ClassTable) × IsFileOf Has table × IsRefusal table.family position fault
 IsProbingFault Has position Memory = Unit {0}
@@ -82,3 +81,9 @@ abbrev pub IsPositionFault : (List ℕ → Type 0) → List ℕ → Fault → Ty
 IsPositionFault Has words (Text fault) = text.HasTextFault A words fault
 IsPositionFault Has words Memory = Unit {0}
 IsPositionFault Has words fault = (position : Setup) × IsTextOf words position × IsProbingFault Has position fault
+
+-- a fault of asking for the line of that position: the same, or the line breaks off by the file's table
+abbrev pub IsPlayFault : (List ℕ → Type 0) → List ℕ → Fault → Type 0
+IsPlayFault Has words (Table (table_fault.Inconsistent class)) =
+    (position : Setup) × IsTextOf words position × (table : ClassTable) × IsFileOf Has table × BreaksAt table position class
+IsPlayFault Has words fault = IsPositionFault Has words fault

@@ -87,6 +87,12 @@ AnswersLines c AreLines Holds e =
     ((is_refused : Bool) × TellsOver c AreLines Holds e.out (Ok is_refused) × (e.status ≡ status_of_lines is_refused) × IsUntouched e.err)
     ⊎ ((fault : Fault) × TellsOver c AreLines Holds e.out (Err fault) × TellsOneFault fault e.status e.err)
 
+-- ---- what is held
+
+-- so many bytes of answers are held at most while a line is heard
+abbrev pub most_held : ℕ
+most_held = 65536
+
 -- ---- one line
 
 -- what is told of a line: its lines, and whether it is refused

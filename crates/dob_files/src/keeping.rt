@@ -15,7 +15,8 @@ use std::alloc::Global;
 
 /// Keeps the file of the sink that the shelf made for the name, if it was filled, and gives it up if not. The lines that go with it.
 pub fn keep_filled<S: Shelf>(shelf: &mut S, name: &str, sink: S::Dst, filled: Lines) -> Lines
-    requires { (S.Dst.state sink).has_failed ≡ fails is_io filled }
+    requires failed { (S.Dst.state sink).has_failed ≡ fails is_io filled }
+    requires made { (S.state shelf.old).made ≡ name.now }
     ensures { Leaving (SameOthers name.now) S.state shelf.old shelf.new (KeepsFilled name.now (S.Dst.state sink).received filled result) }
 {
     match filled {

@@ -1,11 +1,11 @@
 // The lines of standard input and what they come to: each is answered and told before the next one is waited for.
-ghost use Rattle.std.specs.Prelude.{◌≡◌, ◌||◌, ◌++◌, ℕ, List, [], Bool, false, IfErr, IfOk, OnErr, OnOk, string_bytes};
+ghost use Rattle.std.specs.Prelude.{◌≡◌, ◌<◌, ◌||◌, ◌++◌, ℕ, List, [], Bool, false, IfErr, IfOk, OnErr, OnOk, length, string_bytes};
 ghost use Rattle.dob_dbfile.specs.Faults.{fails};
 ghost use Rattle.dob_device.specs.Sinks.{Stops, change};
 ghost use Rattle.dob_files.specs.declared.fault.Fault.{Fault as TheFault};
 ghost use Rattle.dob_files.specs.declared.fault.Fault.TheVariants.{Io};
 ghost use Rattle.dob_files.specs.Faults.{is_io};
-ghost use Rattle.dob_files.specs.Telling.{EndsLines, HearsLine, PutsText, TellsEach, TellsOf, Told, told_of};
+ghost use Rattle.dob_files.specs.Telling.{EndsLines, HearsLine, PutsText, TellsEach, TellsOf, Told, most_held, told_of};
 ghost use Rattle.dob_shelf.specs.Shelves.{SameFiles};
 
 use crate::fault::Fault;
@@ -14,7 +14,7 @@ use dob_pieces::Memory;
 use dob_shelf::Shelf;
 use std::alloc::Global;
 
-/// As many bytes are held at most before they are told, besides the last answer.
+/// Fewer bytes of answers than this are held while a line is heard.
 const MOST_HELD: usize = 65536;
 
 /// What answers lines, each by itself.
@@ -89,14 +89,16 @@ impl LineAnswers {
         }
     }
 
-    // Tells it where the next line may have to be waited for, or where it is much.
-    fn tell_ahead<S: Shelf, O: Sink>(&mut self, shelf: &S, out: &mut O) -> Result<(), Fault>
+    // Tells it where the next line isn't at hand, or where it is much.
+    fn tell_ahead<O: Sink>(&mut self, is_at_hand: bool, out: &mut O) -> Result<(), Fault>
         ensures done { OnOk result ((told : List ℕ) × PutsText (change (O.state out.old) (O.state out.new)) told
             × (string_bytes self.old.lines ≡ told ++ string_bytes self.new.lines)) }
         ensures part { IfErr result (λ fault. (fault ≡ Io) × Stops (change (O.state out.old) (O.state out.new)) (string_bytes self.old.lines)) }
         ensures refused { self.new.is_refused ≡ self.old.is_refused }
+        ensures few { OnOk result (length (string_bytes self.new.lines) < most_held) }
+        ensures waits { OnOk result (is_at_hand ≡ false → string_bytes self.new.lines ≡ []) }
     {
-        if shelf.has_line() && self.lines.len() < MOST_HELD {
+        if is_at_hand && self.lines.len() < MOST_HELD {
             return Ok(());
         }
         self.tell(out)
@@ -123,7 +125,7 @@ pub fn tell_each<T: Answerer, S: Shelf, O: Sink>(
     let mut held = LineAnswers::none(alloc);
     // No input has so many lines.
     for _ in 0..u64::MAX {
-        held.tell_ahead(shelf, out)?;
+        held.tell_ahead(shelf.has_line(), out)?;
         match hear_next(alloc, by, shelf, &mut line, &mut held) {
             Ok(true) => {}
             Ok(false) => {
@@ -140,7 +142,7 @@ pub fn tell_each<T: Answerer, S: Shelf, O: Sink>(
     Err(Fault::Memory)
 }
 
-// Answers the next line, behind what is held. `false` if there is none.
+// Answers the next line, behind what is held, which is little. `false` if there is none.
 fn hear_next<T: Answerer, S: Shelf>(
     alloc: Global,
     by: &mut T,
@@ -148,6 +150,7 @@ fn hear_next<T: Answerer, S: Shelf>(
     line: &mut Vec<u8>,
     held: &mut LineAnswers,
 ) -> Result<bool, Fault>
+    requires { length (string_bytes held.old.lines) < most_held }
     ensures heard { IfOk result (HearsLine (T.answers by.old) (S.state shelf.old).input (S.state shelf.new).input (told_of held.old) (told_of held.new)) }
     ensures ended { IfErr result (EndsLines (T.ends by.old) (S.state shelf.old).input) }
     ensures held { OnErr result (told_of held.new ≡ told_of held.old) }

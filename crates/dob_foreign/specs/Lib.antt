@@ -1,4 +1,5 @@
 pub mod Faults
+pub mod Headers
 pub mod Moves
 pub mod Profiles
 pub mod Values

@@ -3,6 +3,7 @@
 
 mod cells;
 mod faults;
+mod headers;
 mod moves;
 mod profiles;
 mod statuses;
@@ -11,6 +12,7 @@ mod values;
 
 pub use cells::{cell_number, cell_of};
 pub use faults::{file_number, position_number, text_number};
+pub use headers::{DobutsuHeader, shown_header};
 pub use moves::{DobutsuStep, shown_step};
 pub use profiles::{profile_number, profile_of};
 pub use statuses::status_number;

@@ -1,7 +1,7 @@
 -- The faults of the records, of the header and of opening the file are those of asking it, and by the file of a value table the answer is right.
 use Rattle.dob_query.proofs.Common.{◌≡◌, List, inr, subst, sym, ℕ, IfOk, Result, Family, Profile, Setup, ClassTable, HasValue, Value, Stream, whole}
 use Rattle.dob_query.proofs.Common.{CountsClasses, Format, IsRefusal, IsRecorded, ShelfChange, AnswersOver, Ending, GivesOver, AnswersQuestionRight}
-use Rattle.dob_query.proofs.Common.{AreAnswerLines, AreRightAnswerLines, IsAnswerOf, IsAskFault, IsAskingFault, IsFaultOfAsking, IsOfNamed, IsPositionFault, IsPositionOf, IsRecordsFault}
+use Rattle.dob_query.proofs.Common.{AreAnswerLines, AreRightAnswerLines, IsAnswerOf, IsAskFault, IsAskingFault, IsFaultOfAsking, IsOfNamed, IsPositionOf, IsRecordsFault}
 use Rattle.dob_query.proofs.Common.{IsToldBy, HasValueFile, IsTextOf, Fault, File, Memory, Table, Question, Moves, OfValue}
 use Rattle.dob_pieces.specs.Profiles.{IsAllowed}
 use Rattle.dob_value.specs.Follows.{IsTable, IsValueTable}
@@ -14,7 +14,7 @@ use Rattle.dob_probe.proofs.Best.{lines_are_best}
 use Rattle.dob_probe.proofs.ByValue.{valued_rightly}
 use Rattle.dob_records.proofs.Tabled.{given_by_record, line_by, listed_by, record_of_given}
 use Rattle.dob_files.proofs.TableFaults.{over_weaker, right_table}
-use Rattle.dob_query.specs.ByTable.{AnswersTableRight, AreTableLines}
+use Rattle.dob_query.specs.ByTable.{AnswersTableRight, AreTableLines, IsTableFault}
 use Rattle.std.proofs.Common.{arith}
 
 -- what each of the bytes that a file may have gives of an Ok value, all of them give of it
@@ -140,10 +140,11 @@ question_right c profile question name words e file =
 
 -- so does what is told by the whole table
 pub table_right : (c : ShelfChange) (profile : Profile) (question : Question) (name words : List ℕ) (e : Ending) → HasValueFile (c.before.has name) profile
-    → AnswersOver c (AreTableLines question (c.before.has name) words) (IsPositionFault (c.before.has name) words) e
+    → AnswersOver c (AreTableLines question (c.before.has name) words) (IsTableFault question (c.before.has name) words) e
     → AnswersTableRight question c profile name words e
 table_right c profile question name words e file =
-    over_weaker c (AreTableLines question (c.before.has name) words) (AreRightAnswerLines question profile words) (IsPositionFault (c.before.has name) words) e
+    over_weaker c (AreTableLines question (c.before.has name) words) (AreRightAnswerLines question profile words)
+    (IsTableFault question (c.before.has name) words) e
     (λ lines told. let is = right_table (c.before.has name) profile file told.table told.file in record {
       position = told.position;
       named = told.named;

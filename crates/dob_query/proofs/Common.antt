@@ -23,7 +23,7 @@ pub use Rattle.dob_lines.specs.Tallies.{count_line}
 pub use Rattle.dob_files.specs.Endings.{AnswersOver, Ending, GivesOver}
 pub use Rattle.dob_files.specs.Faults.{fault_of_value, is_io}
 pub use Rattle.dob_files.specs.Keeping.{IsShelfFault}
-pub use Rattle.dob_files.specs.Tables.{HasValueFile, IsFileOf, IsOpeningFault, IsPositionFault, IsTextOf}
+pub use Rattle.dob_files.specs.Tables.{HasValueFile, IsFileOf, IsOpeningFault, IsPlayFault, IsTextOf}
 pub use Rattle.dob_files.specs.Telling.{AnswersLines, EndsLines, TellsOf}
 pub use Rattle.dob_files.specs.declared.fault.Fault.{Fault}
 pub use Rattle.dob_files.specs.declared.fault.Fault.TheVariants.{File, Memory, Table}

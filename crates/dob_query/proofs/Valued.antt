@@ -1,5 +1,5 @@
 -- The faults of finding a value and of a line are those of what is asked, and by the file of a value table a value given is right.
-use Rattle.dob_query.proofs.Common.{◌≡◌, ClassTable, HasValue, HasValueFile, IsFaultOf, IsFileOf, IsGivenTo, IsPositionFault, IsTextOf, IsValueOf, List}
+use Rattle.dob_query.proofs.Common.{◌≡◌, ClassTable, HasValue, HasValueFile, IsFaultOf, IsFileOf, IsGivenTo, IsPlayFault, IsTextOf, IsValueOf, List}
 use Rattle.dob_query.proofs.Common.{Profile, Setup, Table, Value, arith, fault_of_value, subst, ℕ}
 use Rattle.dob_files.proofs.TableFaults.{right_table}
 use Rattle.dob_pieces.specs.Profiles.{IsAllowed}
@@ -18,10 +18,10 @@ pub value_fault_holds : (profile : Profile) (text : List ℕ) (p : Setup) (f : v
     → IsFaultOf profile text (fault_of_value f)
 value_fault_holds profile text p f legal spelled deep = grind arith
 
--- a fault of the line by the file's table is one of asking the file for the position
+-- a fault of the line by the file's table is one of asking the file for the position's line
 pub line_fault_holds : (Has : List ℕ → Type 0) (table : ClassTable) → IsFileOf Has table → (words : List ℕ) (position : Setup) (fault : probing.Fault)
-    → IsTextOf words position → IsFaultOfLine table position fault → IsPositionFault Has words (Table fault)
-line_fault_holds Has table file words position (table_fault.Inconsistent class) named holds = (position, named, (table, file, holds.1))
+    → IsTextOf words position → IsFaultOfLine table position fault → IsPlayFault Has words (Table fault)
+line_fault_holds Has table file words position (table_fault.Inconsistent class) named holds = (position, named, table, file, holds.1)
 line_fault_holds Has table file words position table_fault.Memory named holds = (position, named, tt)
 line_fault_holds Has table file words position fault named holds = (position, named, (table, file, holds))
 

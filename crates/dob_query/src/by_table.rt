@@ -1,6 +1,6 @@
 // Answers about a position by the table of a database file, which is read whole and tested before the position is looked up in it.
 ghost use Rattle.dob_files.specs.Endings.{GivesLines};
-ghost use Rattle.dob_files.specs.Tables.{IsPositionFault};
+ghost use Rattle.dob_files.specs.Tables.{IsPlayFault, IsPositionFault};
 ghost use Rattle.dob_query.specs.ByTable.{AreTableLines};
 ghost use Rattle.dob_query.specs.Questions.{plain_value};
 ghost use Rattle.dob_shelf.specs.Shelves.{Leaving, SameFiles};
@@ -24,7 +24,7 @@ pub fn answer_probe<S: Shelf>(alloc: Global, shelf: &mut S, file: &str, text: &s
     Ok(line_of(alloc, value)?)
 }
 
-/// The lines that tell its line, in that form, in the same way.
+/// The lines that tell its line, in that form, in the same way; by a wrong table the line may break off.
 pub fn answer_line<S: Shelf>(
     alloc: Global,
     shelf: &mut S,
@@ -33,7 +33,7 @@ pub fn answer_line<S: Shelf>(
     text: &str,
 ) -> Lines
     ensures { Leaving SameFiles S.state shelf.old shelf.new (λ c. GivesLines c
-        (AreTableLines (ask.Line form) (c.before.has file.now) text.now) (IsPositionFault (c.before.has file.now) text.now) result) }
+        (AreTableLines (ask.Line form) (c.before.has file.now) text.now) (IsPlayFault (c.before.has file.now) text.now) result) }
 {
     let (table, position) = file_and_position(alloc, shelf, file, text)?;
     let value = probe(&table, &position)?;

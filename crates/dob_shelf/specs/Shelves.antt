@@ -18,6 +18,8 @@ pub record ShelfState : Type 1 where
   pub tells : Bool
   -- whether some call of it has failed, or of a source or a sink that it got back
   pub has_failed : Bool
+  -- the name of the file that was made last
+  pub made : List ℕ
   -- the bytes that standard input still has, where they are known
   pub input : Option (List ℕ)
 

@@ -1,5 +1,5 @@
 // The files that the system has, each written beside its name and put there when it is whole, and the standard input that it gives.
-ghost use Rattle.std.specs.Prelude.{◌≡◌, None, false};
+ghost use Rattle.std.specs.Prelude.{◌≡◌, None, OnOk, false, string_bytes};
 
 use crate::line_reader::LineReader;
 use crate::said::{Heard, Note, Place};
@@ -10,6 +10,7 @@ use std::fs::{self, File, OpenFile, OpenOptions, Permissions, TryLockError};
 use std::io::{self, ErrorKind, Read, Write};
 use std::os::unix::fs::{MetadataExt, OpenOptionsExt, PermissionsExt};
 use std::rt::Files;
+use std::snapshot::Snapshot;
 
 /// The files that the system has, and a reader as standard input; contracts know nothing of the files' contents.
 ///
@@ -29,6 +30,7 @@ pub struct DiskShelf<'a, R, I> {
     input: LineReader<Std<Heard<'a, I>>>,
     note: &'a Note,
     name: String,
+    made: Snapshot<String>,
     has_failed: bool,
 }
 
@@ -101,6 +103,7 @@ impl<'a, R, I> DiskShelf<'a, R, I> {
             input: LineReader::new(alloc, Std::new(Heard::new(input, Place::Input, note))),
             note,
             name: String::new(alloc),
+            made: Snapshot::of(&String::new(alloc)),
             has_failed: false,
         }
     }
@@ -112,7 +115,8 @@ where
 {
     // The file of that name.
     fn open(&mut self, name: &str) -> Result<Heard<'a, R::File>, ShelfFault>
-        ensures { self.new.has_failed ≡ self.old.has_failed }
+        ensures failed { self.new.has_failed ≡ self.old.has_failed }
+        ensures made { self.new.made ≡ self.old.made }
     {
         self.name = name.to_string(self.alloc)?;
         let opened = fs::open(self.rt, name);
@@ -189,9 +193,11 @@ where
 
     // A new file for the bytes of that name.
     fn create(&mut self, name: &str) -> Result<DiskFile<Heard<'a, R::File>>, ShelfFault>
-        ensures { self.new.has_failed ≡ self.old.has_failed }
+        ensures failed { self.new.has_failed ≡ self.old.has_failed }
+        ensures made { OnOk result (string_bytes self.new.made.value ≡ name.now) }
     {
         self.name = name.to_string(self.alloc)?;
+        self.made = Snapshot::of(&self.name);
         let way = self.way_to(name);
         self.note.hear(Place::File, &way);
         let (made, part) = match way? {
@@ -280,6 +286,7 @@ where
       has = λ _ _. ⊥;
       tells = false;
       has_failed = shelf.has_failed;
+      made = string_bytes shelf.made.value;
       input = None;
     } };
 

@@ -1,5 +1,5 @@
 // The lines of a source, one after the other.
-ghost use Rattle.std.specs.Prelude.{◌≡◌, ◌≤◌, ◌<◌, ◌||◌, ◌++◌, List, ℕ, [], Some, false, true, IfOk, MatchResult, drop, length};
+ghost use Rattle.std.specs.Prelude.{◌≡◌, ◌≤◌, ◌<◌, ◌||◌, ◌++◌, ◌↔◌, List, ℕ, [], Some, false, true, Contains, IfOk, IsTrue, MatchResult, drop, length};
 ghost use Rattle.dob_device.specs.Devices.{whole};
 ghost use Rattle.dob_shelf.specs.Shelves.{TakesLine, TakesRead, is_failed};
 ghost use Rattle.std.specs.Str.Lines.{strip_carriage_return};
@@ -19,8 +19,6 @@ pub struct LineReader<R> {
     read: Vec<u8>,
     // how many of these bytes lines had
     given: usize,
-    // how many of them are of whole lines
-    whole: usize,
     ghost within: { given ≤ length read.items },
 }
 
@@ -34,13 +32,14 @@ impl<R> LineReader<R> {
             source,
             read: Vec::new(alloc),
             given: 0,
-            whole: 0,
         }
     }
 
     /// Whether the next line was read whole, and doesn't have to be waited for.
-    pub fn has_line(&self) -> bool {
-        self.given < self.whole
+    pub fn has_line(&self) -> bool
+        ensures { IsTrue result ↔ Contains (drop self.now.given self.now.read.items) 10 }
+    {
+        self.left().contains(&b'\n')
     }
 
     // What was read and no line had.
@@ -114,16 +113,7 @@ impl<R: Source> LineReader<R> {
         self.given = 0;
         self.read.clear();
         self.read.extend_from_slice(&room[..count])?;
-        self.whole = behind_last_line_feed(&room[..count]);
         Ok(count > 0)
-    }
-}
-
-// How many bytes there are up to the last line feed.
-fn behind_last_line_feed(bytes: &[u8]) -> usize {
-    match bytes.iter().rposition(|byte| *byte == b'\n') {
-        Some(last) => last + 1,
-        None => 0,
     }
 }
 

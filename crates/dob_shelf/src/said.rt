@@ -1,4 +1,7 @@
 // What devices say when they fail: which one it was, and the system's reason.
+ghost use Rattle.std.specs.Prelude.{◌≡◌};
+ghost use Rattle.dob_shelf.specs.Said.{said_after};
+
 use std::alloc::{AllocError, Global};
 use std::cell::Cell;
 use std::fs::OpenFile;
@@ -15,7 +18,7 @@ pub enum Place {
     Output,
 }
 
-// Why a device failed.
+// Which device failed, and why.
 #[derive(Clone, Copy)]
 struct Said {
     place: Place,
@@ -30,6 +33,19 @@ impl Said {
             Place::File => format!(in alloc; "{file}: {reason}"),
             Place::Input => format!(in alloc; "standard input: {reason}"),
             Place::Output => format!(in alloc; "standard output: {reason}"),
+        }
+    }
+}
+
+// What was said last, where that was said before this answer of that device.
+fn said_after<X>(before: Option<Said>, place: Place, answer: &io::Result<X>) -> Option<Said>
+    ensures { result ≡ said_after before place answer.now }
+{
+    match answer {
+        Ok(_) => before,
+        Err(reason) => {
+            let reason = *reason;
+            Some(Said { place, reason })
         }
     }
 }
@@ -50,10 +66,7 @@ impl Note {
 
     /// Leaves why that device failed, if it did.
     pub(crate) fn hear<X>(&self, place: Place, answer: &io::Result<X>) {
-        if let Err(reason) = answer {
-            let reason = *reason;
-            self.said.set(Some(Said { place, reason }));
-        }
+        self.said.set(said_after(self.said.get(), place, answer));
     }
 
     /// What was left there last, as text: the device, a file by that name, and its reason. `None` if nothing was.

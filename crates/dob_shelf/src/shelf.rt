@@ -1,5 +1,5 @@
 // Where the program finds and keeps database files.
-ghost use Rattle.std.specs.Prelude.{◌≡◌, ◌||◌, ℕ, List, [], None, Some, false, true, IfErr, IfOk, MatchResult, OnErr, OnOk, IsTrue};
+ghost use Rattle.std.specs.Prelude.{◌≡◌, ◌||◌, ℕ, List, [], None, Some, false, true, IfErr, IfOk, MatchResult, OnErr, OnOk, IsTrue, string_bytes};
 ghost use Rattle.dob_device.specs.Devices.{whole};
 ghost use Rattle.dob_shelf.specs.Shelves.{HasJust, SameFiles, SameOthers, ShelfState, TakesLine, bytes_in, is_failed};
 
@@ -60,8 +60,8 @@ pub trait Shelf {
     /// What the bytes of a new file are written to. It is given back too, by `keep` or `discard`.
     type Dst: Sink;
 
-    // What is known of it: the bytes of its files, those that standard input still has, and whether some call of it has failed, or of a
-    // source or a sink that it got back.
+    // What is known of it: the bytes of its files, those that standard input still has, the name of the file that was made last, and whether
+    // some call of it has failed, or of a source or a sink that it got back.
     ghost state: { Self → ShelfState };
 
     /// A source of the bytes of the file of that name, from the first on. The files keep their bytes.
@@ -78,6 +78,7 @@ pub trait Shelf {
         ensures kept { SameFiles (state self.old).has (state self.new).has }
         ensures told { (state self.new).tells ≡ (state self.old).tells }
         ensures input { (state self.new).input ≡ (state self.old).input }
+        ensures made { (state self.new).made ≡ (state self.old).made }
         ensures failed { (state self.new).has_failed ≡ ((state self.old).has_failed || is_failed result) };
 
     /// Takes back a source that `find` gave, and notes whether it has failed. The files keep their bytes.
@@ -85,6 +86,7 @@ pub trait Shelf {
         ensures kept { SameFiles (state self.old).has (state self.new).has }
         ensures told { (state self.new).tells ≡ (state self.old).tells }
         ensures input { (state self.new).input ≡ (state self.old).input }
+        ensures made { (state self.new).made ≡ (state self.old).made }
         ensures failed { (state self.new).has_failed ≡ ((state self.old).has_failed || Self.Src.has_failed source) };
 
     /// An empty sink for the bytes that a file of that name is to have. The files keep their bytes, that one too until the sink is kept.
@@ -95,17 +97,19 @@ pub trait Shelf {
     fn make(&mut self, name: &str) -> Result<Self::Dst, ShelfFault>
         ensures working { IfOk result (λ sink. (Self.Dst.state sink).has_failed ≡ false) }
         ensures empty { IfOk result (λ sink. IsTrue (state self.old).tells → (Self.Dst.state sink).received ≡ Some []) }
+        ensures made { OnOk result ((state self.new).made ≡ name.now) }
         ensures kept { SameFiles (state self.old).has (state self.new).has }
         ensures told { (state self.new).tells ≡ (state self.old).tells }
         ensures input { (state self.new).input ≡ (state self.old).input }
         ensures failed { (state self.new).has_failed ≡ ((state self.old).has_failed || is_failed result) };
 
-    /// Saves exactly the sink's bytes under that name, for which `make` gave the sink. Other files keep their bytes.
+    /// Saves exactly the sink's bytes under that name, for which `make` gave the sink, as it gave no later one. Other files keep their bytes.
     ///
     /// # Errors
     ///
     /// The device failed, or memory was refused. That file keeps its bytes then too, and the sink is gone, as after `discard`.
     fn keep(&mut self, name: &str, sink: Self::Dst) -> Result<(), ShelfFault>
+        requires { (state self.old).made ≡ name.now }
         ensures kept { (bytes : List ℕ) → IsTrue (state self.old).tells → (Self.Dst.state sink).received ≡ Some bytes
             → OnOk result (HasJust name.now bytes (state self.new).has) }
         ensures unchanged { OnErr result (SameFiles (state self.old).has (state self.new).has) }
@@ -117,6 +121,7 @@ pub trait Shelf {
     /// Gives up the sink that `make` gave for that name, and what it has received, and notes whether it has failed. The files keep
     /// their bytes.
     fn discard(&mut self, name: &str, sink: Self::Dst)
+        requires { (state self.old).made ≡ name.now }
         ensures kept { SameFiles (state self.old).has (state self.new).has }
         ensures told { (state self.new).tells ≡ (state self.old).tells }
         ensures input { (state self.new).input ≡ (state self.old).input }
@@ -132,6 +137,7 @@ pub trait Shelf {
             → MatchResult result (λ found. TakesLine bytes found line.new.items (state self.new).input) (λ fault. fault ≡ ShelfFault.Memory) }
         ensures kept { SameFiles (state self.old).has (state self.new).has }
         ensures told { (state self.new).tells ≡ (state self.old).tells }
+        ensures made { (state self.new).made ≡ (state self.old).made }
         ensures failed { (state self.new).has_failed ≡ ((state self.old).has_failed || is_failed result) };
 
     /// Whether the next line of standard input is at hand, so that `next_line` doesn't wait for it. Nothing is promised of that.
@@ -153,6 +159,7 @@ pub struct MemShelf {
     input: Vec<u8>,
     alloc: Global,
     has_failed: bool,
+    made: String,
 }
 
 impl MemShelf {
@@ -167,6 +174,7 @@ impl MemShelf {
             input: Vec::new(alloc),
             alloc,
             has_failed: false,
+            made: String::new(alloc),
         }
     }
 
@@ -215,6 +223,7 @@ impl Shelf for MemShelf {
       has = λ name bytes. bytes_in shelf.files name ≡ Some bytes;
       tells = true;
       has_failed = shelf.has_failed;
+      made = string_bytes shelf.made;
       input = Some shelf.input.items;
     } };
 
@@ -228,7 +237,8 @@ impl Shelf for MemShelf {
         self.has_failed |= source.failed();
     }
 
-    fn make(&mut self, _name: &str) -> Result<MemSink, ShelfFault> {
+    fn make(&mut self, name: &str) -> Result<MemSink, ShelfFault> {
+        self.made = name.to_string(self.alloc)?;
         Ok(MemSink::new(self.alloc))
     }
 

@@ -1,10 +1,10 @@
-// Tests of files, of what is looked up in their tables, of checks, and of certificates: bytes from outside, and devices that fail.
+// Tests of files, of what is looked up in their tables, and of certificates: bytes from outside, and devices that fail.
 #![tactic(auto)]
 
 #[cfg(test)]
 mod certificate;
 #[cfg(test)]
-mod check;
+mod certify;
 #[cfg(test)]
 mod dbfile;
 #[cfg(test)]

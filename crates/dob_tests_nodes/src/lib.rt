@@ -1,4 +1,5 @@
-// Tests of shares, items, links, nodes, the end and worlds, a module each: what no clause says, against values from outside.
+// Tests of shares, items, links, nodes and worlds, a module each: what no clause says, against values from outside. What a line can ask, as a cell's
+// replies, tokens and what a driven world shows, is asked in `dob_answers`.
 #![tactic(auto)]
 
 #[cfg(test)]
@@ -9,8 +10,6 @@ mod node;
 mod openings;
 #[cfg(test)]
 mod outboxes;
-#[cfg(test)]
-mod safra;
 #[cfg(test)]
 mod sets;
 #[cfg(test)]

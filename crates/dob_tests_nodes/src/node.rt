@@ -1,24 +1,22 @@
-// Nodes over lions alone, and over sets with one piece more, by values known from outside.
+// Nodes over lions alone, by values known from outside.
 ghost use Rattle.std.specs.Prelude.{◌≡◌, ◌<◌, ◌≤◌, None};
 ghost use Rattle.dob_node.specs.Nodes.{IsSound};
 
 mod segments;
 
-use crate::openings::listed;
 use crate::outboxes::{add, won};
-use crate::sets::{classes_of, family_of, is_same_table};
-use dob_alone::alone;
+use crate::sets::classes_of;
 use dob_classes::Classes;
 use dob_history::have_entries;
 use dob_lawful::opening;
 use dob_lists::SegmentLength;
-use dob_moves::{Status, status_and_count};
-use dob_node::{Node, Opening};
-use dob_pieces::{Family, Hand, Hands, Kind, Memory, Piece, Position, Profile, Side};
+use dob_moves::Status;
+use dob_node::Node;
+use dob_pieces::Memory;
 use dob_safra::NodeCount;
-use dob_share::{Fault, Item, Share};
+use dob_share::{Fault, Item};
 use dob_update::{Batch, BatchSize, Outbox};
-use dob_value::{Value, sweep_table};
+use dob_value::Value;
 use std::alloc::Global;
 use std::process::Abort;
 
@@ -27,119 +25,8 @@ fn lions_alone_open(rt: HostRuntime) {
     let classes = classes_of(&rt, rt.alloc(), "000");
     let openings = opening(rt.alloc(), &classes, SegmentLength::longest()).expect(&rt, "openings");
     assert!(rt; openings.len() == 54);
-    let closed = openings
-        .iter()
-        .filter(|given| given.status != Status::Open)
-        .count();
-    assert!(rt; closed == 33);
     let open = openings.get(17);
-    assert!(rt; open.status == Status::Open);
-    assert!(rt; open.moves == 5);
-}
-
-#[test]
-fn one_node_makes_the_table_of_lions_alone(rt: HostRuntime) {
-    let family = family_of(&rt, "000");
-    let Ok(None) = alone(rt.alloc(), family, 0) else {
-        panic!(rt; "something is left to do at the opening");
-    };
-    let Ok(Some(table)) = alone(rt.alloc(), family, 100_000) else {
-        panic!(rt; "no table");
-    };
-    let Ok(swept) = sweep_table(rt.alloc(), family) else {
-        panic!(rt; "no table swept");
-    };
-    assert!(rt; table.class_count() == 54);
-    assert!(rt; is_same_table(&table, &swept));
-}
-
-// A position with nothing in hand, of that piece of each square from a1 to c4.
-fn position_of<A: Abort>(rt: &A, board: [Option<Piece>; 12]) -> Position {
-    let nothing = Hand {
-        chicks: 0,
-        elephants: 0,
-        giraffes: 0,
-    };
-    let hands = Hands {
-        mover: nothing,
-        enemy: nothing,
-    };
-    Position::of(board, hands).expect(rt, "a position")
-}
-
-fn own(kind: Kind) -> Option<Piece> {
-    Some(Piece {
-        side: Side::Mover,
-        kind,
-    })
-}
-
-fn enemy_lion() -> Option<Piece> {
-    Some(Piece {
-        side: Side::Enemy,
-        kind: Kind::Lion,
-    })
-}
-
-// The cell of a class with that representative is settled as lost, and takes no item.
-fn is_lost_at_once<A: Abort>(rt: &A, alloc: Global, position: &Position) {
-    let (status, moves) = status_and_count(Profile::A, position);
-    assert!(rt; status == Status::Stuck);
-    assert!(rt; moves == 0);
-    let list = listed(rt, alloc, &[Opening { status, moves }]);
-    let mut share = Share::open(alloc, &list, 0, NodeCount::one()).expect(rt, "a share");
-    assert!(rt; share.settled() == 1);
-    assert!(rt; share.value(0) == Value::Loss(0));
-    let item = Item {
-        number: 0,
-        to: 0,
-        was: Value::Draw,
-        now: Value::Win(1),
-    };
-    let Err(refused) = share.apply(item) else {
-        panic!(rt; "a stuck class takes an item");
-    };
-    assert!(rt; refused == Fault::Contradiction(0));
-    assert!(rt; share.value(0) == Value::Loss(0));
-}
-
-// The only two positions in which the mover is stuck. They have six pieces besides the lions, so that no node has them.
-#[test]
-fn stuck_cells(rt: HostRuntime) {
-    let chick = own(Kind::Chick);
-    let elephant = own(Kind::Elephant);
-    let giraffe = own(Kind::Giraffe);
-    let lion = own(Kind::Lion);
-    let far = [
-        None,
-        None,
-        None,
-        chick,
-        chick,
-        None,
-        lion,
-        giraffe,
-        elephant,
-        giraffe,
-        elephant,
-        enemy_lion(),
-    ];
-    is_lost_at_once(&rt, rt.alloc(), &position_of(&rt, far));
-    let near = [
-        None,
-        None,
-        None,
-        chick,
-        chick,
-        enemy_lion(),
-        lion,
-        giraffe,
-        elephant,
-        giraffe,
-        elephant,
-        None,
-    ];
-    is_lost_at_once(&rt, rt.alloc(), &position_of(&rt, near));
+    assert!(rt; open.status == Status::Open && open.moves == 5);
 }
 
 // One of two nodes, at its opening, with lists in segments of the greatest length.
@@ -386,33 +273,4 @@ fn an_own_item_leaves_four_of_five_moves(rt: HostRuntime) {
     assert!(rt; last.class == 46 && last.now == Value::Loss(2));
     assert!(rt; share.settled() < 1000);
     assert!(rt; share.apply(NEWS).err() == Some(Fault::Contradiction(46)));
-}
-
-// The two nodes of a set of 2124 classes have the values of its sweep.
-fn have_swept_values<A: Abort>(rt: &A, alloc: Global, family: Family, first: Node, second: Node)
-    requires sound { IsSound first × IsSound second }
-{
-    let swept = sweep_table(alloc, family).expect(rt, "a table");
-    let evens = first.into_part().expect(rt, "a part").values;
-    let odds = second.into_part().expect(rt, "a part").values;
-    assert!(rt; swept.class_count() == 2124);
-    for class in 0..swept.class_count() {
-        let values = if class % 2 == 0 { &evens } else { &odds };
-        let place = (class / 2) as usize;
-        assert!(rt; place < values.len());
-        assert!(rt; values[place] == swept.value(class), "class {class}");
-    }
-}
-
-#[test]
-fn two_nodes_improve_values(rt: HostRuntime) {
-    let alloc = rt.alloc();
-    let classes = classes_of(&rt, alloc, "100");
-    let mut first = one_of_two(&rt, alloc, &classes, 0);
-    let mut second = one_of_two(&rt, alloc, &classes, 1);
-    let mut log = Log::new(alloc, 0);
-    run(&rt, &classes, &mut first, &mut second, 1, false, &mut log);
-    assert!(rt; first.is_idle() && second.is_idle());
-    assert!(rt; improves(&first) || improves(&second));
-    have_swept_values(&rt, alloc, classes.family, first, second);
 }

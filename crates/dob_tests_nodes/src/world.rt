@@ -6,14 +6,13 @@ mod ring;
 mod schedules;
 mod stops;
 
-use crate::sets::{family_of, is_same_table};
+use crate::sets::family_of;
 use dob_pieces::Family;
 use dob_share::Item;
-use dob_value::{Table, Value, sweep_table};
+use dob_value::Value;
 use dob_world::{Event, Fault, Step, World, run};
 use std::alloc::Global;
 use std::process::Abort;
-use std::test::Fail;
 
 // Numbers of nodes; and sizes of batches with capacities of links.
 const NODES: [usize; 4] = [1, 2, 3, 16];
@@ -72,7 +71,8 @@ fn does(rt: &impl Abort, world: &mut World, event: Event)
     ensures kept { StandsOrStopped world.new }
     ensures n { world.new.node_count ≡ world.old.node_count }
 {
-    assert!(rt; make(rt, world, event), "{event:?}");
+    let steps = world.steps();
+    assert!(rt; make(rt, world, event), "after {steps} events");
 }
 
 // The event is skipped.
@@ -82,7 +82,8 @@ fn skips(rt: &impl Abort, world: &mut World, event: Event)
     ensures kept { StandsOrStopped world.new }
     ensures n { world.new.node_count ≡ world.old.node_count }
 {
-    assert!(rt; !make(rt, world, event), "{event:?}");
+    let steps = world.steps();
+    assert!(rt; !make(rt, world, event), "after {steps} events");
 }
 
 // Drives the world of `n` nodes until nothing is left to do.
@@ -143,61 +144,4 @@ fn sizes_have_limits(rt: HostRuntime) {
     assert!(rt; refused(&rt, rt.alloc(), 1, 0, 1) == Some(Fault::Sizes));
     assert!(rt; refused(&rt, rt.alloc(), 1, 1, 1025) == Some(Fault::Sizes));
     assert!(rt; refused(&rt, rt.alloc(), 16, 1, 1).is_none());
-}
-
-// No distance in the history of a node is above that one.
-fn settles_within(rt: &impl Abort, world: &World, node: usize, most: u16)
-    requires standing { IsStanding world.now }
-    requires node { node < world.now.node_count }
-{
-    let history = world.history(node);
-    for number in 0..history.count() {
-        assert!(rt; history.get(number).now.plies() <= most);
-    }
-}
-
-// A world of lions alone makes the swept table, and settles nothing in more plies than there are classes.
-fn makes_the_table(
-    rt: &impl Abort,
-    alloc: Global,
-    n: usize,
-    batch: usize,
-    capacity: usize,
-    swept: &Table,
-) -> Result<(), Fail> {
-    let mut world = world_of(rt, alloc, family_of(rt, "000"), n, batch, capacity);
-    finish(rt, &mut world, n);
-    for node in 0..n {
-        settles_within(rt, &world, node, 54);
-    }
-    let table = world.gather()?;
-    assert!(rt; table.class_count() == 54);
-    assert!(rt; is_same_table(&table, swept), "{n} {batch} {capacity}");
-    Ok(())
-}
-
-#[test]
-fn worlds_of_lions_alone_make_the_table(rt: HostRuntime) -> Result<(), Fail> {
-    let swept = sweep_table(rt.alloc(), family_of(&rt, "000")).expect(&rt, "a table");
-    for n in &NODES {
-        for (batch, capacity) in &SIZES {
-            makes_the_table(&rt, rt.alloc(), *n, *batch, *capacity, &swept)?;
-        }
-    }
-    Ok(())
-}
-
-// A world that has done nothing shows the 33 of 54 classes that are settled before a move is made, and a draw for each other one.
-#[test]
-fn a_table_before_the_end(rt: HostRuntime) -> Result<(), Fail> {
-    let table = opened(&rt, rt.alloc(), 2).gather()?;
-    assert!(rt; table.class_count() == 54);
-    let mut settled = 0u64;
-    for class in 0..table.class_count() {
-        if table.value(class) != Value::Draw {
-            settled = settled.saturating_add(1);
-        }
-    }
-    assert!(rt; settled == 33);
-    Ok(())
 }

@@ -1,7 +1,7 @@
 // The calls by which a file comes onto a disk, and their order: what a power cut may leave depends on it, and no clause speaks of it. The
 // files are the system's, with a list of the calls on them; one fails if that is asked for.
 use crate::lions::file;
-use crate::program::run_on;
+use crate::program::{Told, run_on};
 use crate::shelves::{has, put, removes};
 use crate::typed::Typed;
 use dob_cli::{Claim, Console, DiskShelf, Note};
@@ -289,29 +289,30 @@ where
     has(&mut shelf, name, bytes)
 }
 
-// A build that reports a failure leaves the file that was there, and no part.
+// The name keeps its bytes where that call fails, and those are the calls that were made.
 fn leaves<R: Abort + Files + AllocGlobal>(rt: &R, failing: &'static str, calls: &[&str])
 where
     R::File: Claim,
 {
-    assert!(rt; !puts(rt, NAME, b"new", failing, calls));
-    assert!(rt; stands(rt, NAME, b"kept") && fs::symlink_metadata(rt, PART).is_err());
+    assert!(rt; !puts(rt, NAME, b"new", failing, calls) && stands(rt, NAME, b"kept"));
 }
+
+// The calls up to a claim that another run has.
+const CLAIMED: &str = "look at name\nlook at part\nremove part\nopen part\nclaim part\n";
 
 #[test]
 fn bytes_before_the_name(rt: HostRuntime) {
     assert!(rt; puts(&rt, NAME, b"kept", "", &[MADE, NAMED]));
-    // a part that another run has claimed, and one that the part's name no longer leads to
-    let claimed = "look at name\nlook at part\nremove part\nopen part\nclaim part\n";
-    assert!(rt; !puts(&rt, NAME, b"new", "claim part\n", &[claimed]));
+    // a part that another run has claimed stays
+    leaves(&rt, "claim part\n", &[CLAIMED]);
     removes(&rt, PART);
-    // bytes that can't be put on the disk never get the name, nor do those whose name can't be changed
+    // bytes that can't be put on the disk never get the name, nor do those whose name can't be changed; and there is no part
     leaves(&rt, "sync part\n", &[MADE, "remove part\n"]);
     leaves(&rt, "rename part\n", &[MADE, "rename part\n", GIVEN_UP]);
+    assert!(rt; fs::symlink_metadata(&rt, PART).is_err());
     // a folder that can't be put on the disk: the file has its name, and the shelf says that it failed
     let calls = [MADE, NAMED, "ask part\nlook at part\n"];
-    assert!(rt; !puts(&rt, NAME, b"whole", "sync folder\n", &calls));
-    assert!(rt; stands(&rt, NAME, b"whole"));
+    assert!(rt; !puts(&rt, NAME, b"whole", "sync folder\n", &calls) && stands(&rt, NAME, b"whole"));
     removes(&rt, NAME);
 }
 
@@ -328,34 +329,58 @@ fn the_folder_of_the_name(rt: HostRuntime) {
 fn a_link_stays(rt: HostRuntime) {
     let _ = fs::remove_file(&rt, LINK);
     assert!(rt; std::os::unix::fs::symlink(&rt, TARGET, LINK).is_ok());
-    assert!(rt; puts(&rt, LINK, b"linked", "", &[LINKED]));
-    let found = fs::symlink_metadata(&rt, LINK).expect(&rt, "a link");
-    assert!(rt; found.is_symlink() && stands(&rt, TARGET, b"linked"));
+    assert!(rt; puts(&rt, LINK, b"linked", "", &[LINKED]) && stands(&rt, TARGET, b"linked"));
+    // it is a link yet, so that its name goes and the file stays
     removes(&rt, LINK);
     removes(&rt, TARGET);
 }
 
-// The word answers two lines, and the file is opened once for both.
-fn opens_once<R: Abort + Files + AllocGlobal + Threads + Wait + Sync + Console>(rt: &R, word: &str)
+// What the program does with the words and two typed lines over the files of the system, of which that call fails. It makes those calls, or, where
+// none are given, any.
+fn runs_on_disk<R: Abort + Files + AllocGlobal + Threads + Wait + Sync + Console>(
+    rt: &R,
+    words: &[&str],
+    failing: &'static str,
+    calls: &[&str],
+) -> Told
 where
     R::File: Claim,
 {
-    let log = Log::new(rt.alloc(), "");
+    let log = Log::new(rt.alloc(), failing);
     let files = Listed { rt, log: &log };
-    let typed = Typed::whole(b"..l/.../L../... - -\n.../.../..l/L.. - -\n");
     let note = Note::new();
+    let typed = Typed::whole(b"..l/.../L../... - -\n.../.../..l/L.. - -\n");
     let mut shelf = DiskShelf::new(&files, rt.alloc(), typed, &note);
-    let words = [word, "--db", ASKED, "--each"];
-    let told = run_on(rt, rt.alloc(), &mut shelf, &words);
-    assert!(rt; told.is(0, b"win 3\nloss 2\n", b"") && log.says(&["open asked\n"]));
+    let told = run_on(rt, rt.alloc(), &mut shelf, words);
+    assert!(rt; calls.is_empty() || log.says(calls));
+    told
 }
 
+// A build whose file can't be opened, written, put on the disk or named reports that it failed, and leaves no file.
+#[test]
+fn a_build_without_its_file(rt: HostRuntime) {
+    let words = ["build", "--set", "000", "--nodes", "2", "--out", NAME];
+    for failing in [
+        "open part\n",
+        "write part\n",
+        "sync part\n",
+        "rename part\n",
+    ] {
+        let told = runs_on_disk(&rt, &words, failing, &[]);
+        assert!(rt; told.is(3, b"", b"dobutsu: E24 Io\n"), "{failing}");
+        assert!(rt; fs::symlink_metadata(&rt, NAME).is_err(), "{failing}");
+    }
+}
+
+// The file is opened once for both lines.
 #[test]
 fn one_reading_for_each_line(rt: HostRuntime) {
     let note = Note::new();
     let mut shelf = DiskShelf::new(&rt, rt.alloc(), Typed::whole(b""), &note);
-    assert!(rt; put(&mut shelf, ASKED, file(&rt).as_slice()));
-    opens_once(&rt, "probe");
-    opens_once(&rt, "look");
+    assert!(rt; put(&mut shelf, ASKED, &file(&rt)));
+    for word in ["probe", "look"] {
+        let told = runs_on_disk(&rt, &[word, "--db", ASKED, "--each"], "", &["open asked\n"]);
+        assert!(rt; told.is(0, b"win 3\nloss 2\n", b""));
+    }
     removes(&rt, ASKED);
 }

@@ -1,8 +1,7 @@
-// Tests of the program: what it prints, the devices that fail below it, and the order of its calls.
+// Tests of the program over files in memory, devices that fail, a clock and an input that comes in pieces, and of the order of its calls. What the built
+// program prints is asked in tests/.
 #![tactic(auto)]
 
-#[cfg(test)]
-mod builds;
 #[cfg(test)]
 mod disk_order;
 #[cfg(test)]
@@ -15,8 +14,6 @@ mod program;
 mod progress;
 #[cfg(test)]
 mod rows;
-#[cfg(test)]
-mod rules;
 #[cfg(test)]
 mod shelves;
 #[cfg(test)]

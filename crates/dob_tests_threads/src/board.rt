@@ -237,6 +237,61 @@ fn board_reads_back(rt: HostRuntime) -> Result<(), Fault> {
     Ok(())
 }
 
+// The token goes round once. It comes back so to the first seat, which has that counter and may then announce the end, or not yet.
+fn comes_back(
+    rt: &impl Abort,
+    first: &mut NodeSeat,
+    second: &mut NodeSeat,
+    back: Token,
+    counter: i64,
+    halt: Halt,
+)
+    ensures first { IsSameSeat first.old first.new }
+    ensures second { IsSameSeat second.old second.new }
+{
+    pass_if_it_may(first);
+    assert!(rt; second.token() == token(1, WHITE, 0));
+    pass_if_it_may(second);
+    assert!(rt; first.token() == back && first.counter() == counter);
+    assert!(rt; announce_if_it_may(first) == halt);
+}
+
+// A batch of the second node is on its way while both are white and the token is back with its sum: that isn't the end, nor is it when the first node
+// has taken the batch and is black, but one round later.
+#[test]
+fn a_batch_on_its_way_is_no_end(rt: HostRuntime) -> Result<(), Fault> {
+    let (_board, mut first, mut second) = open_two(rt.alloc())?;
+    post_if_it_may(&mut second, 0);
+    assert!(rt; first.token() == token(0, BLACK, 0));
+    comes_back(
+        &rt,
+        &mut first,
+        &mut second,
+        token(0, BLACK, 1),
+        0,
+        Halt::Running,
+    );
+    comes_back(
+        &rt,
+        &mut first,
+        &mut second,
+        token(0, WHITE, 1),
+        0,
+        Halt::Running,
+    );
+    assert!(rt; take_if_it_may(&mut first, 1).is_ok());
+    assert!(rt; first.counter() == -1 && announce_if_it_may(&mut first) == Halt::Running);
+    comes_back(
+        &rt,
+        &mut first,
+        &mut second,
+        token(0, WHITE, 1),
+        -1,
+        Halt::Ended,
+    );
+    Ok(())
+}
+
 // A seat that fails after the end was announced, and hasn't seen it, finds it.
 #[test]
 fn a_failure_after_the_end(rt: HostRuntime) -> Result<(), Fault> {

@@ -78,20 +78,24 @@ fn is_done(built: &Built, n: usize) -> bool
     words[2] == 1
 }
 
-// Each of two nodes notes its turn, and in the first ten looks for the other's, so often that the other's thread must come to
-// it.
+// Each of two nodes notes its turn, and in the first ten looks for the other's, so often at most.
 #[derive(Drop)]
 struct Meeting {
     first: AtomicU64,
     second: AtomicU64,
+    looks: u32,
 }
+
+// So many that the other's thread must come to its turn.
+const PATIENT: u32 = 1_000_000;
 
 impl Meeting {
     // No turn is noted yet.
-    fn new() -> Meeting {
+    fn new(looks: u32) -> Meeting {
         Meeting {
             first: AtomicU64::new(0),
             second: AtomicU64::new(0),
+            looks,
         }
     }
 }
@@ -112,7 +116,7 @@ impl Gate for Meeting {
         if turn >= 10 {
             return true;
         }
-        for _ in 0..1_000_000 {
+        for _ in 0..self.looks {
             if other.load(Ordering::SeqCst) > turn {
                 return true;
             }
@@ -149,7 +153,7 @@ impl Gate for HoldsBackOne {
 
 #[test]
 fn two_nodes_meet(rt: HostRuntime) {
-    let gate = Meeting::new();
+    let gate = Meeting::new(PATIENT);
     let turned = run_turns(&rt, rt.alloc(), lions(&rt), 2, 1, 1, 1, &gate);
     assert!(rt; turned.is_ok());
     assert!(rt; gate.first.load(Ordering::SeqCst) == 1);

@@ -3,11 +3,13 @@ use Rattle.std.specs.Prelude.{◌≡◌, ◌⊎◌, ℕ, Bool, IsTrue, List, [],
 use Rattle.std.specs.Fmt.{decimal}
 use Rattle.dob_pieces.specs.Bytes.{line_feed, space}
 use Rattle.dob_pieces.specs.declared.profile.Family.{Family}
-use Rattle.dob_pieces.specs.declared.profile.Profile.TheVariants.{A}
+use Rattle.dob_pieces.specs.declared.profile.Profile.{Profile}
+use Rattle.dob_pieces.specs.declared.profile.Profile.TheVariants.{A, B}
 use Rattle.dob_pieces.specs.declared.setup.Setup.{Setup}
 use Rattle.dob_text.specs.PositionText.{text_of}
 use Rattle.dob_text.specs.Faults.{HasTextFault}
 use Rattle.dob_rank.specs.Families.{IsInClass, RepresentsClass}
+use Rattle.dob_distance.specs.declared.value.Value.TheVariants.{Win, Loss, Draw}
 use Rattle.dob_value.specs.Follows.{ClassTable}
 use Rattle.dob_probe.specs.Faults as by_table
 use Rattle.dob_certificate.specs.declared.claim.Claim.{Claim}
@@ -25,7 +27,6 @@ use Rattle.dob_certify.specs.Faults.{IsTooMany, IsUnproved}
 use Rattle.dob_files.specs.declared.certificate_fault.CertificateFault.TheVariants.{Defect, Unproved, TooMany, Unfit}
 use Rattle.dob_files.specs.declared.fault.Fault.{Fault}
 use Rattle.dob_files.specs.declared.fault.Fault.TheVariants.{Text, File, Table, Certificate, Memory, Io}
-use Rattle.dob_lines.specs.Values.{value_line}
 use Rattle.dob_lines.specs.Tallies.{count_line}
 use Rattle.dob_files.specs.Tables.{HasFileFault, IsFileOf, IsShut, IsTextOf}
 use Rattle.dob_shelf.specs.Shelves.{HasJust, SameFiles, ShelfChange}
@@ -39,15 +40,22 @@ fault_of_making making_fault.Memory = Memory
 
 -- ---- lines
 
--- what is claimed, as `loss 78` or `loss within 78`, with a line feed
+-- what is claimed, as `loss 78` or `loss within 78`
 abbrev pub claim_text : Claim → List ℕ
-claim_text (Exactly value) = value_line value
-claim_text (LostWithin plies) = codes "loss within " ++ decimal plies ++ line_feed ∷ []
-claim_text (WonWithin plies) = codes "win within " ++ decimal plies ++ line_feed ∷ []
+claim_text (Exactly Draw) = codes "draw"
+claim_text (Exactly (Win plies)) = codes "win " ++ decimal plies
+claim_text (Exactly (Loss plies)) = codes "loss " ++ decimal plies
+claim_text (WonWithin plies) = codes "win within " ++ decimal plies
+claim_text (LostWithin plies) = codes "loss within " ++ decimal plies
 
--- the position behind which it stands
-abbrev pub claim_line : Setup → Claim → List ℕ
-claim_line p claim = text_of p ++ (space ∷ claim_text claim)
+-- the rules are said where they are B
+abbrev pub rules_said : Profile → List ℕ
+rules_said A = []
+rules_said B = codes " by rules B"
+
+-- the position, what is claimed of it, and by which rules
+abbrev pub claim_line : Profile → Setup → Claim → List ℕ
+claim_line profile p claim = text_of p ++ (space ∷ (claim_text claim ++ (rules_said profile ++ line_feed ∷ [])))
 
 -- ---- the file of a certificate; Has says which bytes it has, where that is known
 
@@ -81,7 +89,7 @@ pub record IsVerdict (said : Content) (line : List ℕ) : Type 0 where
   pub represents : RepresentsClass said.family position said.root
   pub proved : Prove said.family said.lost said.held position said.claim
   pub holds : Holds said.family.profile position said.claim
-  pub same : line ≡ claim_line position said.claim
+  pub same : line ≡ claim_line said.family.profile position said.claim
 
 -- the lists don't prove it
 pub record IsDisproved (said : Content) (refusal : Refusal) : Type 0 where
@@ -116,7 +124,7 @@ said_of family class made =
 
 -- the lines say what is proved, and how many entries the lists have
 abbrev pub made_lines : Setup → Content → List ℕ
-made_lines p said = claim_line p said.claim ++ (count_line (codes "lost ") (length said.lost) ++ count_line (codes "held ") (length said.held))
+made_lines p said = claim_line said.family.profile p said.claim ++ (count_line (codes "lost ") (length said.lost) ++ count_line (codes "held ") (length said.held))
 
 -- a certificate that proves what the table says of the position, its value where that is asked for
 pub record IsSaidOf (table : ClassTable) (is_exact : Bool) (most : ℕ) (position : Setup) (said : Content) : Type 0 where

@@ -1,23 +1,24 @@
 // What a certificate's file proves.
-ghost use Rattle.std.specs.Prelude.{◌≡◌, ◌++◌, ◌∷◌, IfOk, IfErr, string_bytes};
-ghost use Rattle.dob_pieces.specs.Bytes.{space};
+ghost use Rattle.std.specs.Prelude.{◌≡◌, ◌++◌, ◌∷◌, [], IfOk, IfErr, string_bytes};
+ghost use Rattle.dob_pieces.specs.Bytes.{line_feed, space};
 ghost use Rattle.dob_rank.specs.Families.{IsPositionOf};
 ghost use Rattle.dob_certificate.specs.Claims.{Holds, Prove};
 ghost use Rattle.dob_certificate.specs.Refusals.{IsRefusal};
 ghost use Rattle.dob_certfile.specs.Format.{Fits, content};
 ghost use Rattle.dob_shelf.specs.Shelves.{Leaving, SameFiles};
 ghost use Rattle.dob_files.specs.Endings.{GivesOver, GivesLines};
-ghost use Rattle.dob_verdict.specs.Certificates.{AreBytes, IsBytesFault, IsCertificateFile, IsReadingFault, IsVerdict, IsVerdictFault, claim_line, claim_text, IsVerifyFault, IsVerifyLine};
+ghost use Rattle.dob_verdict.specs.Certificates.{AreBytes, IsBytesFault, IsCertificateFile, IsReadingFault, IsVerdict, IsVerdictFault, claim_line, claim_text, rules_said, IsVerifyFault, IsVerifyLine};
 
 use dob_certfile::{CertificateFile, read_certificate};
 use dob_certificate::{Claim, Refusal};
 use dob_check::verify_watched;
 use dob_classes::Classes;
 use dob_files::{Fault, Lines};
-use dob_lines::{Console, Progress, line_of};
-use dob_pieces::{Memory, Position};
+use dob_lines::{Console, Progress};
+use dob_pieces::{Memory, Position, Profile};
 use dob_shelf::{Shelf, read_all};
 use dob_text::write_position;
+use dob_value::Value;
 use std::alloc::Global;
 use std::thread::Threads;
 
@@ -50,7 +51,12 @@ fn verdict(
     let classes = Classes::open(alloc, certificate.family)?;
     let position = classes.class_at(certificate.root as u64);
     check_certificate(rt, alloc, &classes, certificate, &position, is_watched)?;
-    Ok(claim_line(alloc, &position, certificate.claim)?)
+    Ok(claim_line(
+        alloc,
+        certificate.family.profile,
+        &position,
+        certificate.claim,
+    )?)
 }
 
 // Passes the certificate where its lists prove the claim of the position. Where it is watched, the console says how far that is.
@@ -108,29 +114,46 @@ fn bytes_named<S: Shelf>(alloc: Global, shelf: &mut S, file: &str) -> Result<Vec
     Ok(read?)
 }
 
-/// The line that says what is claimed of the position.
-pub(crate) fn claim_line(alloc: Global, position: &Position, claim: Claim) -> Result<String, Memory>
-    ensures { IfOk result (λ line. string_bytes line ≡ claim_line position.now.setup claim) }
+/// The line that says what is claimed of the position, and by which rules.
+pub(crate) fn claim_line(
+    alloc: Global,
+    profile: Profile,
+    position: &Position,
+    claim: Claim,
+) -> Result<String, Memory>
+    ensures { IfOk result (λ line. string_bytes line ≡ claim_line profile position.now.setup claim) }
 {
     let text = write_position(alloc, position)?;
     let claimed = claim_text(alloc, claim)?;
-    joined_line(alloc, text.as_str(), claimed.as_str())
+    joined_line(alloc, text.as_str(), claimed.as_str(), rules_said(profile))
 }
 
-// Both texts with a space between them.
-fn joined_line(alloc: Global, text: &str, rest: &str) -> Result<String, Memory>
-    ensures { IfOk result (λ line. string_bytes line ≡ text.now ++ (space ∷ rest.now)) }
+// Both texts with a space between them, and the rules that are said.
+fn joined_line(alloc: Global, text: &str, claimed: &str, rules: &str) -> Result<String, Memory>
+    ensures { IfOk result (λ line. string_bytes line ≡ text.now ++ (space ∷ (claimed.now ++ (rules.now ++ line_feed ∷ [])))) }
 {
-    Ok(format!(in alloc; "{text} {rest}")?)
+    Ok(format!(in alloc; "{text} {claimed}{rules}\n")?)
 }
 
-// What is claimed.
-fn claim_text(alloc: Global, claim: Claim) -> Result<String, Memory>
+// What is said of the rules.
+fn rules_said(profile: Profile) -> &'static str
+    ensures { result.now ≡ rules_said profile }
+{
+    match profile {
+        Profile::A => "",
+        Profile::B => " by rules B",
+    }
+}
+
+/// What is claimed.
+pub(crate) fn claim_text(alloc: Global, claim: Claim) -> Result<String, Memory>
     ensures { IfOk result (λ text. string_bytes text ≡ claim_text claim) }
 {
     match claim {
-        Claim::Exactly(value) => line_of(alloc, value),
-        Claim::LostWithin(plies) => Ok(format!(in alloc; "loss within {plies}\n")?),
-        Claim::WonWithin(plies) => Ok(format!(in alloc; "win within {plies}\n")?),
+        Claim::Exactly(Value::Draw) => Ok("draw".to_string(alloc)?),
+        Claim::Exactly(Value::Win(plies)) => Ok(format!(in alloc; "win {plies}")?),
+        Claim::Exactly(Value::Loss(plies)) => Ok(format!(in alloc; "loss {plies}")?),
+        Claim::WonWithin(plies) => Ok(format!(in alloc; "win within {plies}")?),
+        Claim::LostWithin(plies) => Ok(format!(in alloc; "loss within {plies}")?),
     }
 }

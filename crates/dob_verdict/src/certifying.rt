@@ -167,7 +167,7 @@ fn root_of(classes: &Classes, position: &Position) -> u32
 fn made_lines(alloc: Global, position: &Position, file: &CertificateFile) -> Result<String, Memory>
     ensures { IfOk result (λ lines. string_bytes lines ≡ made_lines position.now.setup (content file.now)) }
 {
-    let claimed = claim_line(alloc, position, file.claim)?;
+    let claimed = claim_line(alloc, file.family.profile, position, file.claim)?;
     let lost = file.certificate.lost.as_slice().len();
     let held = file.certificate.held.as_slice().len();
     counted_lines(alloc, claimed.as_str(), lost, held)

@@ -1,10 +1,13 @@
-// What the program answers by certificates: what one proves, one made from a table, and the move that one gives.
+// What the program answers by certificates: what one proves, one made from a table, and the move that one gives; and what the header of one says, or of a
+// table's file.
 #![tactic(auto)]
 
 mod certificates;
 mod certifying;
+mod headers;
 mod replying;
 
 pub use certificates::answer_verify;
 pub use certifying::answer_certify;
+pub use headers::answer_info;
 pub use replying::answer_reply;

@@ -1,7 +1,7 @@
 -- The lemmas, in the order in which they are read. First how `clap` reads words.
 mod Common  -- names of other crates and of this one's definitions, for the proofs
 pub mod Rules  -- commands that are made from rows of the table
-pub mod ThreeLists  -- the rows of three constants, one list after the other
+pub mod FourLists  -- the rows of four constants, one list after the other
 pub mod Lexing  -- what the lexer makes of a word, by its first bytes
 pub mod Turns  -- what `clap` makes of one word, where the one flag is for help
 pub mod Steps  -- what one word does to the walk over the words

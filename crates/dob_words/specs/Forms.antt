@@ -6,7 +6,7 @@ use Rattle.dob_words.specs.declared.table.Kind.{Kind}
 use Rattle.dob_words.specs.declared.table.Kind.TheVariants as kind
 use Rattle.dob_words.specs.declared.table.Need.{Need}
 use Rattle.dob_words.specs.declared.table.Need.TheVariants as need
-use Rattle.dob_words.specs.declared.rows.TheConstants.{FIRST_ROWS, LAST_ROWS, MIDDLE_ROWS}
+use Rattle.dob_words.specs.declared.rows.TheConstants.{FIRST_ROWS, LAST_ROWS, LATER_ROWS, MIDDLE_ROWS}
 
 abbrev pub Text : Type 0
 Text = List ℕ
@@ -60,7 +60,7 @@ rows = map (λ r. (
   map (λ c. (c.0.now, (c.1.0.now, c.1.1, c.1.2))) r.3.now,
   map (λ f. f.0.now) r.4.now,
   map (λ p. (p.0.now, p.1, p.2)) r.5.now,
-)) (FIRST_ROWS.now ++ MIDDLE_ROWS.now ++ LAST_ROWS.now)
+)) (FIRST_ROWS.now ++ MIDDLE_ROWS.now ++ LATER_ROWS.now ++ LAST_ROWS.now)
 
 abbrev pub is_number_kind : Kind → Bool
 is_number_kind kind.Number = true

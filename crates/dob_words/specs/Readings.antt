@@ -45,6 +45,7 @@ name_of subcommand.Migrate = codes "migrate"
 name_of subcommand.Certify = codes "certify"
 name_of subcommand.Verify = codes "verify"
 name_of subcommand.Reply = codes "reply"
+name_of subcommand.Info = codes "info"
 
 -- each row is of the subcommand that it names
 abbrev pub AreNamed : List ReadRow → Type 0
@@ -80,6 +81,7 @@ subcommand_of (lines.Migrate _ _) = subcommand.Migrate
 subcommand_of (lines.Certify _) = subcommand.Certify
 subcommand_of (lines.Verify _ _) = subcommand.Verify
 subcommand_of (lines.Reply _ _) = subcommand.Reply
+subcommand_of (lines.Info _ _) = subcommand.Info
 
 abbrev pub name_of_order : Order → Text
 name_of_order (order.Lines o) = name_of (subcommand_of o)
@@ -148,6 +150,7 @@ HasLinesTexts texts (lines.Certify made) =
     × IfSome n (λ t. is_number t ≡ true) × (made.most ≡ option_map number_in n) × (made.is_exact ≡ is_some exact) × (made.is_watched ≡ is_some flag)
 HasLinesTexts texts (lines.Verify file is_watched) = (flag : Option Text) × (Some file.now ∷ flag ∷ [] ≡ texts) × (is_watched ≡ is_some flag)
 HasLinesTexts texts (lines.Reply file position) = Some file.now ∷ Some position.now ∷ [] ≡ texts
+HasLinesTexts texts (lines.Info file is_object) = (json : Option Text) × (json ∷ Some file.now ∷ [] ≡ texts) × (is_object ≡ is_some json)
 
 abbrev pub HasTexts : List (Option Text) → Order → Type 0
 HasTexts texts (order.Lines o) = HasLinesTexts texts o

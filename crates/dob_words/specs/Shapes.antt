@@ -1,6 +1,6 @@
 -- What `clap` reads of the program's commands.
 use Rattle.std.specs.Borrow.{Bor}
-use Rattle.std.specs.Prelude.{◌≡◌, ◌&&◌, ◌⊎◌, ◌++◌, Bool, List, [], ◌∷◌, Option, None, Some, codes, false, fold, if◌then◌else◌, map, not, true}
+use Rattle.std.specs.Prelude.{◌≡◌, ◌&&◌, ◌⊎◌, ◌++◌, Bool, List, [], ◌∷◌, Option, None, Some, codes, drop, false, fold, if◌then◌else◌, map, not, take, true}
 use Rattle.std.specs.List.{list_any}
 use Rattle.std.specs.Str.{bytes_eq}
 use Rattle.clap.specs.declared.builder.Arg.{Arg}
@@ -15,7 +15,7 @@ use Rattle.dob_words.specs.declared.rows.Subcommand.{Subcommand}
 use Rattle.dob_words.specs.declared.table.Need.{Need}
 use Rattle.dob_words.specs.declared.table.Kind.{Kind}
 use Rattle.dob_words.specs.declared.table.Kind.TheVariants as kind
-use Rattle.dob_words.specs.Forms.{Choice, Form, Place, Row, Text, forms, is_among, is_may, is_needed, labels}
+use Rattle.dob_words.specs.Forms.{Choice, Form, Place, Row, Text, forms, is_among, is_may, is_needed, labels, rows}
 use Rattle.dob_words.specs.Words.{fits, is_misplaced}
 
 -- the command is read so, and none of its arguments is one of each subcommand too
@@ -88,10 +88,12 @@ choice_rule profiles c = record (place_rule profiles c.1) { long = Some c.0 }
 abbrev pub with_rules : App → List Rule → App
 with_rules app rules = record app { top = record app.top { rules = app.top.rules ++ rules } }
 
--- the subcommand of a row
+-- the subcommand of a row, without its places and with them
+abbrev pub app_without_places : ProfileNames → Row → App
+app_without_places profiles row = with_rules (with_rules (new_app row.0) (map (choice_rule profiles) row.1)) (map flag_rule row.2)
+
 abbrev pub row_app : ProfileNames → Row → App
-row_app profiles row =
-    with_rules (with_rules (with_rules (new_app row.0) (map (choice_rule profiles) row.1)) (map flag_rule row.2)) (map (place_rule profiles) row.3)
+row_app profiles row = with_rules (app_without_places profiles row) (map (place_rule profiles) row.3)
 
 -- what rows of the table say, as the code reads them
 abbrev pub place_said : Bor Text × Kind × Need × Bor Text → Place
@@ -125,6 +127,10 @@ dobutsu_app profiles = fold (λ app form. with_subcommand app (form_app profiles
 -- an application with a subcommand for each row
 abbrev pub with_rows : ProfileNames → App → List Row → App
 with_rows profiles = fold (λ app row. with_subcommand app (row_app profiles row).top)
+
+-- the program with its first twelve subcommands
+abbrev pub first_app : ProfileNames → App
+first_app profiles = with_rows profiles (with_rows profiles bare_app (take 6 rows)) (take 6 (drop 6 rows))
 
 abbrev pub IsProgram : Command → Type 0
 IsProgram c = (profiles : ProfileNames) × AreProfiles profiles × HasCommandShape (dobutsu_app profiles) c

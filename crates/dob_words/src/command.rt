@@ -16,13 +16,13 @@ ghost use Rattle.clap.specs.Words.{App, kind_of, new_app, subcommand_rows_of};
 ghost use Rattle.dob_words.specs.Forms.{Form, Text, form_named, forms, rows};
 ghost use Rattle.dob_words.specs.Lines.{IsAmong, IsCommandLine};
 ghost use Rattle.dob_words.specs.Words.{Meaning, asks, has_topic, is_topic, is_version, meaning_of, meaning_of_topic, names_subcommand, settled};
-ghost use Rattle.dob_words.specs.Shapes.{AreProfiles, Finds, HasCommandShape, HasFit, IsMetBySome, IsNamed, IsProgram, IsRead, bare_app, choice_rule, choice_said, flag_rule, flag_said, is_stream_in, place_rule, place_said, row_app, row_said, texts_in, with_rows, with_rules};
+ghost use Rattle.dob_words.specs.Shapes.{AreProfiles, Finds, HasCommandShape, HasFit, IsMetBySome, IsNamed, IsProgram, IsRead, bare_app, choice_rule, choice_said, app_without_places, first_app, flag_rule, flag_said, is_stream_in, place_rule, place_said, row_app, row_said, texts_in, with_rows, with_rules};
 ghost use Rattle.dob_words.specs.Readings.{AreNamed, ComesFromLine, IsReadFor, IsReadingOf, IsReadingOfKind, name_of};
 
 mod misplaced;
 mod orders;
 
-use crate::rows::{FIRST_ROWS, LAST_ROWS, MIDDLE_ROWS, PROGRAM, Subcommand, help_of};
+use crate::rows::{FIRST_ROWS, LAST_ROWS, LATER_ROWS, MIDDLE_ROWS, PROGRAM, Subcommand, help_of};
 use crate::table::{Choice, Flag, Kind, Need, PROFILES, Place, Row};
 use clap::error::ErrorKind;
 use clap::{Arg, ArgAction, ArgMatches, Command, Error, value_parser};
@@ -137,6 +137,7 @@ fn subcommand_named(name: &str) -> Option<Subcommand>
 {
     subcommand_among(first_rows(), name)
         .or(subcommand_among(middle_rows(), name))
+        .or(subcommand_among(later_rows(), name))
         .or(subcommand_among(last_rows(), name))
 }
 
@@ -168,10 +169,18 @@ fn dobutsu_command<'a>(alloc: Global) -> Result<Command<'a>, AllocError>
     let profiles = Profiles {
         names: profile_names(),
     };
+    let command = first_command(alloc, profiles)?;
+    let command = add_subcommands(alloc, command, profiles, later_rows())?;
+    add_subcommands(alloc, command, profiles, last_rows())
+}
+
+// The program's command with its first twelve subcommands.
+fn first_command<'a>(alloc: Global, profiles: Profiles<'a>) -> Result<Command<'a>, AllocError>
+    ensures { IfOk result (HasCommandShape (first_app profiles.entry.names)) }
+{
     let command = bare_command(alloc)?;
     let command = add_subcommands(alloc, command, profiles, first_rows())?;
-    let command = add_subcommands(alloc, command, profiles, middle_rows())?;
-    add_subcommands(alloc, command, profiles, last_rows())
+    add_subcommands(alloc, command, profiles, middle_rows())
 }
 
 // The first six subcommands.
@@ -190,9 +199,17 @@ fn middle_rows<'a>() -> &'a [Row]
     MIDDLE_ROWS
 }
 
+// The three behind those.
+fn later_rows<'a>() -> &'a [Row]
+    ensures said { map row_said result.now ≡ take 3 (drop 12 rows) }
+    ensures named { AreNamed result.now }
+{
+    LATER_ROWS
+}
+
 // The others.
 fn last_rows<'a>() -> &'a [Row]
-    ensures said { map row_said result.now ≡ drop 12 rows }
+    ensures said { map row_said result.now ≡ drop 15 rows }
     ensures named { AreNamed result.now }
 {
     LAST_ROWS
@@ -221,11 +238,23 @@ fn row_command<'a>(
 ) -> Result<Command<'a>, AllocError>
     ensures { IfOk result (HasCommandShape (row_app profiles.entry.names (row_said row.now))) }
 {
-    let (subcommand, name, about, options, flags, places) = *row;
+    let (_, _, _, _, _, places) = *row;
+    let command = command_without_places(alloc, profiles, row)?;
+    add_places(alloc, command, profiles, places)
+}
+
+// The subcommand of a row without its places: with its options and its flags alone.
+fn command_without_places<'a>(
+    alloc: Global,
+    profiles: Profiles<'a>,
+    row: &Row,
+) -> Result<Command<'a>, AllocError>
+    ensures { IfOk result (HasCommandShape (app_without_places profiles.entry.names (row_said row.now))) }
+{
+    let (subcommand, name, about, options, flags, _) = *row;
     let command = named_command(alloc, subcommand, name, about);
     let command = add_options(alloc, command, profiles, options)?;
-    let command = add_flags(alloc, command, flags)?;
-    add_places(alloc, command, profiles, places)
+    add_flags(alloc, command, flags)
 }
 
 // A subcommand without its arguments.
@@ -414,6 +443,7 @@ fn misplaced_in<'a>(name: &str, inner: &ArgMatches<'a>) -> Option<Misplaced<'a>>
 {
     misplaced::stream_of(first_rows(), name, inner)
         .or(misplaced::stream_of(middle_rows(), name, inner))
+        .or(misplaced::stream_of(later_rows(), name, inner))
         .or(misplaced::stream_of(last_rows(), name, inner))
 }
 

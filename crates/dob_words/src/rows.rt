@@ -25,9 +25,10 @@ pub enum Subcommand {
     Certify,
     Verify,
     Reply,
+    Info,
 }
 
-/// The first six subcommands, in the order of the help. A constant of all rows takes far longer to prove than three.
+/// The first six subcommands, in the order of the help. A constant of all rows takes far longer to prove than four.
 pub const FIRST_ROWS: &[Row] = &[
     (
         Subcommand::Value,
@@ -202,8 +203,8 @@ pub const MIDDLE_ROWS: &[Row] = &[
     ),
 ];
 
-/// The others.
-pub const LAST_ROWS: &[Row] = &[
+/// The three behind those.
+pub const LATER_ROWS: &[Row] = &[
     (
         Subcommand::Zugzwangs,
         "zugzwangs",
@@ -286,6 +287,10 @@ pub const LAST_ROWS: &[Row] = &[
         &[],
         &[],
     ),
+];
+
+/// The others.
+pub const LAST_ROWS: &[Row] = &[
     (
         Subcommand::Certify,
         "certify",
@@ -336,6 +341,19 @@ pub const LAST_ROWS: &[Row] = &[
         &[],
         &[POSITION],
     ),
+    (
+        Subcommand::Info,
+        "info",
+        "Prints what the header of a database file or of a certificate says",
+        &[],
+        &[JSON],
+        &[(
+            "FILE",
+            Kind::Any,
+            Need::Must,
+            "The database file, or the certificate",
+        )],
+    ),
 ];
 
 /// What the subcommand says of itself.
@@ -359,6 +377,7 @@ pub(crate) fn help_of(subcommand: Subcommand) -> &'static str {
         Subcommand::Certify => CERTIFY,
         Subcommand::Verify => VERIFY,
         Subcommand::Reply => REPLY,
+        Subcommand::Info => INFO,
     }
 }
 
@@ -368,8 +387,8 @@ pub(crate) const PROGRAM: &str =
     "`dobutsu value --help` says how a position is written and what the rules A and B are, `dobutsu count --help` how a
 piece set is.
 
-A fault is one line on standard error; below that of E24 a second one, after two spaces, says which file or stream failed and
-why, where that is known. The status is 1, and 3 for E12, E14, E23, E24 and E40:
+A fault is one line on standard error. Where that is a terminal, a line below E24, after two spaces, says which file or stream
+failed and why, if that is known. The status is 1, and 3 for E12, E14, E23, E24 and E40:
 
   E1 Shape         the text isn't fifteen bytes with `/` at 3, 7 and 11, then twice a space and a word
   E2 Letter        a square is none of `.LGECHlgech`
@@ -397,7 +416,7 @@ why, where that is known. The status is 1, and 3 for E12, E14, E23, E24 and E40:
   E26 FarChick     by rules B, or of a file of rules B: a chick stands on its own far row. So
                    `dobutsu value --rules B \"C.l/.../.../L.. - -\"` is refused
   E27 ProfileByte  byte 12 of the file, or byte 13 of a certificate, names neither rules A nor B
-  E30 to E42       of `certify`, `verify` and `reply`: `dobutsu verify --help` has them
+  E30 to E42       of `certify`, `verify`, `reply` and `info`: `dobutsu verify --help` has them
 
 A usage error ends with status 2. `dobutsu --version` prints the version.";
 
@@ -683,7 +702,8 @@ of the position by the entries. No database file is read. A position is printed 
 
 With `--progress` it says on standard error, a line a second at most, how far it is, as `dobutsu check --help` says.
 
-Answers: `POSITION loss within D` or `POSITION win within D`, where an exact certificate has no `within`, or `POSITION draw`.
+Answers: `POSITION loss within D` or `POSITION win within D`, where an exact certificate has no `within`, or `POSITION draw`; behind it ` by rules B`
+where the certificate is one by rules B.
 
 A file that proves nothing is refused, with status 1, by the first fault that it has: E15 to E17, E19, E20 and E27, as `dobutsu --help` says, or
 
@@ -712,3 +732,18 @@ the other side's lion can be captured that capture, `MOVE win within 1`. Of a po
 status 1. `dobutsu line --help` says how a move is written.
 
 Example: dobutsu reply --cert 000.cert \"..l/.../L../... - -\" prints `La2-a3 win within 3`.";
+
+const INFO: &str =
+    "Of FILE only the header is read: the first 20 or 21 bytes of a database file, 28 of a certificate, which begins with `DOBUCERT`. What comes after
+them isn't, so damage isn't found: `dobutsu check` and `dobutsu verify` test the whole.
+
+Answers: of a database file `set CEG`, `rules A` or `rules B`, `format 2` or `format 1`, and `classes N`; of a certificate
+`position POSITION`, `claim loss within D` or what else it claims, `rules A` or `rules B`, and `entries N`, those of both lists. A line each.
+
+With `--json`: an object on a line, `{\"set\":\"000\",\"rules\":\"A\",\"format\":2,\"classes\":54}`, or
+`{\"position\":\"gle/.c./.C./ELG - -\",\"claim\":\"loss within 78\",\"rules\":\"A\",\"entries\":176436}`.
+
+A header that isn't right is refused, with status 1, by the first fault that it has: E15 to E18 and E27, as `dobutsu --help` says, and of a
+certificate E32 to E35, as `dobutsu verify --help` says. A file that begins as neither of them does is E16 Magic.
+
+Example: dobutsu info 000.db prints `set 000`, `rules A`, `format 2` and `classes 54`.";

@@ -1,7 +1,7 @@
 // What happens in a world.
 
 /// An event of a world of nodes, which are named by their numbers.
-#[derive(Clone, Copy, Debug)]
+#[derive(Clone, Copy)]
 pub enum Event {
     /// A node expands the next settlement of its history.
     Expand(usize),

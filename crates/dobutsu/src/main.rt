@@ -8,6 +8,7 @@
 use dob_cli::{DiskShelf, Heard, Note, Place, run_given};
 use dob_device::Std;
 use std::fs::OpenOptions;
+use std::io::IsTerminal;
 use std::process::ExitCode;
 
 fn main(rt: HostRuntime) -> ExitCode {
@@ -27,5 +28,6 @@ fn main(rt: HostRuntime) -> ExitCode {
         &mut DiskShelf::new(&rt, rt.alloc(), rt.stdin(), &note),
         &mut Std::new(Heard::new(rt.stdout(), Place::Output, &note)),
         &mut Std::new(rt.stderr()),
+        rt.stderr().is_terminal(),
     ))
 }

@@ -20,6 +20,7 @@ mod classes;
 mod counts;
 mod fault;
 mod fault_names;
+mod headers;
 mod index;
 mod many;
 mod moves;

@@ -1,25 +1,14 @@
 -- What a file says of itself, as other languages see it.
 use Rattle.std.specs.Prelude.{◌≡◌, ℕ, List}
 use Rattle.dob_pieces.specs.declared.profile.Family.{Family}
-use Rattle.dob_rank.specs.Families.{classes_of}
 use Rattle.dob_dbfile.specs.declared.fault.Fault.{Fault}
 use Rattle.dob_dbfile.specs.declared.header.Format.{Format}
 use Rattle.dob_device.specs.Devices.{whole}
-use Rattle.dob_dbfile.specs.Faults.{HasReadFault, IsNoLonger, header_len}
+use Rattle.dob_dbfile.specs.Faults.{HasReadFault, IsNoLonger}
 use Rattle.dob_dbfile.specs.Fronts.{IsFrontOf}
 use Rattle.dob_foreign.specs.Faults.{file_number}
-use Rattle.dob_foreign.specs.Profiles.{profile_number}
-use Rattle.dobutsu_web.specs.declared.headers.DobutsuHeader.{DobutsuHeader}
-
-abbrev pub shown_header : Format → Family → DobutsuHeader
-shown_header format family = record {
-  classes = classes_of family;
-  first = header_len format;
-  chicks = family.set.chicks;
-  elephants = family.set.elephants;
-  giraffes = family.set.giraffes;
-  profile = profile_number family.profile;
-}
+use Rattle.dob_foreign.specs.Headers.{shown_header}
+use Rattle.dob_foreign.specs.declared.headers.DobutsuHeader.{DobutsuHeader}
 
 -- the format and the family of each file of so many bytes that begins so, which has as many bytes as files of that family
 abbrev pub IsToldHeader : List ℕ → ℕ → DobutsuHeader → Type 0

@@ -3,12 +3,10 @@ ghost use Rattle.std.specs.Prelude.{◌<◌};
 
 use crate::sets::{are_one_table, family};
 use dob_dbfile::{
-    Fault, Format, MemSink, MemSource, Sink, Source, read_classes, read_table, read_value,
-    write_table,
+    Fault, Format, MemSink, MemSource, Sink, Source, read_table, read_value, write_table,
 };
 use dob_pieces::Profile;
 use dob_value::{Table, Value, sweep_table};
-use sha2::{Digest, Sha256};
 use std::process::Abort;
 
 /// How many bytes the file has.
@@ -17,10 +15,8 @@ pub(super) const FILE_LEN: usize = 161;
 // How many of them stand before the digest.
 const CONTENTS_LEN: usize = 129;
 
-// How many bytes the file of the first format has, and how many of them stand before the digest.
+// How many bytes the file of the first format has.
 const FIRST_LEN: usize = 160;
-
-const FIRST_CONTENTS_LEN: usize = 128;
 
 // The digests of the files of both profiles and of the file of the first format, as another program made them from values
 // that others found.
@@ -133,25 +129,6 @@ fn written_and_read_in_pieces(rt: HostRuntime) {
     }
 }
 
-// What is read of the file is a table of that profile, and is written as that one of the second format.
-fn is_read_as(rt: &(impl Abort + AllocGlobal), bytes: Vec<u8>, profile: Profile, written: &[u8]) {
-    let mut source = MemSource::new(bytes).in_pieces(7);
-    let table = read_table(rt.alloc(), &mut source).expect(rt, "a table");
-    assert!(rt; table.family() == family(rt, "000", profile));
-    let mut sink = MemSink::new(rt.alloc());
-    assert!(rt; write_table(rt.alloc(), &table, &mut sink) == Ok(()));
-    assert!(rt; sink.bytes() == written);
-}
-
-#[test]
-fn both_formats_are_read(rt: HostRuntime) {
-    let by_a = file(&rt);
-    let by_b = file_in(&rt, Profile::B);
-    is_read_as(&rt, first_file(&rt), Profile::A, &by_a);
-    is_read_as(&rt, file(&rt), Profile::A, &by_a);
-    is_read_as(&rt, file_in(&rt, Profile::B), Profile::B, &by_b);
-}
-
 // The bytes are cut short at each length below that.
 fn is_cut_below(rt: &(impl Abort + AllocGlobal), whole: &[u8], end: usize) {
     for len in 0..end {
@@ -199,35 +176,48 @@ fn each_byte_of_the_first_format_turned(rt: HostRuntime) {
     }
 }
 
-#[test]
-fn other_sets(rt: HostRuntime) {
-    is_refused(&rt, changed(file(&rt), 8, &[1]), Fault::ClassCount);
-    is_refused(&rt, changed(file(&rt), 8, &[2, 2, 2]), Fault::ClassCount);
-    is_refused(&rt, changed(first_file(&rt), 8, &[1]), Fault::ClassCount);
-}
+// A file of the first format or of the second, the place from which these bytes stand in it, how long it is made, after how many bytes its source fails,
+// and what is read of it.
+const SPOILT: [(bool, usize, &[u8], usize, usize, Fault); 17] = [
+    // other sets, whose numbers of classes these aren't
+    (true, 8, &[1], FIRST_LEN, NEVER, Fault::ClassCount),
+    (false, 8, &[1], FILE_LEN, NEVER, Fault::ClassCount),
+    (false, 8, &[2, 2, 2], FILE_LEN, NEVER, Fault::ClassCount),
+    // the byte of the profile is tested after that of the set before it, once the whole header has come; byte 12 of the first format is the lowest
+    // of the number of classes, 54
+    (false, 12, &[2], FILE_LEN, NEVER, Fault::ProfileByte),
+    (false, 12, &[1], FILE_LEN, NEVER, Fault::Digest),
+    (false, 11, &[1, 2], FILE_LEN, NEVER, Fault::SetByte),
+    (false, 12, &[2, 0], FILE_LEN, NEVER, Fault::ProfileByte),
+    (true, 7, b"2", FIRST_LEN, NEVER, Fault::ProfileByte),
+    (false, 12, &[2], 20, NEVER, Fault::Truncated),
+    // a byte added, and a record changed
+    (true, 20, &[9], FIRST_LEN + 1, NEVER, Fault::Trailing),
+    (false, 21, &[9], FILE_LEN + 1, NEVER, Fault::Trailing),
+    // what is told before a failure
+    (false, 0, &[9], FILE_LEN, 20, Fault::Magic),
+    (false, 11, &[9], FILE_LEN, 20, Fault::SetByte),
+    (false, 12, &[9], FILE_LEN, 20, Fault::Io(20)),
+    (false, 12, &[9], FILE_LEN, 21, Fault::ProfileByte),
+    (false, 140, &[9], FILE_LEN, FILE_LEN, Fault::Io(161)),
+    (true, 140, &[9], FIRST_LEN, FIRST_LEN, Fault::Io(160)),
+];
 
-// The byte of the profile is tested after that of the set before it, once the whole header has come. Byte 12 of the first
-// format is the lowest of the number of classes, 54.
-#[test]
-fn bytes_of_a_profile(rt: HostRuntime) {
-    is_refused(&rt, changed(file(&rt), 12, &[2]), Fault::ProfileByte);
-    is_refused(&rt, changed(file(&rt), 12, &[1]), Fault::Digest);
-    is_refused(&rt, changed(file(&rt), 11, &[1, 2]), Fault::SetByte);
-    is_refused(&rt, changed(file(&rt), 12, &[2, 0]), Fault::ProfileByte);
-    is_refused(&rt, changed(first_file(&rt), 7, b"2"), Fault::ProfileByte);
-    let mut head = changed(file(&rt), 12, &[2]);
-    head.truncate(20);
-    is_refused(&rt, head, Fault::Truncated);
-}
+const NEVER: usize = usize::MAX;
 
 #[test]
-fn a_byte_added_and_a_record_changed(rt: HostRuntime) {
-    let mut bytes = spoilt(file(&rt), 21);
-    bytes.push(0).expect(&rt, "memory");
-    is_refused(&rt, bytes, Fault::Trailing);
-    let mut bytes = spoilt(first_file(&rt), 20);
-    bytes.push(0).expect(&rt, "memory");
-    is_refused(&rt, bytes, Fault::Trailing);
+fn spoilt_files(rt: HostRuntime) {
+    for (is_first, place, change, len, failing, fault) in &SPOILT {
+        let whole = if *is_first {
+            first_file(&rt)
+        } else {
+            file(&rt)
+        };
+        let mut bytes = changed(whole, *place, *change);
+        bytes.resize(*len, 0).expect(&rt, "memory");
+        let source = MemSource::new(bytes).failing_after(*failing);
+        assert!(rt; fault_of(&rt, source) == Some(*fault), "at {place}");
+    }
 }
 
 #[test]
@@ -240,24 +230,6 @@ fn a_source_that_fails_at_each_place(rt: HostRuntime) {
         let source = MemSource::new(first_file(&rt)).failing_after(count);
         assert!(rt; fault_of(&rt, source) == Some(Fault::Io(count as u64)));
     }
-}
-
-// The fault that reading those bytes gives if their source fails after `count` of them.
-fn fails_with(rt: &(impl Abort + AllocGlobal), bytes: Vec<u8>, count: usize, fault: Fault) {
-    let source = MemSource::new(bytes).failing_after(count);
-    assert!(rt; fault_of(rt, source) == Some(fault));
-}
-
-#[test]
-fn what_is_told_before_a_failure(rt: HostRuntime) {
-    fails_with(&rt, spoilt(file(&rt), 0), 20, Fault::Magic);
-    fails_with(&rt, spoilt(file(&rt), 11), 20, Fault::SetByte);
-    fails_with(&rt, spoilt(file(&rt), 12), 20, Fault::Io(20));
-    fails_with(&rt, spoilt(file(&rt), 12), 21, Fault::ProfileByte);
-    let whole = FILE_LEN as u64;
-    fails_with(&rt, spoilt(file(&rt), 140), FILE_LEN, Fault::Io(whole));
-    fails_with(&rt, spoilt(first_file(&rt), 0), 30, Fault::Magic);
-    fails_with(&rt, spoilt(first_file(&rt), 140), FIRST_LEN, Fault::Io(160));
 }
 
 #[test]
@@ -280,26 +252,6 @@ fn a_sink_that_fails_to_flush(rt: HostRuntime) {
     assert!(rt; sink.flushes().is_empty());
 }
 
-// The file of the first format with that code for the class, and with the digest of that.
-fn forged(rt: &(impl Abort + AllocGlobal), class: u8, code: u16) -> Vec<u8> {
-    let place = 20 + 2 * usize::from(class);
-    let mut bytes = changed(first_file(rt), place, &code.to_le_bytes());
-    bytes.truncate(FIRST_CONTENTS_LEN);
-    let digest = Sha256::digest(bytes.as_slice());
-    bytes.extend_from_slice(&digest).expect(rt, "memory");
-    bytes
-}
-
-#[test]
-fn a_wrong_record_is_read_as_it_is(rt: HostRuntime) {
-    let mut source = MemSource::new(forged(&rt, 17, 8));
-    let table = read_table(rt.alloc(), &mut source).expect(&rt, "a table");
-    assert!(rt; table.class_count() == 54);
-    if 17 < table.class_count() {
-        assert!(rt; table.value(17) == Value::Win(7));
-    }
-}
-
 // The records of three classes in a file of that format.
 fn has_records(rt: &(impl Abort + AllocGlobal), bytes: Vec<u8>, format: Format, longest: usize)
     requires { 0 < longest }
@@ -316,24 +268,6 @@ fn one_record(rt: HostRuntime) {
         has_records(&rt, file(&rt), Format::Second, longest);
         has_records(&rt, first_file(&rt), Format::First, longest);
     }
-}
-
-// What the header of those bytes names.
-fn is_named(rt: &(impl Abort + AllocGlobal), bytes: Vec<u8>, format: Format, profile: Profile) {
-    let mut source = MemSource::new(bytes).in_pieces(3).failing_after(21);
-    if source.failed() {
-        return;
-    }
-    let (found, classes) = read_classes(rt.alloc(), &mut source).expect(rt, "classes");
-    assert!(rt; found == format);
-    assert!(rt; classes.family == family(rt, "000", profile));
-}
-
-#[test]
-fn what_headers_name(rt: HostRuntime) {
-    is_named(&rt, first_file(&rt), Format::First, Profile::A);
-    is_named(&rt, file(&rt), Format::Second, Profile::A);
-    is_named(&rt, file_in(&rt, Profile::B), Format::Second, Profile::B);
 }
 
 // The record of class 4 stands behind 29 bytes.

@@ -13,11 +13,10 @@ fn ends_announced(rt: &impl Abort, alloc: Global, n: usize, batch: usize, capaci
     let mut world = world_of(rt, alloc, family_of(rt, "000"), n, batch, capacity);
     assert!(rt; !world.announced());
     finish(rt, &mut world, n);
-    assert!(rt; world.announced());
     let before = world.steps();
-    finish(rt, &mut world, n);
     assert!(rt; world.announced());
-    assert!(rt; world.steps() == before);
+    finish(rt, &mut world, n);
+    assert!(rt; world.announced() && world.steps() == before);
 }
 
 // The only node expands its settlements and applies its items, until nothing is left.
@@ -124,6 +123,7 @@ fn ends_within(rt: &impl Abort, world: &mut World, batches: u32) -> bool
     false
 }
 
+// A board's test of the same name has the token's colour and sum, which no world shows.
 #[test]
 fn a_batch_on_its_way_is_no_end(rt: HostRuntime) {
     let mut world = world_of(&rt, rt.alloc(), family_of(&rt, "000"), 2, 256, 64);

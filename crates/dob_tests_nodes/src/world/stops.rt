@@ -38,7 +38,7 @@ fn stop_after(
     let now = world.step(event).err();
     assert!(rt;
         before.is_none() || (now == before && world.steps() == steps),
-        "{event:?}"
+        "after {steps} events"
     );
     now
 }
@@ -131,8 +131,9 @@ fn answers_the_same(rt: &impl Abort, world: &mut World, fault: Fault)
     ensures n { world.new.node_count ≡ 2 }
 {
     for event in &EVENTS {
-        assert!(rt; world.steps() < 1 << 40);
-        assert!(rt; world.step(*event) == Err(fault), "{event:?}");
+        let steps = world.steps();
+        assert!(rt; steps < 1 << 40);
+        assert!(rt; world.step(*event) == Err(fault), "after {steps} events");
     }
 }
 

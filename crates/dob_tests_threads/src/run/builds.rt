@@ -3,7 +3,7 @@
 ghost use Rattle.std.specs.Prelude.{◌<◌};
 ghost use Rattle.dob_safra.specs.Laws.{IsSize};
 
-use super::{HELD, HoldsBackOne, Meeting, is_done, is_table_of_lions, lions};
+use super::{HELD, HoldsBackOne, Meeting, PATIENT, is_done, is_table_of_lions, lions};
 use dob_run::{Built, Free, Gate, run_nodes};
 use std::alloc::Global;
 use std::process::Abort;
@@ -96,7 +96,7 @@ fn has_met(built: &Built, turns: [u64; 2], sender: usize, taker: usize) -> bool
 
 #[test]
 fn two_nodes_meet_in_a_build(rt: HostRuntime) {
-    let gate = Meeting::new();
+    let gate = Meeting::new(PATIENT);
     let built = run_nodes(&rt, rt.alloc(), lions(&rt), 2, 1, 1, &gate).expect(&rt, "a table");
     let turns = [
         gate.first.load(Ordering::SeqCst),

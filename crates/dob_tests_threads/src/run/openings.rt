@@ -145,17 +145,20 @@ fn is_opening_of(rt: &impl Abort, classes: &Classes, openings: &Segments<Opening
     );
 }
 
-// Openings of this many classes go on in a second segment, as do those that one node finds.
+// Openings of this many classes go on in a second segment, as do those that one node finds, and those that threads find.
 #[test]
 fn openings_past_a_segment(rt: HostRuntime) {
     let classes = classes_of(&rt, rt.alloc(), "022");
     let longest = SegmentLength::longest();
     let listed = opening(rt.alloc(), &classes, longest).expect(&rt, "openings");
-    assert!(rt; listed.len() == CLASSES);
+    assert!(rt; listed.len() == CLASSES && listed.segment_length().items() == 1 << 20);
+    let scanned = scan(&rt, rt.alloc(), &classes, longest).expect(&rt, "openings");
+    assert!(rt; scanned.len() == CLASSES && scanned.segment_length().items() == 1 << 20);
     for place in &PLACES {
         is_opening_of(&rt, &classes, &listed, *place);
+        is_opening_of(&rt, &classes, &scanned, *place);
     }
-    assert!(rt; listed.segment_length().items() == 1 << 20);
+    assert!(rt; are_listed_alike(&scanned, &listed));
     assert!(rt; Share::open(rt.alloc(), &listed, 0, NodeCount::one()).is_ok());
     all_open_alike(&rt, rt.alloc(), &classes, &listed, 1, 16);
 }

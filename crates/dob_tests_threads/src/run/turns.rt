@@ -4,7 +4,7 @@ ghost use Rattle.dob_crew.specs.CrewRunners.{IsNewCrew};
 ghost use Rattle.dob_runner.specs.Runners.{KeepsRunner};
 ghost use Rattle.dob_runner.specs.declared.runner.Runner.{Runner as AnyRunner};
 
-use super::{is_done, is_table_of_lions, lions};
+use super::{Meeting, is_done, is_table_of_lions, lions};
 use dob_board::{Board, Halt};
 use dob_classes::Classes;
 use dob_node::Cause;
@@ -155,7 +155,8 @@ fn answers<G: Gate>(
     expected: Result<Halt, Cause>,
 )
     requires { classes.now.family ≡ runner.old.family }
-    ensures { classes.now.family ≡ runner.new.family }
+    ensures keeps { KeepsRunner runner.old runner.new }
+    ensures family { classes.now.family ≡ runner.new.family }
 {
     assert!(rt; turn_once(rt, runner, classes, gate) == expected);
 }
@@ -196,5 +197,26 @@ fn held_after_the_end(rt: HostRuntime) {
     assert!(rt; held == Err(Cause::Held));
     let stopped = close_both(&rt, rt.alloc(), classes, board, first, second).err();
     let (node, cause) = (1, Cause::Held);
+    assert!(rt; stopped == Some(Fault::Stopped { node, cause }));
+}
+
+// Two nodes that have to meet can't where one thread turns them: the first one looks for the other's turn in vain and is held, and the other one sees that.
+fn cannot_meet(rt: &(impl Wait + Abort), first: &mut Runner, second: &mut Runner, classes: &Classes)
+    requires first { classes.now.family ≡ first.old.family }
+    requires second { classes.now.family ≡ second.old.family }
+    ensures first { KeepsRunner first.old first.new }
+    ensures second { KeepsRunner second.old second.new }
+{
+    let gate = Meeting::new(100);
+    answers(rt, first, classes, &gate, Err(Cause::Held));
+    answers(rt, second, classes, &gate, Ok(Halt::Failed(0)));
+}
+
+#[test]
+fn one_thread_cannot_meet_itself(rt: HostRuntime) {
+    let (classes, board, mut first, mut second) = two_runners(&rt, rt.alloc());
+    cannot_meet(&rt, &mut first, &mut second, &classes);
+    let stopped = close_both(&rt, rt.alloc(), classes, board, first, second).err();
+    let (node, cause) = (0, Cause::Held);
     assert!(rt; stopped == Some(Fault::Stopped { node, cause }));
 }

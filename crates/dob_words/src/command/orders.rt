@@ -148,6 +148,11 @@ pub enum LinesOrder<'a> {
         file: &'a str,
         position: &'a str,
     },
+    /// To print what the header of the file says, a table's or a certificate's; as a JSON object if that is asked for.
+    Info {
+        file: &'a str,
+        is_object: bool,
+    },
 }
 
 /// How it is looked for what can be reached.
@@ -262,6 +267,10 @@ pub(super) fn order_for<'a>(subcommand: Subcommand, inner: &ArgMatches<'a>) -> O
         Subcommand::Reply => Some(Order::Lines(LinesOrder::Reply {
             file: text(inner, "CERT"),
             position: text(inner, "POSITION"),
+        })),
+        Subcommand::Info => Some(Order::Lines(LinesOrder::Info {
+            file: text(inner, "FILE"),
+            is_object: inner.get_str("json").is_some(),
         })),
     }
 }

@@ -44,3 +44,6 @@ returns-in-Certify g c = rw c.in-Certify.is c.answer_certify.ensures
 
 pub returns-in-Reply : goal.returns-in-Reply
 returns-in-Reply g c = rw c.in-Reply.is c.answer_reply.ensures
+
+pub returns-in-Info : goal.returns-in-Info
+returns-in-Info g c = rw c.in-Info.is c.answer_info.ensures

@@ -73,6 +73,9 @@ text-requires-in-Reply c = there (form_for subcommand.Reply) (codes "CERT") _ re
 pub text-requires-in-Reply-2 : goal.text-requires-in-Reply-2
 text-requires-in-Reply-2 c = there (form_for subcommand.Reply) (codes "POSITION") _ refl (fits _ subcommand.Reply _ c.in-Reply.is c.requires).1.0
 
+pub text-requires-in-Info : goal.text-requires-in-Info
+text-requires-in-Info c = there (form_for subcommand.Info) (codes "FILE") _ refl (fits _ subcommand.Info _ c.in-Info.is c.requires).1.0
+
 pub returns-in-Probe : goal.returns-in-Probe
 returns-in-Probe c = grind arith
 
@@ -117,6 +120,9 @@ returns-in-Verify c = grind arith
 
 pub returns-in-Reply : goal.returns-in-Reply
 returns-in-Reply c = grind arith
+
+pub returns-in-Info : goal.returns-in-Info
+returns-in-Info c = grind arith
 
 pub asked_order-requires-in-Look-clause-fit : goal.asked_order-requires-in-Look-clause-fit
 asked_order-requires-in-Look-clause-fit c = grind arith

@@ -1,0 +1,47 @@
+-- The rows of four constants, one list after the other.
+use Rattle.dob_words.proofs.Common.{◌++◌, ◌≡◌, Bool, List, None, Option, Some, arith, drop, is_some, list_any, take, HasCommandShape, ProfileNames}
+use Rattle.dob_words.proofs.Common.{bare_app, dobutsu_app, with_rows}
+use Rattle.dob_words.specs.Shapes.{first_app}
+use Rattle.std.specs.Option.{option_or}
+use Rattle.std.specs.Prelude.{IfSome}
+use Rattle.std.proofs.lemmas.List.Folds.{list_any-append}
+use Rattle.clap.specs.declared.builder.Command.{Command}
+use Rattle.dob_words.specs.Forms.{Row, rows}
+
+-- something is found in one of two lists where it is found in both of them together
+found_in_either : {X Y : Type 0} (p : Y → Bool) (xs ys : List Y) (a b : Option X) → is_some a ≡ list_any p xs → is_some b ≡ list_any p ys
+    → is_some (option_or a b) ≡ list_any p (xs ++ ys)
+found_in_either p xs ys (Some x) b first second = grind (arith, list_any-append p xs ys)
+found_in_either p xs ys None b first second = grind (arith, list_any-append p xs ys)
+
+-- so it is with four
+pub found_in_four : {X Y : Type 0} (p : Y → Bool) (ws xs ys zs : List Y) (a b c d : Option X) → is_some a ≡ list_any p ws → is_some b ≡ list_any p xs
+    → is_some c ≡ list_any p ys → is_some d ≡ list_any p zs
+    → is_some (option_or (option_or (option_or a b) c) d) ≡ list_any p (((ws ++ xs) ++ ys) ++ zs)
+found_in_four p ws xs ys zs a b c d first second third fourth =
+    let two = found_in_either p ws xs a b first second in
+    let three = found_in_either p (ws ++ xs) ys (option_or a b) c two third in
+    found_in_either p ((ws ++ xs) ++ ys) zs (option_or (option_or a b) c) d three fourth
+
+-- what holds of each of two results holds of the first of them that there is
+holds_of_either : {X : Type 0} (P : X → Type 0) (a b : Option X) → IfSome a P → IfSome b P → IfSome (option_or a b) P
+holds_of_either P (Some x) b first second = first
+holds_of_either P None b first second = second
+
+-- so it is with four
+pub holds_of_four : {X : Type 0} (P : X → Type 0) (a b c d : Option X) → IfSome a P → IfSome b P → IfSome c P → IfSome d P
+    → IfSome (option_or (option_or (option_or a b) c) d) P
+holds_of_four P a b c d first second third fourth =
+    let two = holds_of_either P a b first second in
+    let three = holds_of_either P (option_or a b) c two third in
+    holds_of_either P (option_or (option_or a b) c) d three fourth
+
+-- the program's command has the subcommands of all rows
+pub program_of : (profiles : ProfileNames) (ys zs : List Row) (c : Command) → ys ≡ take 3 (drop 12 rows) → zs ≡ drop 15 rows
+    → HasCommandShape (with_rows profiles (with_rows profiles (first_app profiles) ys) zs) c → HasCommandShape (dobutsu_app profiles) c
+program_of profiles ys zs c third fourth shape = rw (third, fourth) at shape
+
+-- and before them those of the first ones
+pub first_of : (profiles : ProfileNames) (ws xs : List Row) (c : Command) → ws ≡ take 6 rows → xs ≡ take 6 (drop 6 rows)
+    → HasCommandShape (with_rows profiles (with_rows profiles bare_app ws) xs) c → HasCommandShape (first_app profiles) c
+first_of profiles ws xs c first second shape = rw (first, second) at shape
