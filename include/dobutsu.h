@@ -150,6 +150,17 @@ typedef struct {
     uint32_t patch;
 } DobutsuVersion;
 
+/* What a file's header says: how many classes its family has, how many bytes stand before the first class's record (each has two), the numbers of chicks,
+   elephants and giraffes, and the profile, 0 (A) or 1 (B). */
+typedef struct {
+    uint64_t classes;
+    uint64_t first;
+    uint32_t chicks;
+    uint32_t elephants;
+    uint32_t giraffes;
+    uint32_t profile;
+} DobutsuHeader;
+
 /* The value that the bytes of a database's file give the position whose text that is, as "..l/.../L../... - -" (no zero byte ends it). Answers 0 and
    writes the value, or the first fault that holds: 1 to 6, then 15 to 19 or 27 of the file's header and length, then 26, then 7. One record is
    looked at, and no digest is read, so damage elsewhere isn't seen. The value is right where the file is the family's table. It takes microseconds for small
@@ -179,6 +190,10 @@ uint32_t dobutsu_verify(const uint8_t *file, size_t file_len, DobutsuClaim *clai
    dobutsu_verify has them, then 26, then 7 of the position in the certificate, 30 where an entry of the lost classes isn't supported, 41 where the
    certificate says nothing of the position, or 23. */
 uint32_t dobutsu_reply(const uint8_t *file, size_t file_len, const uint8_t *text, size_t text_len, DobutsuMove *reply);
+
+/* What the header of a database's file says: which set and by which rules. Answers 0 and writes that, or 15 to 19 or 27, by the header and the length, and
+   writes nothing. No digest is read. */
+uint32_t dobutsu_header(const uint8_t *file, size_t file_len, DobutsuHeader *header);
 
 /* How many positions and how many classes (positions with their mirror images) a family has: these chicks, elephants and giraffes, 0 to 2 each, by
    profile 0 (A) or 1 (B, where no chick is dropped on its far row). Answers 0 and writes both, or 25 or else 27. The two places are different. */

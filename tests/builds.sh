@@ -36,7 +36,7 @@ note "the file of 111 by one node is that by two" "$good"
 rm -f "$work/alone.db"
 expect 0 'consistent' '' check --progress --db "$built"
 expect 1 '' 'dobutsu: E25 SetText' build --set 003 --nodes 2 --out "$other" --progress
-expect 3 '' "$(failed_at "$work/none.db" "$gone")" check --progress --db "$work/none.db"
+fails_at "$work/none.db" "$gone" check --progress --db "$work/none.db"
 # Lines on how far a build is take each other's place exactly where standard error is a terminal, whatever standard output is. It is stopped for a
 # second, so that a line is due.
 watched() { # REDIRECTION: the build, on a terminal of which one stream goes to a file
@@ -51,6 +51,18 @@ if command -v script >"$work/out"; then
     if grep -q $'\r[0-9]* s, [0-9]* %.*\033\\[K' "$work/shown" && grep -q 'classes 765360' "$work/out"; then good=yes; else good=no; fi
     note "lines in place on a terminal, where standard output is a file" "$good"
 fi
+# So does a check where it is watched, and nothing where it isn't.
+for given in '' --progress; do
+    "$program" check --db "$other" $given >"$work/out" 2>"$work/err" &
+    checking=$!
+    sleep 0.1
+    kill -STOP "$checking"
+    sleep 1.2
+    kill -CONT "$checking"
+    wait "$checking" && good=yes || good=no
+    if [ -n "$given" ]; then grep -q ' s, [0-9]* %' "$work/err" || good=no; elif [ -s "$work/err" ]; then good=no; fi
+    note "a check of 111 that is stopped for a second${given:+, with }$given: $(head -c 80 "$work/err")" "$good"
+done
 # Without --nodes a build takes a node a processor, 16 at most: of its threads, counted over and over, there are mostly one a node and the main one.
 for processors in 0 0,1 ''; do
     run=()
@@ -97,9 +109,9 @@ expect 1 '' 'dobutsu: E9 Nodes' build --set 000 --nodes 17 --out "$work/refused.
 expect 1 '' 'dobutsu: E9 Nodes' build --set 000 --nodes 18446744073709551615 --out "$work/refused.db"
 if [ -e "$work/refused.db" ]; then good=no; else good=yes; fi
 note "a refused build makes no file" "$good"
-expect 3 '' "$(failed_at "$work/none/built.db" "$gone")" build --set 000 --nodes 2 --out "$work/none/built.db"
-expect 3 '' "$(failed_at "$work" "$folder")" build --set 000 --nodes 2 --out "$work"
-if [ -c /dev/full ]; then expect 3 '' "$(failed_at /dev/full "$full")" build --set 000 --nodes 2 --out /dev/full; fi
+fails_at "$work/none/built.db" "$gone" build --set 000 --nodes 2 --out "$work/none/built.db"
+fails_at "$work" "$folder" build --set 000 --nodes 2 --out "$work"
+if [ -c /dev/full ]; then fails_at /dev/full "$full" build --set 000 --nodes 2 --out /dev/full; fi
 
 # A file is as it was until the new one is whole: where a build is killed at some moment, where the disk takes no more, and
 # where a part of a killed build is left. Afterwards there is no part.
@@ -117,9 +129,9 @@ for moment in $(seq 20); do
 done
 note "builds killed at 20 moments leave the file as it was, or whole" "$same"
 cp testdata/lions_alone.db "$work/kept.db"
-(ulimit -f 2; trap '' XFSZ; "$program" build --set 100 --nodes 2 --out "$work/kept.db") >"$work/out" 2>"$work/err" && status=0 || status=$?
-too_large="$(failed_at "$work/kept.db" 'File too large (os error 27)')"
-if [ "$status" = 3 ] && [ "$(cat "$work/err")" = "$too_large" ] && cmp -s "$work/kept.db" testdata/lions_alone.db \
+(ulimit -f 2; trap '' XFSZ; python3 tests/terminal.py "$work/err" "$program" build --set 100 --nodes 2 --out "$work/kept.db") >"$work/out" &&
+    status=0 || status=$?
+if [ "$status" = 3 ] && holds "$work/err" "$(caused "$work/kept.db" 'File too large (os error 27)')" && cmp -s "$work/kept.db" testdata/lions_alone.db \
     && [ ! -e "$work/kept.db.part" ]; then good=yes; else good=no; fi
 note "a build whose file may not grow leaves the one that was there, and no part: status $status, $(tail -1 "$work/err")" "$good"
 expect 0 '~^classes 54$' '' build --set 000 --nodes 2 --out /dev/null
@@ -171,7 +183,7 @@ note "a build to a link's name writes what the link leads to" "$good"
 
 # Folders that take no file: where none can be made, on a file system of 1 MB that fills up, and on one that can only be read. The
 # file that was there stays, and no part is left. The two file systems need a room of their own, which not each system gives.
-if [ -d /proc ]; then expect 3 '' "$(failed_at /proc/built.db "$gone")" build --set 000 --nodes 2 --out /proc/built.db; fi
+if [ -d /proc ]; then fails_at /proc/built.db "$gone" build --set 000 --nodes 2 --out /proc/built.db; fi
 mkdir "$work/small"
 no_room() {
     local good=no reason="$full"
@@ -179,10 +191,10 @@ no_room() {
     # shellcheck disable=SC2016
     if unshare -rm bash -c '
         mount -t tmpfs -o size=1m none "$1" && cp testdata/lions_alone.db "$1/kept.db" && mount -o "remount,size=1m,$3" "$1" || exit 1
-        "$2" build --set 111 --nodes 4 --out "$1/kept.db"
+        python3 tests/terminal.py "$4" "$2" build --set 111 --nodes 4 --out "$1/kept.db"
         [ "$?" = 3 ] && cmp -s "$1/kept.db" testdata/lions_alone.db && [ "$(ls "$1")" = kept.db ]
-    ' bash "$work/small" "$top/crates/dobutsu/out/dobutsu" "$1" >"$work/out" 2>"$work/err" && [ ! -s "$work/out" ] \
-        && holds "$work/err" "$(failed_at "$work/small/kept.db" "$reason")"; then good=yes; fi
+    ' bash "$work/small" "$top/crates/dobutsu/out/dobutsu" "$1" "$work/err" >"$work/out" 2>&1 && [ ! -s "$work/out" ] \
+        && holds "$work/err" "$(caused "$work/small/kept.db" "$reason")"; then good=yes; fi
     note "a build on a file system of 1 MB, mounted $1: $(head -c 80 "$work/err")" "$good"
 }
 if unshare -rm mount -t tmpfs -o size=1m none "$work/small" 2>/dev/null; then
@@ -193,7 +205,6 @@ else
 fi
 
 # Two builds to one name at once: the file is whole afterwards, there is no part, and whoever hasn't made it says so.
-unmade() { holds "$1" '~^dobutsu: E24 Io$' && holds "$1" '~^  .*/kept.db: '; }
 same=yes
 for turn in $(seq 20); do
     if [ $((turn % 2)) = 0 ]; then set=000; else set=100; fi
@@ -205,8 +216,8 @@ for turn in $(seq 20); do
     wait "$first" && first=0 || first=$?
     case "$first$later" in
         00) [ ! -s "$work/err" ] && [ ! -s "$work/later_err" ] ;;
-        03) [ ! -s "$work/err" ] && unmade "$work/later_err" ;;
-        30) unmade "$work/err" && [ ! -s "$work/later_err" ] ;;
+        03) [ ! -s "$work/err" ] && holds "$work/later_err" "$io_line" ;;
+        30) holds "$work/err" "$io_line" && [ ! -s "$work/later_err" ] ;;
         *) false ;;
     esac || same=no
     cmp -s "$work/kept.db" testdata/one_chick_2.db || { [ "$set" = 000 ] && cmp -s "$work/kept.db" testdata/lions_alone_2.db; } || same=no
@@ -226,8 +237,8 @@ done
 at_once() {
     local status=0 good=no name="$1"
     shift
-    timeout 10 "$program" "$@" --out "$work/$name" >"$work/later" 2>"$work/later_err" || status=$?
-    if [ "$status" = 3 ] && [ ! -s "$work/later" ] && holds "$work/later_err" "$(failed_at "$work/$name" "$reason")"; then good=yes; fi
+    timeout 10 python3 tests/terminal.py "$work/later_err" "$program" "$@" --out "$work/$name" >"$work/later" || status=$?
+    if [ "$status" = 3 ] && [ ! -s "$work/later" ] && holds "$work/later_err" "$(caused "$work/$name" "$reason")"; then good=yes; fi
     note "$* --out $(head -c 20 <<<"$name"), refused at once: status $status, $(head -c 80 "$work/later_err")" "$good"
 }
 reason='another run is writing it'

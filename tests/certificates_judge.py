@@ -24,12 +24,18 @@ def holds(program, certificate):
     return certificate.claim == kind and int(plies or 0) == certificate.plies
 
 
+def proved(certificate):
+    """The line that says what the certificate proves, and by which rules where they are B."""
+    rules = " by rules B" if certificate.profile == "B" else ""
+    return str(certificate).removesuffix(rules) + rules
+
+
 def verdict(data):
     """The line of a certificate that holds, with it, or the fault."""
     try:
         certificate = plain.Certificate(data)
         certificate.verify()
-        return str(certificate), certificate
+        return proved(certificate), certificate
     except plain.Fault as wrong:
         return f"dobutsu: {wrong}", None
 

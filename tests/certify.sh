@@ -30,16 +30,22 @@ expect 1 '' 'dobutsu: E41 Unlisted' reply --cert "$work/one.cert" "$long"
 cp "$work/one.cert" "$work/kept.cert"
 expect 1 '' 'dobutsu: E39 TooMany more than 0 entries' certify --db "$lions_2" --out "$work/kept.cert" --most 0 "$position"
 expect 1 '' 'dobutsu: E7 OtherSet' certify --db "$chick" --out "$work/kept.cert" "$position"
+expect 1 '' 'dobutsu: E26 FarChick' certify --db "$work/100_B.db" --out "$work/kept.cert" "$far_chick"
 expect 1 '' 'dobutsu: E2 Letter' certify --db "$lions_2" --out "$work/kept.cert" 'x.l/.../L../... - -'
-expect 3 '' "$(failed_at "$work/none.db" "$gone")" certify --db "$work/none.db" --out "$work/kept.cert" "$position"
-expect 3 '' "$(failed_at "$work/none/x.cert" "$gone")" certify --db "$lions_2" --out "$work/none/x.cert" "$position"
+fails_at "$work/none.db" "$gone" certify --db "$work/none.db" --out "$work/kept.cert" "$position"
+fails_at "$work/none/x.cert" "$gone" certify --db "$lions_2" --out "$work/none/x.cert" "$position"
+# that can't be made, which is told before the work begins: the table isn't asked for the position
+fails_at "$work/none/x.cert" "$gone" certify --db "$chick" --out "$work/none/x.cert" "$position"
 if cmp -s "$work/one.cert" "$work/kept.cert" && [ ! -e "$work/kept.cert.part" ]; then good=yes; else good=no; fi
 note "a certificate that isn't made leaves the one that was there" "$good"
-expect 3 '' "$(failed_at "$work/none.cert" "$gone")" verify --cert "$work/none.cert"
+fails_at "$work/none.cert" "$gone" verify --cert "$work/none.cert"
 expect 1 '' 'dobutsu: E16 Magic' verify --cert "$lions_2"
 expect 1 '' 'dobutsu: E15 Truncated' verify --cert /dev/null
 expect 1 '' 'dobutsu: E16 Magic' reply --cert "$lions_2" "$position"
 
 # A table whose values aren't right gives no certificate: the record of the class, with the digest that then belongs there.
-python3 tests/certify_wrong_table.py "$lions_2" "$work/wrong.db" "$position"
+python3 tests/certify_wrong_table.py "$lions_2" "$work/wrong.db" "$position" 2
 expect 1 '' 'dobutsu: E31 Claim' certify --db "$work/wrong.db" --out "$work/kept.cert" "$position"
+# One whose values are late, a win in 301 by a loss in 300, claims what is so, but more plies than a file says.
+python3 tests/certify_wrong_table.py "$lions_2" "$work/late.db" "$position" 302 '.../.../..l/L.. - -' 301
+expect 3 '' 'dobutsu: E40 Unfit' certify --db "$work/late.db" --out "$work/kept.cert" "$position"

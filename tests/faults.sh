@@ -6,8 +6,12 @@ if [ -c /dev/full ]; then
         IFS='|' read -r -a given <<<"$words"
         status=0
         ./dobutsu "${given[@]}" >/dev/full 2>"$work/err" || status=$?
-        if [ "$status" = 3 ] && holds "$work/err" "$(failed_at 'standard output' "$full")"; then good=yes; else good=no; fi
+        if [ "$status" = 3 ] && holds "$work/err" "$io_line"; then good=yes; else good=no; fi
         note "./dobutsu $words >/dev/full: status $status, $(head -c 80 "$work/err")" "$good"
+        status=0
+        python3 tests/terminal.py "$work/err" "$program" "${given[@]}" >/dev/full || status=$?
+        if [ "$status" = 3 ] && holds "$work/err" "$(caused 'standard output' "$full")"; then good=yes; else good=no; fi
+        note "./dobutsu $words >/dev/full at a terminal: status $status, $(head -c 80 "$work/err")" "$good"
     done
     for words in '1|value|x' '2|solve' "0|value|$position"; do
         IFS='|' read -r -a given <<<"$words"
@@ -17,6 +21,16 @@ if [ -c /dev/full ]; then
         note "./dobutsu ${words#*|} 2>/dev/full: status $status" "$good"
     done
 fi
+
+# At a terminal the cause stands below E24 alone, and in one line: a line feed in a name is told as \n.
+fails_at "$work/a\\nb.db" "$gone" stats --db "$work/a"$'\n'b.db
+for words in '1|E1 Shape|value|x' '1|E15 Truncated|stats|--db|/dev/null'; do
+    IFS='|' read -r -a given <<<"$words"
+    status=0
+    python3 tests/terminal.py "$work/err" "$program" "${given[@]:2}" >"$work/out" || status=$?
+    if [ "$status" = "${given[0]}" ] && [ ! -s "$work/out" ] && holds "$work/err" "dobutsu: ${given[1]}"; then good=yes; else good=no; fi
+    note "./dobutsu ${words#*|} at a terminal: status $status, $(head -c 80 "$work/err")" "$good"
+done
 
 # Spoilt files: the one of lions alone empty, without its last byte, with a byte added, and with another byte at a place.
 spoil() {

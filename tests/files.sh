@@ -50,7 +50,7 @@ loss 4,1
 win 5,3
 loss 6,2
 win 7,3' '' stats --csv --db "$lions"
-expect 3 '' "$(failed_at "$work/none.db" "$gone")" stats --db "$work/none.db"
+fails_at "$work/none.db" "$gone" stats --db "$work/none.db"
 expect 1 '' 'dobutsu: E15 Truncated' stats --db /dev/null
 # what can be reached, with the values, of an independent search
 expect 0 'classes 39
@@ -74,7 +74,7 @@ draw 4
 6 4' '' reach "$position" --levels --db "$lions"
 expect 1 '' 'dobutsu: E7 OtherSet' reach --db "$lions" '..l/.../.../L.. C -'
 expect 1 '' 'dobutsu: E1 Shape' reach --db "$work/none.db" ''
-expect 3 '' "$(failed_at "$work/none.db" "$gone")" reach --db "$work/none.db" "$position"
+fails_at "$work/none.db" "$gone" reach --db "$work/none.db" "$position"
 # the moves with their values, best first
 expect 0 'La2-a3 win 3
 La2-b2 draw
@@ -88,7 +88,7 @@ expect 0 'Lb2xb3 win 1' '' moves --db "$lions" '.../.l./.L./... - -'
 expect 0 'end' '' moves --db "$lions" '.../L../.../..l - -'
 expect 1 '' 'dobutsu: E7 OtherSet' moves --db "$lions" '..l/.../.../L.. C -'
 expect 1 '' 'dobutsu: E1 Shape' moves --db "$work/none.db" ''
-expect 3 '' "$(failed_at "$work/none.db" "$gone")" moves --db "$work/none.db" "$position"
+fails_at "$work/none.db" "$gone" moves --db "$work/none.db" "$position"
 # the first of them
 expect 0 'La2-a3 win 3' '' best --db "$lions" "$position"
 expect 0 'La1-b1 loss 2' '' best '.../.../..l/L.. - -' --db "$lions"
@@ -96,7 +96,7 @@ expect 0 'Lb2xb3 win 1' '' best --db "$lions" '.../.l./.L./... - -'
 expect 0 'end' '' best --db "$lions" '.../L../.../..l - -'
 expect 1 '' 'dobutsu: E7 OtherSet' best --db "$lions" '..l/.../.../L.. C -'
 expect 1 '' 'dobutsu: E1 Shape' best --db "$work/none.db" ''
-expect 3 '' "$(failed_at "$work/none.db" "$gone")" best --db "$work/none.db" "$position"
+fails_at "$work/none.db" "$gone" best --db "$work/none.db" "$position"
 # each line of standard input: positions, some of them refused, lines of other systems, and a last line without its end
 answers_of() {
     local status=0 word="$1" wanted="$2" input="$3" out="$4" good=no
@@ -111,18 +111,18 @@ answers 0 "$position"'\n.../.../..l/L.. - -\n.l./.../.L./... - -\n' 'win 3\nloss
 answers 0 "$position"'\r\n.../.../..l/L.. - -\r\n.l./.../.L./... - -' 'win 3\nloss 2\ndraw\n' --db="$lions"
 answers 1 "$position"'\n..l/.../L../... - x\n\n\377\n..l/.../.../L.. C -\nL../.../.../..l - -\n.../.../..l/L.. - -\n' \
     'win 3\nE3 Hand\nE1 Shape\nE1 Shape\nE7 OtherSet\nE6 FarLion\nloss 2\n' --db "$lions"
-expect 3 '' "$(failed_at "$work/none.db" "$gone")" probe --each --db "$work/none.db"
+fails_at "$work/none.db" "$gone" probe --each --db "$work/none.db"
 expect 1 '' 'dobutsu: E15 Truncated' probe --each --db /dev/null
-expect 3 '' "$(failed_at 'standard input' "$folder")" probe --each --db "$lions" <"$work"
+fails_at 'standard input' "$folder" probe --each --db "$lions" <"$work"
 # the same by each position's own record; of a file that is cut inside one, that line alone is refused
 answers_of look 1 "$position"'\n..l/.../L../... - x\n\n\377\n..l/.../.../L.. C -\nL../.../.../..l - -\n.../.../..l/L.. - -\n.l./.../.L./... - -' \
     'win 3\nE3 Hand\nE1 Shape\nE1 Shape\nE7 OtherSet\nE6 FarLion\nloss 2\ndraw\n' --db "$lions"
 answers_of look 0 '' '' --db "$lions"
 head -c 77 "$lions" >"$work/cut.db"
 answers_of look 1 "$position"'\n.../.../..l/L.. - -\n' 'E15 Truncated\nloss 2\n' --db "$work/cut.db"
-expect 3 '' "$(failed_at "$work/none.db" "$gone")" look --each --db "$work/none.db"
+fails_at "$work/none.db" "$gone" look --each --db "$work/none.db"
 expect 1 '' 'dobutsu: E15 Truncated' look --each --db /dev/null
-expect 3 '' "$(failed_at 'standard input' "$folder")" look --each --db "$lions" <"$work"
+fails_at 'standard input' "$folder" look --each --db "$lions" <"$work"
 # moves, the first of them and lines for each: an empty line stands behind an answer of several lines; of a file that is cut the record that isn't whole
 # is told
 asked="$position"'\n..l/.../L../... - x\n.../.../..l/L.. - -\n..l/.../.../L.. C -\n.l./.../.L./... - -\n'
@@ -138,9 +138,9 @@ answers_of line 1 "$position"'\n' 'E15 Truncated\n' --db "$work/cut.db"
 for given in '' --records; do answers_of line 0 "$position"'\n' 'La2-a3 lc4-b4 La3xb4\n' --db "$work/longer.db" $given; done
 for word in moves best line; do
     answers_of "$word" 0 '' '' --db "$lions"
-    expect 3 '' "$(failed_at "$work/none.db" "$gone")" "$word" --each --db "$work/none.db"
+    fails_at "$work/none.db" "$gone" "$word" --each --db "$work/none.db"
     expect 1 '' 'dobutsu: E15 Truncated' "$word" --each --db /dev/null
-    expect 3 '' "$(failed_at 'standard input' "$folder")" "$word" --each --db "$lions" <"$work"
+    fails_at 'standard input' "$folder" "$word" --each --db "$lions" <"$work"
 done
 # as JSON: a value, moves, a line, statistics; of each line of standard input an object, also for its fault
 expect 0 '{"position":"..l/.../L../... - -","value":"win","plies":3}' '' look --json --db "$lions" "$position"
@@ -251,7 +251,7 @@ note 'a thousand seeds draw each puzzle about as often' "$good"
 for plies in 0 1 2 4 18446744073709551614; do
     expect 2 '' 'dobutsu: --plies is an odd number of at least 3' puzzles --db "$work/none.db" --plies "$plies" --count 1
 done
-expect 3 '' "$(failed_at "$work/none.db" "$gone")" puzzles --db "$work/none.db" --plies 3 --count 1
+fails_at "$work/none.db" "$gone" puzzles --db "$work/none.db" --plies 3 --count 1
 expect 1 '' 'dobutsu: E15 Truncated' puzzles --db /dev/null --plies 3 --count 1
 # the board as it is drawn
 expect 0 'The other side: small letters, going down the board.
@@ -332,11 +332,11 @@ expect 0 '~In hand: nothing' '' show --svg "$work/start.svg" 'gle/.c./.C./ELG - 
 if cmp -s "$work/start.svg" docs/start.svg; then good=yes; else good=no; fi
 note "the picture of README is that of the starting position" "$good"
 expect 1 '' 'dobutsu: E7 OtherSet' show --db "$lions" --svg "$work/refused.svg" '..l/.../.../L.. C -'
-expect 3 '' "$(failed_at "$work/none.db" "$gone")" show --db "$work/none.db" --svg "$work/refused.svg" "$position"
+fails_at "$work/none.db" "$gone" show --db "$work/none.db" --svg "$work/refused.svg" "$position"
 expect 1 '' 'dobutsu: E1 Shape' show --svg "$work/refused.svg" ''
 if [ -e "$work/refused.svg" ]; then good=no; else good=yes; fi
 note "a position that isn't shown has no picture" "$good"
-expect 3 '' "$(failed_at "$work/none/picture.svg" "$gone")" show --svg "$work/none/picture.svg" "$position"
+fails_at "$work/none/picture.svg" "$gone" show --svg "$work/none/picture.svg" "$position"
 expect 0 'win 3' '' look --db "$lions" "$position"
 expect 0 'loss 2' '' look '.../.../..l/L.. - -' --db "$lions"
 expect 0 'draw' '' look --db="$lions" '.l./.../.L./... - -'
@@ -349,13 +349,13 @@ expect 1 '' 'dobutsu: E1 Shape' probe --db "$work/none.db" ''
 for given in '' --records; do expect 1 '' 'dobutsu: E1 Shape' line $given --db "$work/none.db" ''; done
 expect 1 '' 'dobutsu: E1 Shape' look --db "$work/none.db" ''
 expect 1 '' 'dobutsu: E6 FarLion' probe --db "$work/none.db" 'L../.../.../..l - -'
-expect 3 '' "$(failed_at "$work/none.db" "$gone")" probe --db "$work/none.db" "$position"
-for given in '' --records; do expect 3 '' "$(failed_at "$work/none.db" "$gone")" line $given --db "$work/none.db" "$position"; done
-expect 3 '' "$(failed_at "$work" "$folder")" line --db "$work" "$position"
-expect 3 '' "$(failed_at "$work/none.db" "$gone")" look --db "$work/none.db" "$position"
-expect 3 '' "$(failed_at "$work" "$folder")" look --db "$work" "$position"
-expect 3 '' "$(failed_at "$work/none.db" "$gone")" check --db "$work/none.db"
-expect 3 '' "$(failed_at "$work" "$folder")" check --db "$work"
+fails_at "$work/none.db" "$gone" probe --db "$work/none.db" "$position"
+for given in '' --records; do fails_at "$work/none.db" "$gone" line $given --db "$work/none.db" "$position"; done
+fails_at "$work" "$folder" line --db "$work" "$position"
+fails_at "$work/none.db" "$gone" look --db "$work/none.db" "$position"
+fails_at "$work" "$folder" look --db "$work" "$position"
+fails_at "$work/none.db" "$gone" check --db "$work/none.db"
+fails_at "$work" "$folder" check --db "$work"
 expect 1 '' 'dobutsu: E15 Truncated' check --db /dev/null
 
 # Files brought to the second format, from either, over what was there and over themselves; a damaged one leaves what was there.
@@ -371,6 +371,60 @@ if cmp -s "$work/migrated.db" "$lions_2"; then good=yes; else good=no; fi
 note "a file migrated over itself" "$good"
 { head -c 12 "$lions_2"; printf '\1'; tail -c +14 "$lions_2"; } >"$work/other_profile.db"
 expect 1 '' 'dobutsu: E20 Digest' migrate --db "$work/other_profile.db" --out "$work/migrated.db"
-expect 3 '' "$(failed_at "$work/none.db" "$gone")" migrate --db "$work/none.db" --out "$work/migrated.db"
+fails_at "$work/none.db" "$gone" migrate --db "$work/none.db" --out "$work/migrated.db"
 if cmp -s "$work/migrated.db" "$lions_2" && [ ! -e "$work/migrated.db.part" ]; then good=yes; else good=no; fi
 note "a file that isn't migrated leaves the one that was there" "$good"
+
+# What a header says. The bytes are those of docs/FORMAT.md and no more than the header, so what comes after it isn't read.
+headed() { printf "$1" >"$work/headed"; }
+lions_header='\0\0\0\2\0\66\0\0\0\0\0\0\0'
+for file in "$lions_2" "$work/headed"; do
+    headed "DOBUTSU2$lions_header"
+    expect 0 'set 000
+rules A
+format 2
+classes 54' '' info "$file"
+    expect 0 '{"set":"000","rules":"A","format":2,"classes":54}' '' info "$file" --json
+done
+headed 'DOBUTSU1\0\0\0\2\66\0\0\0\0\0\0\0'
+expect 0 'set 000
+rules A
+format 1
+classes 54' '' info "$work/headed"
+headed 'DOBUTSU2\2\2\2\2\1\162\53\72\33\0\0\0\0'
+expect 0 '{"set":"222","rules":"B","format":2,"classes":456797042}' '' info --json -- "$work/headed"
+certificate_header='\1\0\0\0\2\0\1\0\0\0\2\0\0\0\0\0\0\0\0\0'
+headed "DOBUCERT$certificate_header"
+expect 0 'position .../.../.../L.l - -
+claim loss 0
+rules A
+entries 0' '' info "$work/headed"
+expect 0 '{"position":".../.../.../L.l - -","claim":"loss 0","rules":"A","entries":0}' '' info "$work/headed" --json
+headed 'DOBUCERT\1\0\0\0\2\1\1\0\0\0\0\0\3\0\0\0\4\0\0\0'
+expect 0 'position .../.../.../L.l - -
+claim draw
+rules B
+entries 7' '' info "$work/headed"
+
+# The first fault of a header, and what is neither a table's nor a certificate's.
+wrong() { headed "$2"; expect 1 '' "dobutsu: $1" info "$work/headed"; }
+wrong 'E15 Truncated' ''
+wrong 'E15 Truncated' 'DOBUCER'
+wrong 'E15 Truncated' 'DOBUTSU1\0\0\0\2\66\0\0\0\0\0\0'
+wrong 'E15 Truncated' 'DOBUTSU2\0\0\0\2\0\66\0\0\0\0\0\0'
+wrong 'E15 Truncated' 'DOBUCERT\1\0\0\0\2\0\1\0\0\0\2\0\0\0\0\0\0\0\0'
+wrong 'E16 Magic' 'DOBUTSU3\0\0\0\2\0\66\0\0\0\0\0\0\0'
+wrong 'E16 Magic' 'dobucert\1\0\0\0\2\0\1\0\0\0\2\0\0\0\0\0\0\0\0\0'
+wrong 'E17 SetByte' 'DOBUTSU2\3\0\0\2\2\66\0\0\0\0\0\0\0'
+wrong 'E17 SetByte' 'DOBUCERT\1\0\0\0\1\2\1\0\0\0\2\0\0\0\0\0\0\0\0\0'
+wrong 'E18 ClassCount' 'DOBUTSU2\0\0\0\2\0\67\0\0\0\0\0\0\0'
+wrong 'E27 ProfileByte' 'DOBUTSU2\0\0\0\2\2\67\0\0\0\0\0\0\0'
+wrong 'E27 ProfileByte' 'DOBUCERT\1\0\0\0\2\2\1\0\0\0\2\0\0\0\0\0\0\0\0\0'
+wrong 'E32 Version' 'DOBUCERT\2\3\0\0\2\0\1\0\0\0\2\0\0\0\0\0\0\0\0\0'
+wrong 'E33 RootClass' 'DOBUCERT\1\0\0\0\2\0\66\0\0\0\2\0\0\0\0\0\0\0\0\0'
+wrong 'E34 ClaimByte' 'DOBUCERT\1\0\0\0\2\0\1\0\0\0\5\0\0\0\0\0\0\0\0\0'
+wrong 'E34 ClaimByte' 'DOBUCERT\1\0\0\0\2\0\1\0\0\0\0\1\0\0\0\0\0\0\0\0'
+wrong 'E35 EntryCount' 'DOBUCERT\1\0\0\0\2\0\1\0\0\0\2\0\67\0\0\0\0\0\0\0'
+wrong 'E35 EntryCount' 'DOBUCERT\1\0\0\0\2\0\1\0\0\0\2\0\0\0\0\0\0\0\0\1'
+fails_at "$work/none.db" "$gone" info "$work/none.db"
+fails_at "$work" "$folder" info "$work"

@@ -20,23 +20,26 @@ refuse --input "$work/lines" probe --db "$lions" --each
 for word in look moves best line; do
     refuse --input "$work/lines" "$word" --db "$lions" --each
 done
-# a build and a picture report out of memory too where they make their file, and leave the file that was there
+# a build and a picture report out of memory too where they make their file, and leave the file that was there; where nothing is refused the file is that
+# of testdata
 cp testdata/one_chick.db "$work/kept.db"
 ./dobutsu show --svg "$work/first.svg" "$position" >"$work/out"
-refuse --keeps "$work/kept.db" build --set 000 --nodes 2 --out "$work/kept.db"
-refuse --keeps "$work/kept.db" migrate --db "$lions" --out "$work/kept.db"
+refuse --keeps "$work/kept.db" --makes "$lions_2" build --set 000 --nodes 2 --out "$work/kept.db"
+refuse --keeps "$work/kept.db" --makes "$lions_2" migrate --db "$lions" --out "$work/kept.db"
 # and so does a certificate; and one is read
 ./dobutsu certify --db "$lions" --out "$work/kept.cert" --exact "$position" >"$work/out"
 refuse --keeps "$work/kept.cert" certify --db "$lions" --out "$work/kept.cert" --exact "$position"
 refuse verify --cert "$work/kept.cert"
 refuse reply --cert "$work/kept.cert" "$position"
 refuse --keeps "$work/first.svg" show --db "$lions" --svg "$work/first.svg" '.../.l./.L./... - -'
-# worlds and crews, whose answers print all that they hold, and a share whose lists have segments of four items
+# worlds and crews, whose answers print all that they hold, and a share whose lists have segments of four items; where nothing is refused the answer is
+# that from outside, the table of lions alone by its numbers
 answers=crates/dob_answers/out/dob_answers
 [ -x "$answers" ] || (cd crates/dob_answers && rt run) </dev/null >/dev/null 2>&1
-for question in 'drive 000 2 2 1 20000' 'alone 000 100000' 'built 000 2 1 1' 'apply 000 53 d>l4 d>w3 w3>w1'; do
+for question in 'drive 000 2 1 2 100000' 'alone 000 100000' 'built 000 2 1 1' 'apply 000 46 d>w7 d>w5 d>l6 w1>l2 d>l6 d>l4'; do
     echo "$question" >"$work/question"
-    refuse --program "$answers" --input "$work/question"
+    paste -d '\n' crates/dob_answers/stdin crates/dob_answers/stdout | grep -xF -A1 -e "$question" | sed 1d >"$work/answer"
+    refuse --program "$answers" --input "$work/question" --tells "$work/answer"
 done
 # a world that stops has the lists of one to which the same has happened, except the event at which it stopped
 tests=crates/dob_tests_nodes/out/dob_tests_nodes_tests

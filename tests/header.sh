@@ -26,10 +26,11 @@ tools/check-faults >"$work/out" || good=no
 note "the faults are called the same everywhere: $(head -1 "$work/out")" "$good"
 for change in 'python/dobutsu/library.py|s/28: "NoMove", //' \
     'python/dobutsu/library.py|s/23: "Memory"/23: "Full"/' 'include/dobutsu.h|s/DOBUTSU_INDEX = 29/DOBUTSU_INDEX = 39/' \
+    'plain/dobutsu_plain.h|s/PLAIN_HAND = 3/PLAIN_HAND = 4/' 'plain/dobutsu_plain.c|s/E24 Io/E24 Device/' \
     'page/wasm.js|s/17: "SetByte"/17: "SetText"/' 'page/core.js|s/E15 Truncated/E16 Truncated/' 'docs/FAULTS.md|s/`E37 EntryOrder`/`E37 Order`/'; do
     IFS='|' read -r file edit <<<"$change"
     rm -rf "$work/named" && mkdir -p "$work/named"
-    cp -r docs include page python "$work/named" && mkdir "$work/named/crates"
+    cp -r docs include page plain python "$work/named" && mkdir "$work/named/crates"
     for crate in crates/*; do mkdir "$work/named/$crate" && cp -r "$crate"/{src,specs} "$work/named/$crate" 2>>"$work/err"; done
     sed "$edit" "$file" >"$work/named/$file"
     good=yes

@@ -1,4 +1,4 @@
-# The page: its values by both rules, its faults, mouse, keys and fingers, all three languages, paper, and that nothing leaves it, in headless Chromium.
+# The page: its scenes, its values by both rules, mouse, keys and fingers, and that nothing leaves it, in headless Chromium; less of it in Firefox.
 # Takes minutes.
 
 # Counts tests that can't be run here, and says why.
@@ -53,17 +53,20 @@ fi
 
 # The page with the proved engine, of which `tools/page` makes the module, and with the plain one.
 if needs chromium wasm-opt; then
+    mkdir "$work/files"
+    export DOBUTSU_FILES="$work/files"
+    add_counts python3 page/test/scenes.py --steady --page "$work/dobutsu.html"
     add_counts python3 page/test/page_test.py "$work/dobutsu.html" "$program"
     if command -v firefox-esr firefox >/dev/null; then
         add_counts python3 page/test/page_test.py "$work/dobutsu.html" "$program" --firefox
     else
-        leave_out 1 'the page in Firefox, since it is not there (apt-get install firefox-esr)'
+        leave_out 2 'the page in Firefox with either engine, since it is not there (apt-get install firefox-esr)'
     fi
     add_counts python3 page/test/planted.py "$program"
     good=no
     if tools/page "$work/proved.html" >"$work/out" 2>&1 && grep -q '^window.DobutsuWasm = ' "$work/proved.html"; then good=yes; fi
     note "tools/page makes the page with the proved engine: $(tail -1 "$work/out")" "$good"
-    add_counts python3 page/test/page_test.py "$work/proved.html" "$program" told faults opening certificates
+    add_counts python3 page/test/page_test.py "$work/proved.html" "$program" told opening certificates certificates/whole_B
     if command -v node >/dev/null; then
         if node page/test/wasm.test.js page/out/dobutsu_web.wasm 500 >"$work/out" 2>&1; then good=yes; else good=no; fi
         note "page/test/wasm.test.js: $(tail -1 "$work/out")" "$good"
@@ -73,4 +76,4 @@ if needs chromium wasm-opt; then
         leave_out 2 'the proved engine against the plain one, and against the program on 2,000 positions of 111 by each of the rules, since Node is not there'
     fi
 fi
-if [ "$left_out" -gt 0 ]; then echo "page: $left_out of 9 tests left out"; fi
+if [ "$left_out" -gt 0 ]; then echo "page: $left_out of 10 tests left out"; fi

@@ -23,7 +23,7 @@ cmp -s "$release/chick.db" testdata/one_chick_2.db || same=no
 rm -f "$release/chick.db"
 ! ldd "$release/dobutsu" >"$work/out" 2>&1 || same=no
 for name in README.md docs/{START,USE,FORMAT,RULES,CLASSES,FAULTS,PROOF,RESULTS}.md PROVED 111.db libdobutsu.pc dobutsu.h dobutsu.html libdobutsu.a \
-    libdobutsu.so dobutsu.1 completions/{dobutsu.bash,_dobutsu,dobutsu.fish}; do
+    libdobutsu.so plain/{README.md,dobutsu_plain.c,dobutsu_plain.h} dobutsu.1 completions/{dobutsu.bash,_dobutsu,dobutsu.fish}; do
     [ -s "$release/$name" ] || same=no
 done
 note "the program of the release, unpacked in an empty folder" "$same"
@@ -41,11 +41,11 @@ good=no
 if python3 tests/release_links.py "$release" >"$work/out" 2>&1; then good=yes; fi
 note "the links of the archive's pages: $(head -1 "$work/out")" "$good"
 # Each example is built by the line in its head, in the archive and in a clone with the library beside it.
-mkdir "$work/clone" && cp -r examples include "$work/clone" && cp "$release/libdobutsu.a" "$work/clone"
+mkdir "$work/clone" && cp -r examples include plain "$work/clone" && cp "$release/libdobutsu.a" "$work/clone"
 for folder in "$release" "$work/clone"; do
     good=yes
-    for example in examples/probe.c examples/puzzles.c examples/search.c examples/solve.c examples/verify.c; do
-        line="$(tr '\n' ' ' <"$example" | grep -o 'cc examples/[^*]* -o [a-z]*')"
+    for example in examples/probe.c examples/puzzles.c examples/search.c examples/solve.c examples/verify.c examples/plain_search.c; do
+        line="$(tr '\n' ' ' <"$example" | grep -o 'cc examples/[^*]* -o [a-z_]*')"
         (cd "$folder" && bash -c "$line" && rm "$(basename "$example" .c)") >"$work/out" 2>&1 || good=no
     done
     note "the examples by the lines in their heads, in $(basename "$folder"): $(head -1 "$work/out")" "$good"

@@ -3,9 +3,15 @@
 start='gle/.c./.C./ELG - -'
 # The positions after each of the four moves of the starting layout.
 answers=('g.e/.cl/.C./ELG - -' 'g.e/lc./.C./ELG - -' '.le/gc./.C./ELG - -' 'gle/.../.c./ELG - c')
+declare -A said=([A]='' [B]=' by rules B') entries=([A]=176436 [B]=148657)
 for rules in A B; do
     certificate="testdata/222_$rules.cert"
-    expect 0 "$start loss within 78" '' verify --cert "$certificate"
+    expect 0 "$start loss within 78${said[$rules]}" '' verify --cert "$certificate"
+    expect 0 "position $start
+claim loss within 78
+rules $rules
+entries ${entries[$rules]}" '' info "$certificate"
+    expect 0 "{\"position\":\"$start\",\"claim\":\"loss within 78\",\"rules\":\"$rules\",\"entries\":${entries[$rules]}}" '' info --json "$certificate"
     if [ "$(wc -c <"$certificate")" -lt 700000 ]; then good=yes; else good=no; fi
     note "$certificate has less than 700 kB" "$good"
     expect 0 'loss within 78' '' reply --cert "$certificate" "$start"

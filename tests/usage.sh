@@ -129,6 +129,11 @@ misused "'a'" verify --cert x a
 misused '--cert <CERT>' reply "$position"
 misused '<POSITION>' reply --cert x
 misused "'--progress'" reply --cert x --progress "$position"
+misused '<FILE>' info
+misused '<FILE>' info --json
+misused "'b'" info a b
+misused "'--db'" info --db a
+misused '--json' info a --json --json
 misused "'b'" check --db a b
 
 # A file that is to be written to a stream of the program.

@@ -40,5 +40,5 @@ loss and draw 1483
 deepest .g./..l/.C./LH. - e  loss 48  loss 44' '' zugzwangs --db "$built"
 
 # files that are none
-expect 3 '' "$(failed_at "$work/none.db" "$gone")" zugzwangs --db "$work/none.db"
+fails_at "$work/none.db" "$gone" zugzwangs --db "$work/none.db"
 expect 1 '' 'dobutsu: E15 Truncated' zugzwangs --db /dev/null --list 1
