@@ -1,9 +1,10 @@
 -- The crew that was run has stopped: it leaves a table, or the fault says why it leaves nothing.
 use Rattle.dob_run.proofs.Common.{subst, sym, refl, ℕ, Err, IfOk, Family, Memory, says_no, Halted, IsUnheld, StopsSo, HaveStopped, IsFailureOf, IsBuilt}
-use Rattle.dob_run.proofs.Common.{HasBuildFault, HasRun, IfErr-weaker, IfOk-weaker}
+use Rattle.dob_run.proofs.Common.{HasBuildFault, IfErr-weaker, IfOk-weaker}
 use Rattle.std.proofs.lemmas.Result.{err_from_is_err_and}
 use Rattle.dob_run.specs.Builds.{Builds}
 use Rattle.dob_run.proofs.CrewEnds.{still_crew, have_stopped, is_built, fault_for, all_let_on, unheld, stops_so, by_crew, without_crew}
+use Rattle.dob_crew.specs.CrewSizes.{AreThese}
 use Rattle.dob_crew.proofs.CrewRunners.{sized}
 use Rattle.dob_run.proofs.build.build_by.Goals as goal
 use Rattle.dob_run.proofs.build.build_by.Goals.{In_ok-classes}
@@ -17,19 +18,19 @@ returns-in_err-classes g c = λ nodes size capacity these.
     (without_crew Says c.args.family c.args.sizes.now.nodes c.args.sizes.now.batch_size c.args.sizes.now.capacity c.args.sizes.now.within)
     )
 
--- the crew has run
-run : (g : _) (c : In_ok-classes g) → HasRun (says_no (g.G.Gate.says c.args.gate.now)) Halted c.args.family c.args.sizes.now.nodes c.args.sizes.now.batch_size
-    c.args.sizes.now.capacity c.in_ok-classes.field-0.board c.in_ok-classes.field-0.runners.items
-run g c = c.in_ok-classes.ensures.ran c.args.sizes.now.nodes c.args.sizes.now.batch_size c.args.sizes.now.capacity (record { nodes = refl; batch_size = refl; capacity = refl })
+-- the sizes are these
+these : (g : _) (c : In_ok-classes g) → AreThese c.args.sizes.now.nodes c.args.sizes.now.batch_size c.args.sizes.now.capacity c.args.sizes.now
+these g c = record { nodes = refl; batch_size = refl; capacity = refl }
 
 pub finish-requires-clause-crew : goal.finish-requires-clause-crew
-finish-requires-clause-crew g c = λ κs lives. still_crew (run g (goal.at.finish-requires-clause-crew g c).In_ok-classes)
+finish-requires-clause-crew g c = λ κs lives.
+    still_crew (c.in_ok-classes.ensures.ran _ _ _ (these g (goal.at.finish-requires-clause-crew g c).In_ok-classes))
 
 pub finish-requires-clause-stopped : goal.finish-requires-clause-stopped
 finish-requires-clause-stopped g c = λ κs lives. (
   c.args.sizes.now.batch_size,
   subst (λ (s : Family). HaveStopped s c.args.sizes.now.batch_size c.in_ok-classes.field-0.runners.items) (sym c.in_ok-classes.ensures.family)
-      (have_stopped (run g (goal.at.finish-requires-clause-stopped g c).In_ok-classes)),
+      (have_stopped (c.in_ok-classes.ensures.ran _ _ _ (these g (goal.at.finish-requires-clause-stopped g c).In_ok-classes))),
 )
 
 pub returns : goal.returns
