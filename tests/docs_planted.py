@@ -18,7 +18,8 @@ def with_planted(path, old, new):
     return page, row.replace(f"`{old}`", f"`{new}`")
 
 
-for path, old, new in ("docs/PROOF.md", "ByTable.antt", "Plays.antt"), ("CONTRIBUTING.md", "listing.rt", "sweep.rt"), ("CONTRIBUTING.md", "count.rt", "share.rt"):
+planted = ("docs/PROOF.md", "ByTable.antt", "Plays.antt"), ("CONTRIBUTING.md", "listing.rt", "sweep.rt"), ("CONTRIBUTING.md", "count.rt", "share.rt")
+for path, old, new in planted:
     assert [*pages.misfiled(*with_planted(path, old, new))], new
 row = with_planted("docs/PROOF.md", "ByTable.antt", "Plays.antt")[1]
 assert [path.name for path in pages.uncounted(row)] == ["Plays.antt"]
