@@ -3,6 +3,9 @@
 good=no
 if tools/check-pages >"$work/out"; then good=yes; fi
 note "tools/check-pages: $(head -1 "$work/out")" "$good"
+good=no
+if python3 tests/docs_planted.py >"$work/out" 2>&1; then good=yes; fi
+note "what tools/check-pages sees: $(tail -1 "$work/out")" "$good"
 # The numbers of docs/CLASSES.md are those of the reader in Python.
 good=no
 if python3 tests/docs_classes.py >"$work/out" 2>&1; then good=yes; fi
@@ -36,6 +39,9 @@ note "tools/results-page --check: $(head -1 "$work/out")" "$good"
 good=no
 if tools/calls dob_moves apply >"$work/out" && grep -q 'HasOutcome' "$work/out" && grep -q 'The position that a move leads to' "$work/out"; then good=yes; fi
 note "tools/calls dob_moves apply: $(head -1 "$work/out")" "$good"
+good=no
+if tools/calls >"$work/out" && grep -q 'finished_right' "$work/out" && grep -q 'AreMoves' "$work/out"; then good=yes; fi
+note "tools/calls: $(head -1 "$work/out")" "$good"
 good=no
 if tools/planted --list dob_world >"$work/out" && grep -q 'last batch first' "$work/out" && grep -q -e ' -- ' "$work/out"; then good=yes; fi
 note "tools/planted --list dob_world: $(head -1 "$work/out")" "$good"
