@@ -1,7 +1,7 @@
 -- Items taken one after the other: looked at before, from lists, and from a queue of which the first ones are taken and gone.
 use Rattle.dob_history.proofs.Common.{◌%◌, ◌++◌, ◌+◌, ◌<◌, ◌∙◌, ◌∷◌, ◌≡◌, ◌≢◌, ◌≤◌, All, All-drop, All-take, AreKept, AreSeen, AreTaken, AreTakenBefore}
 use Rattle.dob_history.proofs.Common.{Cause, Err, Family, HasItemEntries, HistoryView, IfErr, IsErrAnd, IsHistory, IsReason, IsSeen, IsTaken, Item, List}
-use Rattle.dob_history.proofs.Common.{Ok, OnOk, Option, Result, Share, StopsAt, StopsFirst, TakesFirst, [], add-one, ap, append_assoc, arith, cases_eq}
+use Rattle.dob_history.proofs.Common.{Draw, Ok, OnOk, Option, Result, Share, StopsAt, StopsFirst, TakesFirst, [], add-one, ap, append_assoc, arith, cases_eq}
 use Rattle.dob_history.proofs.Common.{drop, drop-append_seam, drop-cons, err_from_is_err_and, get_or, get_or-set_other, get_or-set_same, get_or_default}
 use Rattle.dob_history.proofs.Common.{inl, inr, length, length-append, refl, set, subst, suc, sym, take, take-append-drop, take-append_seam, take-suc, zero}
 use Rattle.dob_history.proofs.Common.{ℕ}
@@ -192,58 +192,69 @@ module _ (queue front back : List Item) (count : ℕ) (share after : Share) (his
 
 -- ---- items looked at before they are taken
 
--- the items from the first up to the end have been looked at
-unfoldable pub AreLooked : ℕ → ℕ → Share → List Item → List (Option Seen) → Type 0
-AreLooked first end share items looks = (place : ℕ) (item : Item) (look : Option Seen) → first ≤ place → place < end →
-    item ≡ get_or items place item → look ≡ get_or looks (place % 16) look → IsSeen share item.to look
+-- for the items from the first up to the end, what stands at the place of each in its group holds of the item's class
+unfoldable pub AreHeld : {A : Type 0} → (ℕ → A → Type 0) → ℕ → ℕ → List Item → List A → Type 0
+AreHeld {A = A} holds first end items held = (place : ℕ) (item : Item) (x : A) → first ≤ place → place < end →
+    item ≡ get_or items place item → x ≡ get_or held (place % 32) x → holds item.to x
 
-pub none_looked : (first : ℕ) (share : Share) (items : List Item) (looks : List (Option Seen)) → AreLooked first first share items looks
-unfolding AreLooked
-none_looked first share items looks place item look from below item_is look_is = absurd (omega arith)
+pub none_held : {A : Type 0} (holds : ℕ → A → Type 0) (first : ℕ) (items : List Item) (held : List A) → AreHeld holds first first items held
+unfolding AreHeld
+none_held holds first items held place item x from below item_is x_is = absurd (omega arith)
 
 -- one more
-pub one_looked : (first end : ℕ) (share : Share) (items : List Item) (looks : List (Option Seen)) (default : Item) (seen : Option Seen) →
-    first % 16 ≡ 0 → end < first + 16 → first ≤ end → end < length items → length looks ≡ 16 → IsSeen share (get_or items end default).to seen →
-    AreLooked first end share items looks → AreLooked first (end + 1) share items (set looks (end % 16) seen)
-unfolding AreLooked
-one_looked first end share items looks default seen starts near from inside whole is so_far place item look after below item_is look_is =
+pub one_held : {A : Type 0} (holds : ℕ → A → Type 0) (first end : ℕ) (items : List Item) (held : List A) (default : Item) (new : A) →
+    first % 32 ≡ 0 → end < first + 32 → first ≤ end → end < length items → length held ≡ 32 → holds (get_or items end default).to new →
+    AreHeld holds first end items held → AreHeld holds first (end + 1) items (set held (end % 32) new)
+unfolding AreHeld
+one_held holds first end items held default new starts near from inside whole is so_far place item x after below item_is x_is =
     elim (cases_eq place end) [
       | inl e ↦
           let same_item : item ≡ get_or items end default = item_is ∙ ap (λ (k : ℕ). get_or items k item) e ∙ get_or_default items end item default inside in
-          let same_look : look ≡ seen = look_is ∙ ap (λ (k : ℕ). get_or (set looks (end % 16) seen) (k % 16) look) e
-          ∙ get_or-set_same looks (end % 16) seen look (omega arith) in
-          rw (same_item, same_look) is
+          let same : x ≡ new = x_is ∙ ap (λ (k : ℕ). get_or (set held (end % 32) new) (k % 32) x) e
+          ∙ get_or-set_same held (end % 32) new x (omega arith) in
+          rw (same_item, same) is
       | inr n ↦
-          let apart : place % 16 ≢ end % 16 = omega arith in
-          so_far place item look after (omega arith) item_is (look_is ∙ get_or-set_other looks (end % 16) (place % 16) seen look apart)
+          let apart : place % 32 ≢ end % 32 = omega arith in
+          so_far place item x after (omega arith) item_is (x_is ∙ get_or-set_other held (end % 32) (place % 32) new x apart)
     ]
-
--- all of the group
-pub group_looked : (first end : ℕ) (share : Share) (items : List Item) (looks : List (Option Seen)) → first % 16 ≡ 0 →
-    ((place : ℕ) → place < length items → place < first + 16 → place < end) →
-    AreLooked first end share items looks → AreSeen first share items looks
-unfolding AreLooked AreSeen
-group_looked first end share items looks starts all looked place item look inside group item_is look_is =
-    looked place item look (omega arith) (all place inside (omega arith)) item_is look_is
 
 read_again : {A : Type 0} (xs : List A) (k : ℕ) (default : A) → get_or xs k default ≡ get_or xs k (get_or xs k default)
 read_again [] k default = refl
 read_again (x ∷ xs) zero default = refl
 read_again (x ∷ xs) (suc k) default = read_again xs k default
 
+-- the one at a place
+pub held_at : {A : Type 0} (holds : ℕ → A → Type 0) (first end : ℕ) (items : List Item) (held : List A) (default : Item) (place : ℕ) (x : A) →
+    AreHeld holds first end items held → first ≤ place → place < end → x ≡ get_or held (place % 32) x → holds (get_or items place default).to x
+unfolding AreHeld
+held_at holds first end items held default place x all from below x_is =
+    all place (get_or items place default) x from below (read_again items place default) x_is
+
+-- all of the group
+pub group_looked : (first end : ℕ) (share : Share) (items : List Item) (looks : List (Option Seen)) → first % 32 ≡ 0 →
+    ((place : ℕ) → place < length items → place < first + 32 → place < end) →
+    AreHeld (IsSeen share) first end items looks → AreSeen first share items looks
+unfolding AreHeld AreSeen
+group_looked first end share items looks starts all looked place item look inside group item_is look_is =
+    looked place item look (omega arith) (all place inside (omega arith)) item_is look_is
+
+-- an item of no class, where a list has none
+pub no_item : Item
+no_item = record { number = 0; to = 0; was = Draw; now = Draw }
+
 -- what has been seen of the item that is next
 pub seen_next : (next k : ℕ) (share : Share) (items : List Item) (looks : List (Option Seen)) (item : Item) (look : Option Seen) → next ≡ k →
-    AreSeen next share items looks → k < length items → IsSeen share (get_or items k item).to (get_or looks (next % 16) look)
+    AreSeen next share items looks → k < length items → IsSeen share (get_or items k item).to (get_or looks (next % 32) look)
 unfolding AreSeen
 seen_next next k share items looks item look same seen inside =
-    seen next (get_or items k item) (get_or looks (next % 16) look) (omega arith) refl
+    seen next (get_or items k item) (get_or looks (next % 32) look) (omega arith) refl
     (ap (λ (j : ℕ). get_or items j item) (sym same) ∙ read_again items next item ∙ ap (λ (j : ℕ). get_or items next (get_or items j item)) same)
-    (read_again looks (next % 16) look)
+    (read_again looks (next % 32) look)
 
 -- behind it
 pub seen_behind : (next : ℕ) (share after : Share) (items : List Item) (looks : List (Option Seen)) →
     ((class : ℕ) (look : Option Seen) → IsSeen share class look → IsSeen after class look) → AreSeen next share items looks →
-    0 < (next + 1) % 16 → AreSeen (next + 1) after items looks
+    0 < (next + 1) % 32 → AreSeen (next + 1) after items looks
 unfolding AreSeen
 seen_behind next share after items looks still seen within place item look inside group item_is look_is =
     still item.to look (seen place item look inside (omega arith) item_is look_is)

@@ -12,7 +12,7 @@ use dob_stops::Cause;
 use std::collections::VecDeque;
 
 /// How many items' classes are looked at before the first of the items is applied, so that the memory of all is read at once.
-const AHEAD: usize = 16;
+const AHEAD: usize = 32;
 
 /// Applies the items in order, as `History::take_seen` does each, and says how many.
 ///
@@ -46,19 +46,24 @@ pub fn take_items(
     Ok(())
 }
 
-// Looks at the classes of the item at that place and of those behind it in its group, where it is the first of the group.
+// Looks at the classes of the item at that place and of those behind it in its group, where it is the first of the group: for the
+// numbers of all their cells first, and then at the cells, each time at memory that no other look waits for.
 fn look_ahead(share: &Share, items: &[Item], next: usize, looks: &mut [Option<Seen>; AHEAD])
     requires next { next < length items.now }
-    requires seen { 0 < next % 16 → AreSeen next share.now items.now looks.old }
+    requires seen { 0 < next % 32 → AreSeen next share.now items.now looks.old }
     ensures { AreSeen next share.now items.now looks.new }
 {
     if next % AHEAD > 0 {
         return;
     }
     let end = (next + AHEAD).min(items.len());
+    let mut numbers = [None; AHEAD];
     for place in next..end {
         let item = items[place];
-        looks[place % AHEAD] = share.see(item.to);
+        numbers[place % AHEAD] = share.cell_number(item.to);
+    }
+    for place in next..end {
+        looks[place % AHEAD] = share.see_cell(numbers[place % AHEAD]);
     }
 }
 
@@ -105,10 +110,14 @@ fn take_front(
     answer
 }
 
-// Drops the first `count` items of the queue.
+// Drops the first `count` items of the queue, which mostly are all.
 fn drop_first(queue: &mut VecDeque<Item>, count: usize)
     ensures { queue.new.items ≡ drop count queue.old.items }
 {
+    if count == queue.len() {
+        queue.clear();
+        return;
+    }
     for _ in 0..count {
         queue.pop_front();
     }

@@ -138,7 +138,7 @@ impl Node {
         noted(&mut self.failed, self.core.apply_own())
     }
 
-    /// Applies all own items in order, as `apply_own` does each. It looks at the classes of 16 items before it applies the first of these.
+    /// Applies all own items in order, as `apply_own` does each. It looks at the classes of 32 items before it applies the first of these.
     ///
     /// # Errors
     ///

@@ -175,8 +175,8 @@ impl Runner {
     }
 
     // A turn's work: at most one batch is applied; settlements are expanded until as many items are made as
-    // a batch holds, none on a level that the pace doesn't allow, and the own items are applied; and at most one batch is sent to
-    // each node. Whether anything was done.
+    // a batch holds, or a quarter of that if one was applied, none on a level that the pace doesn't allow, and the own items are
+    // applied; and at most one batch is sent to each node. Whether anything was done.
     pub(crate) fn work<R: Wait>(&mut self, rt: &R, classes: &Classes) -> Result<bool, Cause>
         requires unfailed { self.old.failed ≡ None }
         requires family { classes.now.family ≡ self.old.family }
@@ -185,7 +185,7 @@ impl Runner {
         let took = self.take_one(rt)?;
         let level = self.level();
         let limit = self.hear(level);
-        let expanded = self.expand_all(classes, limit)?;
+        let expanded = self.expand_all(classes, limit, took)?;
         let applied = self.apply_all()?;
         let small = self.sends_small(took, level, limit);
         let sent = self.send_all(rt, small)?;

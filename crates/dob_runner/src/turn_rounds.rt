@@ -1,5 +1,5 @@
 // The rounds of a runner's turn: over all nodes, and over what there is to expand and to apply.
-ghost use Rattle.std.specs.Prelude.{◌≡◌, ◌↔◌, ◌<◌, IsTrue, None};
+ghost use Rattle.std.specs.Prelude.{◌≡◌, ◌↔◌, ◌<◌, ◌≤◌, IsTrue, None};
 ghost use Rattle.dob_runner.specs.Runners.{StepsBy};
 ghost use Rattle.dob_runner.specs.TurnRounds.{HoldsUp, IsHeldUp, ExpandsSome, AppliesAllOwn, SendsAll};
 
@@ -7,12 +7,19 @@ use crate::runner::Runner;
 use crate::turn_steps::fail_for;
 use dob_classes::Classes;
 use dob_node::Cause;
+use dob_update::BatchSize;
 use std::sync::Wait;
 
 impl Runner {
-    // Expands settlements up to that level until as many items are made as a batch holds, or the next one is above it, or nothing is
-    // left to expand; none if a batch can't be sent and another whole one is left for the same node. Whether any was expanded.
-    pub(crate) fn expand_all(&mut self, classes: &Classes, limit: u16) -> Result<bool, Cause>
+    // Expands settlements up to that level until as many items are made as a turn is to make that took a batch or didn't, or the next
+    // one is above it, or nothing is left to expand; none if a batch can't be sent and another whole one is left for the same node.
+    // Whether any was expanded.
+    pub(crate) fn expand_all(
+        &mut self,
+        classes: &Classes,
+        limit: u16,
+        took: bool,
+    ) -> Result<bool, Cause>
         requires unfailed { self.old.failed ≡ None }
         requires family { classes.now.family ≡ self.old.family }
         ensures { StepsBy (ExpandsSome limit) self.old self.new result }
@@ -23,7 +30,9 @@ impl Runner {
         if self.is_above(limit) {
             return Ok(false);
         }
-        let enough = self.left().saturating_add(self.batch_size.get());
+        let enough = self
+            .left()
+            .saturating_add(turn_items(self.batch_size, took));
         let any = self.expand_one(classes)?;
         if !any {
             return Ok(false);
@@ -102,4 +111,12 @@ impl Runner {
         }
         left
     }
+}
+
+// How many items a turn is to make: as many as a batch holds; a quarter of that if it took a batch, so that the next one is soon taken
+// and the inboxes of the crew stay short.
+fn turn_items(size: BatchSize, took: bool) -> usize
+    ensures { result ≤ size }
+{
+    if took { size.get() / 4 } else { size.get() }
 }

@@ -7,7 +7,7 @@ use Rattle.std.proofs.Props.{props}
 use Rattle.dob_share.specs.declared.news.Item.{Item}
 use Rattle.dob_share.specs.declared.news.Settlement.{Settlement}
 use Rattle.dob_share.specs.declared.share.Seen.{Seen}
-use Rattle.dob_share.specs.Shares.{IsSeen, HasValueNow, Fits, GoesTooDeep, SameClasses, HasSettled, IsApplication}
+use Rattle.dob_share.specs.Shares.{IsCellNumber, IsSeen, HasValueNow, Fits, GoesTooDeep, SameClasses, HasSettled, IsApplication}
 use Rattle.dob_share.proofs.Applied.{CellValue-same, read, same_itself}
 use Rattle.dob_share.proofs.Words.{open_at_open, rank_less, rank_same}
 use Rattle.dob_share.proofs.Growing.{no_worse}
@@ -47,11 +47,25 @@ place_within share class look seen e is =
     let here = seen_here share class look seen e is in
     (number_within share class seen.place here.0 here.1, here.2)
 
-pub seen_some : (share : Share) (class place : ℕ) (slot : Slot) → IsOwnOpen share class → place ≡ open_number share class →
+-- the class whose cell has the number is open
+numbered : (share : Share) (class place : ℕ) (number : Option ℕ) → number ≡ Some place → IsCellNumber share class number →
+    IsOwnOpen share class × (place ≡ open_number share class)
+unfolding IsCellNumber
+numbered share class place number e is = rw e at is
+
+pub numbered_within : (share : Share) (class place : ℕ) (number : Option ℕ) → number ≡ Some place → IsCellNumber share class number →
+    place < length share.slots
+numbered_within share class place number e is =
+    let here = numbered share class place number e is in
+    number_within share class place here.0 here.1
+
+-- what is seen of it, by the number
+pub seen_some : (share : Share) (class place : ℕ) (number : Option ℕ) (slot : Slot) → number ≡ Some place → IsCellNumber share class number →
     slot ≡ get_or share.slots place slot → IsSeen share class (Some (record { place = place; start = slot.start }))
 unfolding IsSeen
-seen_some share class place slot open_here is read_is =
-    (open_here, is, ap (λ s. s.start) (read share.slots share.pool place slot (number_within share class place open_here is) read_is))
+seen_some share class place number slot e is read_is =
+    let here = numbered share class place number e is in
+    (here.0, here.1, ap (λ s. s.start) (read share.slots share.pool place slot (number_within share class place here.0 here.1) read_is))
 
 -- with the same owner and the same statuses the classes are the same
 classes_same : (old new : Share) → new.id ≡ old.id → new.nodes ≡ old.nodes → new.statuses ≡ old.statuses → SameClasses old new
@@ -74,9 +88,9 @@ number_same : (old new : Share) → new.nodes ≡ old.nodes → new.statuses ≡
 unfolding open_number
 number_same old new n_same same class = rw (n_same, same) refl
 
-pub seen_not : (share : Share) (class : ℕ) → (IsOwnOpen share class → ⊥) → IsSeen share class None
-unfolding IsSeen
-seen_not share class not = not
+pub seen_not : (share : Share) (class : ℕ) (number : Option ℕ) → number ≡ None → IsCellNumber share class number → IsSeen share class None
+unfolding IsCellNumber IsSeen
+seen_not share class number e is = rw e at is
 
 cell_form : (share : Share) (class : ℕ) →
     cell_at share class ≡ cell_where (open_at share.statuses.words (class / share.nodes)) (cell_in share.slots share.pool (open_number share class))

@@ -88,6 +88,10 @@ pub record SameClasses (old new : Share) : Type 0 where
 unfoldable pub IsOwnOpen : Share → ℕ → Type 0
 IsOwnOpen share class = IsOwn share class × (status_at share class ≡ Open)
 
+-- the number of the class's cell, where it is the share's own and open
+unfoldable pub IsCellNumber : Share → ℕ → Option ℕ → Type 0
+IsCellNumber share class number = MatchOption number (¬ IsOwnOpen share class) (λ cell. IsOwnOpen share class × (cell ≡ open_number share class))
+
 -- what is seen of the class ahead of its items: its cell's number, and where its run begins, where it is the share's own and open
 unfoldable pub IsSeen : Share → ℕ → Option Seen → Type 0
 IsSeen share class look = MatchOption look (¬ IsOwnOpen share class)

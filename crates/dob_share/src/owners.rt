@@ -11,55 +11,46 @@ pub fn owner(class: u64, n: usize) -> usize
     rest(class, n as u64) as usize
 }
 
-/// The remainder of a number by a number of nodes. A ring has at most 16, and a division by each of these takes no
-/// instruction that divides.
+/// The remainder of a number by a number of nodes.
 pub fn rest(number: u64, nodes: u64) -> u64
     requires { 0 < nodes }
     ensures { result ≡ number % nodes }
 {
-    match nodes {
-        1 => number % 1,
-        2 => number % 2,
-        3 => number % 3,
-        4 => number % 4,
-        5 => number % 5,
-        6 => number % 6,
-        7 => number % 7,
-        8 => number % 8,
-        9 => number % 9,
-        10 => number % 10,
-        11 => number % 11,
-        12 => number % 12,
-        13 => number % 13,
-        14 => number % 14,
-        15 => number % 15,
-        16 => number % 16,
-        _ => number % nodes,
-    }
+    divide(number, nodes).1
 }
 
-/// The quotient of a number by a number of nodes, found likewise.
+/// The quotient of a number by a number of nodes.
 pub fn quotient(number: u64, nodes: u64) -> u64
     requires { 0 < nodes }
     ensures { result ≡ number / nodes }
 {
+    divide(number, nodes).0
+}
+
+/// The quotient and the remainder of a number by a number of nodes. A ring has at most 16, and a division by each of these takes no
+/// instruction that divides.
+pub fn divide(number: u64, nodes: u64) -> (u64, u64)
+    requires { 0 < nodes }
+    ensures quotient { result.0 ≡ number / nodes }
+    ensures rest { result.1 ≡ number % nodes }
+{
     match nodes {
-        1 => number / 1,
-        2 => number / 2,
-        3 => number / 3,
-        4 => number / 4,
-        5 => number / 5,
-        6 => number / 6,
-        7 => number / 7,
-        8 => number / 8,
-        9 => number / 9,
-        10 => number / 10,
-        11 => number / 11,
-        12 => number / 12,
-        13 => number / 13,
-        14 => number / 14,
-        15 => number / 15,
-        16 => number / 16,
-        _ => number / nodes,
+        1 => (number / 1, number % 1),
+        2 => (number / 2, number % 2),
+        3 => (number / 3, number % 3),
+        4 => (number / 4, number % 4),
+        5 => (number / 5, number % 5),
+        6 => (number / 6, number % 6),
+        7 => (number / 7, number % 7),
+        8 => (number / 8, number % 8),
+        9 => (number / 9, number % 9),
+        10 => (number / 10, number % 10),
+        11 => (number / 11, number % 11),
+        12 => (number / 12, number % 12),
+        13 => (number / 13, number % 13),
+        14 => (number / 14, number % 14),
+        15 => (number / 15, number % 15),
+        16 => (number / 16, number % 16),
+        _ => (number / nodes, number % nodes),
     }
 }

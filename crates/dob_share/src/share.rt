@@ -14,7 +14,7 @@ use crate::fault::Fault;
 use crate::listed::opening_at;
 use crate::news::{Item, Settlement};
 use crate::opening::Opening;
-use crate::owners::{quotient, rest};
+use crate::owners::{divide, quotient};
 use crate::statuses::Statuses;
 use crate::steps::{apply_at, value_in};
 use dob_distance::Value;
@@ -49,7 +49,7 @@ pub struct Share {
 impl Share {
     ghost use Rattle.std.specs.Prelude.{Option};
     ghost use Rattle.dob_share.specs.declared.share.Seen.{Seen};
-    ghost use Rattle.dob_share.specs.Shares.{places_of, IsOwn, IsNewShare, IsNewByOwn, HasValueNow, IsOwnOpen, IsSeen, IsApplication, open_number};
+    ghost use Rattle.dob_share.specs.Shares.{places_of, IsOwn, IsNewShare, IsNewByOwn, HasValueNow, IsCellNumber, IsSeen, IsApplication};
 
     /// The share of owner `id` among `nodes`, of the classes that are listed, with what each is at the start. Only open
     /// classes have cells. It makes all the room that `apply` will need, in segments as long as those of the list.
@@ -237,23 +237,30 @@ impl Share {
     pub fn see(&self, class: u64) -> Option<Seen>
         ensures { IsSeen self.now class result }
     {
-        let Some(place) = self.cell_number(class) else {
+        self.see_cell(self.cell_number(class))
+    }
+
+    /// What `see` finds of a class, by the number that `cell_number` gave of it.
+    pub fn see_cell(&self, number: Option<usize>) -> Option<Seen>
+        requires { (class : ℕ) × IsCellNumber self.now class number }
+        ensures { (class : ℕ) → IsCellNumber self.now class number → IsSeen self.now class result }
+    {
+        let Some(place) = number else {
             return None;
         };
         let start = self.slots[place].start;
         Some(Seen { place, start })
     }
 
-    // The number of the cell of an own class that is open.
-    #[tactic(auto, unfolding(crate::specs::Shares::IsOwn, crate::specs::Shares::status_at, crate::specs::Shares::IsOwnOpen, crate::specs::Shares::open_number))]
-    fn cell_number(&self, class: u64) -> Option<usize>
-        ensures { MatchOption result (¬ IsOwnOpen self.now class) (λ number. IsOwnOpen self.now class × (number ≡ open_number self.now class)) }
+    /// The number of the cell of an own class that is open, for which no cell is read; none of any other class.
+    #[tactic(auto, unfolding(crate::specs::Shares::IsOwn, crate::specs::Shares::status_at, crate::specs::Shares::IsOwnOpen, crate::specs::Shares::open_number, crate::specs::Shares::IsCellNumber))]
+    pub fn cell_number(&self, class: u64) -> Option<usize>
+        ensures { IsCellNumber self.now class result }
     {
-        let nodes = self.nodes.get() as u64;
-        if rest(class, nodes) != self.id as u64 {
+        let (place, owner) = divide(class, self.nodes.get() as u64);
+        if owner != self.id as u64 {
             return None;
         }
-        let place = quotient(class, nodes);
         if place >= self.statuses.places() {
             return None;
         }

@@ -9,5 +9,5 @@ invariant-loop-item l = record {
   room : l.initial.history.room ≤ l.history.room + l.item-index;
   kept : (family : Family) → AreKept family l.initial.share.nodes l.initial.share.id l.initial.share l.initial.history →
       AreKept family l.initial.share.nodes l.initial.share.id l.share l.history;
-  seen : 0 < l.item-index % 16 → AreSeen l.item-index l.share l.items l.looks;
+  seen : 0 < l.item-index % 32 → AreSeen l.item-index l.share l.items l.looks;
 }

@@ -1,12 +1,8 @@
--- What is seen is the number that was found, and where the run begins that stands there.
-use Rattle.dob_share.proofs.Owning.{number_within, seen_not, seen_some}
+-- What is seen of the class, by its cell's number.
 use Rattle.dob_share.proofs.share.Share.see.Goals as goal
 
-pub returns-in_default : goal.returns-in_default
-returns-in_default c = seen_not c.args.self.now c.args.class c.in_default.ensures
-
-pub index-requires : goal.index-requires
-index-requires c = number_within c.args.self.now c.args.class c.in-Some.place c.in-Some.ensures.0 c.in-Some.ensures.1
+pub see_cell-requires : goal.see_cell-requires
+see_cell-requires c = (c.args.class, c.cell_number.ensures)
 
 pub returns : goal.returns
-returns c = seen_some c.args.self.now c.args.class c.in-Some.place c.index.result.now c.in-Some.ensures.0 c.in-Some.ensures.1 c.index.ensures
+returns c = c.see_cell.ensures c.args.class c.cell_number.ensures
