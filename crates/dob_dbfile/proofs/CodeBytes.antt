@@ -1,26 +1,12 @@
 -- Records as the bytes of codes and of values, whole and in pieces.
-use Rattle.dob_dbfile.proofs.Common.{◌%◌, ◌*◌, ◌++◌, ◌+◌, ◌/◌, ◌<◌, ◌∙◌, ◌∷◌, ◌≡◌, ◌≤◌, List, Some, [], add-one, ap, append-nil, append_assoc, arith, drop}
-use Rattle.dob_dbfile.proofs.Common.{length, length-drop, length-take-le, refl, slice_get, slice_index, suc, sym, take, take-add, zero, ℕ, take-append-drop}
-use Rattle.dob_dbfile.proofs.Common.{flat_map-append, All-tail, All, flat_map, little_bytes, little_number, code_of_value, value_at_distance, value_of_code}
+use Rattle.dob_dbfile.proofs.Common.{◌%◌, ◌*◌, ◌++◌, ◌+◌, ◌/◌, ◌<◌, ◌∙◌, ◌∷◌, ◌≡◌, ◌≤◌, List, [], add-one, ap, append-nil, append_assoc, arith, drop}
+use Rattle.dob_dbfile.proofs.Common.{length, length-drop, length-take-le, refl, slice_index, suc, sym, take, take-add, zero, ℕ, take-append-drop}
+use Rattle.dob_dbfile.proofs.Common.{flat_map-append, All-tail, All, little_bytes, little_number, code_of_value, value_at_distance, value_of_code}
 use Rattle.dob_dbfile.proofs.Common.{values_of_codes, IsEntry, Value, code_bytes, records}
-use Rattle.std.proofs.lemmas.List.{take_more, get_or-drop}
-use Rattle.std.proofs.lemmas.Option.{get_or_from_slice_get}
+use Rattle.std.proofs.lemmas.List.{get_or-drop}
 use Rattle.dob_distance.specs.declared.value.Value.TheVariants.{Win, Loss, Draw}
 
 -- ---- records and the codes that they are
-
--- the bytes of one item more
-flat_more : {X : Type 0} (bytes : X → List ℕ) (xs : List X) (place : ℕ) (x : X) → place < length xs → slice_get xs place ≡ Some x
-    → flat_map bytes (take (place + 1) xs) ≡ flat_map bytes (take place xs) ++ bytes x
-flat_more {X} bytes xs place x below there =
-    ap (flat_map bytes) (take_more xs place x below ∙ ap (λ (y : X). take place xs ++ y ∷ []) (get_or_from_slice_get xs place x x there))
-    ∙ flat_map-append bytes (take place xs) (x ∷ [])
-    ∙ ap (λ (last : List ℕ). flat_map bytes (take place xs) ++ last) (append-nil (bytes x))
-
--- the records of one class more
-pub records_more : (values : List Value) (class : ℕ) (value : Value) → class < length values → slice_get values class ≡ Some value
-    → records (take (class + 1) values) ≡ records (take class values) ++ little_bytes 2 (code_of_value value)
-records_more = flat_more (λ (v : Value). little_bytes 2 (code_of_value v))
 
 -- a value has its code
 code_of_distance : (plies : ℕ) → code_of_value (value_at_distance plies) ≡ plies + 1
@@ -105,18 +91,18 @@ length-records (value ∷ values) = let rest = length-records values in omega (a
 
 -- ---- the records in pieces
 
--- the records of the first classes, and of the others
-pub records_front : (values : List Value) (count : ℕ) → records values ≡ records (take count values) ++ records (drop count values)
-records_front values count =
-    ap records (sym (take-append-drop count values)) ∙ flat_map-append (λ (v : Value). little_bytes 2 (code_of_value v)) (take count values) (drop count values)
+pub length-code_bytes : (codes : List ℕ) → length (code_bytes codes) ≡ 2 * length codes
+length-code_bytes [] = refl
+length-code_bytes (code ∷ codes) = let rest = length-code_bytes codes in omega (arith, rest)
 
--- where a piece goes on from the first classes up to others
-pub records_part : (values : List Value) (first end : ℕ) (piece : List ℕ) → records (take first values) ++ piece ≡ records (take end values)
-    → records values ≡ records (take first values) ++ (piece ++ records (drop end values))
-records_part values first end piece joined =
-    records_front values end
-    ∙ ap (λ (front : List ℕ). front ++ records (drop end values)) (sym joined)
-    ∙ append_assoc (records (take first values)) piece (records (drop end values))
+-- where a piece goes on from the first codes up to others
+pub codes_part : (codes : List ℕ) (first end : ℕ) (piece : List ℕ) → code_bytes (take first codes) ++ piece ≡ code_bytes (take end codes)
+    → code_bytes codes ≡ code_bytes (take first codes) ++ (piece ++ code_bytes (drop end codes))
+codes_part codes first end piece joined =
+    ap code_bytes (sym (take-append-drop end codes))
+    ∙ flat_map-append (λ (code : ℕ). little_bytes 2 code) (take end codes) (drop end codes)
+    ∙ ap (λ (front : List ℕ). front ++ code_bytes (drop end codes)) (sym joined)
+    ∙ append_assoc (code_bytes (take first codes)) piece (code_bytes (drop end codes))
 
-pub records_len : (values : List Value) (count : ℕ) → count ≤ length values → length (records (take count values)) ≡ 2 * count
-records_len values count within = length-records (take count values) ∙ ap (λ (n : ℕ). 2 * n) (length-take-le count values within)
+pub codes_len : (codes : List ℕ) (count : ℕ) → count ≤ length codes → length (code_bytes (take count codes)) ≡ 2 * count
+codes_len codes count within = length-code_bytes (take count codes) ∙ ap (λ (n : ℕ). 2 * n) (length-take-le count codes within)

@@ -31,7 +31,6 @@ unfoldable pub use Rattle.dob_dbfile.specs.Format.{contents_in, digest_of}
 pub use Rattle.dob_dbfile.specs.Looking.{HasFrontFault, HasRecord, RecordsAreEntries, place_of}
 pub use Rattle.dob_dbfile.specs.Reading.{EndsWith, GivesFewer, HasDigestFault, HasRestFault, HashesNext, IsDigest, ReadsCodes, TakesBytes}
 pub use Rattle.dob_device.specs.Sinks.{Puts, SinkState, StopsAfter, Writes, change}
-pub use Rattle.dob_dbfile.specs.Writing.{Hashes}
 pub use Rattle.dob_dbfile.specs.declared.fault.Fault.{Fault}
 pub use Rattle.dob_dbfile.specs.declared.header.Format.{Format}
 pub use Rattle.dob_dbfile.specs.declared.header.Format.TheVariants.{First, Second}

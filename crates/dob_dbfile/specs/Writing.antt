@@ -1,7 +1,5 @@
--- What a sink has of a file where writing stops, and what goes into a digest.
-use Rattle.std.specs.Prelude.{◌≡◌, ◌+◌, ◌++◌, List, ℕ}
-use Rattle.sha2.specs.Hashers.{Holds256}
-use Rattle.sha2.specs.declared.Sha256.{Sha256}
+-- What a sink has of a file where writing stops.
+use Rattle.std.specs.Prelude.{◌≡◌, ◌+◌, List, ℕ}
 use Rattle.dob_device.specs.declared.device.FailedAfter.{FailedAfter}
 use Rattle.dob_dbfile.specs.declared.fault.Fault.{Fault}
 use Rattle.dob_dbfile.specs.declared.fault.Fault.TheVariants.{Memory, Io}
@@ -16,7 +14,3 @@ WriteStopsAt c bytes _ = ⊥
 -- it has received just the first of those bytes, as many as the failure says where so many were counted before
 abbrev pub StopsBehind : Change → ℕ → List ℕ → FailedAfter → Type 0
 StopsBehind c before bytes failed = (count : ℕ) × (failed.bytes ≡ before + count) × StopsAfter c bytes count
-
--- the hasher has taken the bytes
-abbrev pub Hashes : Sha256 → List ℕ → Sha256 → Type 0
-Hashes old bytes new = (message : List ℕ) → Holds256 old message → Holds256 new (message ++ bytes)

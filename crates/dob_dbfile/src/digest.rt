@@ -1,11 +1,10 @@
 // The digest that ends a table's file: of its header and of the records of its values, part after part, before anything of it is written.
-ghost use Rattle.std.specs.Prelude.{◌≡◌, ◌++◌, ◌≤◌, ◌<◌, ◌^◌, ℕ, List, [], length, vec_capacity, IfOk};
-ghost use Rattle.dob_value.specs.Follows.{IsTable};
-ghost use Rattle.dob_dbfile.specs.Format.{code_bytes, digest_of, front_of, records};
-ghost use Rattle.dob_dbfile.specs.Writing.{Hashes};
+ghost use Rattle.std.specs.Prelude.{◌≡◌, ◌≤◌, ℕ, List, [], length, take, vec_capacity, IfOk};
+ghost use Rattle.dob_dbfile.specs.Format.{digest_of, front_of};
 
 use crate::header::push_header;
-use crate::records::{PIECE_LEN, PIECE_RECORDS, put_codes, put_records};
+use crate::records::{PIECE_LEN, PIECE_RECORDS, put_records};
+use dob_lists::Segments;
 use dob_pieces::{Family, Memory};
 use dob_value::Table;
 use sha2::{Digest, Sha256};
@@ -41,16 +40,23 @@ impl FileHasher {
         Ok(FileHasher { hasher, piece })
     }
 
-    /// Takes the codes of the next classes.
-    pub fn with(self, codes: &[u16]) -> FileHasher
-        ensures { (family : Known) (count : ℕ) (before : List ℕ) → HasTaken self family count before
-            → HasTaken result family count (before ++ codes.now) }
+    /// Takes the codes from the first on, when those before it are taken.
+    pub fn with(self, codes: &Segments<u16>, first: u64) -> FileHasher
+        requires { first ≤ length codes.now }
+        ensures { (family : Known) (count : ℕ) → HasTaken self family count (take first codes.now) → HasTaken result family count codes.now }
     {
         let FileHasher {
             mut hasher,
             mut piece,
         } = self;
-        hash_codes(&mut hasher, &mut piece, codes);
+        let count = codes.len();
+        let mut class = first;
+        'pieces: while class < count {
+            let end = count.min(class + PIECE_RECORDS);
+            put_records(&mut piece, codes, class, end);
+            hasher.update(&piece);
+            class = end;
+        }
         FileHasher { hasher, piece }
     }
 
@@ -72,12 +78,8 @@ impl FileHasher {
 pub fn digest_of(alloc: Global, table: &Table) -> Result<[u8; 32], Memory>
     ensures { IfOk result (λ digest. digest ≡ digest_of table.now) }
 {
-    let mut piece = header_piece(alloc, table.family(), table.class_count())?;
-    let mut hasher = Sha256::new();
-    hasher.update(&piece);
-    let count = table.classes().class_count();
-    hash_records(&mut hasher, &mut piece, table, count);
-    Ok(hasher.finalize())
+    let hasher = FileHasher::begin(alloc, table.family(), table.class_count())?;
+    Ok(hasher.with(table.codes(), 0).end())
 }
 
 /// The header of the file of a table of the family, which has that many classes, in a piece that has room for the records that are written
@@ -89,36 +91,4 @@ pub(crate) fn header_piece(alloc: Global, family: Family, count: u64) -> Result<
     let mut piece = Vec::with_capacity(alloc, PIECE_LEN)?;
     push_header(&mut piece, family, count)?;
     Ok(piece)
-}
-
-// Hashes the records that the codes are, piece after piece.
-fn hash_codes(hasher: &mut Sha256, piece: &mut Vec<u8>, codes: &[u16])
-    requires { 4096 ≤ vec_capacity piece.old }
-    ensures hashed { Hashes hasher.old (code_bytes codes.now) hasher.new }
-    ensures room { 4096 ≤ vec_capacity piece.new }
-{
-    let mut done = 0;
-    'pieces: while done < codes.len() {
-        let end = codes.len().min(done + PIECE_RECORDS as usize);
-        put_codes(piece, codes, done, end);
-        hasher.update(&*piece);
-        done = end;
-    }
-}
-
-// Hashes the records of the table's `count` classes, piece after piece.
-fn hash_records(hasher: &mut Sha256, piece: &mut Vec<u8>, table: &Table, count: u64)
-    requires table { IsTable table.now.family table.now.values }
-    requires counted { count ≡ length table.now.values }
-    requires few { count < 2 ^ 31 }
-    requires room { 4096 ≤ vec_capacity piece.old }
-    ensures { Hashes hasher.old (records table.now.values) hasher.new }
-{
-    let mut class = 0;
-    'pieces: while class < count {
-        let end = count.min(class + PIECE_RECORDS);
-        put_records(piece, table, class, end);
-        hasher.update(&*piece);
-        class = end;
-    }
 }

@@ -2,12 +2,12 @@
 ghost use Rattle.std.specs.Prelude.{◌≡◌, ℕ, List, ◌+◌, ◌*◌, ◌%◌, ◌-◌, ◌<◌, ◌≤◌, ◌++◌, length, take, vec_capacity, vec_len, All, IfOk, OnOk};
 ghost use Rattle.byteorder.specs.Endian.{little_bytes};
 ghost use Rattle.dob_distance.specs.Codes.{code_of_value, IsEntry};
-ghost use Rattle.dob_dbfile.specs.Format.{code_bytes, records};
+ghost use Rattle.dob_dbfile.specs.Format.{code_bytes};
 
 use byteorder::{ByteOrder, LittleEndian};
 use dob_lists::Segments;
 use dob_pieces::Memory;
-use dob_value::{Table, Value, code_of_value, value_of_code};
+use dob_value::{Value, value_of_code};
 use std::alloc::Global;
 
 /// How many bytes a record has.
@@ -39,23 +39,8 @@ fn push_record(bytes: &mut Vec<u8>, code: u16)
     bytes.push_reserved(record[1]);
 }
 
-/// Puts the records of the table's classes from the first on, up to the end, in place of the bytes, which have room for them.
-pub(crate) fn put_records(bytes: &mut Vec<u8>, table: &Table, first: u64, end: u64)
-    requires entries { All IsEntry table.now.values }
-    requires order { first ≤ end }
-    requires within { end ≤ length table.now.values }
-    requires room { 2 * (end - first) ≤ vec_capacity bytes.old }
-    ensures records { records (take first table.now.values) ++ bytes.new.items ≡ records (take end table.now.values) }
-    ensures capacity { vec_capacity bytes.old ≤ vec_capacity bytes.new }
-{
-    bytes.clear();
-    for class in first..end {
-        push_record(bytes, code_of_value(table.value(class)));
-    }
-}
-
 /// Puts the records that the codes from the first on are, up to the end, in place of the bytes, which have room for them.
-pub(crate) fn put_codes(bytes: &mut Vec<u8>, codes: &[u16], first: usize, end: usize)
+pub(crate) fn put_records(bytes: &mut Vec<u8>, codes: &Segments<u16>, first: u64, end: u64)
     requires order { first ≤ end }
     requires within { end ≤ length codes.now }
     requires room { 2 * (end - first) ≤ vec_capacity bytes.old }
@@ -63,8 +48,8 @@ pub(crate) fn put_codes(bytes: &mut Vec<u8>, codes: &[u16], first: usize, end: u
     ensures capacity { vec_capacity bytes.old ≤ vec_capacity bytes.new }
 {
     bytes.clear();
-    for place in first..end {
-        push_record(bytes, codes[place]);
+    for class in first..end {
+        push_record(bytes, codes.get(class));
     }
 }
 

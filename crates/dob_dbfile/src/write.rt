@@ -1,7 +1,6 @@
 // Writing a table as a file, piece by piece.
 ghost use Rattle.std.specs.Prelude.{◌≡◌, ◌+◌, ◌*◌, ◌≤◌, ◌<◌, ◌^◌, false, length, vec_capacity, IfErr, OnOk};
-ghost use Rattle.dob_value.specs.Follows.{IsTable};
-ghost use Rattle.dob_dbfile.specs.Format.{bytes_of, digest_of, header_in, records};
+ghost use Rattle.dob_dbfile.specs.Format.{bytes_of, code_bytes, digest_of, header_in};
 ghost use Rattle.dob_dbfile.specs.declared.header.Format.TheVariants.{Second};
 ghost use Rattle.dob_dbfile.specs.Faults.{fails, is_io};
 ghost use Rattle.dob_device.specs.Sinks.{Puts, Writes, change};
@@ -12,6 +11,7 @@ use crate::fault::Fault;
 use crate::header::HEADER_LEN;
 use crate::records::{PIECE_RECORDS, RECORD_LEN, put_records};
 use dob_device::{FailedAfter, Sink, put_all, write_all};
+use dob_lists::Segments;
 use dob_value::Table;
 use std::alloc::Global;
 
@@ -68,30 +68,27 @@ fn put_file<W: Sink>(
     ensures done { OnOk result (Puts (change (W.state sink.old) (W.state sink.new)) (bytes_of table.now)) }
     ensures part { IfErr result (StopsBehind (change (W.state sink.old) (W.state sink.new)) 0 (bytes_of table.now)) }
 {
-    let count = table.classes().class_count();
+    let codes = table.codes();
     write_behind(sink, piece, 0)?;
-    write_records(table, count, sink, piece)?;
-    put_behind(sink, digest, HEADER_LEN + RECORD_LEN * count as usize)
+    write_records(codes, sink, piece)?;
+    put_behind(sink, digest, HEADER_LEN + RECORD_LEN * codes.len() as usize)
 }
 
-// Writes the records of the table's `count` classes, by pieces.
+// Writes the records that the codes are, by pieces.
 fn write_records<W: Sink>(
-    table: &Table,
-    count: u64,
+    codes: &Segments<u16>,
     sink: &mut W,
     piece: &mut Vec<u8>,
 ) -> Result<(), FailedAfter>
-    requires table { IsTable table.now.family table.now.values }
-    requires counted { count ≡ length table.now.values }
-    requires few { count < 2 ^ 31 }
-    requires room { 4096 ≤ vec_capacity piece.old }
-    ensures done { OnOk result (Writes (change (W.state sink.old) (W.state sink.new)) (records table.now.values)) }
-    ensures part { IfErr result (StopsBehind (change (W.state sink.old) (W.state sink.new)) 21 (records table.now.values)) }
+    requires { 4096 ≤ vec_capacity piece.old }
+    ensures done { OnOk result (Writes (change (W.state sink.old) (W.state sink.new)) (code_bytes codes.now)) }
+    ensures part { IfErr result (StopsBehind (change (W.state sink.old) (W.state sink.new)) 21 (code_bytes codes.now)) }
 {
+    let count = codes.len();
     let mut class = 0;
     'pieces: while class < count {
         let end = count.min(class + PIECE_RECORDS);
-        put_records(piece, table, class, end);
+        put_records(piece, codes, class, end);
         write_behind(sink, piece, HEADER_LEN + RECORD_LEN * class as usize)?;
         class = end;
     }

@@ -102,8 +102,9 @@ impl Taken {
         ensures taken { (family : Known) (count : ℕ) → IsTaken family count self → IfOk result (IsTaken family count) }
     {
         let Taken { mut codes, hasher } = self;
+        let first = codes.len();
         codes.append(part)?;
-        let hasher = hasher.with(part);
+        let hasher = hasher.with(&codes, first);
         Ok(Taken { codes, hasher })
     }
 }

@@ -79,6 +79,13 @@ impl Table {
         &self.classes
     }
 
+    /// The codes of the values, in the order of the classes.
+    pub fn codes(&self) -> &Segments<u16>
+        ensures { values_of_codes result.now ≡ self.now.values }
+    {
+        &self.codes
+    }
+
     /// How many classes there are.
     pub fn class_count(&self) -> u64
         ensures count { HasClasses self.now.family result }

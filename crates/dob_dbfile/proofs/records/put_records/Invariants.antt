@@ -1,10 +1,10 @@
--- The records of the classes so far stand, and there is room for the rest.
-use Rattle.dob_dbfile.proofs.Common.{◌*◌, ◌++◌, ◌-◌, ◌≡◌, ◌≤◌, take, vec_capacity, vec_len, records}
+-- The records of the codes so far stand, and there is room for the rest.
+use Rattle.dob_dbfile.proofs.Common.{◌*◌, ◌++◌, ◌-◌, ◌≡◌, ◌≤◌, take, vec_capacity, vec_len, code_bytes}
 use Rattle.dob_dbfile.proofs.records.put_records.Given as goal
 
 abbrev pub invariant-loop-class : goal.invariant-loop-class
 invariant-loop-class l =
-    (records (take l.first l.table.values) ++ l.bytes.items ≡ records (take l.class l.table.values))
+    (code_bytes (take l.first l.codes) ++ l.bytes.items ≡ code_bytes (take l.class l.codes))
     × (vec_len l.bytes ≡ 2 * (l.class - l.first))
     × (vec_capacity l.initial.bytes ≤ vec_capacity l.bytes)
     × (l.first ≤ l.class)
