@@ -133,8 +133,11 @@ const BUILT: &str = "some 1 MB of memory for 54 classes
 const SHOWN: &str = "some 1 MB of memory for 54 classes
 \r1 s, 61 %, 0 s left\x1b[K\r2 s, 66 %, 1 s left\x1b[K";
 
+// A win in 7 leads to a loss in 6, whose lost classes are searched in three rounds, one for each two plies.
+const CERTIFIED: &str = "1 s, 33 %, 2 s left\n2 s, 66 %, 1 s left\n3 s, 99 %, 0 s left\n";
+
 // Whether standard error is a terminal, words, and with which texts begins and ends what is written there: nothing where they are empty.
-const WRITTEN: [(bool, &str, &str, &str); 8] = [
+const WRITTEN: [(bool, &str, &str, &str); 9] = [
     (false, "build|--set|000|--nodes|1|--out|built.db", "", ""),
     (true, "build|--set|000|--nodes|1|--out|built.db", "", ""),
     (
@@ -162,6 +165,12 @@ const WRITTEN: [(bool, &str, &str, &str); 8] = [
         "check|--db|000.db|--progress",
         "\r1 s, 99 %, 0 s left\x1b[K\r\x1b[K",
         "\x1b[K\r\x1b[K",
+    ),
+    (
+        false,
+        "certify|--db|000.db|--out|000.cert|--progress|l../.../.../L.. - -",
+        CERTIFIED,
+        CERTIFIED,
     ),
 ];
 

@@ -117,11 +117,12 @@ fn turned_by_hand(rt: HostRuntime) {
     assert!(rt; is_done(&built, 2) && is_table_of_lions(&built.table) && has_sent(&built));
 }
 
-// Lets some turns begin, and counts those that were asked for.
+// Lets some turns begin, and counts how often it was asked for one and told of one.
 #[derive(Drop)]
 struct Counting {
     most: usize,
     asked: AtomicUsize,
+    told: AtomicUsize,
 }
 
 impl Gate for Counting {
@@ -134,7 +135,9 @@ impl Gate for Counting {
         self.asked.fetch_add(1, Ordering::SeqCst) < self.most
     }
 
-    fn worked(&self, _node: usize, _expanded: u64) {}
+    fn worked(&self, _node: usize, _expanded: u64) {
+        self.told.fetch_add(1, Ordering::SeqCst);
+    }
 }
 
 impl Counting {
@@ -142,7 +145,16 @@ impl Counting {
         Counting {
             most,
             asked: AtomicUsize::new(0),
+            told: AtomicUsize::new(0),
         }
+    }
+
+    // How often it was asked, and how often told.
+    fn counts(&self) -> (usize, usize) {
+        (
+            self.asked.load(Ordering::SeqCst),
+            self.told.load(Ordering::SeqCst),
+        )
     }
 }
 
@@ -161,7 +173,8 @@ fn answers<G: Gate>(
     assert!(rt; turn_once(rt, runner, classes, gate) == expected);
 }
 
-// The gate lets three turns begin and no fourth, which stops the second runner; that is what the first one sees then.
+// The gate is asked once a turn, and told once of each that it lets begin: three turns, and no fourth, which stops the second runner; that is what the first
+// one sees then.
 fn sees_the_hold(
     rt: &(impl Wait + Abort),
     first: &mut Runner,
@@ -175,9 +188,9 @@ fn sees_the_hold(
     answers(rt, first, classes, gate, Ok(Halt::Running));
     answers(rt, second, classes, gate, Ok(Halt::Running));
     answers(rt, first, classes, gate, Ok(Halt::Running));
-    assert!(rt; gate.asked.load(Ordering::SeqCst) == 3);
+    assert!(rt; gate.counts() == (3, 3));
     answers(rt, second, classes, gate, Err(Cause::Held));
-    assert!(rt; gate.asked.load(Ordering::SeqCst) == 4);
+    assert!(rt; gate.counts() == (4, 3));
     assert!(rt; second.stopped());
     answers(rt, first, classes, &Free, Ok(Halt::Failed(1)));
 }
