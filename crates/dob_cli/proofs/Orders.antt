@@ -16,7 +16,8 @@ use Rattle.dob_query.proofs.EachRight.{each_right}
 use Rattle.dob_query.proofs.Placed.{question_each_right}
 use Rattle.dob_query.proofs.Asking.{question_right, table_right}
 use Rattle.dob_query.specs.Questions.{plain_value}
-use Rattle.dob_survey.proofs.Rightly.{puzzles_right, reach_right, stats_right, zugzwangs_right}
+use Rattle.dob_counts.proofs.Rightly.{reach_right, stats_right}
+use Rattle.dob_survey.proofs.Rightly.{puzzles_right, zugzwangs_right}
 use Rattle.dob_query.proofs.Shown.{show_right}
 use Rattle.dob_cli.specs.Orders.{AnswersAskedRight, AnswersByLines, AnswersEachAskedRight, AnswersLinesRight, AnswersOrder, AnswersRight, AreAskedLines}
 use Rattle.dob_cli.specs.Orders.{AreEachAsked, ByValueFile, IsAskedFault, IsEachAskedFault}

@@ -20,14 +20,14 @@ use Rattle.dob_files.specs.Telling.{AnswersLines}
 use Rattle.dob_query.specs.Each.{AnswersEachRight, AreEachLines, IsEachFault, IsGivenTo}
 use Rattle.dob_query.specs.QuestionsEach.{AnswersLine, AnswersQuestionEachRight, ArePlaceLines, IsPlacesFault}
 use Rattle.dob_survey.specs.Migrations.{AreMigrateLines, IsMigrateFault}
-use Rattle.dob_survey.specs.Reaches.{AnswersReachRight, AreReachLinesFor, IsReachFaultFor}
+use Rattle.dob_counts.specs.Reaches.{AnswersReachRight, AreReachLinesFor, IsReachFaultFor}
 use Rattle.dob_verdict.specs.Certificates.{AreCertifyLines, IsCertifyFault, IsVerifyFault, IsVerifyLine, most_entries}
 use Rattle.dob_verdict.specs.Headers.{AreInfoLines, IsInfoFault}
 use Rattle.dob_verdict.specs.Replying.{IsReplyFaultOf, IsReplyLine}
 use Rattle.dob_survey.specs.Puzzles.{AnswersPuzzlesRight, ArePuzzleLines, IsPuzzlesFault}
 use Rattle.dob_words.specs.Readings.{text_given}
 use Rattle.dob_query.specs.Shows.{AnswersShowRight, AreShowLines, IsShowFault, KeepsButPicture}
-use Rattle.dob_survey.specs.Stats.{AnswersStatsRight, AreStatsLines}
+use Rattle.dob_counts.specs.Stats.{AnswersStatsRight, AreStatsLines}
 use Rattle.dob_files.specs.Tables.{HasValueFile, IsFileOf, IsOpeningFault, IsPlayFault, IsPositionFault}
 use Rattle.dob_survey.specs.Checks.{IsCheckFault, IsCheckLine}
 use Rattle.dob_survey.specs.Zugzwangs.{AnswersZugzwangsRight, AreZugzwangLines}

@@ -13,6 +13,7 @@ ghost use Rattle.dob_files.specs.Telling.{status_of_lines, TellsOver};
 ghost use Rattle.dob_files.specs.declared.fault.Fault.TheVariants.{Io, Memory};
 
 use dob_build::answer_build;
+use dob_counts::{answer_reach, answer_stats};
 use dob_dbfile::{Lent, Sink, put_all, write_all};
 use dob_files::{Fault, Lines};
 use dob_lines::Console;
@@ -21,9 +22,7 @@ use dob_query::{
     answer_show, answer_value,
 };
 use dob_shelf::Shelf;
-use dob_survey::{
-    answer_check, answer_migrate, answer_puzzles, answer_reach, answer_stats, answer_zugzwangs,
-};
+use dob_survey::{answer_check, answer_migrate, answer_puzzles, answer_zugzwangs};
 use dob_verdict::{answer_certify, answer_info, answer_reply, answer_verify};
 use dob_words::command::{Asked, LinesOrder, Order, Question, Reading, read_words};
 use std::alloc::{AllocError, Global};

@@ -6,7 +6,7 @@ use Rattle.dob_dbfile.proofs.Written.{same_files}
 use Rattle.dob_probe.specs.declared.fault.Fault as probing
 use Rattle.dob_probe.specs.declared.fault.Fault.TheVariants as table_fault
 use Rattle.dob_shelf.specs.declared.shelf.ShelfFault.TheVariants as shelf_fault
-use Rattle.dob_files.specs.Tables.{IsPlayFault, IsProbingFault}
+use Rattle.dob_files.specs.Tables.{IsPlayFault, IsProbingFault, IsRightFileOf}
 use Rattle.std.proofs.Common.{arith}
 
 module _ (Has : List ℕ → Type 0) (table : ClassTable) (file : IsFileOf Has table) where
@@ -41,6 +41,10 @@ module _ (Has : List ℕ → Type 0) (profile : Profile) (file : HasValueFile Ha
   -- the table that was read is the value table
   pub right_table : (table : ClassTable) → IsFileOf Has table → IsValueTable table.family table.values × (table.family.profile ≡ profile)
   right_table table is = rw (← same_files file.bytes file.table table file.right.table is.whole file.file (is.same file.bytes file.has)) (file.right, file.rules)
+
+  -- so the file is one of a right table
+  pub right_file : (table : ClassTable) → IsFileOf Has table → IsRightFileOf Has profile table
+  right_file table is = let so = right_table table is in record { file = is; right = so.0; rules = so.1 }
 
 -- where lines of one kind are of another one
 answers_weaker : (A B : List ℕ → Type 0) (Holds : Fault → Type 0) (e : Ending) → ((lines : List ℕ) → A lines → B lines)

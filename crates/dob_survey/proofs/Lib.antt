@@ -1,8 +1,6 @@
 -- The lemmas, in the order in which they are read.
 mod Common  -- names of other crates and of this one's definitions, for the proofs
 pub mod Checked  -- a fault of checking a table is one of checking its file
-pub mod Levels  -- the lines of distances, one more at a time
-pub mod Statistics  -- the longest win and loss of a table are among its groups
 pub mod Puzzling  -- the lines of puzzles, and which classes these and pairs are of
 pub mod Migrated  -- the faults of reading a file, of making the other one and of keeping it are those of migrating
-pub mod Rightly  -- by a value table's file counts, puzzles, pairs and what can be reached are right
+pub mod Rightly  -- by a value table's file puzzles and pairs are right

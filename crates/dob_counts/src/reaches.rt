@@ -3,7 +3,7 @@ ghost use Rattle.std.specs.Prelude.{◌≡◌, ◌<◌, ◌+◌, ◌++◌, IfErr
 ghost use Rattle.dob_pieces.specs.Profiles.{IsAllowed};
 ghost use Rattle.dob_rank.specs.Families.{IsPositionOf, class_number};
 ghost use Rattle.dob_reach.specs.Reached.{AreReachedFrom};
-ghost use Rattle.dob_survey.specs.Reaches.{AreReachLines, AreReachLinesBy, IsReachFault, level_line, level_lines, levels_asked, number_lines, reach_lines, value_lines, value_text, AreReachLinesFor, IsReachFaultFor};
+ghost use Rattle.dob_counts.specs.Reaches.{AreReachLines, AreReachLinesBy, IsReachFault, level_line, level_lines, levels_asked, number_lines, reach_lines, value_lines, value_text, AreReachLinesFor, IsReachFaultFor};
 ghost use Rattle.dob_files.specs.Endings.{GivesLines};
 ghost use Rattle.dob_files.specs.Tables.{IsFileOf, IsPositionFault};
 ghost use Rattle.dob_words.specs.Readings.{text_given};

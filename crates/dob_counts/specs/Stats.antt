@@ -11,7 +11,7 @@ use Rattle.dob_distance.specs.declared.value.Value.TheVariants.{Win, Loss, Draw}
 use Rattle.dob_value.specs.Follows.{ClassTable}
 use Rattle.dob_probe.specs.declared.groups.Group.{Group}
 use Rattle.dob_probe.specs.Statistics.{AreGroups}
-use Rattle.dob_survey.specs.declared.stats.Longest.{Longest}
+use Rattle.dob_counts.specs.declared.stats.Longest.{Longest}
 use Rattle.dob_words.specs.declared.command.orders.StatsForm.{StatsForm}
 use Rattle.dob_words.specs.declared.command.orders.StatsForm.TheVariants as forms
 use Rattle.dob_lines.specs.Objects.{group_object}

@@ -1,5 +1,5 @@
 -- The position is the text's, and one of the family that is searched.
-use Rattle.dob_survey.proofs.reaches.by_rules.Goals as goal
+use Rattle.dob_counts.proofs.reaches.by_rules.Goals as goal
 
 pub reached_from-requires-clause-member : goal.reached_from-requires-clause-member
 reached_from-requires-clause-member g c = λ κs lives. c.in_ok-classes.ensures.member

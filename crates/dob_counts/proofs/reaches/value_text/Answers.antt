@@ -1,7 +1,7 @@
 -- The three lines, one after the other.
-use Rattle.dob_survey.proofs.Common.{◌∙◌, codes, decimal, count_line}
+use Rattle.dob_counts.proofs.Common.{◌∙◌, codes, decimal, count_line}
 use Rattle.dob_lines.proofs.CountLines.{three_lines}
-use Rattle.dob_survey.proofs.reaches.value_text.Goals as goal
+use Rattle.dob_counts.proofs.reaches.value_text.Goals as goal
 
 pub returns : goal.returns
 returns c =

@@ -1,6 +1,6 @@
 -- The longest ones are groups, whose first classes are the table's.
-use Rattle.dob_survey.proofs.Statistics.{longest_within}
-use Rattle.dob_survey.proofs.stats.stats_lines.Goals as goal
+use Rattle.dob_counts.proofs.Statistics.{longest_within}
+use Rattle.dob_counts.proofs.stats.stats_lines.Goals as goal
 
 pub longest_line-requires : goal.longest_line-requires
 longest_line-requires g c =

@@ -1,5 +1,5 @@
 -- The groups are those of the file's table.
-use Rattle.dob_survey.proofs.stats.answer_stats.Goals as goal
+use Rattle.dob_counts.proofs.stats.answer_stats.Goals as goal
 
 pub returns : goal.returns
 returns g c =

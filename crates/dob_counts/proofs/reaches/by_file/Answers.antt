@@ -1,8 +1,8 @@
 -- The table is the file's, and the position one of its family.
-use Rattle.dob_survey.proofs.Common.{subst, err_from_is_err_and, IsPositionOf, class_number, IsRefusal}
+use Rattle.dob_counts.proofs.Common.{subst, err_from_is_err_and, IsPositionOf, class_number, IsRefusal}
 use Rattle.dob_files.proofs.TableFaults.{refusal_holds}
-use Rattle.dob_survey.proofs.reaches.by_file.Goals as goal
-use Rattle.dob_survey.proofs.reaches.by_file.Goals.{In_ok-check_member}
+use Rattle.dob_counts.proofs.reaches.by_file.Goals as goal
+use Rattle.dob_counts.proofs.reaches.by_file.Goals.{In_ok-check_member}
 
 pub returns-in_err-check_member : goal.returns-in_err-check_member
 returns-in_err-check_member g c =

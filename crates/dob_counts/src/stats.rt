@@ -2,7 +2,7 @@
 ghost use Rattle.std.specs.Prelude.{◌≡◌, ◌<◌, IfOk, IfSome, flat_map, length, string_bytes};
 ghost use Rattle.dob_probe.specs.Statistics.{AreGroups};
 ghost use Rattle.dob_shelf.specs.Shelves.{Leaving, SameFiles};
-ghost use Rattle.dob_survey.specs.Stats.{AreStatsFor, AreStatsOf, IsLongestLine, csv_lines, distance_line, group_text, longest_of, longest_text, value_row, with_group, AreStatsLines};
+ghost use Rattle.dob_counts.specs.Stats.{AreStatsFor, AreStatsOf, IsLongestLine, csv_lines, distance_line, group_text, longest_of, longest_text, value_row, with_group, AreStatsLines};
 ghost use Rattle.dob_files.specs.Endings.{GivesLines};
 ghost use Rattle.dob_files.specs.Tables.{IsFileOf, IsOpeningFault};
 

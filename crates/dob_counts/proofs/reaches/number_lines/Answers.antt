@@ -1,7 +1,7 @@
 -- The three lines, one after the other.
-use Rattle.dob_survey.proofs.Common.{◌-◌, ◌∙◌, ◌≡◌, arith, codes, length, decimal, count_line}
+use Rattle.dob_counts.proofs.Common.{◌-◌, ◌∙◌, ◌≡◌, arith, codes, length, decimal, count_line}
 use Rattle.dob_lines.proofs.CountLines.{three_lines}
-use Rattle.dob_survey.proofs.reaches.number_lines.Goals as goal
+use Rattle.dob_counts.proofs.reaches.number_lines.Goals as goal
 
 pub returns : goal.returns
 returns c =

@@ -1,10 +1,10 @@
 -- The longest win and the longest loss of a table are among its groups.
-use Rattle.dob_survey.proofs.Common.{◌<◌, ◌∷◌, List, [], arith, fold, length, suc, slice_get_within, Value, longest_of, with_group, with_value}
+use Rattle.dob_counts.proofs.Common.{◌<◌, ◌∷◌, List, [], arith, fold, length, suc, slice_get_within, Value, longest_of, with_group, with_value}
 use Rattle.std.proofs.Common.{Contains, IfSome}
 use Rattle.dob_pieces.proofs.Lists.{head_in}
 use Rattle.dob_probe.specs.declared.groups.Group.{Group}
 use Rattle.dob_probe.specs.Statistics.{AreGroups}
-use Rattle.dob_survey.specs.declared.stats.Longest.{Longest}
+use Rattle.dob_counts.specs.declared.stats.Longest.{Longest}
 
 tail_in : (head : Group) (groups : List Group) (other : Group) → Contains groups other → Contains (head ∷ groups) other
 tail_in head groups other there = (suc there.0, omega (arith, there.1), there.2)

@@ -1,7 +1,7 @@
 -- By rules no file is asked; else the file is.
-use Rattle.dob_survey.proofs.Common.{rules, unchanged, shelf_change}
+use Rattle.dob_counts.proofs.Common.{rules, unchanged, shelf_change}
 use Rattle.dob_files.proofs.Endings.{answered_by}
-use Rattle.dob_survey.proofs.reaches.answer_reach.Goals as goal
+use Rattle.dob_counts.proofs.reaches.answer_reach.Goals as goal
 
 pub returns-in-None : goal.returns-in-None
 returns-in-None g c =
