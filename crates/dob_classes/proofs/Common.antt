@@ -65,17 +65,18 @@ pub use Rattle.dob_rank.specs.Weights.{are_allowed, forms_stand, may_have}
 pub use Rattle.dob_rank.specs.declared.layers.Layer.TheVariants.{Chicks, Elephants, Empty, EnemyLion, Giraffes, OwnLion}
 pub use Rattle.dob_rank.specs.declared.runs.RunKind.{RunKind}
 pub use Rattle.dob_rank.specs.declared.runs.RunKind.TheVariants.{First, Later, Mixed}
-pub use Rattle.dob_classes.specs.Bitboards.{AreBitboards, HasOfLayer, IsShown, IsShownOfSet, is_chick, is_elephant, is_enemy, is_enemy_lion, is_giraffe, is_hen}
-pub use Rattle.dob_classes.specs.Bitboards.{is_of, is_own_lion}
+pub use Rattle.dob_pieces.specs.Boards.{IsBoardOf, is_chick, is_elephant, is_enemy, is_enemy_lion, is_giraffe, is_hen, is_own_lion}
+pub use Rattle.dob_pieces.specs.Changes.{IsWith}
+pub use Rattle.dob_pieces.specs.declared.board.Board.{Board}
+pub use Rattle.dob_rank.specs.BoardDigits.{IsShownOfSet}
+pub use Rattle.dob_classes.specs.Shown.{IsShown}
 pub use Rattle.dob_classes.specs.BlockRows.{IsRow}
-pub use Rattle.dob_classes.specs.Changes.{IsWith, with_enemy, with_own}
 pub use Rattle.dob_classes.specs.FamilyRuns.{IsInRunOf, IsNumbered, classes_before, is_there, local_marks_in, place_of_number, run_size_in}
 pub use Rattle.dob_classes.specs.RunIndex.{AreEntries, IsAtMost}
 pub use Rattle.dob_classes.specs.RunTables.{AreRuns, HasTable, IsRun}
 pub use Rattle.dob_classes.specs.Stretches.{AreStretches, EndsWith, IsStretch, IsWidth, local_marks}
 pub use Rattle.dob_classes.specs.Views.{seen_by, seen_hands, seen_owner, seen_square}
 pub use Rattle.dob_classes.specs.Walks.{IsStretchIn, IsWalk, marks_before}
-pub use Rattle.dob_classes.specs.declared.bits.bitboards.Bitboards.{Bitboards}
 pub use Rattle.dob_classes.specs.declared.block_classes.BlockClasses.{BlockClasses}
 pub use Rattle.dob_classes.specs.declared.runs.Run.{Run}
 pub use Rattle.dob_classes.specs.declared.stretch_tables.StretchTable.{StretchTable}

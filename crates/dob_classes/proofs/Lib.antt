@@ -1,6 +1,6 @@
 -- The lemmas, in the order in which they are read, a folder for each topic.
 mod Common  -- names of other crates and of this one's definitions, for the proofs
-pub mod SquareSets  -- positions as sets of squares
+pub mod BitPlaced  -- boards with a piece more, seen from either side
 pub mod OfFamilies  -- the classes of a family and their representatives
 pub mod MarksOfRuns  -- the marks of the runs of a block
 pub mod Counting  -- classes before blocks, runs and places

@@ -1,5 +1,4 @@
-pub mod Bitboards
-pub mod Changes
+pub mod Shown
 pub mod Views
 pub mod Laws
 pub mod Stretches

@@ -1,8 +1,6 @@
-// Positions as sets of squares, with no board.
+// Boards that show positions, made with no list of cells.
 
 pub(crate) mod bit_placing;
-pub(crate) mod bitboards;
 pub(crate) mod image_places;
-pub(crate) mod images;
 pub(crate) mod shown;
 pub(crate) mod shown_spots;

@@ -6,18 +6,16 @@ ghost use Rattle.dob_rank.specs.Numbers.{product, block_bases, start_of, rank_of
 ghost use Rattle.dob_rank.specs.Marks.{marks_below};
 ghost use Rattle.dob_classes.specs.BlockTables.{AreBlocks};
 ghost use Rattle.dob_pieces.specs.declared.setup.Setup.{Setup};
-ghost use Rattle.dob_classes.specs.Bitboards.{AreBitboards, IsShown};
+ghost use Rattle.dob_pieces.specs.Boards.{IsBoardOf};
+ghost use Rattle.dob_classes.specs.Shown.{IsShown};
 ghost use Rattle.dob_classes.specs.Views.{seen_by};
-ghost use Rattle.dob_rank.specs.BoardMasks.{AreMasksOfBoard};
 
-use crate::bits::bitboards::Bitboards;
 use crate::bits::shown::Shown;
 use crate::bits::shown_spots::shown_by;
 use crate::block_classes::BlockClasses;
-use crate::spots::{spot_in, spot_shown_in};
-use dob_pieces::{Family, Memory, Position, Side};
+use crate::spots::spot_in;
+use dob_pieces::{Board, Family, Memory, Position, Side};
 use dob_rank::block;
-use dob_rank::masks::{Masks, masks_of};
 use dob_rank::set_ranks::position_by;
 use std::alloc::Global;
 
@@ -73,26 +71,31 @@ impl Classes {
         ensures number { result ≡ class_number self.now.family position.now.setup }
         ensures bound { result < classes_of self.now.family }
     {
-        let masks = masks_of(&position.setup.board);
-        if masks.stand_later() {
-            let image = position.mirrored();
-            self.class_by(&image, masks_of(&image.setup.board))
+        self.class_shown(&Board::of(&position.setup))
+    }
+
+    /// The number of the class of the position of the family that the board shows.
+    pub fn class_shown(&self, board: &Board) -> u64
+        requires { (setup : Setup) × IsShown self.now.family setup board.now }
+        ensures { (setup : Setup) → IsShown self.now.family setup board.now → result ≡ class_number self.now.family setup }
+    {
+        if board.is_later_image() {
+            self.class_by(&board.mirrored())
         } else {
-            self.class_by(position, masks)
+            self.class_by(board)
         }
     }
 
-    // The class's number by the position's masks. It takes longer where the mirror image is the earlier one.
-    fn class_by(&self, position: &Position, masks: Masks) -> u64
-        requires position { IsPositionOf self.now.family position.now.setup }
-        requires masks { AreMasksOfBoard position.now.setup.board masks }
-        ensures { result ≡ class_number self.now.family position.now.setup }
+    // The same. It takes longer where the mirror image is the earlier one.
+    fn class_by(&self, board: &Board) -> u64
+        requires { (setup : Setup) × IsShown self.now.family setup board.now }
+        ensures { (setup : Setup) → IsShown self.now.family setup board.now → result ≡ class_number self.now.family setup }
     {
-        let (is_representative, class) = self.look_up_by(position, masks);
+        let (is_representative, class) = self.look_up(board);
         if is_representative {
             class
         } else {
-            self.look_up(&position.mirrored()).1
+            self.look_up(&board.mirrored()).1
         }
     }
 
@@ -105,19 +108,19 @@ impl Classes {
         ensures number { IfSome result (λ class. class ≡ class_number self.now.family position.now.setup) }
         ensures bound { IfSome result (λ class. class < classes_of self.now.family) }
     {
-        let (is_representative, class) = self.look_up(position);
+        let (is_representative, class) = self.look_up(&Board::of(&position.setup));
         if is_representative { Some(class) } else { None }
     }
 
-    /// The number of the class, by the sets of squares that show the position, if that is the class's representative.
-    pub fn class_of_shown(&self, bits: &Bitboards) -> Option<u64>
-        requires { (setup : Setup) × IsShown self.now.family setup bits.now }
-        ensures class { (setup : Setup) → IsShown self.now.family setup bits.now → MatchOption result (¬ IsFirstOfTwo setup)
+    /// The number of the class of the position that the board shows, if that is the class's representative.
+    pub fn class_of_shown(&self, board: &Board) -> Option<u64>
+        requires { (setup : Setup) × IsShown self.now.family setup board.now }
+        ensures class { (setup : Setup) → IsShown self.now.family setup board.now → MatchOption result (¬ IsFirstOfTwo setup)
             (λ class. IsFirstOfTwo setup × HasClass self.now.family setup class) }
-        ensures number { (setup : Setup) → IsShown self.now.family setup bits.now → IfSome result (λ class. class ≡ class_number self.now.family setup) }
+        ensures number { (setup : Setup) → IsShown self.now.family setup board.now → IfSome result (λ class. class ≡ class_number self.now.family setup) }
         ensures bound { IfSome result (λ class. class < classes_of self.now.family) }
     {
-        let (is_first, class) = self.look_up_shown(bits);
+        let (is_first, class) = self.look_up(board);
         if is_first { Some(class) } else { None }
     }
 
@@ -137,15 +140,15 @@ impl Classes {
         )
     }
 
-    /// A class's representative with the sets of squares that the side sees of it: the mover those of the setup, the enemy those of the
-    /// turned one. They are found without its board, which isn't made where it isn't read.
+    /// A class's representative with the board that the side sees of it: the mover that of the setup, the enemy that of the turned one. It is found without
+    /// the setup's cells, which aren't made where they aren't read.
     #[inline(always)]
     pub fn shown_at(&self, class: u64, side: Side) -> Shown
         requires { class < classes_of self.now.family }
         ensures representative { IsRepresentative self.now.family result.position.setup }
         ensures class { HasClass self.now.family result.position.setup class }
         ensures number { class_number self.now.family result.position.setup ≡ class }
-        ensures bits { AreBitboards (seen_by side result.position.setup) result.bits }
+        ensures board { IsBoardOf (seen_by side result.position.setup) result.board }
     {
         let block = self.block_of(class);
         let spot = block.spot_at(class);
@@ -186,36 +189,15 @@ impl Classes {
         0
     }
 
-    // Whether a position of the family is a representative, and how many stand before it.
-    fn look_up(&self, position: &Position) -> (bool, u64)
-        requires { IsPositionOf self.now.family position.now.setup }
-        ensures mark { result.0 ≡ is_marked self.now.family (rank_of_set self.now.family.set position.now.setup) }
-        ensures before { result.1 ≡ marks_below (is_marked self.now.family) (rank_of_set self.now.family.set position.now.setup) }
-    {
-        self.look_up_by(position, masks_of(&position.setup.board))
-    }
-
-    // The mark and the marks before it by the position's masks.
-    #[inline(always)]
-    fn look_up_by(&self, position: &Position, masks: Masks) -> (bool, u64)
-        requires position { IsPositionOf self.now.family position.now.setup }
-        requires masks { AreMasksOfBoard position.now.setup.board masks }
-        ensures mark { result.0 ≡ is_marked self.now.family (rank_of_set self.now.family.set position.now.setup) }
-        ensures before { result.1 ≡ marks_below (is_marked self.now.family) (rank_of_set self.now.family.set position.now.setup) }
-    {
-        let (block, spot) = spot_in(self.family, position, masks);
-        self.blocks[block as usize].look_up(spot)
-    }
-
-    // The mark and the marks before it by the sets of squares that show the position.
-    fn look_up_shown(&self, bits: &Bitboards) -> (bool, u64)
-        requires { (setup : Setup) × IsShown self.now.family setup bits.now }
-        ensures mark { (setup : Setup) → IsShown self.now.family setup bits.now
+    // Whether the position of the family that the board shows is a representative, and how many stand before it.
+    fn look_up(&self, board: &Board) -> (bool, u64)
+        requires { (setup : Setup) × IsShown self.now.family setup board.now }
+        ensures mark { (setup : Setup) → IsShown self.now.family setup board.now
             → result.0 ≡ is_marked self.now.family (rank_of_set self.now.family.set setup) }
-        ensures before { (setup : Setup) → IsShown self.now.family setup bits.now
+        ensures before { (setup : Setup) → IsShown self.now.family setup board.now
             → result.1 ≡ marks_below (is_marked self.now.family) (rank_of_set self.now.family.set setup) }
     {
-        let (block, spot) = spot_shown_in(self.family, bits);
+        let (block, spot) = spot_in(self.family, board);
         self.blocks[block as usize].look_up(spot)
     }
 }

@@ -11,9 +11,7 @@
 // - `count_classes` makes the same walk without its list, over the runs of one hand and then times the hands, with no memory.
 // - What a count without tables, a row or an index says of a run is a `Row`, and `Row::before_run` alone makes a class's number of it: for each hand as many,
 //   and those of the lions before. Its sums wrap, since a row may come from a caller.
-// - `Bitboards` are a setup as seven sets of squares and its hands, the least from which a place is found. A relation (`AreBitboards`) says what they show,
-//   so contracts can speak of a setup that the code doesn't have.
-// - A class's representative comes with the sets that a side sees of it (`Shown`): who reads these alone makes no board.
+// - A class's representative comes with the board that a side sees of it (`Shown`): who reads this alone makes no list of cells.
 #![tactic(auto)]
 
 mod any_rows;
@@ -37,8 +35,6 @@ mod stretch_tables;
 mod stretches;
 
 pub use any_rows::class_number_by_any;
-pub use bits::bitboards::Bitboards;
-pub use bits::images::mirrored_bits;
 pub use bits::shown::Shown;
 pub use class_counts::count_classes;
 pub use class_numbers::{class_number, classes_in_run};

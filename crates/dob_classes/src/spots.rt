@@ -1,27 +1,21 @@
 // The positions of a family in a run of its set, numbered among themselves: in profile A by their places, in profile B by how many chicks' forms are
 // allowed before theirs.
 ghost use Rattle.std.specs.Prelude.{◌≡◌, ◌<◌, ◌≤◌};
-ghost use Rattle.dob_pieces.specs.Profiles.{IsAllowed};
 ghost use Rattle.dob_pieces.specs.declared.profile.Profile.TheVariants.{B};
 ghost use Rattle.dob_pieces.specs.declared.setup.Setup.{Setup};
-ghost use Rattle.dob_classes.specs.Bitboards.{IsShown};
-ghost use Rattle.dob_rank.specs.BoardMasks.{AreMasksOfBoard};
-ghost use Rattle.dob_rank.specs.Order.{IsPositionOfSet};
-ghost use Rattle.dob_rank.specs.Families.{family_of, IsPositionOf};
+ghost use Rattle.dob_classes.specs.Shown.{IsShown};
+ghost use Rattle.dob_rank.specs.Families.{family_of};
 ghost use Rattle.dob_classes.specs.FamilyRuns.{is_there};
 ghost use Rattle.dob_rank.specs.Marks.{marks_below};
 ghost use Rattle.dob_rank.specs.Numbers.{product, block_bases, block_of};
 ghost use Rattle.dob_rank.specs.Runs.{runs_in, run_size, run_of, local_of};
 
-use crate::bits::bitboards::Bitboards;
-use crate::bits::shown_spots::spot_shown;
 use crate::far_counts::count_upto;
-use dob_pieces::{Family, PieceSet, Position, Profile};
+use dob_pieces::{Board, Family, PieceSet, Profile};
 use dob_rank::far_rows::before_choice;
-use dob_rank::masks::Masks;
 use dob_rank::ranks::{allowed_forms, place_behind};
 use dob_rank::runs::{LIONS, Spot};
-use dob_rank::set_ranks::{digits_of, numbers_on_board, spot_by};
+use dob_rank::set_ranks::{digits_of, numbers_in, spot_by};
 use dob_rank::{block, radix};
 
 /// How many positions of the family a run has before that place, or before its end. Inlined: for rules A it returns `place`.
@@ -44,51 +38,34 @@ pub(crate) fn count_before(family: Family, block: u64, run: u64, place: u64) -> 
     }
 }
 
-/// The number of the block of a position of the family, and the position's run and number among those of the family there.
-pub(crate) fn spot_in(family: Family, position: &Position, masks: Masks) -> (u64, Spot)
-    requires position { IsPositionOf family position.now.setup }
-    requires masks { AreMasksOfBoard position.now.setup.board masks }
-    ensures block { result.0 ≡ block_of family.set position.now.setup }
-    ensures run { result.1.run ≡ run_of family.set position.now.setup }
-    ensures local { result.1.local
-        ≡ marks_below (is_there family (block_of family.set position.now.setup) (run_of family.set position.now.setup)) (local_of position.now.setup) }
-{
-    match family.profile {
-        Profile::A => spot_by(family.set, position, masks),
-        Profile::B => far_spot(family.set, position, masks),
-    }
-}
-
-/// Block and spot by the sets of squares that show the position.
-pub(crate) fn spot_shown_in(family: Family, bits: &Bitboards) -> (u64, Spot)
-    requires { (setup : Setup) × IsShown family setup bits.now }
-    ensures block { (setup : Setup) → IsShown family setup bits.now → result.0 ≡ block_of family.set setup }
-    ensures run { (setup : Setup) → IsShown family setup bits.now → result.1.run ≡ run_of family.set setup }
-    ensures local { (setup : Setup) → IsShown family setup bits.now
+/// The number of the block of the position of the family that the board shows, and the position's run and number among those of the family there.
+pub(crate) fn spot_in(family: Family, board: &Board) -> (u64, Spot)
+    requires { (setup : Setup) × IsShown family setup board.now }
+    ensures block { (setup : Setup) → IsShown family setup board.now → result.0 ≡ block_of family.set setup }
+    ensures run { (setup : Setup) → IsShown family setup board.now → result.1.run ≡ run_of family.set setup }
+    ensures local { (setup : Setup) → IsShown family setup board.now
         → result.1.local ≡ marks_below (is_there family (block_of family.set setup) (run_of family.set setup)) (local_of setup) }
 {
-    let (block, spot) = spot_shown(family.set, bits);
-    let local = count_before(family, block, spot.run, spot.local);
-    let run = spot.run;
-    (block, Spot { run, local })
+    match family.profile {
+        Profile::A => spot_by(family.set, board),
+        Profile::B => far_spot(family.set, board),
+    }
 }
 
 // Block and spot of a position in profile B, out of the way of what profile A does.
 #[inline(never)]
-fn far_spot(set: PieceSet, position: &Position, masks: Masks) -> (u64, Spot)
-    requires position { IsPositionOfSet set position.now.setup }
-    requires allowed { IsAllowed B position.now.setup }
-    requires masks { AreMasksOfBoard position.now.setup.board masks }
-    ensures block { result.0 ≡ block_of set position.now.setup }
-    ensures run { result.1.run ≡ run_of set position.now.setup }
-    ensures local { result.1.local
-        ≡ marks_below (is_there (family_of set B) (block_of set position.now.setup) (run_of set position.now.setup)) (local_of position.now.setup) }
+fn far_spot(set: PieceSet, board: &Board) -> (u64, Spot)
+    requires { (setup : Setup) × IsShown (family_of set B) setup board.now }
+    ensures block { (setup : Setup) → IsShown (family_of set B) setup board.now → result.0 ≡ block_of set setup }
+    ensures run { (setup : Setup) → IsShown (family_of set B) setup board.now → result.1.run ≡ run_of set setup }
+    ensures local { (setup : Setup) → IsShown (family_of set B) setup board.now
+        → result.1.local ≡ marks_below (is_there (family_of set B) (block_of set setup) (run_of set setup)) (local_of setup) }
 {
-    let on_board = numbers_on_board(position, masks);
+    let on_board = numbers_in(board);
     let block = radix::number_of(&block::block_bases_of(set), &on_board);
-    let digits = digits_of(position, masks, &on_board);
+    let digits = digits_of(board, &on_board);
     let run = block::spot_from(set, &on_board, &digits).run;
-    let forms = allowed_forms(&position.setup.board, masks.chicks, on_board[0]);
+    let forms = allowed_forms(board, on_board[0]);
     let lions = run % LIONS;
     let chosen = before_choice(on_board[0], lions, digits[5]);
     let local = place_behind(&on_board, &digits, lions, chosen, forms);

@@ -1,6 +1,6 @@
 // What is known of each class before anything is settled: its status and its number of moves.
 ghost use Rattle.std.specs.Prelude.{◌<◌, IfOk};
-ghost use Rattle.dob_classes.specs.Bitboards.{AreBitboards};
+ghost use Rattle.dob_pieces.specs.Boards.{IsBoardOf};
 ghost use Rattle.dob_rank.specs.Families.{classes_of};
 ghost use Rattle.dob_rank.specs.Families.{class_setup};
 ghost use Rattle.dob_lawful.specs.Openings.{IsOpening, AreOpenings, AreOwnOpenings};
@@ -13,19 +13,19 @@ use dob_safra::NodeCount;
 use dob_share::{Opening, places_among};
 use std::alloc::Global;
 
-// The status and number of moves, by the rules of the profile, of the position that the sets show to the mover. The position only
-// says of what they are.
+// The status and number of moves, by the rules of the profile, of the position that the board shows to the mover. The position only
+// says what it shows.
 #[inline(always)]
 fn opening_of(profile: Profile, shown: &Shown) -> Opening
-    requires { AreBitboards shown.now.position.setup shown.now.bits }
+    requires { IsBoardOf shown.now.position.setup shown.now.board }
     ensures { IsOpening profile shown.now.position.setup result }
 {
-    let bits = &shown.bits;
+    let board = &shown.board;
     let (status, moves) = status_and_count_shown(
         profile,
         &shown.position,
-        &bits.masks(),
-        bits.hands.mover,
+        &board.masks(),
+        board.hands.mover,
     );
     Opening { status, moves }
 }

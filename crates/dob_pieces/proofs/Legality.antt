@@ -1,5 +1,5 @@
 -- What the tests of a position show.
-use Rattle.dob_pieces.proofs.Common.{◌+◌, ◌-◌, ◌∙◌, ◌≡◌, List, None, arith, drop, false, length, sym, true, false_from_ne_true, get_or-drop, get_or_default}
+use Rattle.dob_pieces.proofs.Common.{◌+◌, ◌∙◌, ◌≡◌, List, None, arith, drop, false, length, sym, true, false_from_ne_true, get_or-drop, get_or_default}
 use Rattle.dob_pieces.proofs.Common.{take_all, Any, list_any, Cell, HasLions, holds_lion, Enemy, Mover, Setup}
 use Rattle.std.proofs.Common.{take, count_by, length-drop}
 use Rattle.std.proofs.lemmas.List.Folds.{Any-from_list_any, list_any_at}

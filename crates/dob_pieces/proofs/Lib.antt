@@ -16,3 +16,7 @@ pub mod Attacks  -- who attacks a square
 pub mod Targets  -- the tables of steps are the steps of the kinds
 pub mod Planes  -- several masks in one word
 pub mod OwnKinds  -- the mover's piece on a square, by the masks
+-- Boards as sets of squares.
+pub mod BoardPlanes  -- sets of squares in one pass over a setup's cells
+pub mod BoardChanges  -- sets of squares when one square changes
+pub mod ImageMasks  -- masks of mirror images

@@ -148,7 +148,7 @@ told_cell test None = refl
 told_cell test (Some piece) = told_piece test piece.side piece.kind
 
 -- two tests that say the same of each kind of cell are one
-same_test : (f g : Cell → Bool) → map f all_cells ≡ map g all_cells → (cell : Cell) → f cell ≡ g cell
+pub same_test : (f g : Cell → Bool) → map f all_cells ≡ map g all_cells → (cell : Cell) → f cell ≡ g cell
 same_test f g e cell = grind (arith, told_cell)
 
 -- every square of the board

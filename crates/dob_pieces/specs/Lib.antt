@@ -4,6 +4,8 @@ pub mod Squares
 pub mod Pieces
 pub mod Setups
 pub mod Masks
+pub mod Boards
+pub mod Changes
 pub mod Faults
 pub mod Sets
 pub mod Profiles

@@ -9,12 +9,16 @@
 //   proved against it.
 // - Masks are numbers of sixteen bits, not a type: `IsMask` says which squares one has, and `&` and `|` stay what they are.
 // - A table by what stands on a cell has two indices, kind and owner (`entry_of`), in rows of four whose last entry is padding, so that the index is an
-//   address. Nine masks come from five planes of one word.
+//   address. Nine masks, and the seven sets of a `Board`, come from five planes of one word.
+// - A position has two forms. A `Setup` is twelve cells and the hands: definitions, texts and other languages speak of it. A `Board` is sets of squares by
+//   side and kind, and the hands: what must be fast reads it. A relation (`IsBoardOf`) says what it shows, so contracts can speak of a setup that the code
+//   doesn't have.
 // - The profile of the rules is a predicate over setups (`IsAllowed`, from `may_stand`), not a type: a position stays legal by its type, and what needs a
 //   position of profile B asks for one.
 // - `Setup::is_allowed` is a loop with an early return, over squares and not over masks, since only texts and questions about a position ask for it.
 #![tactic(auto)]
 
+mod board;
 mod fault;
 mod hand;
 mod kind;
@@ -28,12 +32,11 @@ mod setup;
 mod square;
 mod steps;
 
+pub use board::Board;
 pub use fault::PositionFault;
 pub use hand::{Hand, Hands};
 pub use kind::{HandKind, Kind, Piece, Side};
-pub use masks::{
-    ALL_SQUARES, CellTable, Masks, entry_of, has_square, lowest_square, plane, without_square,
-};
+pub use masks::{ALL_SQUARES, Masks, lowest_square, without_square};
 pub use memory::Memory;
 pub use piece_set::{PieceSet, SetText};
 pub use position::Position;

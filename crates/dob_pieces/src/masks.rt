@@ -95,7 +95,7 @@ impl Masks {
 }
 
 /// Whether the mask has the square.
-pub fn has_square(mask: u16, square: Square) -> bool
+pub(crate) fn has_square(mask: u16, square: Square) -> bool
     ensures { (test : ℕ → Bool) → IsMask test mask → result ≡ test square }
 {
     mask >> square.index() & 1 == 1
@@ -120,7 +120,7 @@ pub fn without_square(mask: u16, square: Square) -> u16
 /// What each cell adds to a word of planes: by the kind of its piece, in the order of `Kind`, and then by its owner, who is
 /// nobody, the mover or the enemy. Empty cells use the lion of nobody; column 3 is padding, so that rows of four are found by
 /// a shift.
-pub type CellTable = [[u64; 4]; 5];
+pub(crate) type CellTable = [[u64; 4]; 5];
 
 // The lowest bits of five planes: the mover's pieces, ..
 const OWN: u64 = 1;
@@ -147,7 +147,7 @@ const PLANES: CellTable = [
 
 /// What the table has for the cell, found without a branch on what stands there: kind and owner are two choices each of a
 /// number or 0, and one choice of a whole piece would become a jump.
-pub fn entry_of(table: &CellTable, cell: Option<Piece>) -> u64
+pub(crate) fn entry_of(table: &CellTable, cell: Option<Piece>) -> u64
     ensures { result ≡ entry_of table.now cell }
 {
     table[kind_number(cell)][owner_number(cell)]
@@ -176,7 +176,7 @@ fn owner_number(cell: Option<Piece>) -> usize
 }
 
 /// The mask whose lowest bit has that value in a word of planes.
-pub fn plane(planes: u64, unit: u64) -> u16
+pub(crate) fn plane(planes: u64, unit: u64) -> u16
     requires { 0 < unit }
     ensures { result ≡ planes / unit % 4096 }
 {

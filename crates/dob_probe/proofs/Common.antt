@@ -30,8 +30,8 @@ pub use Rattle.dob_moves.specs.declared.position_status.Status.{Status}
 pub use Rattle.dob_moves.specs.declared.position_status.Status.TheVariants.{Open}
 pub use Rattle.dob_rank.specs.Families.{IsInClass, IsPositionOf, class_number, class_setup, classes_of}
 pub use Rattle.dob_classes.proofs.OfFamilies.FamilyNumbers.{IsInClass-class_number, IsPositionOf-mirrored, class_number-below, class_number-mirrored}
-pub use Rattle.dob_classes.proofs.SquareSets.BitChanges.{piece_added, with_cell, with_hands, with_one}
-pub use Rattle.dob_classes.specs.Bitboards.{IsShown}
+pub use Rattle.dob_pieces.proofs.BoardChanges.{piece_added, with_cell, with_hands, with_one}
+pub use Rattle.dob_classes.specs.Shown.{IsShown}
 pub use Rattle.dob_value.proofs.ClassNumbers.{one_entry, one_of_class}
 pub use Rattle.dob_value.proofs.Consistency.{consistent_is_right}
 pub use Rattle.dob_value.proofs.Successors.{AreSuccessorsBelow, move_goes, moves_keep_the_family}

@@ -1,19 +1,13 @@
--- What the enemy sees of a move, and the class that sets of squares show.
-use Rattle.dob_probe.proofs.Common.{◌-◌, ◌<◌, ◌∙◌, ◌≡◌, ◌≢◌, Bool, None, Some, ap, arith, inl, inr, length, refl, set, sym, ℕ, cases_eq, cases_lt}
-use Rattle.dob_probe.proofs.Common.{get_or-set_other, get_or-set_same, length-set, at-turned, length-turned, IsLegal, at, held, mirrored, piece_of, turned}
+-- What the enemy sees of a move.
+use Rattle.dob_probe.proofs.Common.{◌-◌, ◌<◌, ◌∙◌, ◌≡◌, ◌≢◌, Bool, None, Some, ap, arith, inl, inr, length, refl, set, sym, ℕ, cases_eq}
+use Rattle.dob_probe.proofs.Common.{get_or-set_other, get_or-set_same, length-set, at-turned, length-turned, IsLegal, at, held, piece_of, turned}
 use Rattle.dob_probe.proofs.Common.{turned_cell, with_one_less, Kind, Enemy, Mover, Setup, dropped, stepped, with_cell, HasArrived}
 use Rattle.dob_pieces.specs.declared.kind.HandKind.{HandKind}
 use Rattle.dob_pieces.specs.declared.hand.Hand.{Hand}
-use Rattle.dob_pieces.specs.declared.piece_set.PieceSet.{PieceSet}
 use Rattle.dob_pieces.specs.Pieces.{kind_on_board}
-use Rattle.dob_pieces.proofs.Symmetries.{mirrored-mirrored}
 use Rattle.dob_moves.specs.Outcomes.{arrives_as, with_caught}
 use Rattle.dob_moves.proofs.Outcomes.{held_few}
-use Rattle.dob_rank.specs.Numbers.{rank_of_set}
-use Rattle.dob_rank.specs.Order.{IsPositionOfSet, IsFirstOfTwo}
-use Rattle.dob_rank.proofs.Marked.Representatives.{first_by_rank}
-use Rattle.dob_rank.proofs.Positions.Found.{IsPositionOfSet-mirrored}
-use Rattle.dob_classes.specs.Changes.{IsWith}
+use Rattle.dob_pieces.specs.Changes.{IsWith}
 
 -- ---- moves
 
@@ -78,12 +72,3 @@ arrived_on before after square kind twelve low arrived = record {
   there = λ s below apart. arrived.there s below apart ∙ sym (get_or-set_other before.board square s None None apart);
   hands_stay = refl;
 }
-
--- ---- classes
-
--- of a position and its mirror image one is no later than the other
-pub one_is_first : (set : PieceSet) (s : Setup) → length s.board ≡ 12 → IsPositionOfSet set s → (IsFirstOfTwo s → ⊥) → (IsFirstOfTwo (mirrored s) → ⊥) → ⊥
-one_is_first set s twelve position later image_later = elim (cases_lt (rank_of_set set (mirrored s)) (rank_of_set set s)) [
-  | inl less ↦ image_later (first_by_rank set (mirrored s) (IsPositionOfSet-mirrored set s position) (rw (mirrored-mirrored s twelve) (omega (arith, less))))
-  | inr most ↦ later (first_by_rank set s position most)
-]

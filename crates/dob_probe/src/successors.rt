@@ -3,7 +3,7 @@
 ghost use Rattle.std.specs.Prelude.{◌≡◌, ◌++◌, List, [], ◌∷◌, IfOk, OnOk};
 ghost use Rattle.dob_pieces.specs.declared.setup.Setup.{Setup};
 ghost use Rattle.dob_pieces.specs.Setups.{turned};
-ghost use Rattle.dob_classes.specs.Bitboards.{AreBitboards};
+ghost use Rattle.dob_pieces.specs.Boards.{IsBoardOf};
 ghost use Rattle.dob_moves.specs.Moves.{Goes, CanGo};
 ghost use Rattle.dob_moves.specs.Statuses.{AreMoves, HasStatus};
 ghost use Rattle.dob_moves.specs.declared.position_status.Status.{Status};
@@ -15,10 +15,9 @@ ghost use Rattle.dob_distance.specs.Distances.{lesser_of, greater_of};
 ghost use Rattle.dob_probe.specs.Lines.{GivenBy};
 ghost use Rattle.dob_probe.specs.Sums.{AreSummed, HasNext, value_after};
 
-use crate::shown_moves::{bits_after, class_shown};
-use dob_classes::Bitboards;
+use crate::shown_moves::bits_after;
 use dob_moves::{Move, Status, moves_into};
-use dob_pieces::{Memory, Position};
+use dob_pieces::{Board, Memory, Position};
 use dob_value::{Table, Value, outcome_of};
 
 /// What is kept of the successors' values.
@@ -138,7 +137,7 @@ fn successors_of(table: &Table, position: &Position, legal: &[Move]) -> Successo
     requires legal { AreMoves table.now.family.profile position.now.setup legal.now }
     ensures { (values : List Valued) × AreSuccessors table.now.family.profile (λ v q. GivenBy table.now q v) position.now.setup values × AreSummed values result }
 {
-    let seen = Bitboards::turned(&position.setup);
+    let seen = Board::turned(&position.setup);
     let mut kept = Successors::none();
     for played in legal {
         let value = value_shown(table, position, &seen, *played);
@@ -147,15 +146,15 @@ fn successors_of(table: &Table, position: &Position, legal: &[Move]) -> Successo
     kept
 }
 
-// The value of the position to which the move leads, by the sets of squares that the enemy sees before it.
-fn value_shown(table: &Table, position: &Position, seen: &Bitboards, played: Move) -> Value
+// The value of the position to which the move leads, by the board that the enemy sees before it.
+fn value_shown(table: &Table, position: &Position, seen: &Board, played: Move) -> Value
     requires member { IsPositionOf table.now.family position.now.setup }
     requires played { HasStatus table.now.family.profile position.now.setup Status.Open × CanGo table.now.family.profile position.now.setup played }
-    requires seen { AreBitboards (turned position.now.setup) seen.now }
+    requires seen { IsBoardOf (turned position.now.setup) seen.now }
     ensures { (q : Setup) → Goes table.now.family.profile position.now.setup played q → GivenBy table.now q result }
 {
-    let bits = bits_after(position, seen, played);
-    let class = class_shown(table.classes(), &bits);
+    let board = bits_after(position, seen, played);
+    let class = table.classes().class_shown(&board);
     table.value(class)
 }
 

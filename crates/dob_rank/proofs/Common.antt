@@ -31,7 +31,7 @@ pub use Rattle.dob_rank.specs.Families.{HasRank, HasSize, IsPositionOf, IsRanked
 unfoldable pub use Rattle.dob_rank.specs.Families.{classes_of, is_marked, is_present, rank_of, size_of}
 pub use Rattle.dob_rank.specs.Marks.{is_first}
 unfoldable pub use Rattle.dob_rank.specs.Marks.{marked, marks_below}
-pub use Rattle.dob_rank.specs.Masks.{all_squares, first_bit, from_mask, layer_mask, plane, plane_len, planes}
+pub use Rattle.dob_rank.specs.Masks.{all_squares, from_mask, layer_mask}
 pub use Rattle.dob_rank.specs.Numbers.{HasBlock, HasDigits, base_of, bases_by, block_bases, block_of, board_of, cell_of, choice, choose, count}
 pub use Rattle.dob_rank.specs.Numbers.{count_from, digits, digits_of, empty_layers, enemy_squares, find, forms_number, free_squares, layer, layers_by}
 pub use Rattle.dob_rank.specs.Numbers.{number_of, numbers_by, on_board, order, own_squares, product, settle, setup_by, setup_in, start_of, sum_below}

@@ -1,7 +1,6 @@
 pub mod Order
 pub mod Numbers
 pub mod Masks
-pub mod BoardMasks
 pub mod Marks
 pub mod ClassRows
 pub mod Families

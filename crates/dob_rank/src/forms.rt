@@ -1,10 +1,9 @@
 // The forms of the pieces of a layer.
 ghost use Rattle.std.specs.Prelude.{◌≡◌, ◌<◌, ◌≤◌};
-ghost use Rattle.dob_rank.specs.Order.{form};
 ghost use Rattle.dob_rank.specs.Numbers.{order, base_of, cell_of};
 
 use crate::layers::Layer;
-use dob_pieces::{CellTable, Kind, Piece, Side, entry_of};
+use dob_pieces::{Kind, Piece, Side};
 
 /// How many forms a piece of that layer has.
 pub fn base_of(layer: Layer) -> u64
@@ -17,24 +16,6 @@ pub fn base_of(layer: Layer) -> u64
         Layer::Elephants | Layer::Giraffes => 2,
         Layer::OwnLion | Layer::EnemyLion | Layer::Empty => 1,
     }
-}
-
-// By a cell's kind and owner the form of its piece.
-const FORMS: CellTable = [
-    [0, 0, 0, 0],
-    [0, 0, 1, 0],
-    [0, 0, 1, 0],
-    [0, 0, 2, 0],
-    [0, 1, 3, 0],
-];
-
-/// The form of a cell's piece: own chick 0, own hen 1, enemy chick 2, enemy hen 3; of the other kinds own 0 and
-/// enemy 1. It is found without a branch on the owner, which no processor can foretell.
-pub(crate) fn form_of(cell: Option<Piece>) -> u64
-    ensures value { result ≡ form cell }
-    ensures bound { result ≤ 3 }
-{
-    entry_of(&FORMS, cell)
 }
 
 /// The cell of that layer and form.

@@ -12,7 +12,7 @@
 //   and class number rest on one count, `present_before`.
 // - The positions of a family in one run are numbered among themselves (`place_of_number`), so lists of stretches work for any marks. In profile A the
 //   numbers are the places.
-// - A rank is found by masks, in one pass over the board; a position by places, each piece's among the squares that are left.
+// - A rank is found from a `Board`, by the sets of its squares; a position by places, each piece's among the squares that are left.
 // - Tables of profile B go by how many of the squares that two lions leave are on row 1 and on row 4: five shapes.
 // - What stands on a square is a `Layer`, an enum whose order is the key's; definitions go over lists of the layers' numbers (`order`).
 // - No set is too large: a `PieceSet` has at most two of each kind by its type. The bound of 2^31 positions is read off the table of the blocks' starts.
@@ -23,7 +23,7 @@ pub mod far_places;
 pub mod far_rows;
 pub mod forms;
 pub mod layers;
-pub mod masks;
+mod masks;
 pub mod placing;
 pub mod radix;
 pub mod ranks;

@@ -1,15 +1,14 @@
 // Ranks: the positions of a family, those of a piece set that a profile allows, in the order of their key. In profile A these are all positions of the
 // set (src/set_ranks.rt). In profile B a choice of the chicks' squares has as many forms as its squares let it have, so that a place in a run is a sum of
 // such numbers in place of a number in mixed radix.
-ghost use Rattle.std.specs.Prelude.{◌≡◌, ◌<◌, ◌≤◌, ◌+◌, ◌*◌, ◌/◌, ◌%◌, ◌^◌, map, slice_index};
+ghost use Rattle.std.specs.Prelude.{◌≡◌, ◌<◌, ◌≤◌, ◌+◌, ◌*◌, ◌/◌, ◌%◌, ◌^◌, slice_index};
 ghost use Rattle.dob_pieces.specs.Profiles.{IsAllowed};
 ghost use Rattle.dob_pieces.specs.declared.profile.Profile.TheVariants.{B};
-ghost use Rattle.dob_rank.specs.BoardMasks.{AreMasksOfBoard};
 ghost use Rattle.dob_pieces.specs.declared.setup.Setup.{Setup};
+ghost use Rattle.dob_rank.specs.BoardDigits.{ArePartsOf, HasOfLayer};
 ghost use Rattle.dob_rank.specs.Families.{family_of, IsPositionOf, HasSize, HasRank, IsRanked, is_present, size_of, rank_of};
 ghost use Rattle.dob_rank.specs.Marks.{marks_below};
-ghost use Rattle.dob_rank.specs.Masks.{layer_mask};
-ghost use Rattle.dob_rank.specs.Numbers.{product, block_bases, start_of, block_of, order, layer, count, choose, free_squares, on_board as on_board_of};
+ghost use Rattle.dob_rank.specs.Numbers.{product, block_bases, start_of, block_of, order, choose, free_squares};
 ghost use Rattle.dob_rank.specs.Order.{IsPositionOfSet};
 ghost use Rattle.dob_rank.specs.Places.{IsSpotFor};
 ghost use Rattle.dob_rank.specs.Runs.{AreFewOnBoard, square_bases};
@@ -19,16 +18,15 @@ ghost use Rattle.dob_rank.specs.Weights.{squares_by, others_by, hand_size, place
 use crate::block::{self, DIGITS, EachKind};
 use crate::far_places::{lions_at, local_at};
 use crate::far_rows::{before_choice, before_lions, forms_below, hand_size};
-use crate::forms::form_of;
 use crate::layers::Layer;
-use crate::masks::{self, Masks};
+use crate::masks::form_at;
 use crate::radix;
 use crate::runs::{FREE_SQUARES, LIONS, Spot};
 use crate::set_ranks::{
-    digits_of, numbers_on_board, piece_set_of, position_by, rank_in_set, unrank_in_set,
+    digits_of, numbers_in, piece_set_of, position_by, rank_in_set, unrank_in_set,
 };
 use crate::starts::{block_start, find_block};
-use dob_pieces::{Family, Piece, PieceSet, Position, Profile, Square};
+use dob_pieces::{Board, Family, PieceSet, Position, Profile};
 
 /// How many positions the family has.
 pub fn size(family: Family) -> u64
@@ -106,27 +104,25 @@ fn far_rank(position: &Position) -> u64
     requires { IsAllowed B position.now.setup }
     ensures { (set : PieceSet) → IsPositionOfSet set position.now.setup → result ≡ rank_of (family_of set B) position.now.setup }
 {
-    let masks = masks::masks_of(&position.setup.board);
-    let on_board = numbers_on_board(position, masks);
+    let board = Board::of(&position.setup);
+    let on_board = numbers_in(&board);
     let set = piece_set_of(position, &on_board);
     let block = radix::number_of(&block::block_bases_of(set), &on_board);
     let profile = Profile::B;
-    block_start(Family { set, profile }, block) + far_place(set, position, masks, &on_board)
+    block_start(Family { set, profile }, block) + far_place(set, &board, &on_board)
 }
 
-// How many positions of profile B stand before one of the set in its block.
-fn far_place(set: PieceSet, position: &Position, masks: Masks, on_board: &EachKind) -> u64
-    requires allowed { IsAllowed B position.now.setup }
-    requires position { IsPositionOfSet set position.now.setup }
-    requires masks { AreMasksOfBoard position.now.setup.board masks }
-    requires on_board { on_board.now ≡ on_board_of position.now.setup }
-    ensures { marks_below (is_present (family_of set B)) (start_of set (block_of set position.now.setup)) + result ≡ rank_of (family_of set B) position.now.setup }
+// How many positions of profile B stand, in its block, before the one that the board shows.
+fn far_place(set: PieceSet, board: &Board, on_board: &EachKind) -> u64
+    requires { (setup : Setup) × IsPositionOf (family_of set B) setup × ArePartsOf board.now on_board.now setup }
+    ensures { (setup : Setup) → IsPositionOf (family_of set B) setup → ArePartsOf board.now on_board.now setup
+        → marks_below (is_present (family_of set B)) (start_of set (block_of set setup)) + result ≡ rank_of (family_of set B) setup }
 {
-    let digits = digits_of(position, masks, on_board);
+    let digits = digits_of(board, on_board);
     let run = block::spot_from(set, on_board, &digits).run;
     let lions = run % LIONS;
     let chosen = chosen_before(on_board[0], run / LIONS, lions, digits[5]);
-    let forms = allowed_forms(&position.setup.board, masks.chicks, on_board[0]);
+    let forms = allowed_forms(board, on_board[0]);
     place_behind(on_board, &digits, lions, chosen, forms)
 }
 
@@ -197,23 +193,25 @@ pub fn weight_of(chicks: u64, lions: u64, choice: u64) -> u64
     before_choice(chicks, lions, choice + 1) - before_choice(chicks, lions, choice)
 }
 
-/// How many numbers of allowed forms of the chicks, at most two on those squares, stand before theirs.
-pub fn allowed_forms(board: &[Option<Piece>; Square::COUNT], mask: u64, pieces: u64) -> u64
+/// How many numbers of allowed forms of the chicks, at most two, stand before that of those which the board shows.
+pub fn allowed_forms(board: &Board, pieces: u64) -> u64
     requires few { pieces ≤ 2 }
-    requires mask { mask ≡ layer_mask (order Layer.Chicks) (map layer board.now) }
-    requires pieces { pieces ≡ count (order Layer.Chicks) (map layer board.now) }
-    ensures value { result ≡ allowed_number (may_have B) 4 (order Layer.Chicks) 0 board.now }
+    requires chicks { (setup : Setup) × HasOfLayer Layer.Chicks board.now.chicks pieces setup board.now }
+    ensures value { (setup : Setup) → HasOfLayer Layer.Chicks board.now.chicks pieces setup board.now
+        → result ≡ allowed_number (may_have B) 4 (order Layer.Chicks) 0 setup.board }
     ensures bound { result ≤ 20 }
 {
     if pieces == 0 {
         return 0;
     }
-    let first = mask.trailing_zeros() as usize;
-    let place = forms_below(first, form_of(board[first]));
+    let mask = u64::from(board.chicks);
+    let first = mask.trailing_zeros();
+    let place = forms_below(first as usize, form_at(board, Layer::Chicks, first));
     if pieces == 1 {
         return place;
     }
     let rest = mask & mask.saturating_sub(1);
-    let second = rest.trailing_zeros() as usize;
-    place * forms_below(second, 4) + forms_below(second, form_of(board[second]))
+    let second = rest.trailing_zeros();
+    place * forms_below(second as usize, 4)
+        + forms_below(second as usize, form_at(board, Layer::Chicks, second))
 }

@@ -1,10 +1,10 @@
 // The numbering of all positions of a piece set, those of profile A: their ranks, and where each stands among the runs of its block. On it stand the ranks
 // (src/ranks.rt) and the classes of families.
-ghost use Rattle.std.specs.Prelude.{◌≡◌, ◌<◌, ◌≤◌, ◌+◌, ◌*◌, ◌^◌};
+ghost use Rattle.std.specs.Prelude.{◌≡◌, ◌<◌, ◌≤◌, ◌+◌, ◌*◌, ◌^◌, length};
+ghost use Rattle.dob_pieces.specs.Boards.{IsBoardOf};
 ghost use Rattle.dob_pieces.specs.Setups.{total};
 ghost use Rattle.dob_pieces.specs.declared.setup.Setup.{Setup};
-ghost use Rattle.dob_rank.specs.BoardDigits.{ArePartsOf, AreNumbersOf};
-ghost use Rattle.dob_rank.specs.BoardMasks.{AreMasksOfBoard};
+ghost use Rattle.dob_rank.specs.BoardDigits.{ArePartsOf, AreNumbersOf, IsShownOfSet};
 ghost use Rattle.dob_rank.specs.Order.{IsPositionOfSet};
 ghost use Rattle.dob_rank.specs.Numbers.{size_of_set, rank_of_set, product, number_of, block_bases, block_of};
 ghost use Rattle.dob_rank.specs.Numbers.{HasBlock, bases_by, on_board as on_board_of, digits as all_digits_of, setup_by, hands_by, HasDigits, digits_of};
@@ -12,20 +12,19 @@ ghost use Rattle.dob_rank.specs.Runs.{runs_in, run_size, run_bases, square_bases
 
 use crate::block::{self, DIGITS, EachKind};
 use crate::layers::Layer;
-use crate::masks::{self, Masks};
 use crate::runs::Spot;
 use crate::starts::{block_start, find_block};
-use crate::{placing, radix};
-use dob_pieces::{Family, Hand, HandKind, Hands, PieceSet, Position, Profile, Setup};
+use crate::{masks, placing, radix};
+use dob_pieces::{Board, Family, Hand, HandKind, Hands, PieceSet, Position, Profile, Setup};
 
 /// How many positions of its piece set stand before the position.
 pub(crate) fn rank_in_set(position: &Position) -> u64
     ensures { (set : PieceSet) → IsPositionOfSet set position.now.setup → result ≡ rank_of_set set position.now.setup }
 {
-    let masks = masks::masks_of(&position.setup.board);
-    let on_board = numbers_on_board(position, masks);
+    let board = Board::of(&position.setup);
+    let on_board = numbers_in(&board);
     let set = piece_set_of(position, &on_board);
-    let (block, spot) = spot_with(set, position, masks, &on_board);
+    let (block, spot) = spot_from(set, &on_board, &digits_of(&board, &on_board));
     let profile = Profile::A;
     block_start(Family { set, profile }, block) + block::place_of(&on_board, spot)
 }
@@ -51,30 +50,19 @@ pub fn spot_of(set: PieceSet, position: &Position) -> (u64, Spot)
     ensures run { result.1.run ≡ run_of set position.now.setup }
     ensures local { result.1.local ≡ local_of position.now.setup }
 {
-    spot_by(set, position, masks::masks_of(&position.setup.board))
+    spot_by(set, &Board::of(&position.setup))
 }
 
-/// Block and spot by the masks of the position.
-pub fn spot_by(set: PieceSet, position: &Position, masks: Masks) -> (u64, Spot)
-    requires position { IsPositionOfSet set position.now.setup }
-    requires masks { AreMasksOfBoard position.now.setup.board masks }
-    ensures block { result.0 ≡ block_of set position.now.setup }
-    ensures run { result.1.run ≡ run_of set position.now.setup }
-    ensures local { result.1.local ≡ local_of position.now.setup }
+/// Block and spot of the position that the board shows.
+pub fn spot_by(set: PieceSet, board: &Board) -> (u64, Spot)
+    requires { (setup : Setup) × IsShownOfSet set setup board.now }
+    ensures block { (setup : Setup) → IsShownOfSet set setup board.now → result.0 ≡ block_of set setup }
+    ensures run { (setup : Setup) → IsShownOfSet set setup board.now → result.1.run ≡ run_of set setup }
+    ensures local { (setup : Setup) → IsShownOfSet set setup board.now → result.1.local ≡ local_of setup }
 {
-    spot_with(set, position, masks, &numbers_on_board(position, masks))
-}
-
-// Block and spot by the masks of the position and the numbers on its board.
-fn spot_with(set: PieceSet, position: &Position, masks: Masks, on_board: &EachKind) -> (u64, Spot)
-    requires position { IsPositionOfSet set position.now.setup }
-    requires masks { AreMasksOfBoard position.now.setup.board masks }
-    requires on_board { on_board.now ≡ on_board_of position.now.setup }
-    ensures block { result.0 ≡ block_of set position.now.setup }
-    ensures run { result.1.run ≡ run_of set position.now.setup }
-    ensures local { result.1.local ≡ local_of position.now.setup }
-{
-    spot_from(set, on_board, &digits_of(position, masks, on_board))
+    let on_board = numbers_in(board);
+    let digits = digits_of(board, &on_board);
+    spot_from(set, &on_board, &digits)
 }
 
 /// Block and spot by the position's numbers on the board and its digits.
@@ -137,63 +125,46 @@ pub fn position_by(set: PieceSet, on_board: &EachKind, choices: &EachKind, spot:
 }
 
 /// How many chicks, elephants and giraffes stand on the board.
-pub fn numbers_on_board(position: &Position, masks: Masks) -> EachKind
-    requires { AreMasksOfBoard position.now.setup.board masks }
-    ensures { result ≡ on_board_of position.now.setup }
-{
-    numbers_in(masks)
-}
-
-/// The numbers on the board by the masks alone.
-pub fn numbers_in(masks: Masks) -> EachKind
-    ensures { (setup : Setup) → AreMasksOfBoard setup.board masks → result ≡ on_board_of setup }
+pub fn numbers_in(board: &Board) -> EachKind
+    ensures { (setup : Setup) → IsBoardOf setup board.now → length setup.board ≡ 12 → result ≡ on_board_of setup }
 {
     [
-        masks::count(masks.chicks),
-        masks::count(masks.elephants),
-        masks::count(masks.giraffes),
+        masks::count(u64::from(board.chicks)),
+        masks::count(u64::from(board.elephants)),
+        masks::count(u64::from(board.giraffes)),
     ]
 }
 
-/// The digits of a position in its block.
-pub fn digits_of(position: &Position, masks: Masks, on_board: &EachKind) -> [u64; DIGITS]
-    requires masks { AreMasksOfBoard position.now.setup.board masks }
-    requires on_board { on_board.now ≡ on_board_of position.now.setup }
-    ensures { result ≡ all_digits_of position.now.setup }
-{
-    let board = &position.setup.board;
-    let forms = [
-        masks::forms_of(board, masks.chicks, Layer::Chicks, on_board[0]),
-        masks::forms_of(board, masks.elephants, Layer::Elephants, on_board[1]),
-        masks::forms_of(board, masks.giraffes, Layer::Giraffes, on_board[2]),
-    ];
-    digits_from(position.setup.hands.mover, masks, on_board, &forms)
-}
-
-/// The digits of the position with that hand of the mover, those masks, and those numbers on the board and of its forms. Within
-/// its callers, since a call of its own hands over all of these, and eleven digits back, by memory.
+/// The digits, in its block, of the position that the board shows, by the numbers on it. Within its callers, since a call of its own hands eleven digits back
+/// by memory.
 #[inline(always)]
-pub fn digits_from(hand: Hand, masks: Masks, on_board: &EachKind, forms: &EachKind) -> [u64; DIGITS]
-    requires { (setup : Setup) × ArePartsOf hand masks on_board.now forms.now setup }
-    ensures { (setup : Setup) → ArePartsOf hand masks on_board.now forms.now setup → result ≡ all_digits_of setup }
+pub fn digits_of(board: &Board, on_board: &EachKind) -> [u64; DIGITS]
+    requires { (setup : Setup) × ArePartsOf board.now on_board.now setup }
+    ensures { (setup : Setup) → ArePartsOf board.now on_board.now setup → result ≡ all_digits_of setup }
 {
-    let after_own_lion = masks::ALL - masks.own_lion;
-    let after_lions = after_own_lion - masks.enemy_lion;
-    let after_chicks = after_lions - masks.chicks;
-    let after_elephants = after_chicks - masks.elephants;
-    let empty = after_elephants - masks.giraffes;
+    let own_lion = u64::from(board.own_lion);
+    let enemy_lion = u64::from(board.enemy_lion);
+    let chicks = u64::from(board.chicks);
+    let elephants = u64::from(board.elephants);
+    let giraffes = u64::from(board.giraffes);
+    let after_own_lion = masks::ALL - own_lion;
+    let after_lions = after_own_lion - enemy_lion;
+    let after_chicks = after_lions - chicks;
+    let after_elephants = after_chicks - elephants;
+    let empty = after_elephants - giraffes;
+    let hand = board.hands.mover;
     [
         u64::from(hand.chicks),
         u64::from(hand.elephants),
         u64::from(hand.giraffes),
-        masks::choice_of(masks.own_lion, after_own_lion, 1),
-        masks::choice_of(masks.enemy_lion, after_lions, 1),
-        masks::choice_of(masks.chicks, after_chicks, on_board[0]),
-        masks::choice_of(masks.elephants, after_elephants, on_board[1]),
-        masks::choice_of(masks.giraffes, empty, on_board[2]),
-        forms[0],
-        forms[1],
-        forms[2],
+        masks::choice_of(own_lion, after_own_lion, 1),
+        masks::choice_of(enemy_lion, after_lions, 1),
+        masks::choice_of(chicks, after_chicks, on_board[0]),
+        masks::choice_of(elephants, after_elephants, on_board[1]),
+        masks::choice_of(giraffes, empty, on_board[2]),
+        masks::forms_of(board, chicks, Layer::Chicks, on_board[0]),
+        masks::forms_of(board, elephants, Layer::Elephants, on_board[1]),
+        masks::forms_of(board, giraffes, Layer::Giraffes, on_board[2]),
     ]
 }
 

@@ -56,10 +56,11 @@ pub use Rattle.dob_rank.specs.Order.{IsEither, IsFirstOfTwo, Precedes, each_kind
 unfoldable pub use Rattle.dob_rank.specs.Order.{Before, key}
 pub use Rattle.dob_classes.proofs.OfFamilies.Counted.{no_longer, pairs-head, pairs-tail}
 pub use Rattle.dob_classes.proofs.OfFamilies.FamilyNumbers.{IsPositionOf-mirrored}
-pub use Rattle.dob_classes.proofs.SquareSets.BitChanges.{nothing_added, piece_added, with_cell, with_cells, with_hands, with_one, without_piece}
-pub use Rattle.dob_classes.specs.Bitboards.{AreBitboards, IsShown}
-pub use Rattle.dob_classes.specs.Changes.{IsWith}
-pub use Rattle.dob_classes.specs.declared.bits.bitboards.Bitboards.{Bitboards}
+pub use Rattle.dob_pieces.proofs.BoardChanges.{nothing_added, piece_added, with_cell, with_cells, with_hands, with_one, without_piece}
+pub use Rattle.dob_pieces.specs.Boards.{IsBoardOf}
+pub use Rattle.dob_classes.specs.Shown.{IsShown}
+pub use Rattle.dob_pieces.specs.Changes.{IsWith}
+pub use Rattle.dob_pieces.specs.declared.board.Board.{Board}
 pub use Rattle.dob_unmove.specs.Classes.{IsSeenTurned, RepresentsClass}
 pub use Rattle.dob_unmove.specs.Ends.{CanWalk}
 pub use Rattle.dob_unmove.specs.Gathers.{Adds, Finds, Gathers, IsOpenRepresentative}

@@ -2,8 +2,8 @@
 use Rattle.dob_unmove.proofs.Common.{if◌then◌else◌, ◌<◌, ◌∙◌, ◌≡◌, Bool, Some, ap, arith, false, inl, inr, length, not, refl, subst, sym, true, true≢false, ℕ}
 use Rattle.dob_unmove.proofs.Common.{cases_eq, all_below, all_below-at, leads-to_board, within-from_piece, leads, is_far, may_stand, piece_of, row, Kind}
 use Rattle.dob_unmove.proofs.Common.{Chick, Mover, Profile, A, B, none_stands, enemy_cell, Unput, Unstep, IsLegal-mirrored, turned-mirrored, IsAllowed}
-use Rattle.dob_unmove.proofs.Common.{HasLionOffFarRow, IsLegal, mirrored, total, turned, Family, Setup, IsPositionOf, IsPositionOf-mirrored, AreBitboards}
-use Rattle.dob_unmove.proofs.Common.{IsShown, Bitboards, IsSeenTurned, CanUndo, earlier, may_give_back, Undo}
+use Rattle.dob_unmove.proofs.Common.{HasLionOffFarRow, IsLegal, mirrored, total, turned, Family, Setup, IsPositionOf, IsPositionOf-mirrored, IsBoardOf}
+use Rattle.dob_unmove.proofs.Common.{IsShown, Board, IsSeenTurned, CanUndo, earlier, may_give_back, Undo}
 use Rattle.dob_pieces.proofs.Allowed.{stands-from_allowed, allowed-from_stands, IsAllowed-turned}
 use Rattle.dob_unmove.proofs.Undone.{leaves, ends_on, came, given, IsBefore, is_before, turned_squares, squares_before, total_before, lions_before}
 
@@ -81,9 +81,9 @@ module _ (family : Family) (after : Setup) (u : Undo) (can : CanUndo after u) (t
   }
 
   -- what sets of squares show of it
-  pub shown_before : (bits found : Bitboards) → may_give_back family.profile u ≡ true → HasLionOffFarRow (earlier after u) → AreBitboards after bits
-      → ((s : Setup) → CanUndo s u → length s.board ≡ 12 → AreBitboards s bits → AreBitboards (earlier s u) found) → IsShown family (earlier after u) found
-  shown_before bits found may home are before = record {
+  pub shown_before : (board found : Board) → may_give_back family.profile u ≡ true → HasLionOffFarRow (earlier after u) → IsBoardOf after board
+      → ((s : Setup) → CanUndo s u → length s.board ≡ 12 → IsBoardOf s board → IsBoardOf (earlier s u) found) → IsShown family (earlier after u) found
+  shown_before board found may home are before = record {
     position = position_before (earlier after u) may refl (legal_before after (earlier after u) u can legal refl home);
     squares = before after can (turned_squares after legal) are;
   }

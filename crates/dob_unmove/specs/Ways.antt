@@ -10,7 +10,7 @@ use Rattle.dob_pieces.specs.Setups.{at, piece_of}
 use Rattle.dob_pieces.specs.Masks.{IsMask, AreMasks, is_own, is_empty, is_piece}
 use Rattle.dob_unmove.specs.declared.attackers.Threat.{Threat}
 use Rattle.dob_unmove.specs.declared.ways.Ways.{Ways}
-use Rattle.dob_classes.specs.Bitboards.{AreBitboards}
+use Rattle.dob_pieces.specs.Boards.{IsBoardOf}
 use Rattle.dob_unmove.specs.Threats.{elsewhere, IsThreat}
 
 -- Where the mover's lion of a representative stands, by the square of the enemy's: off row 4, and on column a, or on b unless
@@ -45,7 +45,7 @@ may_come after lion kind to square =
 
 -- what is known of the setup after a move
 pub record AreWays (after : Setup) (ways : Ways) : Type 0 where
-  pub bits_are : AreBitboards after ways.bits
+  pub board_is : IsBoardOf after ways.board
   pub masks_are : AreMasks after ways.masks
   pub threat_is : IsThreat after ways.threat
   pub homes_are : IsMask (is_home ways.threat.lion) ways.homes

@@ -5,7 +5,7 @@
 // - The walk by masks skips a way if no open representative can have stood before it: a piece attacked the enemy lion, the mover's lion stood on row 4, or
 //   the lions' columns say that the mirror image is the earlier one. The plain walk, which looks at every way back (`dob_plain`), has the same promise and
 //   the same order, so one list of ways serves both proofs; what the two share of a way is public (`Undo`, `Threat`, `may_give_back` and the like).
-// - Contracts speak of setups that the code doesn't read (it reads sets of squares), and the compiler leaves their boards out.
+// - Contracts speak of setups that the code doesn't read (it reads boards), and the compiler leaves their cells out.
 #![tactic(auto)]
 
 mod attackers;
@@ -20,5 +20,5 @@ pub use earlier::{enemy_cell, holds_caught, may_give_back, without_caught};
 pub use predecessors::{back, back_into};
 pub use undo::Undo;
 
-// Changes of sets of squares, as moves that are made have them too.
+// Changes of boards, as moves that are made have them too.
 pub use bits_before::{with_enemy, without};

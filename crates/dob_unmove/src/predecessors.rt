@@ -6,7 +6,8 @@ ghost use Rattle.dob_pieces.specs.Pieces.{kind_on_board};
 ghost use Rattle.dob_pieces.specs.Setups.{at, piece_of, turned, mirrored, HasLionOffFarRow};
 ghost use Rattle.dob_pieces.specs.declared.kind.Kind.{Kind};
 ghost use Rattle.dob_pieces.specs.declared.kind.Side.TheVariants.{Mover};
-ghost use Rattle.dob_classes.specs.Bitboards.{AreBitboards, IsShown};
+ghost use Rattle.dob_pieces.specs.Boards.{IsBoardOf};
+ghost use Rattle.dob_classes.specs.Shown.{IsShown};
 ghost use Rattle.dob_rank.specs.Families.{classes_of};
 ghost use Rattle.dob_unmove.specs.declared.undo.Undo.{Undo};
 ghost use Rattle.dob_unmove.specs.Undoes.{arrives_at as arrival, CanUndo, earlier};
@@ -23,8 +24,10 @@ use crate::bits_before::bits_before;
 use crate::earlier::may_give_back;
 use crate::undo::Undo;
 use crate::ways::Ways;
-use dob_classes::{Bitboards, Classes, Shown, mirrored_bits};
-use dob_pieces::{HandKind, Kind, Memory, Setup, Side, Square, lowest_square, without_square};
+use dob_classes::{Classes, Shown};
+use dob_pieces::{
+    Board, HandKind, Kind, Memory, Setup, Side, Square, lowest_square, without_square,
+};
 use std::alloc::Global;
 use std::snapshot::Snapshot;
 
@@ -84,7 +87,7 @@ impl Walk<'_> {
         ensures { Finds (RepresentsClass self.now.classes.now.family) (earlier self.now.after.value undo) result }
     {
         if may_give_back(self.classes.family.profile, &undo) {
-            class_if_shown(self.classes, &bits_before(self.ways.bits, undo))
+            class_if_shown(self.classes, &bits_before(self.ways.board, undo))
         } else {
             None
         }
@@ -228,12 +231,12 @@ impl End<'_> {
 }
 
 // The class whose representative is the position of the family that the sets show; `None` if it is none.
-fn class_if_shown(classes: &Classes, bits: &Bitboards) -> Option<u64>
-    requires { (setup : Setup) × IsShown classes.now.family setup bits.now }
-    ensures { (setup : Setup) → IsShown classes.now.family setup bits.now
+fn class_if_shown(classes: &Classes, board: &Board) -> Option<u64>
+    requires { (setup : Setup) × IsShown classes.now.family setup board.now }
+    ensures { (setup : Setup) → IsShown classes.now.family setup board.now
         → MatchOption result (¬ ((class : ℕ) × RepresentsClass classes.now.family setup class)) (RepresentsClass classes.now.family setup) }
 {
-    classes.class_of_shown(bits)
+    classes.class_of_shown(board)
 }
 
 // Whether the representative of the class is its own mirror image. What is known of the turned setup says mostly that it isn't.
@@ -244,7 +247,7 @@ fn is_own_image(classes: &Classes, class: u64, ways: &Ways) -> bool
 {
     if ways.has_lions_on_b() {
         let shown = classes.shown_at(class, Side::Mover);
-        return class_if_shown(classes, &mirrored_bits(&shown.bits)).is_some();
+        return class_if_shown(classes, &shown.board.mirrored()).is_some();
     }
     false
 }
@@ -256,13 +259,13 @@ fn is_own_image(classes: &Classes, class: u64, ways: &Ways) -> bool
 fn gather(room: Vec<u64>, classes: &Classes, class: u64, shown: &Shown) -> Result<Vec<u64>, Memory>
     requires class { class < classes_of classes.now.family }
     requires representative { RepresentsClass classes.now.family shown.now.position.setup class }
-    requires bits { AreBitboards (turned shown.now.position.setup) shown.now.bits }
+    requires board { IsBoardOf (turned shown.now.position.setup) shown.now.board }
     ensures { IfOk result (λ list. CountEdges A (RepresentsClass classes.now.family) shown.now.position.setup list.items) }
 {
     let mut found = room;
     found.clear();
     let after = shown.position.turned();
-    let ways = Ways::by(&after, shown.bits);
+    let ways = Ways::by(&after, shown.board);
     let walk = Walk {
         classes,
         after: Snapshot::of(&after),
@@ -273,7 +276,7 @@ fn gather(room: Vec<u64>, classes: &Classes, class: u64, shown: &Shown) -> Resul
         return Ok(found);
     }
     let image = after.mirrored();
-    let image_ways = Ways::by(&image, mirrored_bits(&ways.bits));
+    let image_ways = Ways::by(&image, ways.board.mirrored());
     let image_walk = Walk {
         classes,
         after: Snapshot::of(&image),

@@ -4,7 +4,7 @@ ghost use Rattle.std.specs.Prelude.{◌≡◌, not, IsTrue};
 ghost use Rattle.dob_pieces.specs.Masks.{IsMask};
 ghost use Rattle.dob_pieces.specs.Setups.{mirrored, IsLegal};
 ghost use Rattle.dob_pieces.specs.declared.setup.Setup.{Setup};
-ghost use Rattle.dob_classes.specs.Bitboards.{AreBitboards};
+ghost use Rattle.dob_pieces.specs.Boards.{IsBoardOf};
 ghost use Rattle.dob_unmove.specs.Classes.{IsSeenTurned};
 ghost use Rattle.dob_unmove.specs.Threats.{elsewhere};
 ghost use Rattle.dob_unmove.specs.Ways.{is_home, comes_home, may_come, AreWays};
@@ -12,8 +12,7 @@ ghost use Rattle.dob_unmove.specs.Walks.{holds_caught};
 
 use crate::attackers::{Attackers, Threat};
 use crate::earlier::holds_caught;
-use dob_classes::Bitboards;
-use dob_pieces::{ALL_SQUARES, Kind, Masks, Setup, Square};
+use dob_pieces::{ALL_SQUARES, Board, Kind, Masks, Setup, Square};
 
 // The squares of rows 1 to 3 on column a, and those on columns a and b.
 const HOMES_ON_A: u16 = 0b000_001_001_001;
@@ -26,7 +25,7 @@ const BESIDE_B: u16 = 0b101_101_101_101;
 /// What the masks of a setup after a move show, in which the side that made it is the mover.
 #[derive(Clone, Copy)]
 pub(crate) struct Ways {
-    pub(crate) bits: Bitboards,
+    pub(crate) board: Board,
     pub(crate) masks: Masks,
     pub(crate) threat: Threat,
     /// Where the mover's lion of a representative may stand.
@@ -59,12 +58,12 @@ fn calm_ends(attackers: Attackers) -> u16
 
 impl Ways {
     /// What is known of the ways that lead to the setup, by its sets of squares.
-    pub(crate) fn by(after: &Setup, bits: Bitboards) -> Ways
+    pub(crate) fn by(after: &Setup, board: Board) -> Ways
         requires legal { IsSeenTurned IsLegal after.now }
-        requires bits { AreBitboards after.now bits }
+        requires board { IsBoardOf after.now board }
         ensures { AreWays after.now result }
     {
-        let masks = bits.masks();
+        let masks = board.masks();
         let threat = Threat::by(after, &masks);
         let homes = homes_of(threat.lion);
         let calm = masks.own & calm_ends(threat.attackers);
@@ -74,7 +73,7 @@ impl Ways {
             calm
         };
         Ways {
-            bits,
+            board,
             masks,
             threat,
             homes,
@@ -103,7 +102,7 @@ impl Ways {
     pub(crate) fn holds_caught(&self, caught: Kind) -> bool
         ensures { (after : Setup) → AreWays after self.now → result ≡ holds_caught after.hands.mover caught }
     {
-        holds_caught(&self.bits.hands.mover, caught)
+        holds_caught(&self.board.hands.mover, caught)
     }
 
     /// Whether both lions stand on column b, as they do where the setup is its own mirror image.

@@ -1,15 +1,14 @@
-// Placing pieces as sets of squares: what the board of the same numbers (dob_rank/src/placing.rt) has, as either side sees it, with no board.
+// Placing pieces as sets of squares: what the board of the same numbers (dob_rank/src/placing.rt) has, as either side sees it, with no list of cells.
 ghost use Rattle.std.specs.Prelude.{◌≡◌, ◌<◌, ◌≤◌, ◌*◌, ◌%◌, ◌^◌, ℕ, None, length, slice_index};
 ghost use Rattle.dob_pieces.specs.Setups.{at, setup_of};
 ghost use Rattle.dob_pieces.specs.declared.setup.Setup.{Setup};
-ghost use Rattle.dob_classes.specs.Bitboards.{AreBitboards};
-ghost use Rattle.dob_classes.specs.Changes.{IsWith};
+ghost use Rattle.dob_pieces.specs.Boards.{IsBoardOf};
+ghost use Rattle.dob_pieces.specs.Changes.{IsWith};
 ghost use Rattle.dob_rank.specs.Numbers.{order, base_of, cell_of, board_of, numbers_by, layers_by};
 ghost use Rattle.dob_rank.specs.Placing.{put, AreChoices, AreFree, ArePlaces};
 ghost use Rattle.dob_classes.specs.Views.{seen_by, seen_square, seen_hands, seen_owner};
 
-use crate::bits::bitboards::Bitboards;
-use dob_pieces::{Hands, Side};
+use dob_pieces::{Board, Hands, Side};
 use dob_rank::block::{DIGITS, EachKind};
 use dob_rank::forms::base_of;
 use dob_rank::layers::Layer;
@@ -23,10 +22,10 @@ pub(crate) fn bits_by(
     digits: &[u64; DIGITS],
     places: &Places,
     hands: Hands,
-) -> Bitboards
+) -> Board
     requires choices { AreChoices on_board.now digits.now }
     requires places { ArePlaces on_board.now (slice_index digits.now 5) (slice_index digits.now 6) (slice_index digits.now 7) places.now }
-    ensures { AreBitboards (seen_by side (setup_of (board_of (numbers_by digits.now) (layers_by on_board.now digits.now)) hands)) result }
+    ensures { IsBoardOf (seen_by side (setup_of (board_of (numbers_by digits.now) (layers_by on_board.now digits.now)) hands)) result }
 {
     let own = digits[3];
     let enemy = digits[4];
@@ -74,10 +73,10 @@ fn seen_hands(side: Side, hands: Hands) -> Hands
 }
 
 // The sets of an empty board.
-fn no_pieces(hands: Hands) -> Bitboards
-    ensures { (setup : Setup) → ((square : ℕ) → square < 12 → at setup square ≡ None) → setup.hands ≡ hands → AreBitboards setup result }
+fn no_pieces(hands: Hands) -> Board
+    ensures { (setup : Setup) → ((square : ℕ) → square < 12 → at setup square ≡ None) → setup.hands ≡ hands → IsBoardOf setup result }
 {
-    Bitboards {
+    Board {
         own_lion: 0,
         enemy_lion: 0,
         chicks: 0,
@@ -93,24 +92,24 @@ fn no_pieces(hands: Hands) -> Bitboards
 #[inline(always)]
 fn put(
     side: Side,
-    bits: Bitboards,
+    board: Board,
     layer: Layer,
     pieces: u64,
     squares: (u64, u64),
     number: u64,
-) -> Bitboards
+) -> Board
     requires few { pieces ≤ 2 }
     requires first { 0 < pieces → squares.0 < 12 }
     requires second { 1 < pieces → squares.1 < 12 }
-    ensures { (setup : Setup) → length setup.board ≡ 12 → AreFree pieces squares.0 squares.1 setup.board → AreBitboards (seen_by side setup) bits
-        → AreBitboards (seen_by side (setup_of (put (order layer) pieces squares.0 squares.1 number setup.board) setup.hands)) result }
+    ensures { (setup : Setup) → length setup.board ≡ 12 → AreFree pieces squares.0 squares.1 setup.board → IsBoardOf (seen_by side setup) board
+        → IsBoardOf (seen_by side (setup_of (put (order layer) pieces squares.0 squares.1 number setup.board) setup.hands)) result }
 {
     let base = base_of(layer);
     match pieces {
-        0 => bits,
-        1 => with_piece(side, bits, layer, squares.0, number % base),
+        0 => board,
+        1 => with_piece(side, board, layer, squares.0, number % base),
         _ => {
-            let with_second = with_piece(side, bits, layer, squares.1, number % base);
+            let with_second = with_piece(side, board, layer, squares.1, number % base);
             with_piece(side, with_second, layer, squares.0, number / base % base)
         }
     }
@@ -118,49 +117,49 @@ fn put(
 
 // The sets with a piece of that layer and form on an empty square.
 #[inline(always)]
-fn with_piece(side: Side, bits: Bitboards, layer: Layer, square: u64, form: u64) -> Bitboards
+fn with_piece(side: Side, board: Board, layer: Layer, square: u64, form: u64) -> Board
     requires square { square < 12 }
     requires form { form < base_of (order layer) }
     ensures { (before after : Setup) → at before square ≡ None → IsWith before after square (cell_of (order layer) form)
-        → AreBitboards (seen_by side before) bits → AreBitboards (seen_by side after) result }
+        → IsBoardOf (seen_by side before) board → IsBoardOf (seen_by side after) result }
 {
     let bit = mark(side, 1, square);
     match layer {
-        Layer::OwnLion => with_lion(side, bits, 0, square),
-        Layer::EnemyLion => with_lion(side, bits, 1, square),
-        Layer::Chicks => Bitboards {
-            chicks: bits.chicks | bit,
-            hens: bits.hens | mark(side, form % 2, square),
-            enemies: bits.enemies | mark(side, seen_owner(side, form / 2), square),
-            ..bits
+        Layer::OwnLion => with_lion(side, board, 0, square),
+        Layer::EnemyLion => with_lion(side, board, 1, square),
+        Layer::Chicks => Board {
+            chicks: board.chicks | bit,
+            hens: board.hens | mark(side, form % 2, square),
+            enemies: board.enemies | mark(side, seen_owner(side, form / 2), square),
+            ..board
         },
-        Layer::Elephants => Bitboards {
-            elephants: bits.elephants | bit,
-            enemies: bits.enemies | mark(side, seen_owner(side, form), square),
-            ..bits
+        Layer::Elephants => Board {
+            elephants: board.elephants | bit,
+            enemies: board.enemies | mark(side, seen_owner(side, form), square),
+            ..board
         },
-        Layer::Giraffes => Bitboards {
-            giraffes: bits.giraffes | bit,
-            enemies: bits.enemies | mark(side, seen_owner(side, form), square),
-            ..bits
+        Layer::Giraffes => Board {
+            giraffes: board.giraffes | bit,
+            enemies: board.enemies | mark(side, seen_owner(side, form), square),
+            ..board
         },
-        Layer::Empty => bits,
+        Layer::Empty => board,
     }
 }
 
 // The sets with a lion on an empty square, the mover's where the owner is 0 and the enemy's where it is 1.
 #[inline(always)]
-fn with_lion(side: Side, bits: Bitboards, owner: u64, square: u64) -> Bitboards
+fn with_lion(side: Side, board: Board, owner: u64, square: u64) -> Board
     requires owner { owner ≤ 1 }
     requires square { square < 12 }
     ensures { (before after : Setup) → at before square ≡ None → IsWith before after square (cell_of owner 0)
-        → AreBitboards (seen_by side before) bits → AreBitboards (seen_by side after) result }
+        → IsBoardOf (seen_by side before) board → IsBoardOf (seen_by side after) result }
 {
     let foreign = seen_owner(side, owner);
-    Bitboards {
-        own_lion: bits.own_lion | mark(side, 1 - foreign, square),
-        enemy_lion: bits.enemy_lion | mark(side, foreign, square),
-        ..bits
+    Board {
+        own_lion: board.own_lion | mark(side, 1 - foreign, square),
+        enemy_lion: board.enemy_lion | mark(side, foreign, square),
+        ..board
     }
 }
 

@@ -1,12 +1,11 @@
-// A position with the sets of squares that a side sees of it.
+// A position with the board that a side sees of it.
 
-use crate::bits::bitboards::Bitboards;
-use dob_pieces::Position;
+use dob_pieces::{Board, Position};
 
-/// A position with the sets of squares that a side sees of it. Who reads the sets alone doesn't make the position's board when the
-/// program runs: it says of what the sets are.
+/// A position with the board that a side sees of it. Who reads the board alone doesn't make the position's cells when the program runs: it says what the
+/// board shows.
 #[derive(Clone, Copy)]
 pub struct Shown {
     pub position: Position,
-    pub bits: Bitboards,
+    pub board: Board,
 }

@@ -1,29 +1,32 @@
 -- What the masks of a position say of its digits and its piece set.
-use Rattle.dob_rank.proofs.Common.{◌+◌, ◌-◌, ◌∙◌, ◌∷◌, ◌≡◌, ◌≤◌, List, [], arith, length, map, slice_index, ℕ, length-map, Cell, IsLegal, total, Setup}
+use Rattle.dob_rank.proofs.Common.{◌+◌, ◌-◌, ◌∙◌, ◌∷◌, ◌≡◌, ◌≤◌, List, [], arith, length, map, slice_index, sym, ℕ, length-map, Cell, IsLegal, total, PieceSet, Setup, IsPositionOfSet, digits}
 use Rattle.dob_rank.proofs.Common.{all_squares, from_mask, count, layer, on_board, order, Chicks, Elephants, Empty, EnemyLion, Giraffes, OwnLion}
 use Rattle.dob_pieces.specs.declared.kind.HandKind.TheVariants as hand
-use Rattle.dob_rank.specs.declared.masks.Masks.{Masks}
-use Rattle.dob_rank.specs.BoardMasks.{AreMasksOfBoard}
+use Rattle.dob_pieces.specs.Boards.{IsBoardOf}
+use Rattle.dob_pieces.specs.declared.board.Board.{Board}
+use Rattle.dob_rank.specs.BoardDigits.{ArePartsOf, AreNumbersOf, HasOfLayer}
+use Rattle.dob_rank.proofs.Boards.BoardLayers.{AreMasks, masks_are}
 use Rattle.dob_rank.proofs.Positions.Digits.{HasParts-from_position}
-use Rattle.dob_rank.proofs.Boards.Planes.{later_are}
+use Rattle.dob_rank.proofs.Boards.LayerMasks.{later_are}
 use Rattle.dob_rank.proofs.Positions.Sets.{set_of, IsPositionOfSet-set_of, few_in_layer}
 
 -- what is left of all squares, layer by layer
-pub record AreLeft (board : List Cell) (masks : Masks) : Type 0 where
+pub record AreLeft (board : List Cell) (own enemy chicks elephants giraffes : ℕ) : Type 0 where
   pub long : length (map layer board) ≤ 12
-  pub own_low : masks.own_lion ≤ all_squares
-  pub enemy_low : masks.enemy_lion ≤ all_squares - masks.own_lion
-  pub chicks_low : masks.chicks ≤ all_squares - masks.own_lion - masks.enemy_lion
-  pub elephants_low : masks.elephants ≤ all_squares - masks.own_lion - masks.enemy_lion - masks.chicks
-  pub giraffes_low : masks.giraffes ≤ all_squares - masks.own_lion - masks.enemy_lion - masks.chicks - masks.elephants
-  pub after_own : all_squares - masks.own_lion ≡ from_mask (order EnemyLion) (map layer board)
-  pub after_lions : all_squares - masks.own_lion - masks.enemy_lion ≡ from_mask (order Chicks) (map layer board)
-  pub after_chicks : all_squares - masks.own_lion - masks.enemy_lion - masks.chicks ≡ from_mask (order Elephants) (map layer board)
-  pub after_elephants : all_squares - masks.own_lion - masks.enemy_lion - masks.chicks - masks.elephants ≡ from_mask (order Giraffes) (map layer board)
-  pub empty : all_squares - masks.own_lion - masks.enemy_lion - masks.chicks - masks.elephants - masks.giraffes ≡ from_mask (order Empty) (map layer board)
+  pub own_low : own ≤ all_squares
+  pub enemy_low : enemy ≤ all_squares - own
+  pub chicks_low : chicks ≤ all_squares - own - enemy
+  pub elephants_low : elephants ≤ all_squares - own - enemy - chicks
+  pub giraffes_low : giraffes ≤ all_squares - own - enemy - chicks - elephants
+  pub after_own : all_squares - own ≡ from_mask (order EnemyLion) (map layer board)
+  pub after_lions : all_squares - own - enemy ≡ from_mask (order Chicks) (map layer board)
+  pub after_chicks : all_squares - own - enemy - chicks ≡ from_mask (order Elephants) (map layer board)
+  pub after_elephants : all_squares - own - enemy - chicks - elephants ≡ from_mask (order Giraffes) (map layer board)
+  pub empty : all_squares - own - enemy - chicks - elephants - giraffes ≡ from_mask (order Empty) (map layer board)
 
-pub left_are : (board : List Cell) (masks : Masks) → length board ≡ 12 → AreMasksOfBoard board masks → AreLeft board masks
-left_are board masks h are =
+pub left_are : (board : List Cell) (own enemy chicks elephants giraffes : ℕ) → length board ≡ 12 → AreMasks board own enemy chicks elephants giraffes
+    → AreLeft board own enemy chicks elephants giraffes
+left_are board own enemy chicks elephants giraffes h are =
     let long : length (map layer board) ≡ 12 = length-map board layer ∙ h in
     grind (arith, later_are (map layer board) long)
 
@@ -48,6 +51,29 @@ numbers_are s numbers legal e =
     let elephants = few_in_layer s (order Elephants) legal (omega arith) in
     let giraffes = few_in_layer s (order Giraffes) legal (omega arith) in
     rw e (grind arith)
+
+-- what a board that shows a position gives, by what the code counts and finds on it
+module _ (board : Board) (numbers : List ℕ) (counts : (s : Setup) → IsBoardOf s board → length s.board ≡ 12 → numbers ≡ on_board s) (setup : Setup) where
+  pub parts_shown : IsLegal setup → IsBoardOf setup board → ArePartsOf board numbers setup
+  parts_shown legal squares = record { legal = legal; squares = squares; numbers_are = counts setup squares legal.squares }
+
+  pub numbers_shown : (set : PieceSet) (all : List ℕ) → ((s : Setup) → ArePartsOf board numbers s → all ≡ digits s)
+      → IsPositionOfSet set setup → IsBoardOf setup board → AreNumbersOf set numbers all setup
+  numbers_shown set all found position squares = record {
+    position = position;
+    numbers_are = counts setup squares position.legal.squares;
+    digits_are = found setup (parts_shown position.legal squares);
+  }
+
+-- and of its chicks
+pub chicks_shown : (board : Board) (numbers : List ℕ) (setup : Setup) → ArePartsOf board numbers setup
+    → HasOfLayer Chicks board.chicks (slice_index numbers 0) setup board
+chicks_shown board numbers setup parts = record {
+  long = parts.legal.squares;
+  squares = parts.squares;
+  mask_is = (masks_are setup board parts.legal.squares parts.squares).chicks_are;
+  pieces_are = sym (numbers_are setup numbers parts.legal parts.numbers_are).chicks_are;
+}
 
 pub small_total : (n total : ℕ) → n ≡ total → total ≤ 2 → n ≤ 2
 small_total n total e h = omega arith

@@ -1,6 +1,6 @@
 -- A position's place in profile B by what the code finds of it.
-use Rattle.dob_rank.proofs.Common.{◌%◌, ◌+◌, ◌-◌, ◌/◌, ◌<◌, ◌^◌, ◌∷◌, ◌≡◌, List, [], ap, arith, get_or, map, refl, slice_index, sym, ℕ, PieceSet, B, Setup}
-use Rattle.dob_rank.proofs.Common.{IsPositionOf, family_of, is_present, rank_of, marks_below, block_bases, block_of, choose, count, digits, free_squares, layer}
+use Rattle.dob_rank.proofs.Common.{◌%◌, ◌+◌, ◌-◌, ◌/◌, ◌<◌, ◌^◌, ◌∷◌, ◌≡◌, List, [], arith, refl, slice_index, sym, ℕ, PieceSet, B, Setup}
+use Rattle.dob_rank.proofs.Common.{IsPositionOf, family_of, is_present, rank_of, marks_below, block_bases, block_of, choose, digits, free_squares}
 use Rattle.dob_rank.proofs.Common.{on_board, order, product, rank_of_set, size_of_set, start_of, IsPositionOfSet, lion_pairs, lions_of, local_of, run_number}
 use Rattle.dob_rank.proofs.Common.{run_of, allowed_number, may_have, others_by, others_forms, others_squares, place_in, squares_by, Chicks}
 use Rattle.dob_rank.proofs.Arithmetic.MixedRadix.{number_of-below}
@@ -36,9 +36,6 @@ own_parts set s p =
 pub far_parts : (set : PieceSet) (s : Setup) (ob ds : List ℕ) (run : ℕ) → IsPositionOfSet set s → ob ≡ on_board s → ds ≡ digits s
     → run ≡ run_number set ob ds → AreFarParts ob ds run
 far_parts set s ob ds run p ob_is ds_is run_is = rw (run_is_of set s ob ds run ob_is ds_is run_is, ob_is, ds_is) (own_parts set s p)
-
-pub chicks_on_board : (s : Setup) (ob : List ℕ) → ob ≡ on_board s → get_or ob 0 0 ≡ count (order Chicks) (map layer s.board)
-chicks_on_board s ob is = ap (λ (xs : List ℕ). get_or xs 0 0) is
 
 -- and the place makes the rank
 pub far_place_is : (set : PieceSet) (s : Setup) (ob ds : List ℕ) (run forms place : ℕ) → IsPositionOf (family_of set B) s → ob ≡ on_board s → ds ≡ digits s

@@ -5,7 +5,7 @@ use Rattle.dob_rank.proofs.Common.{base_of, count, forms_number, layer, sum_belo
 use Rattle.dob_rank.proofs.Marked.Words.{marks_below_none}
 use Rattle.dob_rank.proofs.InRuns.RunMarks.{marks_agree}
 use Rattle.dob_rank.proofs.Boards.FormDigits.{form-below, forms_number-below, forms_number_same, forms_number_other}
-use Rattle.dob_rank.proofs.Boards.Planes.{lowest, first_square, second_square, first_found, second_found}
+use Rattle.dob_rank.proofs.Boards.LayerMasks.{lowest, first_square, second_square, first_found, second_found}
 use Rattle.dob_rank.proofs.ProfileB.FormSquares.{at_start, next_square, zero_more}
 use Rattle.dob_rank.proofs.ProfileB.Weights.{one_more, allowed_other, forms_weigh, lower_forms}
 

@@ -1,7 +1,7 @@
 -- The bits below a layer's squares are the squares of later layers before them.
 use Rattle.std.proofs.Common.{sym, ◌∙◌, arith}
 use Rattle.dob_rank.proofs.Boards.LayerCounts.{choice_none}
-use Rattle.dob_rank.proofs.Boards.Planes.{one_choice, two_choice}
+use Rattle.dob_rank.proofs.Boards.LayerMasks.{one_choice, two_choice}
 use Rattle.dob_rank.proofs.masks.choice_of.Goals as goal
 
 pub returns-then-pieces-eq0 : goal.returns-then-pieces-eq0

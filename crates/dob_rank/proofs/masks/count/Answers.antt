@@ -1,7 +1,7 @@
 -- A mask has as many bits as its layer has squares.
 use Rattle.std.proofs.Common.{ap, ◌∙◌}
 use lib.Count.{ones}
-use Rattle.dob_rank.proofs.Boards.Planes.{ones-layer_mask}
+use Rattle.dob_rank.proofs.Boards.LayerMasks.{ones-layer_mask}
 use Rattle.dob_rank.proofs.masks.count.Goals as goal
 
 pub returns-clause-value : goal.returns-clause-value

@@ -4,4 +4,4 @@ use Rattle.dob_unmove.proofs.bits_before.bits_before_put.Goals as goal
 
 pub returns : goal.returns
 returns c = λ after can twelve are.
-    drop_undone after c.args.kind c.args.to twelve can c.args.bits _ _ are c.without.ensures c.with_one_more.ensures
+    drop_undone after c.args.kind c.args.to twelve can c.args.board _ _ are c.without.ensures c.with_one_more.ensures

@@ -1,5 +1,5 @@
 -- The walks over the position and over its mirror image count the edges.
-use Rattle.dob_unmove.proofs.Common.{◌↔◌, ◌∙◌, ◌≡◌, IsTrue, ap, subst, sym, true≢false, mirrored, Setup, AreBitboards, RepresentsClass, AreWays}
+use Rattle.dob_unmove.proofs.Common.{◌↔◌, ◌∙◌, ◌≡◌, IsTrue, ap, subst, sym, true≢false, mirrored, Setup, IsBoardOf, RepresentsClass, AreWays}
 use Rattle.dob_unmove.proofs.Classes.{IsNumbering-classes}
 use Rattle.dob_unmove.proofs.Gathering.{alone_found, both_found}
 use Rattle.dob_unmove.proofs.Kept.{turned_legal, turned_position}
@@ -9,9 +9,9 @@ use Rattle.dob_unmove.proofs.predecessors.gather.Goals.{After-is_own_image}
 pub by-ways-requires-clause-legal : goal.by-ways-requires-clause-legal
 by-ways-requires-clause-legal c = (c.args.shown.now.position.setup, c.args.shown.now.position.legal, c.turned-after.ensures)
 
-pub by-ways-requires-clause-bits : goal.by-ways-requires-clause-bits
-by-ways-requires-clause-bits c =
-    subst (λ (s : Setup). AreBitboards s c.args.shown.now.bits) (sym c.turned-after.ensures) c.requires.bits
+pub by-ways-requires-clause-board : goal.by-ways-requires-clause-board
+by-ways-requires-clause-board c =
+    subst (λ (s : Setup). IsBoardOf s c.args.shown.now.board) (sym c.turned-after.ensures) c.requires.board
 
 pub gather_all-requires : goal.gather_all-requires
 gather_all-requires c = record {
@@ -23,10 +23,10 @@ pub by-image_ways-requires-clause-legal : goal.by-image_ways-requires-clause-leg
 by-image_ways-requires-clause-legal c =
     turned_legal c.args.shown.now.position.setup c.mirrored-image.result c.args.shown.now.position.legal (c.mirrored-image.ensures ∙ ap mirrored c.turned-after.ensures)
 
-pub by-image_ways-requires-clause-bits : goal.by-image_ways-requires-clause-bits
-by-image_ways-requires-clause-bits c =
-    subst (λ (s : Setup). AreBitboards s c.mirrored_bits.result) (sym c.mirrored-image.ensures)
-    (c.mirrored_bits.ensures c.turned-after.result c.by-ways.ensures.bits_are)
+pub by-image_ways-requires-clause-board : goal.by-image_ways-requires-clause-board
+by-image_ways-requires-clause-board c =
+    subst (λ (s : Setup). IsBoardOf s c.mirrored.result) (sym c.mirrored-image.ensures)
+    (c.mirrored.ensures c.turned-after.result c.by-ways.ensures.board_is)
 
 pub gather_all-requires-2 : goal.gather_all-requires-2
 gather_all-requires-2 c = record {

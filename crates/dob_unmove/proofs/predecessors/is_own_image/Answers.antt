@@ -6,19 +6,19 @@ use Rattle.dob_unmove.proofs.Classes.{IsNumbering-classes}
 use Rattle.dob_unmove.proofs.Gathering.{own_image, other_image}
 use Rattle.dob_unmove.proofs.Kept.{position_mirrored}
 use Rattle.dob_unmove.proofs.predecessors.is_own_image.Goals as goal
-use Rattle.dob_unmove.proofs.predecessors.is_own_image.Goals.{After-mirrored_bits}
+use Rattle.dob_unmove.proofs.predecessors.is_own_image.Goals.{After-mirrored}
 
 -- the sets show the image
-image_shown : (c : After-mirrored_bits) → IsShown c.args.classes.now.family (mirrored c.shown_at-shown.result.position.setup) c.mirrored_bits.result
+image_shown : (c : After-mirrored) → IsShown c.args.classes.now.family (mirrored c.shown_at-shown.result.position.setup) c.mirrored.result
 image_shown c =
     let q = c.shown_at-shown.result.position.setup in
     record {
       position = position_mirrored c.args.classes.now.family q (mirrored q) c.shown_at-shown.ensures.representative.0 refl;
-      squares = c.mirrored_bits.ensures q c.shown_at-shown.ensures.bits;
+      squares = c.mirrored.ensures q c.shown_at-shown.ensures.board;
     }
 
 -- which is of any setup that represents the class
-same_setup : (c : After-mirrored_bits) (q : Setup) → RepresentsClass c.args.classes.now.family q c.args.class → c.shown_at-shown.result.position.setup ≡ q
+same_setup : (c : After-mirrored) (q : Setup) → RepresentsClass c.args.classes.now.family q c.args.class → c.shown_at-shown.result.position.setup ≡ q
 same_setup c q represents =
     let family = c.args.classes.now.family in
     let count = HasClasses-classes_of family in
@@ -27,14 +27,14 @@ same_setup c q represents =
     ∙ sym (class_setup_only family q c.args.class (classes_of family) count c.requires represents.0 represents.1)
 
 pub class_if_shown-requires : goal.class_if_shown-requires
-class_if_shown-requires c = (mirrored c.shown_at-shown.result.position.setup, image_shown (goal.at.class_if_shown-requires c).After-mirrored_bits)
+class_if_shown-requires c = (mirrored c.shown_at-shown.result.position.setup, image_shown (goal.at.class_if_shown-requires c).After-mirrored)
 
 pub returns-then-has_lions_on_b : goal.returns-then-has_lions_on_b
 returns-then-has_lions_on_b c = λ q represents ways.
     let family = c.args.classes.now.family in
-    let before = (goal.at.returns-then-has_lions_on_b c).After-mirrored_bits in
+    let before = (goal.at.returns-then-has_lions_on_b c).After-mirrored in
     let found = c.class_if_shown.ensures (mirrored q)
-    (subst (λ (s : Setup). IsShown family (mirrored s) c.mirrored_bits.result) (same_setup before q represents) (image_shown before)) in (
+    (subst (λ (s : Setup). IsShown family (mirrored s) c.mirrored.result) (same_setup before q represents) (image_shown before)) in (
       λ some. own_image (RepresentsClass family) q (mirrored q) c.class_if_shown.result
           (IsNumbering-classes family) (c.args.class, represents) refl found (sym c.is_some.ensures ∙ some),
       λ own. elim (cases_Bool (is_some c.class_if_shown.result)) [

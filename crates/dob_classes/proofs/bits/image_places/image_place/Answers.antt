@@ -1,9 +1,9 @@
 -- The digits of the spot make the position's sets, and those of its mirror image have the place.
 use Rattle.dob_classes.proofs.Common.{◌*◌, ◌+◌, refl, subst, setup_of, mirrored, Hands, AreChoices-digits, HasDigits-numbers, HasDigits-spot}
 use Rattle.dob_classes.proofs.Common.{IsPositionOfSet-mirrored, local_in_bases, made_by, made_in_block, run_in_bases, HasBlock, HasDigits, bases_by, board_of}
-use Rattle.dob_classes.proofs.Common.{layers_by, numbers_by, setup_by, AreChoices, run_size, AreBitboards, IsShownOfSet}
+use Rattle.dob_classes.proofs.Common.{layers_by, numbers_by, setup_by, AreChoices, run_size, IsBoardOf, IsShownOfSet}
 use Rattle.dob_classes.proofs.bits.image_places.image_place.Goals as goal
-use Rattle.dob_classes.proofs.bits.image_places.image_place.Goals.{After-digits_with-digits, After-mirrored_bits}
+use Rattle.dob_classes.proofs.bits.image_places.image_place.Goals.{After-digits_with-digits, After-mirrored}
 
 pub digits_with-digits-requires : goal.digits_with-digits-requires
 digits_with-digits-requires c = record {
@@ -40,8 +40,8 @@ hands_of-hands-requires c = record {
   digits = has_digits (goal.at.hands_of-hands-requires c).After-digits_with-digits;
 }
 
-pub bits_by-bits-requires-clause-choices : goal.bits_by-bits-requires-clause-choices
-bits_by-bits-requires-clause-choices c = choices (goal.at.bits_by-bits-requires-clause-choices c).After-digits_with-digits
+pub bits_by-board-requires-clause-choices : goal.bits_by-board-requires-clause-choices
+bits_by-board-requires-clause-choices c = choices (goal.at.bits_by-board-requires-clause-choices c).After-digits_with-digits
 
 -- the setup of the digits stands at the spot
 setup_there : (c : After-digits_with-digits) → HasBlock c.args.set c.args.block (c.args.spot.run * run_size c.args.set c.args.block + c.args.spot.local)
@@ -55,25 +55,25 @@ setup_there c =
     (local_in_bases c.args.set c.args.block c.args.spot.local _ c.requires.shape.on_board_is c.requires.local) c.digits_with-digits.ensures refl)
 
 -- and the sets are those of its mirror image
-image_shown : (c : After-mirrored_bits) → HasBlock c.args.set c.args.block (c.args.spot.run * run_size c.args.set c.args.block + c.args.spot.local)
+image_shown : (c : After-mirrored) → HasBlock c.args.set c.args.block (c.args.spot.run * run_size c.args.set c.args.block + c.args.spot.local)
     (setup_by c.args.set c.args.shape.now.on_board c.digits_with-digits.result)
     → IsShownOfSet c.args.set (mirrored (setup_by c.args.set c.args.shape.now.on_board c.digits_with-digits.result))
-    c.mirrored_bits.result
+    c.mirrored.result
 image_shown c there =
     let on_board = c.args.shape.now.on_board in
     let digits = c.digits_with-digits.result in
     let setup = setup_by c.args.set on_board digits in
     record {
       position = IsPositionOfSet-mirrored c.args.set setup there.position;
-      squares = c.mirrored_bits.ensures setup
-          (subst (λ (h : Hands). AreBitboards (setup_of (board_of (numbers_by digits) (layers_by on_board digits)) h) c.bits_by-bits.result)
-          c.hands_of-hands.ensures c.bits_by-bits.ensures);
+      squares = c.mirrored.ensures setup
+          (subst (λ (h : Hands). IsBoardOf (setup_of (board_of (numbers_by digits) (layers_by on_board digits)) h) c.bits_by-board.result)
+          c.hands_of-hands.ensures c.bits_by-board.ensures);
     }
 
-pub spot_shown-requires : goal.spot_shown-requires
-spot_shown-requires c = (
+pub spot_by-requires : goal.spot_by-requires
+spot_by-requires c = (
   _,
-  image_shown (goal.at.spot_shown-requires c).After-mirrored_bits (setup_there (goal.at.spot_shown-requires c).After-digits_with-digits),
+  image_shown (goal.at.spot_by-requires c).After-mirrored (setup_there (goal.at.spot_by-requires c).After-digits_with-digits),
 )
 
 pub returns : goal.returns
@@ -81,6 +81,6 @@ returns c = (
   _,
   (
     setup_there (goal.at.returns c).After-digits_with-digits,
-    c.spot_shown.ensures.local _ (image_shown (goal.at.returns c).After-mirrored_bits (setup_there (goal.at.returns c).After-digits_with-digits)),
+    c.spot_by.ensures.local _ (image_shown (goal.at.returns c).After-mirrored (setup_there (goal.at.returns c).After-digits_with-digits)),
   ),
 )

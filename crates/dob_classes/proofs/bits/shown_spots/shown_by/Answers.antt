@@ -1,7 +1,7 @@
 -- The digits of a spot make the position that stands there, and the sets of its squares.
 use Rattle.dob_classes.proofs.Common.{◌*◌, ◌+◌, ◌∙◌, arith, subst, sym, setup_of, Hands, Setup, AreFewOnBoard-digits, AreChoices-digits, HasDigits-spot}
 use Rattle.dob_classes.proofs.Common.{made_by, HasBlock, HasDigits, bases_by, block_bases, board_of, layers_by, number_of, numbers_by, product, local_bases}
-use Rattle.dob_classes.proofs.Common.{AreBitboards, seen_by}
+use Rattle.dob_classes.proofs.Common.{IsBoardOf, seen_by}
 use Rattle.dob_classes.proofs.Tables.PlaceTables.{squares_below, places_read}
 use Rattle.dob_rank.proofs.Positions.Found.{made_same}
 use Rattle.dob_classes.proofs.bits.shown_spots.shown_by.Goals as goal
@@ -48,7 +48,7 @@ returns c =
     let on_board = c.args.on_board.now in
     record {
       position = made_same c.args.set _ _ c.setup_of.result c.new.result.setup c.new.ensures (made (goal.at.returns c).After-setup_of);
-      bits = subst (λ (s : Setup). AreBitboards (seen_by c.args.side s) c.bits_by.result) (sym (c.new.ensures ∙ c.setup_of.ensures))
-          (subst (λ (h : Hands). AreBitboards (seen_by c.args.side (setup_of (board_of (numbers_by digits) (layers_by on_board digits)) h)) c.bits_by.result)
+      board = subst (λ (s : Setup). IsBoardOf (seen_by c.args.side s) c.bits_by.result) (sym (c.new.ensures ∙ c.setup_of.ensures))
+          (subst (λ (h : Hands). IsBoardOf (seen_by c.args.side (setup_of (board_of (numbers_by digits) (layers_by on_board digits)) h)) c.bits_by.result)
           c.hands_of-hands.ensures c.bits_by.ensures);
     }

@@ -6,14 +6,14 @@ use Rattle.dob_classes.proofs.classes.Classes.class_of_shown.Goals as goal
 pub returns-then-is_first : goal.returns-then-is_first
 returns-then-is_first c =
     let family = c.args.self.now.family in
-    let class = c.look_up_shown-is_first.result.1 in
-    let told : (setup : Setup) → IsShown family setup c.args.bits.now
+    let class = c.look_up-is_first.result.1 in
+    let told : (setup : Setup) → IsShown family setup c.args.board.now
     → (IsFirstOfTwo setup × HasClass family setup class) × (class ≡ class_number family setup) × (class < classes_of family)
-    = λ setup shown. first_told family setup class shown.position (sym (c.look_up_shown-is_first.ensures.mark setup shown) ∙ c.if-is_first.true)
-    (sym (c.look_up_shown-is_first.ensures.before setup shown)) in
+    = λ setup shown. first_told family setup class shown.position (sym (c.look_up-is_first.ensures.mark setup shown) ∙ c.if-is_first.true)
+    (sym (c.look_up-is_first.ensures.before setup shown)) in
     record { class = λ setup shown. (told setup shown).0; number = λ setup shown. (told setup shown).1; bound = (told c.requires.0 c.requires.1).2 }
 
 pub returns-else-is_first-clause-class : goal.returns-else-is_first-clause-class
 returns-else-is_first-clause-class c = λ setup shown.
     later_unmarked c.args.self.now.family setup shown.position
-    (sym (c.look_up_shown-is_first.ensures.mark setup shown) ∙ c.if-is_first.false)
+    (sym (c.look_up-is_first.ensures.mark setup shown) ∙ c.if-is_first.false)

@@ -23,4 +23,4 @@ returns c =
     let spot = c.spot_at-spot.result in
     let at = at_spot_in c.args.self.now.family spot.run spot.local c.args.class c.block_of-block.result.now c.shown_by.result.position.setup
     c.block_of-block.ensures.family c.spot_at-spot.ensures.mark c.spot_at-spot.ensures.class c.shown_by.ensures.position in
-    record { representative = at.representative; class = at.before; number = at.number_is; bits = c.shown_by.ensures.bits }
+    record { representative = at.representative; class = at.before; number = at.number_is; board = c.shown_by.ensures.board }

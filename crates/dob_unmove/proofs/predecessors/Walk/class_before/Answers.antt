@@ -11,7 +11,7 @@ pub bits_before-requires : goal.bits_before-requires
 bits_before-requires c =
     let after = c.args.self.now.after.value in
     let legal = legal_turned c.args.self.now.classes.now.family after c.requires.walk.of_set in
-    (after, c.requires.can, turned_squares after legal, few_turned after legal, c.requires.walk.ways_are.bits_are)
+    (after, c.requires.can, turned_squares after legal, few_turned after legal, c.requires.walk.ways_are.board_is)
 
 -- what the sets show
 shown : (c : After-bits_before) → IsShown c.args.self.now.classes.now.family (earlier c.args.self.now.after.value c.args.undo) c.bits_before.result
@@ -19,7 +19,7 @@ shown c =
     let walk = c.args.self.now in
     let w = c.requires.walk in
     shown_before walk.classes.now.family walk.after.value c.args.undo c.requires.can w.of_set _ _ (sym c.may_give_back.ensures ∙ c.if-may_give_back.true)
-    c.requires.home w.ways_are.bits_are c.bits_before.ensures
+    c.requires.home w.ways_are.board_is c.bits_before.ensures
 
 pub class_if_shown-requires : goal.class_if_shown-requires
 class_if_shown-requires c = (earlier c.args.self.now.after.value c.args.undo, shown (goal.at.class_if_shown-requires c).After-bits_before)

@@ -1,9 +1,0 @@
--- The sets say the form of a piece whose layer is known.
-use Rattle.dob_classes.proofs.Common.{◌∙◌, ap, order}
-use Rattle.dob_classes.proofs.SquareSets.BitSquares.{chick_found}
-use Rattle.dob_classes.proofs.bits.bitboards.Bitboards.form_at.Goals as goal
-
-pub returns-in-Chicks-clause-value : goal.returns-in-Chicks-clause-value
-returns-in-Chicks-clause-value c = λ setup are is.
-    c.from.ensures ∙ chick_found setup c.args.self.now c.args.square _ _ c.requires are (is ∙ ap order c.in-Chicks.is)
-    c.bit_of-enemy.ensures.value c.bit_of.ensures.value
