@@ -131,7 +131,7 @@ pub record IsMaking (parts : List Part) (classes : List ℕ) (index next : ℕ) 
   pub so_far : list ++ items_of_parts (drop index parts) (drop next classes) ≡ items_of_parts parts classes
   pub within : next + items_in_all (drop index parts) ≤ length classes
 
-next_part : (parts : List Part) (index : ℕ) (part : Part) → index < length parts → part ≡ get_or parts index part → drop index parts ≡ part ∷ drop (index + 1) parts
+pub next_part : (parts : List Part) (index : ℕ) (part : Part) → index < length parts → part ≡ get_or parts index part → drop index parts ≡ part ∷ drop (index + 1) parts
 next_part parts index part there read = drop_more parts index part there ∙ ap (λ (p : Part). p ∷ drop (index + 1) parts) (sym read)
 
 -- a part's place beyond the end

@@ -1,7 +1,7 @@
 -- Lists of parts: what is taken from their front, and what is left behind it.
 use Rattle.dob_update.proofs.Common.{nat_tests}
-use Rattle.dob_update.proofs.Common.{◌++◌, ◌+◌, ◌-◌, ◌<◌, ◌∷◌, ◌≡◌, ◌≤◌, List, [], arith, drop, get_or, length, min, refl}
-use Rattle.dob_update.proofs.Common.{take, ℕ, append-nil, append_assoc, drop_all, drop_more, Settlement, AreWhole, behind, front}
+use Rattle.dob_update.proofs.Common.{◌++◌, ◌+◌, ◌-◌, ◌<◌, ◌∙◌, ◌∷◌, ◌≡◌, ◌≤◌, List, [], ap, arith, drop, get_or, length, refl, sym}
+use Rattle.dob_update.proofs.Common.{take, ℕ, append-nil, drop_all, Settlement, AreWhole, behind, front}
 use Rattle.dob_update.proofs.Common.{items_in_all, skip_behind, with_number, Part}
 
 -- ---- what stands in front
@@ -10,46 +10,24 @@ pub front-zero : (parts : List Part) → front 0 parts ≡ []
 front-zero [] = refl
 front-zero (part ∷ parts) = refl
 
-pub front-cons : (k : ℕ) (part : Part) (parts : List Part) → 0 < k → front k (part ∷ parts) ≡ with_number part (min k part.items) ∷ front (k - part.items) parts
-front-cons k part parts some = grind (arith, nat_tests)
+front-within : (k : ℕ) (part : Part) (parts : List Part) → 0 < k → k < part.items → front k (part ∷ parts) ≡ with_number part k ∷ []
+front-within k part parts some within = grind (arith, nat_tests, front-zero parts)
 
--- the next part goes over from the rest to the front
-front_next : (rest index : ℕ) (parts : List Part) (part : Part) → 0 < rest → index < length parts → part ≡ get_or parts index part
-    → front rest (drop index parts) ≡ with_number part (min part.items rest) ∷ front (rest - min part.items rest) (drop (index + 1) parts)
-front_next rest index parts part some within read = grind (arith, drop_more, front-cons)
+-- the parts in front have gone over to the list so far
+pub record IsMoving (k rest : ℕ) (old parts first list : List Part) : Type 0 where
+  pub so_far : list ++ front rest parts ≡ first ++ front k old
 
--- the parts in front are listed so far
-pub record IsListing (k rest index : ℕ) (parts list : List Part) : Type 0 where
-  pub so_far : list ++ front rest (drop index parts) ≡ front k parts
+-- the last one goes over in part
+pub moved_last : (k rest : ℕ) (old parts first list more : List Part) (part : Part) → 0 < rest → rest < part.items → rest ≤ items_in_all parts → part ≡ get_or parts 0 part
+    → IsMoving k rest old parts first list → more ≡ list ++ with_number part rest ∷ [] → more ≡ first ++ front k old
+moved_last k rest old [] first list more part some within there read l e = absurd (omega (arith, some, there))
+moved_last k rest old (next ∷ left) first list more part some within there read l e =
+    e ∙ ap (λ (ps : List Part). list ++ ps) (sym (front-within rest part left some within)) ∙ ap (λ (p : Part). list ++ front rest (p ∷ left)) read ∙ l.so_far
 
-pub listing_more : (k rest index : ℕ) (parts list more : List Part) (part : Part) → 0 < rest → index < length parts → part ≡ get_or parts index part
-    → IsListing k rest index parts list → more ≡ list ++ with_number part (min part.items rest) ∷ []
-    → IsListing k (rest - min part.items rest) (index + 1) parts more
-listing_more k rest index parts list more part some within read l e =
-    record { so_far = grind (arith, e, append_assoc, front_next rest index parts part some within read, l.so_far) }
+pub moved_all : (k rest : ℕ) (old parts first list : List Part) → rest ≡ 0 → IsMoving k rest old parts first list → list ≡ first ++ front k old
+moved_all k rest old parts first list none l = grind (arith, append-nil list, front-zero parts, l.so_far)
 
-pub listing_done : (k rest index : ℕ) (parts list : List Part) → rest ≡ 0 → IsListing k rest index parts list → list ≡ front k parts
-listing_done k rest index parts list e l = grind (arith, append-nil list, front-zero (drop index parts), l.so_far)
-
-pub listing_all : (k rest index : ℕ) (parts list : List Part) → length parts ≤ index → IsListing k rest index parts list → list ≡ front k parts
-listing_all k rest index parts list past l = grind (arith, append-nil list, drop_all index parts past, l.so_far)
-
--- so many are in front so far
-pub record IsCounting (k rest index : ℕ) (parts : List Part) : Type 0 where
-  pub so_far : index + length (front rest (drop index parts)) ≡ length (front k parts)
-  pub within : index ≤ length parts
-
-pub counting_more : (k rest index : ℕ) (parts : List Part) (part : Part) → 0 < rest → index < length parts → part ≡ get_or parts index part
-    → IsCounting k rest index parts → IsCounting k (rest - min part.items rest) (index + 1) parts
-counting_more k rest index parts part some within read l = grind (arith, front_next rest index parts part some within read)
-
-pub counting_done : (k rest index : ℕ) (parts : List Part) → rest ≡ 0 → IsCounting k rest index parts → index ≡ length (front k parts)
-counting_done k rest index parts e l = grind (arith, front-zero (drop index parts))
-
-pub counting_all : (k rest index : ℕ) (parts : List Part) → length parts ≤ index → IsCounting k rest index parts → index ≡ length (front k parts)
-counting_all k rest index parts past l = grind (arith, drop_all index parts past)
-
--- the same in place
+-- the parts in front are kept in place so far
 pub record IsKeeping (k rest index : ℕ) (old parts : List Part) : Type 0 where
   pub so_far : take index parts ++ front rest (drop index parts) ≡ front k old
   pub within : index ≤ length parts

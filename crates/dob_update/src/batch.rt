@@ -11,7 +11,8 @@ use std::marker::Model;
 
 /// A batch of items from one of `n` owners of a family's classes to another. Its items are those of its settlements
 /// for the receiver, ascending in each settlement, without the first `skip` of them and up to some item; there is at
-/// least one, and each settlement has one among them. A batch keeps 24 bytes an item and 32 a settlement.
+/// least one, and each settlement has one among them. A batch keeps 24 bytes an item and 32 a
+/// settlement, with room for a settlement for each item.
 #[derive(Drop)]
 pub struct Batch {
     family: Family,

@@ -6,6 +6,7 @@
 //   promise what it does.
 // - An outbox stores only the classes of its items beside its settlements, 8 bytes an item; they become items of 24 bytes when a batch is cut. A node hands
 //   its outboxes classes (`add_targets`); `add` is for a caller that has items.
+// - All room that a batch takes is made before its outbox changes. Then its parts are moved and its items made with no further test of memory.
 #![tactic(auto)]
 
 mod batch;

@@ -1,6 +1,6 @@
 // Outboxes: what an owner has still to send to another.
 ghost use Rattle.std.specs.Prelude.{◌≡◌, ◌≢◌, ◌<◌, ◌≤◌, ◌+◌, ◌*◌, ◌-◌, ◌^◌, ◌==◌, ◌↔◌, ℕ, [], ◌∷◌, ◌++◌, length, take, drop};
-ghost use Rattle.std.specs.Prelude.{map, vec_len, IsTrue, IsSome, IsNone, IfOk, IfSome, OnOk, OnErr};
+ghost use Rattle.std.specs.Prelude.{map, vec_len, vec_capacity, IsTrue, IsSome, IsNone, IfOk, IfSome, OnOk, OnErr};
 ghost use Rattle.std.specs.List.{filter};
 ghost use Rattle.std.specs.VecDeque.{deque_len, deque_capacity};
 ghost use Rattle.dob_unmove.specs.Edges.{predecessors};
@@ -160,8 +160,12 @@ impl Outbox {
         if taken == 0 {
             return Ok(None);
         }
-        let parts = front_parts(self.alloc, &self.parts, taken)?;
-        let items = front_items(self.alloc, &parts, &self.classes, taken)?;
+        let mut parts = Vec::with_capacity(self.alloc, taken)?;
+        let mut items = Vec::with_capacity(self.alloc, taken)?;
+        let skip = self.skip;
+        self.skip = move_parts(&mut self.parts, &mut parts, skip, taken);
+        front_items(&mut items, &parts, &self.classes);
+        drop_classes(&mut self.classes, taken);
         let batch = Batch::new(
             self.family,
             self.nodes,
@@ -169,11 +173,9 @@ impl Outbox {
             self.to,
             self.next,
             parts,
-            self.skip,
+            skip,
             items,
         );
-        self.skip = drop_parts(&mut self.parts, self.skip, taken);
-        drop_classes(&mut self.classes, taken);
         self.next += 1;
         Ok(Some(batch))
     }
@@ -202,82 +204,13 @@ fn push_owned(queue: &mut VecDeque<u64>, classes: &[u64], nodes: usize, to: usiz
     }
 }
 
-// The parts of the first `k` items.
-fn front_parts(alloc: Global, parts: &VecDeque<Part>, k: usize) -> Result<Vec<Part>, Memory>
-    ensures { IfOk result (λ list. list.items ≡ front k parts.now.items) }
-{
-    let mut list = Vec::with_capacity(alloc, count_front(parts, k))?;
-    let mut rest = k;
-    for index in 0..parts.len() {
-        if rest == 0 {
-            break;
-        }
-        let part = parts[index];
-        let items = part.items.min(rest);
-        list.push(Part { items, ..part })?;
-        rest -= items;
-    }
-    Ok(list)
-}
-
-// How many parts the first `k` items are in.
-fn count_front(parts: &VecDeque<Part>, k: usize) -> usize
-    ensures { result ≡ length (front k parts.now.items) }
-{
-    let mut rest = k;
-    let mut count = 0;
-    while rest > 0 && count < parts.len() {
-        let part = parts[count];
-        rest -= part.items.min(rest);
-        count += 1;
-    }
-    count
-}
-
-// The items of the parts, `k` of them, whose classes are the first of those.
-fn front_items(
-    alloc: Global,
-    parts: &[Part],
-    classes: &VecDeque<u64>,
-    k: usize,
-) -> Result<Vec<Item>, Memory>
-    requires { items_in_all parts.now ≤ length classes.now.items }
-    ensures { IfOk result (λ list. list.items ≡ items_of_parts parts.now classes.now.items) }
-{
-    let mut list = Vec::with_capacity(alloc, k)?;
-    let mut next = 0;
-    for part in parts {
-        push_part_items(&mut list, part.settlement, classes, next, part.items)?;
-        next += part.items;
-    }
-    Ok(list)
-}
-
-// Appends the news of the settlement for `count` classes, those from that place on.
-#[tactic(auto, using(crate::proofs::PartItems::items_more))]
-fn push_part_items(
-    list: &mut Vec<Item>,
-    settlement: Settlement,
-    classes: &VecDeque<u64>,
-    start: usize,
-    count: usize,
-) -> Result<(), Memory>
-    requires { start + count ≤ length classes.now.items }
-    ensures { OnOk result (list.new.items ≡ list.old.items ++ map (item_for settlement) (take count (drop start classes.now.items))) }
-{
-    let _length = classes.len();
-    for index in 0..count {
-        let class = classes[start + index];
-        list.push(item_for(settlement, class))?;
-    }
-    Ok(())
-}
-
-// Drops the first `k` items from the parts, after `skip` items of the first part; how many the first one left has
-// before.
-fn drop_parts(parts: &mut VecDeque<Part>, skip: usize, k: usize) -> usize
+// Moves the parts of the first `k` items to the list, which has room for as many, after `skip` items of the first part; how many the first
+// one that is left has before.
+fn move_parts(parts: &mut VecDeque<Part>, list: &mut Vec<Part>, skip: usize, k: usize) -> usize
     requires whole { (count : Settled → ℕ) × AreWhole count skip parts.old.items }
     requires within { k ≤ items_in_all parts.old.items }
+    requires room { vec_len list.old + k ≤ vec_capacity list.old }
+    ensures moved { list.new.items ≡ list.old.items ++ front k parts.old.items }
     ensures parts { parts.new.items ≡ behind k parts.old.items }
     ensures skip { result ≡ skip_behind skip k parts.old.items }
 {
@@ -286,17 +219,58 @@ fn drop_parts(parts: &mut VecDeque<Part>, skip: usize, k: usize) -> usize
     while rest > 0 {
         let part = parts[0];
         if rest < part.items {
+            list.push_reserved(Part {
+                items: rest,
+                ..part
+            });
             parts[0] = Part {
                 items: part.items - rest,
                 ..part
             };
             return before + rest;
         }
+        list.push_reserved(part);
         rest -= part.items;
         before = 0;
         parts.pop_front();
     }
     before
+}
+
+// Lists the items of the parts, whose classes are the first of those, in an empty list with room for them.
+fn front_items(list: &mut Vec<Item>, parts: &[Part], classes: &VecDeque<u64>)
+    requires empty { list.old.items ≡ [] }
+    requires within { items_in_all parts.now ≤ length classes.now.items }
+    requires room { vec_len list.old + items_in_all parts.now ≤ vec_capacity list.old }
+    ensures { list.new.items ≡ items_of_parts parts.now classes.now.items }
+{
+    let mut next = 0;
+    for part in parts {
+        push_part_items(list, part.settlement, classes, next, part.items);
+        next += part.items;
+    }
+}
+
+// Appends the news of the settlement for `count` classes, those from that place on, for which there is room.
+#[tactic(auto, using(crate::proofs::PartItems::items_more))]
+fn push_part_items(
+    list: &mut Vec<Item>,
+    settlement: Settlement,
+    classes: &VecDeque<u64>,
+    start: usize,
+    count: usize,
+)
+    requires within { start + count ≤ length classes.now.items }
+    requires room { vec_len list.old + count ≤ vec_capacity list.old }
+    ensures items { list.new.items ≡ list.old.items ++ map (item_for settlement) (take count (drop start classes.now.items)) }
+    ensures len { vec_len list.new ≡ vec_len list.old + count }
+    ensures capacity { vec_capacity list.new ≡ vec_capacity list.old }
+{
+    let _length = classes.len();
+    for index in 0..count {
+        let class = classes[start + index];
+        list.push_reserved(item_for(settlement, class));
+    }
 }
 
 // Drops the first `k` classes, all at once: they go behind the others, of which mostly few are left, and are cut off there.

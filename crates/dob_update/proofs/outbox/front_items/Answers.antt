@@ -1,14 +1,25 @@
 -- Each part's classes are there, and its items are appended.
-use Rattle.std.proofs.Common.{rules, get_or}
-use Rattle.dob_update.proofs.PartItems.{no_part, making_within, making_more}
+use Rattle.std.proofs.Common.{arith, get_or, rules}
+use Rattle.dob_update.proofs.Common.{ap, items_in_all}
+use Rattle.dob_update.proofs.PartItems.{no_part, next_part, making_within, making_more}
 use Rattle.dob_update.proofs.outbox.front_items.Goals as goal
 
-pub push_part_items-requires : goal.push_part_items-requires
-push_part_items-requires c =
+pub push_part_items-requires-clause-within : goal.push_part_items-requires-clause-within
+push_part_items-requires-clause-within c =
     making_within c.args.parts.now c.args.classes.now.items c.loop-part.part-index c.loop-part.next c.loop-part.list.items
-    (get_or c.args.parts.now c.loop-part.part-index no_part) c.loop-part-test.true (search rules) c.loop-part.invariant
+    (get_or c.args.parts.now c.loop-part.part-index no_part) c.loop-part-test.true (search rules) c.loop-part.invariant.making
+
+pub push_part_items-requires-clause-room : goal.push_part_items-requires-clause-room
+push_part_items-requires-clause-room c =
+    let left = next_part c.args.parts.now c.loop-part.part-index (get_or c.args.parts.now c.loop-part.part-index no_part) c.loop-part-test.true (search rules) in
+    omega (arith, c.loop-part.invariant.room, ap items_in_all left)
 
 pub loop-part-preserved : goal.loop-part-preserved
 loop-part-preserved c =
-    making_more c.args.parts.now c.args.classes.now.items c.loop-part.part-index c.loop-part.next c.loop-part.list.items c.push_part_items.new.list.items
-    (get_or c.args.parts.now c.loop-part.part-index no_part) c.loop-part-test.true (search rules) c.loop-part.invariant c.in_ok-push_part_items.ensures
+    let part = get_or c.args.parts.now c.loop-part.part-index no_part in
+    let left = next_part c.args.parts.now c.loop-part.part-index part c.loop-part-test.true (search rules) in
+    record {
+      making = making_more c.args.parts.now c.args.classes.now.items c.loop-part.part-index c.loop-part.next c.loop-part.list.items c.push_part_items.new.list.items
+          part c.loop-part-test.true (search rules) c.loop-part.invariant.making c.push_part_items.ensures.items;
+      room = omega (arith, c.loop-part.invariant.room, ap items_in_all left, c.push_part_items.ensures.len, c.push_part_items.ensures.capacity);
+    }
