@@ -55,7 +55,6 @@ fi
 if needs chromium wasm-opt; then
     mkdir "$work/files"
     export DOBUTSU_FILES="$work/files"
-    add_counts python3 page/test/scenes.py --steady --page "$work/dobutsu.html"
     add_counts python3 page/test/page_test.py "$work/dobutsu.html" "$program"
     if command -v firefox-esr firefox >/dev/null; then
         add_counts python3 page/test/page_test.py "$work/dobutsu.html" "$program" --firefox

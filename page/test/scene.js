@@ -10,13 +10,33 @@ globalThis.Scene = (() => {
   // ---- what tests keep of what leaves the page: texts that are copied, calls to print, what the console says
 
   const told = { copied: null, printed: [] };
-  const LONG = 550; // milliseconds from which on a timer waits so long here that a state doesn't hang on how quick the machine is, unless a story says otherwise
   function watch() {
-    const real = window.setTimeout;
-    window.setTimeout = (act, wait = 0, ...about) => real(act, wait >= LONG ? wait * Scene.slower : wait, ...about);
+    holdTimers();
     Object.defineProperty(navigator, "clipboard", { value: { writeText: async (words) => { told.copied = words; } }, configurable: true });
     window.print = () => { told.printed.push(document.body.className || "the page"); };
   }
+
+  // ---- time: a timer of a tenth of a second or more comes when a story lets it come, so that no state hangs on how quick the machine is
+
+  const LONG = 100, held = new Map(); // of the timers that wait { act, at } by number
+  let clock = 0, number = 1e9; // milliseconds; greater than the browser's own numbers
+  function holdTimers() {
+    const { setTimeout: begin, clearTimeout: end } = window;
+    window.setTimeout = (act, wait = 0, ...about) => {
+      if (wait < LONG) return begin(act, wait, ...about);
+      held.set(++number, { act: () => act(...about), at: clock + wait });
+      return number;
+    };
+    window.clearTimeout = (of) => { if (!held.delete(of)) end(of); };
+  }
+  // Lets the next of them come.
+  function pass() {
+    const [of, { act, at }] = [...held].reduce((first, it) => (it[1].at < first[1].at ? it : first));
+    held.delete(of);
+    clock = at;
+    act();
+  }
+  const waits = () => [...held.values()].map(({ at }) => at - clock).sort((a, b) => a - b).map((wait) => `${wait} ms`);
 
   // ---- colours, by the names that the page gives them
 
@@ -261,8 +281,13 @@ globalThis.Scene = (() => {
       `board "${element("board").getAttribute("aria-label")}", ${isGrid ? "three by four" : "no grid"}, ${Math.abs(high / wide - 1) < 0.03 ? "square" : "not square"}, rows ${labels("row-label")}${beside ? "" : " not beside"}, columns ${labels("column-label")}${below ? "" : " not below"}; ${hands.join(", ")}${isPlain ? "" : `; ${Math.round((10 * (boxes[11].bottom - first.top)) / innerHeight)} tenths of the window's height`}`,
       ...squares.map(squareLine), ...drawn.map((it) => `  ${it}`), ...lies.map((it) => `  ${it}`),
       ...(getComputedStyle(ink).pointerEvents === "none" || !ink.checkVisibility() ? [] : [`  the pen is on the board, cursor ${getComputedStyle(ink).cursor}, touch ${getComputedStyle(ink).touchAction}`]),
-      ...all(".dragged").map((it) => `  dragged: ${letterOf(it)}`),
+      ...all(".dragged").map((it) => `  dragged: ${letterOf(it)} over ${placeBelow(boxOf(it))}`),
     ];
+  }
+  // The square or the hand's place below the middle of a box.
+  function placeBelow({ left, top, width, height }) {
+    const x = left + width / 2, y = top + height / 2, found = all(".square, .slot").find((it) => { const box = boxOf(it); return x >= box.left && x <= box.right && y >= box.top && y <= box.bottom; });
+    return found ? found.dataset.hand || nameOf(found) : "nothing";
   }
   const handLines = (it) => [`hand "${it.getAttribute("aria-label")}"`, ...all(".slot", it).map(slotLine)];
 
@@ -360,9 +385,14 @@ globalThis.Scene = (() => {
   function stored() {
     try { return Object.keys(localStorage).sort().map((name) => `${name.replace("dobutsu-", "")}=${localStorage.getItem(name)}`).join(" ") || "nothing"; } catch { return "none"; }
   }
-  function focusOf() {
+  // The element that has the focus. One that is hidden or can't be used any more loses it with the next picture.
+  function focused() {
     const it = document.activeElement;
-    if (!it || it === document.body) return "nothing";
+    return it && it !== document.body && !it.disabled && it.checkVisibility({ visibilityProperty: true }) ? it : null;
+  }
+  function focusOf() {
+    const it = focused();
+    if (!it) return "nothing";
     if (it.dataset.square) return `the square ${nameOf(it)}`;
     return `${roleOf(it)} ${it.id ? `#${it.id} ` : ""}${it.classList.contains("slot") ? it.dataset.hand : clean(heardName(it) || it.textContent)}`;
   }
@@ -378,11 +408,12 @@ globalThis.Scene = (() => {
     const palette = readColours();
     drawings.clear();
     contrasts.clear();
-    const body = lines(false), all_ = stops(), at = all_.indexOf(document.activeElement);
+    const body = lines(false), all_ = stops(), at = all_.indexOf(focused());
     const wide = root.scrollWidth > innerWidth ? `, ${root.scrollWidth - innerWidth} pixels wider than the window` : "";
     return [
       `title «${document.title}», lang ${root.lang}, ${root.dataset.theme}, scheme ${getComputedStyle(root).colorScheme}, body ${document.body.className || "plain"} on ${colour(getComputedStyle(document.body).backgroundColor)}`,
       `address ${decodeURI(location.hash)}`, `stored ${stored()}`,
+      ...(held.size ? [`waits for ${waits().join(", ")}`] : []),
       ...(told.copied === null ? [] : [`copied «${told.copied.replaceAll(location.href.split("#")[0], "PAGE").replaceAll("\n", "⏎")}»`]), ...(told.printed.length ? [`printed ${told.printed.join(", ")}`] : []),
       `focus on ${focusOf()}; Tab leads to ${all_.length ? nameOfStop(all_[(at + 1) % all_.length]) : "nothing"}, ${all_.length} stops`,
       ...(isPlain ? [] : [`in the window ${Scene.window}${scrollY > 1 ? ", scrolled" : ""}${wide}`]),
@@ -391,6 +422,7 @@ globalThis.Scene = (() => {
   }
   // What stands on paper, while the browser draws for it.
   function paper() {
+    isPlain = false;
     readColours();
     drawings.clear();
     return lines(true).map((it) => it.replace(/, no stop|, stop|, cursor [-a-z]+/g, "")).filter((it) => !/^\s*(hidden|region|header)/.test(it));
@@ -407,8 +439,8 @@ globalThis.Scene = (() => {
     };
   }
   // The texts that tell of what is on the board, in the language that is chosen.
-  const SAID = "#files p, #files button, #files summary, #broken, #editor-fault, #value, #judged, #moves button, #line .end, #line-head, #moves-head, #record .move, #record .mark, .tag, #game-told, #strip .cell, #mistakes button, #branches button, "
-    + "#game-fault, #task, #verdict, #score, #exercise-length, #exercise-file, #practise, #practice, #glance-told, #glance-set, #glance-value, #glance-zugzwangs, #glance-links button, #text-fault, #lesson-first, #lesson-rest, #copy, #link, #badge, #play, #hide";
+  const SAID = "#files p, #files button, #files summary, #broken, #editor-fault, #value, #judged, #moves button, #line .end, #line-head, #moves-head, #record .move, #record .mark, .tag, #game-told, #strip .cell, #mistakes button, #branches-head, #branches button, "
+    + "#game-fault, #task, #verdict, #score, #exercise-length, #exercise-file, #answer, #practise, #practice, #glance-told, #glance-set, #glance-value, #glance-zugzwangs, #glance-links button, #text-fault, #lesson-first, #lesson-rest, #copy, #link, #badge, #play, #hide";
   function said() {
     return all(SAID).filter((it) => it.checkVisibility() && (it.textContent || it.getAttribute("aria-label"))).map((it) => {
       const words = clean(it.tagName === "SELECT" ? [...it.options].map((option) => option.textContent).join(" | ") : it.innerText), heard = it.getAttribute("aria-label");
@@ -418,10 +450,13 @@ globalThis.Scene = (() => {
   // ---- acts: each gives what is there when the page has come to rest
 
   const pause = (wait) => new Promise((done) => setTimeout(done, wait));
+  // Whether nothing is looked up, no set is counted, and no exercises are counted or drawn.
+  const isBusy = (id) => element(id).getAttribute("aria-busy") === "true";
+  const isResting = () => root.dataset.busy === "" && !isBusy("exercise-card") && !(isBusy("glance") && element("glance").open) && element("task").textContent !== Texts.text("drawing");
   async function rest(isThere = () => true) {
     for (let i = 0; ; i++) {
       await pause(i < 4 ? 0 : 8);
-      if (root.dataset.busy === "" && isThere()) return;
+      if (isResting() && isThere()) return;
       if (realNow() - began > 1000 * Scene.patience) throw new Error(`it doesn't come to rest: ${isThere}`);
     }
   }
@@ -480,6 +515,6 @@ globalThis.Scene = (() => {
     while (root.dataset.ready !== "1") await pause(4);
     await rest();
   }
-  return { patience: 60, slower: 1000, act, rest, enter, choose, play, press, speak, saidIn, give, filesTold, ready, watch, write, paper, facts, said, told, stops: () => stops().map(nameOfStop), focused: () => nameOfStop(document.activeElement) };
+  return { patience: 60, act, rest, pass, enter, choose, play, press, speak, saidIn, give, filesTold, ready, watch, write, paper, facts, said, told };
 })();
 Scene.watch();

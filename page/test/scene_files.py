@@ -93,11 +93,6 @@ def longer(head, lost, held):
     held[place] = held[place][0], held[place][1] + 2
 
 
-def backwards(head, lost, held):
-    head[24:] = b""
-    lost[10], lost[11] = lost[11], lost[10]
-
-
 def needed(db, root):
     """The classes that a solution of a won position needs, by one move of the winner each: those that are lost, with their plies."""
     found, left = {}, [read_db.read_position(root)]
@@ -207,5 +202,7 @@ class Files:
             "claim_255.cert": lambda: cert(LOSS, "loss", 6, spoil(19, 255)), "held.cert": lambda: cert(LOSS, "loss", 6, longer), "told_exact.cert": lambda: cert(LOSS, "loss", 8),
             "shorter.cert": lambda: cert(LOSS, "loss", 4), "entry.cert": lambda: cert(LOSS, "loss", 6, shorter), "short.cert": lambda: good()[:20], "half.cert": lambda: sealed(good()[:900]),
             "longer.cert": lambda: good() + b"x", "digest.cert": lambda: good()[:-1] + bytes([good()[-1] ^ 1]), "count.cert": lambda: sealed(good()[:20] + b"\xff\xff\xff\0" + good()[24:-32]),
+            "number.cert": lambda: sealed(good()[:28] + b"\x80\0" + good()[30:-32]), "order.cert": lambda: sealed(good()[:28] + b"\1\2\0\2" + good()[32:-32]),
+            "plies.cert": lambda: sealed(good()[:28] + b"\1\xff" + good()[30:-32]),
         }
         return certificates[name]() if name in certificates else made_of_table(name, whole)

@@ -1,12 +1,13 @@
 #!/usr/bin/env python3
 """Scenes: named states of the page, each compared with a text of all that a person sees and hears there.
 
-page/test/scenes.py [--renew] [--page PAGE] [--seconds] [--steady] [--until-failure] [--list] [NAME..]
+page/test/scenes.py [--renew] [--page PAGE] [--seconds] [--until-failure] [--list] [NAME..]
 
 A scene of stories.py is played in headless Chromium on the page that the sources make, or on PAGE. Its first state is told whole (scene.js), or by what differs
 from that of the scene `table`; and behind each further act what it changes. The text has to be that of page/test/scenes/NAME.txt; where it isn't, the lines that differ are printed. With `--renew` the files
 are written instead: look at `git diff page/test/scenes` then. Where a table is open all values that are shown are compared with plain Python's besides. NAMEs
-choose scenes, all without, or with `--steady` those that hang on nothing else than the page. The last line is `N passed, M failed`.
+choose scenes, all without. Time stands still in a scene, but where its story lets it go on. The last line is `N passed, M failed`. page_test.py plays the
+scenes too, beside each other, and those that Firefox and the proved engine have to show.
 """
 import argparse
 import contextlib
@@ -32,8 +33,6 @@ from screen import Screen
 GOLDEN = HERE / "scenes"
 # The scenes that are played in the other browser and by the other engine too: a quarter of them.
 ELSEWHERE = ("start", "table", "values", "ends", "chosen", "drops", "line", "texts", "rules", "file_names", "refused", "refused_certificates", "claims", "practice", "exercise", "game", "pasted_kifu")
-# Scenes that show work that is under way, so that what is seen hangs on how busy the machine is: `--steady` leaves them out.
-NAMED = {"broken", "exercise_drawn", "lesson_ink", "line", "lost", "pasted", "practice", "practice_thinks", "stuck"}
 ELSEWHERE_AT = os.environ.get("DOBUTSU_SCENES")  # a folder that has what Chromium shows, where that is to be compared with what Firefox shows
 # What the page says of the engine: as the proved one, and as the plain one, by which the files are written.
 ENGINES = [
@@ -84,7 +83,9 @@ class Stage:
         self.screen, self.browser, self.files, self.js = screen, screen.browser, files, screen.js
         self.out, self.states, self.said, self.last, self.wrong, self.colours = [], [], set(), None, [], False
         self.is_firefox = not hasattr(self.browser, "other_page")
+        self.pointed = None  # where the mouse is in the window, and its buttons that are held
         self.heard = len(self.browser.events)
+        self.is_shared = False  # whether it is told besides as every browser has to show it
 
     # ---- what is told
 
@@ -95,8 +96,8 @@ class Stage:
         else:
             self.out += [f"== {words}", *(lines if self.last is None else changes(self.last, lines))]
         self.out += self.logged()
-        if ELSEWHERE_AT:
-            self.states.append([words, self.js("Scene.write({ isPlainly: true })")])
+        if self.is_shared:
+            self.states.append([words, lines if self.is_firefox else self.js("Scene.write({ isPlainly: true })")])
         self.last = lines
         if found["facts"] and is_looked_up:
             self.wrong += [f"{words}: {it}" for it in wrong_values(found["facts"], self.files)]
@@ -110,9 +111,15 @@ class Stage:
                 raise Differs(f"{line}, where {self.wanted[place + 1] if place + 1 < len(self.wanted) else 'nothing more'} has to be")
 
     def options(self):
-        return f"{{ withColours: {str(self.colours).lower()} }}"
+        return f"{{ withColours: {str(self.colours).lower()}, isPlainly: {str(self.is_firefox).lower()} }}"
+
+    def point(self):
+        """The mouse points once more where it points, since what is below it may have moved."""
+        if self.pointed:
+            self.mouse("mouseMoved", self.pointed[0], held=self.pointed[1])
 
     def tell(self, words, is_looked_up=True):
+        self.point()
         self.write(words, self.js(f"({{ lines: Scene.write({self.options()}), facts: Scene.facts() }})"), is_looked_up)
 
     def logged(self):
@@ -129,6 +136,8 @@ class Stage:
             lines = [line for line in dict.fromkeys(told) if line not in self.said]
             self.said.update(lines)
             self.out += [f"== in {name}", *lines]
+            if self.is_shared:
+                self.states.append([f"in {name}", told])
         self.stop_early()
 
     def paper(self, words="on paper"):
@@ -136,9 +145,11 @@ class Stage:
         if self.is_firefox:
             return
         self.browser.call("Emulation.setEmulatedMedia", media="print")
+        self.point()
         lines = self.js("Scene.paper()")
         self.browser.call("Emulation.setEmulatedMedia", media="")
         self.out += [f"== {words}, {self.screen.pages()} sheets", *lines]
+        self.point()
         self.stop_early()
 
     # ---- the page
@@ -156,9 +167,11 @@ class Stage:
             self.tell(tell)
 
     number = 0  # makes each address a page of its own
+    observe = staticmethod(lambda browser: None)  # is called whenever a page is left or entered
 
     def load(self, fragment):
         Stage.number += 1
+        self.observe(self.browser)
         url = f"{self.screen.url}?{Stage.number}{fragment}"
         if self.is_firefox:
             self.browser.open(url)
@@ -173,14 +186,17 @@ class Stage:
         self.act(f"await Scene.give([{self.file(name)}]);" + (f"Scene.enter({position!r})" if position else ""), tell, tell)
 
     def close(self):
+        self.observe(self.browser)
         self.js("localStorage.clear()")
 
     # ---- acts; each is told, unless it is said that it isn't
 
     def act(self, script, words, tell=True, until="true"):
         """Does that in the page, waits until it has come to rest, and tells what it changed."""
-        found = self.js(f"Scene.act(async () => {{ {script} }}, () => {until}, {str(bool(tell)).lower()}, {self.options()})")
-        if tell:
+        found = self.js(f"Scene.act(async () => {{ {script} }}, () => {until}, {str(bool(tell) and not self.pointed).lower()}, {self.options()})")
+        if tell and self.pointed:
+            self.tell(tell if isinstance(tell, str) else words)
+        elif tell:
             self.write(tell if isinstance(tell, str) else words, found)
 
     def did(self, words, tell, until="true"):
@@ -242,6 +258,7 @@ class Stage:
                        "const box = it.getBoundingClientRect(); return [box.x + box.width / 2, box.y + box.height / 2]; })()")
 
     def mouse(self, kind, point, button="left", held=0):
+        self.pointed = point, held
         self.browser.call("Input.dispatchMouseEvent", type=kind, x=point[0], y=point[1], button=button if kind != "mouseMoved" or held else "none", buttons=held, clickCount=0 if kind == "mouseMoved" else 1)
 
     def hover(self, selector, tell=True):
@@ -281,6 +298,10 @@ class Stage:
     def wait(self, until, tell=True):
         self.act("", "after a while", tell, until)
 
+    def later(self, tell=True, until="true"):
+        """The next of the timers that wait comes."""
+        self.act("Scene.pass()", "a moment later", tell, until)
+
     @staticmethod
     def found(name):
         if len(name) == 2 and name[0] in "abc" and name[1] in "1234":
@@ -308,8 +329,11 @@ def played(name, screen, files, is_left_early=False):
 
 def played_here(name, screen, files, is_left_early):
     screen.browser.size(*SIZE)
+    if hasattr(screen.browser, "other_page") and name not in TOUCHED:
+        screen.browser.call("Input.dispatchMouseEvent", type="mouseMoved", x=0, y=0)
     stage, story = Stage(screen, files, None if name in WHOLE else first_state(golden("table")), golden(name) if is_left_early else None), stories.STORIES[name]
-    stage.colours = name in ("start", "dark", "flipped")
+    stage.colours = name in ("start", "dark", "flipped") and not stage.is_firefox
+    stage.is_shared = bool(ELSEWHERE_AT) and name in ELSEWHERE
     try:
         story(stage)
         is_proved = stage.js("Game.engine().isProved === true")
@@ -347,16 +371,19 @@ def part(name):
     showed before."""
     def run(checks, screen, program):
         lines, wrong, states = played(name, screen, Files.at(program.folder))
-        at = pathlib.Path(ELSEWHERE_AT or program.folder, f"{name}.json")
         if hasattr(screen.browser, "other_page"):
-            compare(checks, name, lines, wrong)
-            if ELSEWHERE_AT and name in ELSEWHERE:
-                at.write_text(json.dumps(states))
-            return
+            if states:
+                elsewhere(name).write_text(json.dumps(states))
+            return compare(checks, name, lines, wrong)
         checks.expect(f"values of scene {name} by plain Python", wrong, [])
-        for (words, told), (_, wanted) in zip(states, json.loads(at.read_text()), strict=True):
+        for (words, told), (_, wanted) in zip(states, json.loads(elsewhere(name).read_text()), strict=True):
             checks.expect(f"scene {name}, {words}", [it for it in told if it not in wanted], [it for it in wanted if it not in told])
     return run
+
+
+def elsewhere(name):
+    """The file of what each browser has to show in a scene, state by state."""
+    return pathlib.Path(ELSEWHERE_AT, f"{name}.json")
 
 
 def differences(name, lines):
@@ -374,7 +401,7 @@ PARTS = {name: part(name) for name in stories.STORIES}
 
 def main():
     words = argparse.ArgumentParser(description=__doc__, formatter_class=argparse.RawDescriptionHelpFormatter)
-    for option in ("--renew", "--seconds", "--steady", "--until-failure", "--list"):
+    for option in ("--renew", "--seconds", "--until-failure", "--list"):
         words.add_argument(option, action="store_true")
     words.add_argument("--page", type=pathlib.Path)
     words.add_argument("names", nargs="*")
@@ -390,8 +417,7 @@ def main():
         browser, files = Browser(), Files.at(folder)
         try:
             screen = Screen(browser, page.resolve())
-            chosen = given.names or [it for it in stories.STORIES if not (given.steady and it in NAMED)]
-            for name in sorted(chosen, key=lambda it: it != "table"):
+            for name in sorted(given.names or stories.STORIES, key=lambda it: it != "table"):
                 since = time.monotonic()
                 checks.topic(f"scene {name}", lambda: one(checks, name, screen, files, given.renew))
                 if given.seconds:

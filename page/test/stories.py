@@ -35,6 +35,7 @@ def table(at):
     at.on("Lb1-a2", within="#record")
     at.press("flip")
     at.paper()
+    at.run("const move = document.querySelector('#moves button'); move.click(); move.click()", tell="a move is clicked twice")
 
 
 def values(at):
@@ -42,9 +43,11 @@ def values(at):
     at.table(tell=False)
     for kind, text in SIX.items():
         at.enter(text, tell=f"a side that {kind}")
+        at.says()
     at.choose("measure", "moves")
     for kind, text in SIX.items():
         at.enter(text, tell=f"in moves: a side that {kind}")
+        at.says()
     at.paper()
 
 
@@ -170,14 +173,20 @@ def line(at):
     at.focus("#record .move[tabindex='0']", tell=True)
     at.key("Home")
     at.key("Enter")
-    at.enter("..l/.../L../... - -", tell=False)
+    at.enter(PLAIN, tell=False)
     at.choose("speed", "fast", tell=False)
-    at.press("play", tell="it is played out")
-    at.wait("document.getElementById('play').textContent === 'Play out'")
+    at.press("play", tell="it is played out, quickly")
+    at.later(tell="the second step")
+    at.later(tell=False)
+    at.later(tell=False)
+    at.later(tell="the fifth, which is the last")
     at.choose("speed", "normal", tell=False)
     at.enter(".../..l/.../L.. - c", tell=False)
-    at.press("play", tell=False)
-    at.press("play", tell="a line that is played out is stopped")
+    at.press("play", tell="another one, at the usual pace")
+    at.language("ja", tell="in ja meanwhile")
+    at.language("kana", tell="in kana")
+    at.language("en", tell=False)
+    at.press("play", tell="it is stopped")
     at.press("play", tell=False)
     at.press("undo", tell="and by Undo")
     at.press("play", tell=False)
@@ -273,22 +282,21 @@ def set_up_wrong(at):
 def texts(at):
     """Texts that are no position, each with its fault, and links."""
     at.table(PLAIN, tell=False)
-    for wrong in ("", "..l/.../L../... -", "..x/.../L../... - -", "..l/.../L../... EC -", "..l/.../.../... - -", "..l/CCC/L../... - -", "L.l/.../.../... - -"):
-        at.enter(wrong)
-    at.language("ja")
-    at.enter("..l/.../.../... - -")
-    at.language("kana", tell=False)
-    at.enter("..x/.../L../... - -")
+    wrong = ("", "..l/.../L../... -", "..x/.../L../... - -", "..l/.../L../... EC -", "..l/.../.../... - -", "..l/CCC/L../... - -", "L.l/.../.../... - -")
+    for name in ("en", "ja", "kana"):
+        at.language(name, tell=name == "ja")
+        for text in wrong:
+            at.enter(text)
+        at.choose("rules", "B", tell=False)
+        at.enter("C.l/.../.../L.. - -")
+        at.choose("rules", "A", tell=False)
+        at.enter("#.l./.../.C./.L._-_-:Lb1-a2,lb4-b2,La2-a3")
+        at.enter("dobutsu.html#nonsense")
     at.language("en", tell=False)
-    at.choose("rules", "B", tell=False)
-    at.enter("C.l/.../.../L.. - -")
-    at.choose("rules", "A", tell=False)
     at.enter("C.l/.../.../L.. - -")
     at.enter("  .l./.../.C./.L.   -\n- ", tell="blanks are no matter")
     at.enter("file:///home/somebody/dobutsu.html#~.l./.../.C./.L._-_-:lb4-c3", tell="a link with a game")
     at.enter("https://example.com/page.html#.l./.../.C./.L.%5F-%5F-", tell="an encoded link")
-    at.enter("dobutsu.html#nonsense")
-    at.enter("#.l./.../.C./.L._-_-:Lb1-a2,lb4-b2,La2-a3", tell="a link with a move that is none")
     at.enter("#B;.l./.../.C./.L._-_-:Lb1-a2", tell="a link by rules B")
     at.focus("#text", tell=True)
     at.key("u", "h", tell="letters in a text are no keys")
@@ -359,6 +367,30 @@ def keys(at):
     at.run("document.activeElement.blur()", tell=False)
     at.key("u", "h", "e")
     at.key("x", "c")
+    at.press("letters", tell=False)
+    at.run("document.activeElement.blur()", tell=False)
+    at.key("e", "x", "c", tell="while a position is set up no exercise is drawn")
+
+
+def focus(at):
+    """The focus stays: on a button that looks up and comes to its end, and at its place in a list that is drawn anew."""
+    at.table(PLAIN, tell=False)
+    at.focus("#next", tell="the focus is on Next move")
+    for number in range(1, 7):
+        at.key("Enter", tell=f"{number} steps" if number in (1, 5, 6) else False)
+    at.focus("#undo")
+    for number in range(1, 7):
+        at.key("Enter", tell=f"{number} steps back" if number in (1, 5, 6) else False)
+    at.focus("#redo")
+    at.key("Enter", tell=False)
+    at.key("Enter", tell="two steps on")
+    at.focus("#moves li:nth-child(2) button")
+    at.key("h", tell="values are hidden, the second move has the focus")
+    at.key("h", tell="and shown")
+    at.focus("#line .move")
+    at.choose("measure", "moves", tell="the line has it")
+    at.focus("#record .move[tabindex='0']")
+    at.language("ja", tell="and the moves played")
 
 
 def dragged(at):
@@ -376,11 +408,15 @@ def dragged(at):
     for kind, held in (("mouseMoved", 1), ("mouseReleased", 0)):
         at.mouse(kind, at.middle("b1"), held=held)
     at.tell("out and back to its own square")
+    right = "button: 2, buttons: 2, isPrimary: true, bubbles: true"
+    at.run(f"document.querySelector('[data-square=\"1\"]').dispatchEvent(new PointerEvent('pointerdown', {{ {right} }})); document.dispatchEvent(new PointerEvent('pointermove', {{ {right}, clientX: 300, clientY: 300 }}))",
+           tell="the right button drags nothing")
+    at.run(f"document.dispatchEvent(new PointerEvent('pointerup', {{ {right} }}))", tell=False)
     at.enter(DROPS, tell=False)
     at.drag("C", "b3", tell="a piece in hand is dragged to the board")
 
 
 STORIES = {
     it.__name__: it
-    for it in (start, table, values, ends, hover, chosen, flipped, drops, sky, line, hidden, set_up, set_up_wrong, texts, link, link_wrong, rules, keys, dragged)
+    for it in (start, table, values, ends, hover, chosen, flipped, drops, sky, line, hidden, set_up, set_up_wrong, texts, link, link_wrong, rules, keys, focus, dragged)
 } | stories_files.STORIES | stories_play.STORIES | stories_class.STORIES | stories_looks.STORIES

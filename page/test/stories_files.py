@@ -10,7 +10,7 @@ STUB = """(() => {
     constructor(address) { this.real = new Real(address); this.real.onmessage = (event) => { this.kept = [...(this.kept || []), event]; if (window.isGiven) this.give(); }; window.works.push(this); }
     postMessage(about) { this.real.postMessage(about); }
     terminate() { this.real.terminate(); this.isEnded = true; }
-    give() { for (const event of this.kept.splice(0)) this.onmessage(event); }
+    give(most = Infinity) { for (const event of this.kept.splice(0, most)) this.onmessage(event); }
     say(part, wait) { this.onmessage({ data: { part, wait } }); }
   };
 })()"""
@@ -67,7 +67,7 @@ def refused(at):
 def refused_certificates(at):
     """Spoilt certificates, each with its fault."""
     at.table(PLAIN, tell=False)
-    names = [f"{name}.cert" for name in ("version", "set", "columns", "rules", "root", "claim", "claim_255", "count", "held", "told_exact", "shorter", "entry", "short", "half", "longer", "digest")]
+    names = [f"{name}.cert" for name in ("version", "set", "columns", "rules", "root", "claim", "claim_255", "count", "held", "told_exact", "shorter", "entry", "short", "half", "longer", "digest", "number", "order", "plies")]
     at.give(*names, tell="certificates that are refused")
     at.says()
 
@@ -101,6 +101,9 @@ def lost(at):
     at.says()
     at.run("document.querySelector('#glance summary').click()", until="document.querySelector('#glance[aria-busy=false]')", tell="nor counted")
     at.give("100A", tell="a whole one is opened")
+    at.run("Blob.prototype.arrayBuffer = async () => { throw new Error('as planted'); }", tell=False)
+    at.give("000A", tell="a file of which nothing can be read")
+    at.says()
 
 
 def slow(at):
@@ -112,9 +115,12 @@ def slow(at):
       window.waiting = [];
       table.bytes = async (...about) => { if (!window.isQuick) await new Promise((done) => window.waiting.push(done)); return bytes(...about); };
     })()""", tell=False)
-    at.js("document.querySelector('#moves button').click()")
-    at.browser.wait("document.querySelector('#value span').textContent.includes('Looking')")
+    at.js("document.querySelector('#moves button').click(); Scene.pass()")
     at.tell("it is looked up", False)
+    for name in ("ja", "kana"):
+        at.js(f"document.getElementById({'language' if name == 'ja' else 'kana'!r}).click(); Scene.pass()")
+        at.tell(f"in {name}", False)
+    at.js("document.getElementById('language').click()")
     at.js("window.isQuick = true")
     at.enter(LOSS, tell="another position meanwhile")
     at.js("window.waiting.splice(0).forEach((done) => done())")
@@ -146,6 +152,7 @@ def opening(at):
     at.browser.give_files("#file", at.files["100A"])
     at.browser.wait("!!document.querySelector('#files .work')")
     at.tell("it is opened")
+    at.says()
     at.js("setInterval(() => window.held.splice(0).forEach((done) => done()), 5)")
     at.wait('Scene.filesTold()', tell=False)
     at.tell("it is open")
@@ -153,6 +160,9 @@ def opening(at):
     at.give("100B", tell="where there is no digest")
     at.js("dispatchEvent(new DragEvent('dragover', { bubbles: true, cancelable: true }))")
     at.tell("a file is dragged over the page")
+    at.language("ja")
+    at.language("kana")
+    at.language("en", tell=False)
     at.js("dispatchEvent(new DragEvent('dragleave', { bubbles: true, cancelable: true, relatedTarget: document.body }))")
     at.tell("over an element of it")
     at.js("dispatchEvent(new DragEvent('dragleave', { bubbles: true, cancelable: true }))")
@@ -168,7 +178,7 @@ def checking(at):
     at.table(PLAIN, tell=False, before=STUB)
     at.browser.give_files("#file", at.files["loss.cert"])
     at.browser.wait("window.works.length && window.works[0].kept && window.works[0].kept.length > 0")
-    at.js("window.works[0].give(); window.works[0].say(0.31, 1e9)")
+    at.js("window.works[0].give(1); window.works[0].say(0.31, 1e9)")
     at.wait("/31/.test(document.getElementById('files').textContent)", tell=False)
     at.tell("a third is checked")
     at.play("Lb1-a2", tell="the page goes on")
@@ -184,6 +194,23 @@ def checking(at):
     at.js("Certificates.limits.here = 10")
     at.give("draw.cert", tell="a large one isn't checked then")
     at.says()
+
+
+def checking_alone(at):
+    """A certificate is checked while no file has the position: its values come then."""
+    at.open(tell=False, before=STUB)
+    at.enter(LOSS, tell=False)
+    at.browser.give_files("#file", at.files["loss.cert"])
+    at.browser.wait("window.works.length && window.works[0].kept && window.works[0].kept.length > 0")
+    at.js("window.works[0].give(1); window.works[0].say(0.42, 1e9)")
+    at.wait("/42/.test(document.getElementById('files').textContent)", tell="it is checked")
+    at.says()
+    at.enter("..l/.../L../... EG cc", tell="another set")
+    at.enter(LOSS, tell=False)
+    at.press("hide", tell="values are hidden meanwhile")
+    at.press("hide", tell=False)
+    at.js("window.isGiven = true; window.works[0].give()")
+    at.wait("Scene.filesTold()", tell="its values are there")
 
 
 def certificate(at):
@@ -272,6 +299,7 @@ def glance_game(at):
     at.on("The longest win")
     at.on("The longest loss")
     at.on("The deepest zugzwang")
+    at.says()
     at.on("After ")
     at.choose("glance-set", "B", until=COUNTED)
     at.on("The longest win")
@@ -296,4 +324,4 @@ def glance_slow(at):
     at.says()
 
 
-STORIES = {it.__name__: it for it in (file_names, closed, starts, refused, refused_certificates, broken, lost, slow, opening, checking, certificate, claims, whole_game, glance_file, glance_game, glance_slow)}
+STORIES = {it.__name__: it for it in (file_names, closed, starts, refused, refused_certificates, broken, lost, slow, opening, checking, checking_alone, certificate, claims, whole_game, glance_file, glance_game, glance_slow)}

@@ -142,6 +142,11 @@ def settings(at):
     at.press("theme")
     at.press("theme")
     at.language("ja")
+    at.press("theme")
+    at.press("theme")
+    at.language("kana")
+    at.press("theme")
+    at.press("theme")
 
 
 def kept(at):
@@ -167,11 +172,9 @@ def copied(at):
     at.table(PLAIN, tell=False)
     at.play("Lb1-a2", tell=False)
     at.press("copy", tell="the text")
-    at.js("Scene.slower = 1")
-    at.press("link", tell=False)
-    at.wait("document.getElementById('link').textContent === 'Link'", tell="a second later")
-    at.js("Scene.slower = 1000")
     at.press("link", tell="the link")
+    at.later(tell="a second later the first button is as before")
+    at.later(tell="and the other one")
     at.run("Object.defineProperty(navigator, 'clipboard', { value: undefined }); document.execCommand = (name) => { Scene.told.copied = `${name}: ${document.activeElement.value}`; return true; }", tell=False)
     at.press("link", tell="without a clipboard")
     at.run("document.execCommand = () => false", tell=False)

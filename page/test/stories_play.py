@@ -18,18 +18,18 @@ def practice(at):
     at.press("practise", tell="practice begins")
     at.says()
     at.play("Lb1-a2", tell="a move is played")
-    at.choose("speed", "fast", tell=False)
+    at.choose("speed", "fast", tell="it is answered sooner")
     at.press("undo", tell="it is taken back alone")
     at.play("Lb1-a2", tell=False)
-    at.wait("Game.state.cursor === 2", tell="the page answers")
+    at.later(tell="the page answers")
     at.press("undo", tell="undo takes both back")
     at.play("Lb1-a2", tell=False)
-    at.wait("Game.state.cursor === 2", tell=False)
+    at.later(tell=False)
     at.play("La2-a3", tell=False)
-    at.wait("Game.state.cursor === 4", tell=False)
+    at.later(tell=False)
     at.press("undo", tell="undo takes back one move and its answer")
     at.play("La2-a3", tell=False)
-    at.wait("Game.state.cursor === 4", tell=False)
+    at.later(tell=False)
     at.play("La3xb4", tell="the win is there")
     at.says()
     at.enter(PLAIN, tell=False)
@@ -66,8 +66,8 @@ def practice_ends(at):
     at.js("document.querySelector('#files .close').click()")
     at.wait("!document.querySelector('#files b')", tell=False)
     at.tell("its file is closed")
-    at.play("Lb1-a2", tell="a move of which no file knows")
     at.says()
+    at.play("Lb1-a2", tell="a move of which no file knows")
 
 
 def practice_thinks(at):
@@ -86,16 +86,56 @@ def practice_thinks(at):
     at.press("undo", tell="undo takes the move back alone")
 
 
+def ended(at):
+    """What ends a line that is played out, practice and a choice: each way to another position, to other rules and to other files."""
+    at.table(PLAIN, tell=False)
+    at.run(fixed("..l/.../L../... - c", "La2-a3"), tell=False)
+    at.choose("exercise-length", "3", tell=False)
+    at.press("paste-game", tell=False)
+
+    def paste(tell):
+        at.js("document.getElementById('paste-box').hidden && document.getElementById('paste-game').click(); document.getElementById('game-text').value = '1. Lb1-a2 lb4-c4'")
+        at.press("take-game", tell=tell)
+
+    def set_up(tell):
+        at.press("edit", tell=tell)
+        at.press("edit", tell=False)
+
+    def choose_rules(tell):
+        at.choose("rules", "B", tell=tell)
+        at.choose("rules", "A", tell=False)
+
+    ways = {
+        "another text": lambda tell: at.enter("..l/.../L../... - c", tell=tell), "start": lambda tell: at.press("start", tell=tell), "setting up": set_up, "other rules": choose_rules,
+        "a link": lambda tell: at.run("location.hash = '#~.l./.../.C./.L._-_-:lb4-c3'", tell=tell, until="Game.state.side === 1"), "a pasted game": paste,
+        "an exercise": lambda tell: at.press("draw", tell=tell, until="Exercise.isAsked()"), "a click on the board": lambda tell: at.click("c4", tell=tell),
+        "a drag": lambda tell: at.drag("b4", "b3", tell=tell), "undo": lambda tell: at.press("undo", tell=tell), "a move": lambda tell: at.run("document.querySelector('#moves button').click()", tell=tell),
+        "another file": lambda tell: at.give("000A", tell=tell),
+    }
+    for name, go in ways.items():
+        at.enter(PLAIN, tell=False)
+        at.press("play", tell=False)
+        go(f"{name} while a line is played out")
+        at.enter(PLAIN, tell=False)
+        at.press("practise", tell=False)
+        at.click("b1", tell=False)
+        go(f"{name} in practice, a lion being chosen")
+    at.enter(PLAIN, tell=False)
+    at.press("practise", tell=False)
+    at.press("play", tell="playing out in practice")
+
+
 def practice_try(at):
     """Practice of Sky, won by a try; of a win in one."""
     at.table(".../L../l.C/... - -", tell=False)
     at.press("start", tell=False)
     at.run("location.hash = '#~.../L../..l/h.._-_-'", until="Game.state.side === 1", tell="Sky can try")
-    at.choose("speed", "fast", tell=False)
     at.press("practise", tell=False)
-    at.js("[...document.querySelectorAll('#moves button')].find(it => /^l/.test(it.textContent) && !/x/.test(it.textContent)).click()")
-    at.wait("!Practice.isOn()", tell=False)
-    at.tell("it is won, or lost")
+    at.play("lc2-c3", tell="the win is lost")
+    at.says()
+    at.press("undo", tell=False)
+    at.press("practise", tell=False)
+    at.play("lc2-c1", tell="it is won by a try")
     at.says()
     at.enter(CATCH, tell=False)
     at.press("practise", tell=False)
@@ -108,12 +148,18 @@ def practice_certificate(at):
     at.open(tell=False)
     at.give("one.cert", tell=False)
     at.enter(PLAIN, tell="a certificate with one solution")
-    at.choose("speed", "fast", tell=False)
     at.press("practise", tell=False)
     at.play("Lb1-a1", tell="a move that isn't listed")
     at.says()
     at.play("Lb1-a2", tell=False)
-    at.wait("Game.state.cursor === 2", tell="the page answers the listed one")
+    at.later(tell="the page answers the listed one")
+    at.press("practise", tell=False)
+    at.enter(PLAIN, tell=False)
+    at.play("Lb1-a1", tell=False)
+    at.press("undo", tell=False)
+    at.press("practise", tell=False)
+    at.press("redo", tell="a move that isn't listed is made again")
+    at.says()
     at.press("practise", tell=False)
     at.give("win.cert", tell=False)
     at.enter(".l./.../.C./.L. - -", tell=False)
@@ -194,9 +240,10 @@ def exercise_files(at):
     at.says()
     at.run("Answers.drawExercise = async () => null", tell=False)
     at.run("document.getElementById('exercise-file').selectedIndex = 1; document.getElementById('exercise-file').dispatchEvent(new Event('change'))", until="document.querySelector('#exercise-card[aria-busy=false]')", tell=False)
-    at.press("draw", until=DRAWN, tell="none of that length")
-    at.press("worksheet", until=DRAWN, tell="nor for a worksheet")
-    at.says()
+    for name in ("en", "ja", "kana"):
+        at.language(name, tell=False)
+        at.press("draw", tell=f"none of that length, in {name}")
+        at.press("worksheet", tell="nor for a worksheet")
 
 
 def worksheet(at):
@@ -246,10 +293,17 @@ def game(at):
     at.play("lb4-c4", tell=False)
     at.press("undo", tell=False)
     at.play("lb4-a4", tell="a third")
+    at.says()
     at.press("copy-game")
     at.run("document.querySelector('#branches button').click()", tell="back to a line that was left")
     at.press("print-game", tell=False)
     at.paper("the game on paper")
+    for name in ("ja", "kana"):
+        at.language(name, tell=False)
+        at.press("print-game", tell=False)
+        at.paper(f"in {name}")
+        at.press("copy-game")
+    at.language("en", tell=False)
     at.press("hide", tell=False)
     at.press("print-game", tell=False)
     at.paper("the game on paper, values hidden")
@@ -266,6 +320,10 @@ def game_certificate(at):
     at.press("next", tell=False)
     at.press("copy-game")
     at.says()
+    at.on("start", within="#record", tell=False)
+    at.play("La1-a2", "c*c4", tell="behind its list")
+    at.says()
+    at.press("copy-game")
     at.enter(".../l../.../L.C - -", tell=False)
     at.on("La1-b1", within="#moves", tell="a game of which nothing is known")
     at.says()
@@ -335,9 +393,12 @@ def pasted_kifu(at):
     take("▲22ヒヨコ △同ぞう ▲12らいおん △33ひよこ打", "a game")
     at.press("copy-game", tell="copied")
     at.language("en", tell="in en")
-    for text in ("Lb1-a4", "La1-a2", "Cb2-a3", "Cb2xb3 Cb2xb3", "Cb2xb3 eb4xb3 Lb1-a2 la4-b4", "Cb2-b3", "C*c2", "L*a2", "Hb2-b3", "Gc1-b1", "Cb2xb3+", "Gc1xc2", "c2", "xyz", "▲13きりん", "△12らいおん", "22ひ 22ぞ 23ひ打"):
-        take(text, text)
-    at.says("ja")
+    wrong = ["Lb1-a4", "La1-a2", "Cb2-a3", "Cb2xb3 Cb2xb3", "Cb2xb3 eb4xb3 Lb1-a2 la4-b4", "Cb2-b3", "C*c2", "L*a2", "Hb2-b3", "Gc1-b1", "Cb2xb3+", "Gc1xc2", "c2", "xyz", "▲13きりん", "△12らいおん", "22ひ 22ぞ 23ひ打",
+             '[Position ".../.l./.L./.C. - -"] Lb2xb3 lb3-b4', '[Position "..l/.../H.H/.L. - -"] Hb2', '[Position "..l/.../.../L.. C -"] C*a1', '[Rules "B"] [Position "..l/.../.../L.. C -"] C*a4', ""]
+    for name in ("en", "ja", "kana"):
+        at.language(name, tell=False)
+        for text in wrong:
+            take(text, text or "nothing")
 
 
 def stuck(at):
@@ -355,4 +416,4 @@ def stuck(at):
     at.says()
 
 
-STORIES = {it.__name__: it for it in (practice, practice_ends, practice_thinks, practice_try, practice_certificate, exercise, exercise_drawn, exercise_files, worksheet, game, game_certificate, pasted, missed, pasted_kifu, stuck)}
+STORIES = {it.__name__: it for it in (practice, practice_ends, practice_thinks, ended, practice_try, practice_certificate, exercise, exercise_drawn, exercise_files, worksheet, game, game_certificate, pasted, missed, pasted_kifu, stuck)}
