@@ -143,8 +143,13 @@ for word in moves best line; do
     fails_at 'standard input' "$folder" "$word" --each --db "$lions" <"$work"
 done
 # as JSON: a value, moves, a line, statistics; of each line of standard input an object, also for its fault
-expect 0 '{"position":"..l/.../L../... - -","value":"win","plies":3}' '' look --json --db "$lions" "$position"
-expect 0 '{"position":".l./.../.L./... - -","value":"draw","plies":null}' '' look '.l./.../.L./... - -' --db "$lions" --json
+for word in probe look; do
+    expect 0 '{"position":"..l/.../L../... - -","value":"win","plies":3}' '' "$word" --json --db "$lions" "$position"
+    expect 0 '{"position":".l./.../.L./... - -","value":"draw","plies":null}' '' "$word" '.l./.../.L./... - -' --db "$lions" --json
+    expect 1 '' 'dobutsu: E1 Shape' "$word" --json --db "$lions" ''
+    answers_of "$word" 1 "$position"'\n\n\377"\n..l/.../.../L.. C -\n' \
+        '{"position":"..l/.../L../... - -","value":"win","plies":3}\n{"fault":"E1 Shape"}\n{"fault":"E1 Shape"}\n{"fault":"E7 OtherSet"}\n' --db "$lions" --json
+done
 expect 0 '{"position":".../.l./.L./... - -","moves":[{"move":"Lb2xb3","kind":"lion","from":"b2","to":"b3","catch":true,"value":"win","plies":1}]}' '' \
     moves --json --db "$lions" '.../.l./.L./... - -'
 expect 0 '{"position":".../L../.../..l - -","moves":[]}' '' moves --json --db "$lions" '.../L../.../..l - -'
@@ -153,8 +158,6 @@ expect 0 '{"position":".../.../..l/L.. - -","value":"loss","plies":2,"moves":[{"
 expect 0 '{"position":".../.l./.L./... - -","value":"win","plies":1,"moves":[{"move":"Lb2xb3","kind":"lion","from":"b2","to":"b3","catch":true}]}' '' \
     line --records --json --db "$lions" '.../.l./.L./... - -'
 expect 0 '{"position":".l./.../.L./... - -","value":"draw","plies":null,"moves":[]}' '' line --json --db "$lions" '.l./.../.L./... - -'
-# a fault is told as ever
-expect 1 '' 'dobutsu: E19 Trailing' line --json --db "$work/longer.db" "$position"
 expect 0 '{"value":"draw","plies":null,"classes":4}
 {"value":"loss","plies":0,"classes":7}
 {"value":"win","plies":1,"classes":29}
@@ -164,19 +167,18 @@ expect 0 '{"value":"draw","plies":null,"classes":4}
 {"value":"win","plies":5,"classes":3}
 {"value":"loss","plies":6,"classes":2}
 {"value":"win","plies":7,"classes":3}' '' stats --json --csv --db "$lions"
-expect 1 '' 'dobutsu: E1 Shape' look --json --db "$lions" ''
 misused "'--json'" best --json --db "$lions" "$position"
-answers_of look 1 "$position"'\n\n\377"\n..l/.../.../L.. C -\n' \
-    '{"position":"..l/.../L../... - -","value":"win","plies":3}\n{"fault":"E1 Shape"}\n{"fault":"E1 Shape"}\n{"fault":"E7 OtherSet"}\n' --db "$lions" --json
+# a whole file is tested first
+for word in probe line; do expect 1 '' 'dobutsu: E19 Trailing' "$word" --json --db "$work/longer.db" "$position"; done
 # each object is read by another program, and says what the lines say; here of all positions of a set, one in seven of them spoiled
 sed 's/ = .*//' testdata/one_chick.txt | awk 'NR % 7 == 0 { sub("/", "\"") } 1' >"$work/asked"
 good=yes
-for word in look moves line; do
+for word in probe look moves line; do
     ./dobutsu "$word" --each --db "$chick" <"$work/asked" >"$work/$word.txt"
     ./dobutsu "$word" --each --json --db "$chick" <"$work/asked" >"$work/$word.json"
 done
 python3 tests/files_objects.py "$work" >"$work/out" 2>&1 || good=no
-note "objects of look, moves and line: $(tail -1 "$work/out")" "$good"
+note "objects of probe, look, moves and line: $(tail -1 "$work/out")" "$good"
 # a program can talk with each of them over two pipes: a line is answered before the next one is whole, a refused one too, whatever was written of it
 talks() {
     local word="$1" answer="$2" status=0 good=yes said into from one

@@ -1,4 +1,4 @@
-"""Whether the JSON objects of look, moves and line say what their lines do, by FOLDER's asked, WORD.txt and WORD.json: files_objects.py FOLDER"""
+"""Whether the JSON objects of probe, look, moves and line say what their lines do, by FOLDER's asked, WORD.txt and WORD.json: files_objects.py FOLDER"""
 import json
 import pathlib
 import sys
@@ -19,6 +19,8 @@ def squares(text):
     return (None, text[2:4]) if "*" in text else (text[1:3], text[4:6])
 
 
+for kind in ("txt", "json"):
+    assert (work / f"probe.{kind}").read_bytes() == (work / f"look.{kind}").read_bytes(), kind
 asked = (work / "asked").read_text().splitlines()
 looked = (work / "look.txt").read_text().splitlines()
 moved = (work / "moves.txt").read_text().split("\n\n")[:-1]

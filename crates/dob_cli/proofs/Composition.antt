@@ -1,14 +1,15 @@
 -- What the words ask for is done, and what a build leaves, `probe` finds: the value by definition.
 use Rattle.dob_cli.proofs.Common.{◌≡◌, List, Option, arith, inl, inr, option_map, refl, subst, ℕ, IsTrue, Profile, bytes_of, Change, Text, IsOrder}
 use Rattle.dob_cli.proofs.Common.{IsReadingOf, asks, meaning_of, number_in, profile_named, Reading, Order, ShelfChange, ShelfState, shelf_change, AnswersOver}
-use Rattle.dob_cli.proofs.Common.{Ending, TellsOneFault, AnswersValue, AnswersProbe, AnswersProbeRight, HasValueFile, Fault, AnswersBuild}
+use Rattle.dob_cli.proofs.Common.{Ending, TellsOneFault, AnswersValue, HasValueFile, Fault, AnswersBuild}
 use Rattle.dob_files.specs.declared.fault.Fault.TheVariants.{Memory, Io}
 use Rattle.dob_files.specs.Faults.{status_of}
 use Rattle.dob_words.specs.declared.command.Reading.TheVariants as reading
 use Rattle.dob_cli.specs.Laws.{BuildThenProbe, WordsAreAnswered}
 use Rattle.dob_cli.specs.Orders.{AnswersOrder, AnswersRight}
 use Rattle.dob_cli.specs.Runs.{Does, LacksMemory, Ran}
-use Rattle.dob_cli.proofs.Orders.{done_build, done_probe, done_value, probe_told}
+use Rattle.dob_query.specs.Questions.{AnswersQuestion, AnswersQuestionRight, probed}
+use Rattle.dob_cli.proofs.Orders.{done_build, done_probe, done_value}
 
 -- no fault has the status of what is done
 not_done : (fault : Fault) → status_of fault ≡ 0 → ⊥
@@ -63,15 +64,15 @@ words_answered before after words e ran =
           order_done c words e _ _ (AnswersBuild c (profile_named rules) set (option_map number_in nodes) file e) asked
           (λ o is answers right. done_build c e rules set nodes file progress o is answers) (λ lacks. memory_answered c _ _ e (tt, lacks.1.0) lacks) ran;
       probe_right = λ file text asked profile.
-          order_done c words e _ _ (HasValueFile (c.before.has file) profile → AnswersProbeRight c profile file text e) asked
-          (done_probe c e (λ x t. HasValueFile (c.before.has x) profile → AnswersProbeRight c profile x t e) file text (λ f t answers right. right profile))
+          order_done c words e _ _ (HasValueFile (c.before.has file) profile → AnswersQuestionRight probed c profile file text e) asked
+          (done_probe c e (λ x t. HasValueFile (c.before.has x) profile → AnswersQuestionRight probed c profile x t e) file text (λ f t answers right. right profile))
           (λ lacks _. memory_answered c _ _ e tt lacks) ran;
       probe = λ file text asked.
-          order_done c words e _ _ (AnswersProbe c file text e) asked
-          (done_probe c e (λ x t. AnswersProbe c x t e) file text (λ f t answers right. probe_told c e f t answers)) (memory_answered c _ _ e tt) ran;
+          order_done c words e _ _ (AnswersQuestion probed c file text e) asked
+          (done_probe c e (λ x t. AnswersQuestion probed c x t e) file text (λ f t answers right. answers)) (memory_answered c _ _ e tt) ran;
     }
 
-pub build_then_probe : (before built probed : ShelfState) → BuildThenProbe before built probed
-build_then_probe before built probed = λ building probing rules set nodes file position progress first next is_build is_probe tells ran done after.
-    (words_answered built probed probing next after).probe_right file position is_probe (profile_named rules)
+pub build_then_probe : (before built after : ShelfState) → BuildThenProbe before built after
+build_then_probe before built after = λ building probing rules set nodes file position progress first next is_build is_probe tells ran done probe_ran.
+    (words_answered built after probing next probe_ran).probe_right file position is_probe (profile_named rules)
     (file_kept _ (profile_named rules) set _ file first tells ((words_answered before built building first ran).build rules set nodes file progress is_build) done)

@@ -1,45 +1,33 @@
 -- What is owed for an order is right by a value table's file, and is owed for the words that ask for it.
-use Rattle.dob_cli.proofs.Common.{◌∙◌, ◌∷◌, ◌≡◌, List, None, Option, Some, [], ap, codes, false, option_map, refl, sym, true≢false, ℕ, Text, IsOrder}
-use Rattle.dob_cli.proofs.Common.{number_in, profile_named, Order, EachLine, Lines, ShelfChange, AnswersOver, Ending, AnswersValue, AnswersProbe}
-use Rattle.dob_cli.proofs.Common.{AnswersLines, AnswersBuild}
+use Rattle.dob_cli.proofs.Common.{◌∙◌, ◌∷◌, ◌≡◌, None, Option, Some, [], ap, codes, false, option_map, refl, sym, true, true≢false, Text, IsOrder}
+use Rattle.dob_cli.proofs.Common.{number_in, profile_named, Order, EachLine, Lines, ShelfChange, Ending, AnswersValue, AnswersBuild}
 use Rattle.std.specs.Borrow.{Bor}
+use Rattle.std.specs.Prelude.{is_some}
 use Rattle.std.specs.Str.{bytes_eq}
 use Rattle.std.proofs.lemmas.Slice.Eq.{bytes_eq-Decides}
-use Rattle.dob_words.specs.Readings.{name_of_order, text_given}
+use Rattle.dob_words.specs.Readings.{name_of, name_of_order, subcommand_asked, subcommand_by, text_given}
+use Rattle.dob_words.specs.Words.{takes_lines}
 use Rattle.dob_words.specs.declared.command.orders.Asked.{Asked}
-use Rattle.dob_words.specs.declared.command.orders.Asked.TheVariants as ask
+use Rattle.dob_words.specs.declared.command.orders.By.{By}
+use Rattle.dob_words.specs.declared.command.orders.By.TheVariants as way
 use Rattle.dob_words.specs.declared.command.orders.MovesForm.TheVariants as moves_form
+use Rattle.dob_words.specs.declared.command.orders.Question.{Question}
 use Rattle.dob_words.specs.declared.command.orders.Question.TheVariants as question
+use Rattle.dob_words.specs.declared.command.orders.ValueForm.TheVariants as value_form
 use Rattle.dob_words.specs.declared.command.orders.LinesOrder.{LinesOrder}
 use Rattle.dob_words.specs.declared.command.orders.LinesOrder.TheVariants.{Ask, Build, Puzzles, Reach, Show, Stats, Value, Zugzwangs}
 use Rattle.dob_query.proofs.EachRight.{each_right}
-use Rattle.dob_query.proofs.Placed.{question_each_right}
-use Rattle.dob_query.proofs.Asking.{question_right, table_right}
-use Rattle.dob_query.specs.Questions.{plain_value}
+use Rattle.dob_query.proofs.Asking.{question_right}
+use Rattle.dob_query.specs.Questions.{probed}
 use Rattle.dob_counts.proofs.Rightly.{reach_right, stats_right}
 use Rattle.dob_survey.proofs.Rightly.{puzzles_right, zugzwangs_right}
 use Rattle.dob_query.proofs.Shown.{show_right}
-use Rattle.dob_cli.specs.Orders.{AnswersAskedRight, AnswersByLines, AnswersEachAskedRight, AnswersLinesRight, AnswersOrder, AnswersRight, AreAskedLines}
-use Rattle.dob_cli.specs.Orders.{AreEachAsked, ByValueFile, IsAskedFault, IsEachAskedFault}
+use Rattle.dob_cli.specs.Orders.{AnswersByLines, AnswersLinesRight, AnswersOrder, AnswersRight}
 
 module _ (c : ShelfChange) (e : Ending) where
-  -- by the file of a value table what is asked of a position is answered rightly
-  asked_right : (w : Asked) (file text : List ℕ) → AnswersOver c (AreAskedLines w (c.before.has file) text) (IsAskedFault w (c.before.has file) text) e
-      → ByValueFile c file (λ profile. AnswersAskedRight w c profile file text e)
-  asked_right ask.Probe file text answers = λ profile right. table_right c profile plain_value file text e right answers
-  asked_right (ask.Line form) file text answers = λ profile right. table_right c profile (question.Line form) file text e right answers
-  asked_right (ask.Records q) file text answers = λ profile right. question_right c profile q file text e right answers
-
-  -- so is what is asked of each line
-  each_asked_right : (a : Asked) (file : List ℕ) → AnswersLines c (AreEachAsked a (c.before.has file)) (IsEachAskedFault a c file) e
-      → ByValueFile c file (λ profile. AnswersEachAskedRight a c profile file e)
-  each_asked_right ask.Probe file answers = λ profile right. each_right c profile file e right answers
-  each_asked_right (ask.Line form) file answers = λ profile right. question_each_right c profile (question.Line form) file e right answers
-  each_asked_right (ask.Records q) file answers = λ profile right. question_each_right c profile q file e right answers
-
-  -- so is what is ordered
+  -- by the file of a value table what is ordered is answered rightly
   rightly : (o : LinesOrder) → AnswersByLines c o e → AnswersLinesRight c o e
-  rightly (Ask f a t) answers = asked_right a f.now t.now answers
+  rightly (Ask f a t) answers = λ profile right. question_right c profile a f.now t.now e right answers
   rightly (Show (Some f) p t) answers = λ profile right. show_right c profile f.now e right (text_given p) t.now answers
   rightly (Reach s (Some f) t) answers = λ profile right. reach_right c profile f.now e right s t.now answers
   rightly (Stats f s) answers = λ profile right. stats_right c profile f.now e right s answers
@@ -49,7 +37,7 @@ module _ (c : ShelfChange) (e : Ending) where
 
   pub order_right : (o : Order) → AnswersOrder c o e → AnswersRight c o e
   order_right (Lines o) answers = rightly o answers
-  order_right (EachLine f a) answers = each_asked_right a f.now answers
+  order_right (EachLine f a) answers = λ profile right. each_right c profile a f.now e right answers
 
 -- ---- by the words
 
@@ -65,19 +53,28 @@ build_texts : (x z a c : Text) (y v w b d f : Option Text) → Some x ∷ y ∷ 
     → (x ≡ a) × (y ≡ b) × (z ≡ c) × (v ≡ d)
 build_texts x z a c y v w b d f e = (cc, cc, cc, cc)
 
-probe_texts : (x y a b : Text) → Some x ∷ None ∷ Some y ∷ [] ≡ Some a ∷ None ∷ Some b ∷ [] → (x ≡ a) × (y ≡ b)
-probe_texts x y a b e = (cc, cc)
+probe_texts : (x y a b : Text) (j : Option Text) → Some x ∷ None ∷ j ∷ Some y ∷ [] ≡ Some a ∷ None ∷ None ∷ Some b ∷ [] → (x ≡ a) × (y ≡ b) × (j ≡ None)
+probe_texts x y a b j e = (cc, cc, cc)
 
-unlike_texts : (x f a b : Text) → Some x ∷ Some f ∷ None ∷ [] ≡ Some a ∷ None ∷ Some b ∷ [] → ⊥
-unlike_texts x f a b e = cc
+unlike_texts : (x f a b : Text) (j : Option Text) → Some x ∷ Some f ∷ j ∷ None ∷ [] ≡ Some a ∷ None ∷ None ∷ Some b ∷ [] → ⊥
+unlike_texts x f a b j e = cc
+
+-- what asks of a position takes lines
+asking : (b : By) (q : Question) → takes_lines (name_of (subcommand_by b q)) ≡ true
+asking way.Table (question.Value form) = refl
+asking b (question.Moves moves_form.Best) = refl
+asking b q = refl
+
+not_asked : (a : Asked) (name : Text) → takes_lines name ≡ false → name_of (subcommand_asked a) ≡ name → ⊥
+not_asked a name other is = true≢false (sym (asking a.by a.question) ∙ (ap takes_lines is ∙ other))
 
 module _ (c : ShelfChange) (e : Ending) where
   pub done_value : (rules : Option Text) (text : Text) (o : Order) → IsOrder (codes "value") (rules ∷ Some text ∷ []) o → AnswersOrder c o e
       → AnswersValue c (profile_named rules) text e
   done_value rules text (Lines (Value p t)) is answers =
       let same = value_texts is.1.0 rules t.now text is.1.1 in rw (is.1.2 ∙ ap profile_named same.0, same.1) at answers
-  done_value rules text (Lines (Ask f (ask.Records (question.Moves moves_form.Best)) t)) is answers = absurd (differs (codes "best") (codes "value") refl is.0)
-  done_value rules text (EachLine f (ask.Records (question.Moves moves_form.Best))) is answers = absurd (differs (codes "best") (codes "value") refl is.0)
+  done_value rules text (Lines (Ask f a t)) is answers = absurd (not_asked a (codes "value") refl is.0)
+  done_value rules text (EachLine f a) is answers = absurd (not_asked a (codes "value") refl is.0)
   done_value rules text o is answers = absurd (differs (name_of_order o) (codes "value") refl is.0)
 
   pub done_build : (rules : Option Text) (set : Text) (nodes : Option Text) (file : Text) (progress : Option Text) (o : Order)
@@ -86,23 +83,32 @@ module _ (c : ShelfChange) (e : Ending) where
   done_build rules set nodes file progress (Lines (Build b)) is answers =
       let same = build_texts b.set.now b.file.now set file is.1.0 is.1.1 is.1.2 nodes rules progress is.1.3 in
       rw (is.1.6 ∙ ap profile_named same.3, same.0, same.2, is.1.5 ∙ ap (option_map number_in) same.1) at answers
-  done_build rules set nodes file progress (Lines (Ask f (ask.Records (question.Moves moves_form.Best)) t)) is answers = absurd (differs (codes "best") (codes "build") refl is.0)
-  done_build rules set nodes file progress (EachLine f (ask.Records (question.Moves moves_form.Best))) is answers = absurd (differs (codes "best") (codes "build") refl is.0)
+  done_build rules set nodes file progress (Lines (Ask f a t)) is answers = absurd (not_asked a (codes "build") refl is.0)
+  done_build rules set nodes file progress (EachLine f a) is answers = absurd (not_asked a (codes "build") refl is.0)
   done_build rules set nodes file progress o is answers = absurd (differs (name_of_order o) (codes "build") refl is.0)
 
-  -- the order to probe
-  abbrev probing : Bor Text → Bor Text → LinesOrder
-  probing f t = Ask f ask.Probe t
-
   -- what holds of a probe of these texts holds of the order that was read
-  pub done_probe : (P : Text → Text → Type 0) (file text : Text) → ((f t : Bor Text) → AnswersByLines c (probing f t) e → AnswersLinesRight c (probing f t) e → P f.now t.now)
-      → (o : Order) → IsOrder (codes "probe") (Some file ∷ None ∷ Some text ∷ []) o → AnswersOrder c o e → AnswersRight c o e → P file text
-  done_probe P file text of (Lines (Ask f ask.Probe t)) is answers right =
-      let same = probe_texts f.now t.now file text is.1.3 in rw (same.0, same.1) at (of f t answers right)
-  done_probe P file text of (EachLine f ask.Probe) is answers right = absurd (unlike_texts f.now is.1.3 file text is.1.4)
-  done_probe P file text of (Lines (Ask f (ask.Records (question.Moves moves_form.Best)) t)) is answers right = absurd (differs (codes "best") (codes "probe") refl is.0)
-  done_probe P file text of (EachLine f (ask.Records (question.Moves moves_form.Best))) is answers right = absurd (differs (codes "best") (codes "probe") refl is.0)
-  done_probe P file text of o is answers right = absurd (differs (name_of_order o) (codes "probe") refl is.0)
+  module _ (P : Text → Text → Type 0) (file text : Text)
+      (of : (f t : Bor Text) → AnswersByLines c (Ask f probed t) e → AnswersLinesRight c (Ask f probed t) e → P f.now t.now) where
+    abbrev asking_so : By → Question → Bor Text → Bor Text → LinesOrder
+    asking_so b q f t = Ask f (record { question = q; by = b }) t
 
-  pub probe_told : (f t : Bor Text) → AnswersByLines c (probing f t) e → AnswersProbe c f.now t.now e
-  probe_told f t answers = answers
+    asked_probe : (b : By) (q : Question) (f t : Bor Text) → IsOrder (codes "probe") (Some file ∷ None ∷ None ∷ Some text ∷ []) (Lines (asking_so b q f t))
+        → AnswersByLines c (asking_so b q f t) e → AnswersLinesRight c (asking_so b q f t) e → P file text
+    asked_probe way.Table (question.Value value_form.Plain) f t is answers right =
+        let same = probe_texts f.now t.now file text is.1.2 is.1.3 in rw (same.0, same.1) at (of f t answers right)
+    asked_probe way.Table (question.Value value_form.Object) f t is answers right =
+        absurd (true≢false (sym is.1.4 ∙ ap is_some (probe_texts f.now t.now file text is.1.2 is.1.3).2))
+    asked_probe b (question.Moves moves_form.Best) f t is answers right = absurd (differs (codes "best") (codes "probe") refl is.0)
+    asked_probe b q f t is answers right = absurd (differs (name_of (subcommand_by b q)) (codes "probe") refl is.0)
+
+    each_probe : (b : By) (q : Question) (f : Bor Text)
+        → IsOrder (codes "probe") (Some file ∷ None ∷ None ∷ Some text ∷ []) (EachLine f (record { question = q; by = b })) → ⊥
+    each_probe way.Table (question.Value form) f is = unlike_texts f.now is.1.3 file text is.1.2 is.1.4
+    each_probe b (question.Moves moves_form.Best) f is = differs (codes "best") (codes "probe") refl is.0
+    each_probe b q f is = differs (name_of (subcommand_by b q)) (codes "probe") refl is.0
+
+    pub done_probe : (o : Order) → IsOrder (codes "probe") (Some file ∷ None ∷ None ∷ Some text ∷ []) o → AnswersOrder c o e → AnswersRight c o e → P file text
+    done_probe (Lines (Ask f a t)) is answers right = asked_probe a.by a.question f t is answers right
+    done_probe (EachLine f a) is answers right = absurd (each_probe a.by a.question f is)
+    done_probe o is answers right = absurd (differs (name_of_order o) (codes "probe") refl is.0)

@@ -4,7 +4,7 @@ use Rattle.dob_words.specs.Words.{Text, build, meaning_of, number_in, probe, pro
 use Rattle.dob_files.specs.Endings.{Ending}
 use Rattle.dob_query.specs.Program.{AnswersValue}
 use Rattle.dob_shelf.specs.Shelves.{ShelfChange, ShelfState, shelf_change}
-use Rattle.dob_query.specs.ByTable.{AnswersProbe, AnswersProbeRight}
+use Rattle.dob_query.specs.Questions.{AnswersQuestion, AnswersQuestionRight, probed}
 use Rattle.dob_build.specs.Builds.{AnswersBuild}
 use Rattle.dob_cli.specs.Orders.{ByValueFile}
 use Rattle.dob_cli.specs.Runs.{Ran}
@@ -17,8 +17,8 @@ pub record AnswersWords (c : ShelfChange) (words : List Text) (e : Ending) : Typ
       → AnswersBuild c (profile_named rules) set (option_map number_in nodes) file e
   -- by the file of a value table the value printed is right, by its rules
   pub probe_right : (file position : Text) → meaning_of words ≡ probe file position
-      → ByValueFile c file (λ profile. AnswersProbeRight c profile file position e)
-  pub probe : (file position : Text) → meaning_of words ≡ probe file position → AnswersProbe c file position e
+      → ByValueFile c file (λ profile. AnswersQuestionRight probed c profile file position e)
+  pub probe : (file position : Text) → meaning_of words ≡ probe file position → AnswersQuestion probed c file position e
 
 -- the program does so
 abbrev pub WordsAreAnswered : ShelfState → ShelfState → Type 0
@@ -27,8 +27,8 @@ WordsAreAnswered before after = (words : List Text) (e : Ending) → Ran (shelf_
 -- Where the words of a build were done, over a shelf that tells its bytes, words that probe its file give the value that the
 -- position has by definition, by the rules of the build.
 abbrev pub BuildThenProbe : ShelfState → ShelfState → ShelfState → Type 0
-BuildThenProbe before built probed =
+BuildThenProbe before built after =
     (building probing : List Text) (rules : Option Text) (set : Text) (nodes : Option Text) (file position : Text) (progress : Option Text) (first next : Ending)
     → meaning_of building ≡ build rules set nodes file progress → meaning_of probing ≡ probe file position → IsTrue before.tells
     → Ran (shelf_change before built) building first → first.status ≡ 0
-    → Ran (shelf_change built probed) probing next → AnswersProbeRight (shelf_change built probed) (profile_named rules) file position next
+    → Ran (shelf_change built after) probing next → AnswersQuestionRight probed (shelf_change built after) (profile_named rules) file position next

@@ -1,9 +1,7 @@
 -- What the program owes for an order: a case in each definition for each subcommand.
-use Rattle.std.specs.Prelude.{ℕ, Bool, List, Some}
+use Rattle.std.specs.Prelude.{ℕ, List, Some}
 use Rattle.dob_pieces.specs.declared.profile.Profile.{Profile}
 use Rattle.dob_files.specs.declared.fault.Fault.{Fault}
-use Rattle.dob_words.specs.declared.command.orders.Asked.{Asked}
-use Rattle.dob_words.specs.declared.command.orders.Asked.TheVariants as ask
 use Rattle.dob_words.specs.declared.command.orders.LinesOrder.{LinesOrder}
 use Rattle.dob_words.specs.declared.command.orders.LinesOrder.TheVariants.{Ask, Build, Certify, Check, Count, Info, Migrate, Puzzles, Reach, Reply, Show, Stats, Value, Verify, Zugzwangs}
 use Rattle.dob_words.specs.declared.command.orders.Order.{Order}
@@ -13,12 +11,8 @@ use Rattle.dob_shelf.specs.Shelves.{Files, SameFiles, SameOthers, ShelfChange}
 use Rattle.dob_query.specs.Program.{IsFaultOf}
 use Rattle.dob_query.specs.Sizes.{AreCountLinesOf, IsCountFaultOf}
 use Rattle.dob_build.specs.Builds.{AreBuildLines, IsBuildFault}
-use Rattle.dob_words.specs.declared.command.orders.Question.TheVariants as question
-use Rattle.dob_query.specs.ByTable.{AnswersTableRight, AreTableLines}
-use Rattle.dob_query.specs.Questions.{AnswersQuestionRight, AreAnswerLines, AreRightAnswerLines, GivesWhole, IsAskFault, plain_value}
-use Rattle.dob_files.specs.Telling.{AnswersLines}
-use Rattle.dob_query.specs.Each.{AnswersEachRight, AreEachLines, IsEachFault, IsGivenTo}
-use Rattle.dob_query.specs.QuestionsEach.{AnswersLine, AnswersQuestionEachRight, ArePlaceLines, IsPlacesFault}
+use Rattle.dob_query.specs.Questions.{AnswersQuestionRight, AreAnswerLines, AreRightAnswerLines, IsAskFault, plain_value}
+use Rattle.dob_query.specs.QuestionsEach.{AnswersEach, AnswersEachRight}
 use Rattle.dob_survey.specs.Migrations.{AreMigrateLines, IsMigrateFault}
 use Rattle.dob_counts.specs.Reaches.{AnswersReachRight, AreReachLinesFor, IsReachFaultFor}
 use Rattle.dob_verdict.specs.Certificates.{AreCertifyLines, IsCertifyFault, IsVerifyFault, IsVerifyLine, most_entries}
@@ -28,50 +22,9 @@ use Rattle.dob_survey.specs.Puzzles.{AnswersPuzzlesRight, ArePuzzleLines, IsPuzz
 use Rattle.dob_words.specs.Readings.{text_given}
 use Rattle.dob_query.specs.Shows.{AnswersShowRight, AreShowLines, IsShowFault, KeepsButPicture}
 use Rattle.dob_counts.specs.Stats.{AnswersStatsRight, AreStatsLines}
-use Rattle.dob_files.specs.Tables.{HasValueFile, IsFileOf, IsOpeningFault, IsPlayFault, IsPositionFault}
+use Rattle.dob_files.specs.Tables.{HasValueFile, IsFileOf, IsOpeningFault}
 use Rattle.dob_survey.specs.Checks.{IsCheckFault, IsCheckLine}
 use Rattle.dob_survey.specs.Zugzwangs.{AnswersZugzwangsRight, AreZugzwangLines}
-
--- ---- what a position is asked
-
--- the lines answer it, by a file that may have such bytes
-abbrev pub AreAskedLines : Asked → (List ℕ → Type 0) → List ℕ → List ℕ → Type 0
-AreAskedLines ask.Probe = AreTableLines plain_value
-AreAskedLines (ask.Line form) = AreTableLines (question.Line form)
-AreAskedLines (ask.Records asked) = AreAnswerLines asked
-
--- the fault is one of that
-abbrev pub IsAskedFault : Asked → (List ℕ → Type 0) → List ℕ → Fault → Type 0
-IsAskedFault ask.Probe = IsPositionFault
-IsAskedFault (ask.Line form) = IsPlayFault
-IsAskedFault (ask.Records asked) = IsAskFault asked
-
--- by the file of a value table it is answered rightly
-abbrev pub AnswersAskedRight : Asked → ShelfChange → Profile → List ℕ → List ℕ → Ending → Type 0
-AnswersAskedRight ask.Probe c profile = AnswersTableRight plain_value c profile
-AnswersAskedRight (ask.Line form) c profile = AnswersTableRight (question.Line form) c profile
-AnswersAskedRight (ask.Records asked) c profile = AnswersQuestionRight c profile asked
-
--- the text answers it of the positions of such lines of standard input
-abbrev pub AreEachAsked : Asked → (List ℕ → Type 0) → List (List ℕ) → Bool → List ℕ → Type 0
-AreEachAsked ask.Probe Has = AreEachLines IsGivenTo Has
-AreEachAsked (ask.Line form) Has = ArePlaceLines (AnswersLine (question.Line form) (GivesWhole Has)) (question.Line form) Has
-AreEachAsked (ask.Records asked) Has = ArePlaceLines (AnswersLine asked (GivesWhole Has)) asked Has
-
--- the fault is one of that
-abbrev pub IsEachAskedFault : Asked → ShelfChange → List ℕ → Fault → Type 0
-IsEachAskedFault ask.Probe = IsEachFault
-IsEachAskedFault _ = IsPlacesFault
-
--- by the file of a value table each line is answered rightly
-abbrev pub AnswersEachAskedRight : Asked → ShelfChange → Profile → List ℕ → Ending → Type 0
-AnswersEachAskedRight ask.Probe c profile = AnswersEachRight c profile
-AnswersEachAskedRight (ask.Line form) c profile = AnswersQuestionEachRight c profile (question.Line form)
-AnswersEachAskedRight (ask.Records asked) c profile = AnswersQuestionEachRight c profile asked
-
--- what the program does where it is asked it of each line
-abbrev pub AnswersEachLine : ShelfChange → List ℕ → Asked → Ending → Type 0
-AnswersEachLine c file asked = AnswersLines c (AreEachAsked asked (c.before.has file)) (IsEachAskedFault asked c file)
 
 -- ---- orders
 
@@ -81,7 +34,7 @@ AreLinesFor c (Value profile position) = AreRightAnswerLines plain_value profile
 AreLinesFor c (Count profile set) = AreCountLinesOf profile set.now
 AreLinesFor c (Reach search file position) = AreReachLinesFor c.before.has search (text_given file) position.now
 AreLinesFor c (Build order) = AreBuildLines c order.profile order.set.now order.nodes order.file.now
-AreLinesFor c (Ask file asked position) = AreAskedLines asked (c.before.has file.now) position.now
+AreLinesFor c (Ask file asked position) = AreAnswerLines asked (c.before.has file.now) position.now
 AreLinesFor c (Check file is_watched) = IsCheckLine (c.before.has file.now)
 AreLinesFor c (Show file picture position) = AreShowLines c (text_given file) (text_given picture) position.now
 AreLinesFor c (Stats file form) = AreStatsLines (IsFileOf (c.before.has file.now)) form
@@ -99,7 +52,7 @@ IsFaultFor c (Value profile position) = IsFaultOf profile position.now
 IsFaultFor c (Count profile set) = IsCountFaultOf set.now
 IsFaultFor c (Reach search file position) = IsReachFaultFor c.before.has search (text_given file) position.now
 IsFaultFor c (Build order) = IsBuildFault c order.profile order.set.now order.nodes
-IsFaultFor c (Ask file asked position) = IsAskedFault asked (c.before.has file.now) position.now
+IsFaultFor c (Ask file asked position) = IsAskFault asked (c.before.has file.now) position.now
 IsFaultFor c (Check file is_watched) = IsCheckFault (c.before.has file.now)
 IsFaultFor c (Show file picture position) = IsShowFault c (text_given file) (text_given picture) position.now
 IsFaultFor c (Stats file form) = IsOpeningFault (c.before.has file.now)
@@ -129,7 +82,7 @@ AnswersByLines c order = AnswersOver c (AreLinesFor c order) (IsFaultFor c order
 
 abbrev pub AnswersOrder : ShelfChange → Order → Ending → Type 0
 AnswersOrder c (Lines order) = AnswersByLines c order
-AnswersOrder c (EachLine file asked) = AnswersEachLine c file.now asked
+AnswersOrder c (EachLine file asked) = AnswersEach asked c file.now
 
 -- where this is the file of a value table, it is right by the rules of that table's profile
 abbrev pub ByValueFile : ShelfChange → List ℕ → (Profile → Type 0) → Type 0
@@ -137,7 +90,7 @@ ByValueFile c file IsRight = (profile : Profile) → HasValueFile (c.before.has 
 
 -- by the file of a value table the order is answered rightly
 abbrev pub AnswersLinesRight : ShelfChange → LinesOrder → Ending → Type 0
-AnswersLinesRight c (Ask file asked position) e = ByValueFile c file.now (λ profile. AnswersAskedRight asked c profile file.now position.now e)
+AnswersLinesRight c (Ask file asked position) e = ByValueFile c file.now (λ profile. AnswersQuestionRight asked c profile file.now position.now e)
 AnswersLinesRight c (Show (Some file) picture position) e =
     ByValueFile c file.now (λ profile. AnswersShowRight c profile file.now (text_given picture) position.now e)
 AnswersLinesRight c (Reach search (Some file) position) e =
@@ -149,4 +102,4 @@ AnswersLinesRight c _ e = Unit {0}
 
 abbrev pub AnswersRight : ShelfChange → Order → Ending → Type 0
 AnswersRight c (Lines order) e = AnswersLinesRight c order e
-AnswersRight c (EachLine file asked) e = ByValueFile c file.now (λ profile. AnswersEachAskedRight asked c profile file.now e)
+AnswersRight c (EachLine file asked) e = ByValueFile c file.now (λ profile. AnswersEachRight asked c profile file.now e)

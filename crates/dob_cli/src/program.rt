@@ -5,11 +5,12 @@ ghost use Rattle.std.specs.declared.io.ErrorKind.TheVariants.{OutOfMemory};
 ghost use Rattle.std.specs.Vec.Iter.{into_iter_items};
 ghost use Rattle.dob_device.specs.Sinks.{Says, change};
 ghost use Rattle.dob_cli.specs.Runs.{IsCauseLine, LeavesShelf, MaySayCause, Ran, RanAt, RanOver, TellsNoText, contents};
-ghost use Rattle.dob_cli.specs.Orders.{AnswersEachLine, AnswersOrder, KeepsFiles, KeepsFilesFor, AreAskedLines, AreEachAsked, AreLinesFor, IsAskedFault, IsEachAskedFault, IsFaultFor};
+ghost use Rattle.dob_cli.specs.Orders.{AnswersOrder, KeepsFiles, KeepsFilesFor, AreLinesFor, IsFaultFor};
+ghost use Rattle.dob_query.specs.QuestionsEach.{AnswersEach};
 ghost use Rattle.dob_shelf.specs.Shelves.{Changes, Leaving, SameFiles};
 ghost use Rattle.dob_files.specs.Endings.{Tells, TellsFaultAs, TellsMemory, TellsOneFault, ended, GivesLines};
 ghost use Rattle.dob_files.specs.Faults.{fault_line};
-ghost use Rattle.dob_files.specs.Telling.{status_of_lines, TellsOver};
+ghost use Rattle.dob_files.specs.Telling.{status_of_lines};
 ghost use Rattle.dob_files.specs.declared.fault.Fault.TheVariants.{Io, Memory};
 
 use dob_build::answer_build;
@@ -17,14 +18,11 @@ use dob_counts::{answer_reach, answer_stats};
 use dob_dbfile::{Lent, Sink, put_all, write_all};
 use dob_files::{Fault, Lines};
 use dob_lines::Console;
-use dob_query::{
-    answer_count, answer_each, answer_line, answer_probe, answer_question, answer_question_each,
-    answer_show, answer_value,
-};
+use dob_query::{answer_count, answer_question, answer_question_each, answer_show, answer_value};
 use dob_shelf::Shelf;
 use dob_survey::{answer_check, answer_migrate, answer_puzzles, answer_zugzwangs};
 use dob_verdict::{answer_certify, answer_info, answer_reply, answer_verify};
-use dob_words::command::{Asked, LinesOrder, Order, Question, Reading, read_words};
+use dob_words::command::{Asked, LinesOrder, Order, Reading, read_words};
 use std::alloc::{AllocError, Global};
 use std::env::Args;
 use std::io::{self, Write};
@@ -162,31 +160,13 @@ fn run_each<S: Shelf, O: Sink, E: Sink>(
     out: &mut O,
     err: &mut E,
 ) -> Told
-    ensures done { Leaving SameFiles S.state shelf.old shelf.new (λ c. AnswersEachLine c file.now asked
+    ensures done { Leaving SameFiles S.state shelf.old shelf.new (λ c. AnswersEach asked c file.now
         (ended result.status (change (O.state out.old) (O.state out.new)) (change (E.state err.old) (E.state err.new)))) }
     ensures io { IsTrue result.is_io → Says (change (E.state err.old) (E.state err.new)) (fault_line Io) }
 {
-    match tell_each(alloc, shelf, out, file, asked) {
+    match answer_question_each(alloc, shelf, out, file, asked) {
         Ok(is_refused) => Told::ending(status_of_lines(is_refused)),
         Err(fault) => tell_fault(alloc, fault, err),
-    }
-}
-
-// Tells what each line of standard input is answered, and whether one was refused.
-fn tell_each<S: Shelf, O: Sink>(
-    alloc: Global,
-    shelf: &mut S,
-    out: &mut O,
-    file: &str,
-    asked: Asked,
-) -> Result<bool, Fault>
-    ensures { Leaving SameFiles S.state shelf.old shelf.new (λ c. TellsOver c
-        (AreEachAsked asked (c.before.has file.now)) (IsEachAskedFault asked c file.now) (change (O.state out.old) (O.state out.new)) result) }
-{
-    match asked {
-        Asked::Probe => answer_each(alloc, shelf, out, file),
-        Asked::Line(form) => answer_question_each(alloc, shelf, out, file, Question::Line(form)),
-        Asked::Records(question) => answer_question_each(alloc, shelf, out, file, question),
     }
 }
 
@@ -220,7 +200,7 @@ fn answer<S: Shelf>(
             file,
             asked,
             position,
-        } => answer_asked(alloc, shelf, file, asked, position),
+        } => answer_question(alloc, shelf, file, asked, position),
         LinesOrder::Check { file, is_watched } => answer_check(rt, alloc, shelf, file, is_watched),
         LinesOrder::Show {
             file,
@@ -237,24 +217,6 @@ fn answer<S: Shelf>(
         ),
         LinesOrder::Reply { file, position } => answer_reply(alloc, shelf, file, position),
         LinesOrder::Info { file, is_object } => answer_info(alloc, shelf, file, is_object),
-    }
-}
-
-// What the position is answered.
-fn answer_asked<S: Shelf>(
-    alloc: Global,
-    shelf: &mut S,
-    file: &str,
-    asked: Asked,
-    position: &str,
-) -> Lines
-    ensures { Leaving SameFiles S.state shelf.old shelf.new (λ c.
-        GivesLines c (AreAskedLines asked (c.before.has file.now) position.now) (IsAskedFault asked (c.before.has file.now) position.now) result) }
-{
-    match asked {
-        Asked::Probe => answer_probe(alloc, shelf, file, position),
-        Asked::Line(form) => answer_line(alloc, shelf, file, form, position),
-        Asked::Records(question) => answer_question(alloc, shelf, file, question, position),
     }
 }
 

@@ -6,7 +6,7 @@ use Rattle.dob_dbfile.proofs.Written.{same_files}
 use Rattle.dob_probe.specs.declared.fault.Fault as probing
 use Rattle.dob_probe.specs.declared.fault.Fault.TheVariants as table_fault
 use Rattle.dob_shelf.specs.declared.shelf.ShelfFault.TheVariants as shelf_fault
-use Rattle.dob_files.specs.Tables.{IsPlayFault, IsProbingFault, IsRightFileOf}
+use Rattle.dob_files.specs.Tables.{IsProbingFault, IsRightFileOf}
 use Rattle.std.proofs.Common.{arith}
 
 module _ (Has : List ℕ → Type 0) (table : ClassTable) (file : IsFileOf Has table) where
@@ -19,10 +19,6 @@ module _ (Has : List ℕ → Type 0) (table : ClassTable) (file : IsFileOf Has t
   pub refusal_holds : (words : List ℕ) (position : Setup) (fault : probing.Fault) → IsTextOf words position
       → IsRefusal table.family position fault → IsPositionFault Has words (Table fault)
   refusal_holds words position fault named refused = (position, named, refusal_probes position fault refused)
-
--- what is no fault of a line that breaks off is one of asking for the position
-pub position_fault_plays : (Has : List ℕ → Type 0) (words : List ℕ) (fault : Fault) → IsPositionFault Has words fault → IsPlayFault Has words fault
-position_fault_plays Has words fault holds = grind arith
 
 -- where a file that a shelf has isn't opened for lack of memory alone, it isn't there where the cause is another one
 pub is_shut : (Has : List ℕ → Type 0) → ((bytes : List ℕ) → Has bytes → shelf_fault.Failed ≡ shelf_fault.Memory) → IsShut Has

@@ -12,6 +12,7 @@ use Rattle.dob_dbfile.specs.declared.fault.Fault.TheVariants as file_fault
 use Rattle.dob_stops.specs.Faults as run
 use Rattle.dob_stops.specs.declared.fault.Fault.TheVariants as run_fault
 use Rattle.dob_probe.specs.Faults as table
+use Rattle.dob_probe.specs.declared.fault.Fault.{Fault as TableFault}
 use Rattle.dob_probe.specs.declared.fault.Fault.TheVariants as table_fault
 use Rattle.dob_probe.specs.declared.gap.Gap.{Gap}
 use Rattle.dob_probe.specs.declared.gap.Gap.TheVariants as gap
@@ -98,6 +99,12 @@ abbrev pub fault_of_records : Gap FileFault → Fault
 fault_of_records (gap.Unsaid fault) = File fault
 fault_of_records (gap.Inconsistent class) = Table (table_fault.Inconsistent class)
 fault_of_records gap.Memory = Memory
+
+-- a fault of asking a table
+abbrev pub fault_of_table : Gap TableFault → Fault
+fault_of_table (gap.Unsaid fault) = Table fault
+fault_of_table (gap.Inconsistent class) = Table (table_fault.Inconsistent class)
+fault_of_table gap.Memory = Memory
 
 -- a fault of reading a certificate, of believing its lists
 abbrev pub fault_of_reading : ReadFault → Fault

@@ -13,7 +13,6 @@ use Rattle.dob_device.specs.Devices.{whole}
 use Rattle.dob_dbfile.specs.Faults as reading
 use Rattle.dob_dbfile.specs.Format.{IsFile}
 use Rattle.dob_probe.specs.declared.fault.Fault.TheVariants as table_fault
-use Rattle.dob_probe.specs.Lines.{BreaksAt}
 use Rattle.dob_probe.specs.Faults.{IsRefusal}
 use Rattle.dob_files.specs.declared.fault.Fault.{Fault}
 use Rattle.dob_files.specs.declared.fault.Fault.TheVariants.{Text, File, Table, Memory, Io}
@@ -81,9 +80,3 @@ abbrev pub IsPositionFault : (List ℕ → Type 0) → List ℕ → Fault → Ty
 IsPositionFault Has words (Text fault) = text.HasTextFault A words fault
 IsPositionFault Has words Memory = Unit {0}
 IsPositionFault Has words fault = (position : Setup) × IsTextOf words position × IsProbingFault Has position fault
-
--- a fault of asking for the line of that position: the same, or the line breaks off by the file's table
-abbrev pub IsPlayFault : (List ℕ → Type 0) → List ℕ → Fault → Type 0
-IsPlayFault Has words (Table (table_fault.Inconsistent class)) =
-    (position : Setup) × IsTextOf words position × (table : ClassTable) × IsFileOf Has table × BreaksAt table position class
-IsPlayFault Has words fault = IsPositionFault Has words fault

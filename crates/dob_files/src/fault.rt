@@ -164,6 +164,22 @@ impl From<dob_probe::Gap<dob_dbfile::Fault>> for Fault {
     }
 }
 
+impl From<dob_probe::Gap<dob_probe::Fault>> for Fault {
+    ghost use Rattle.dob_files.specs.Faults.{fault_of_table};
+
+    ghost from_gives = { λ given result. result ≡ fault_of_table given };
+
+    fn from(given: dob_probe::Gap<dob_probe::Fault>) -> Fault {
+        match given {
+            dob_probe::Gap::Unsaid(fault) => Fault::Table(fault),
+            dob_probe::Gap::Inconsistent(class) => Fault::Table(dob_probe::Fault::Inconsistent(
+                class,
+            )),
+            dob_probe::Gap::Memory => Fault::Memory,
+        }
+    }
+}
+
 impl From<ShelfFault> for Fault {
     ghost use Rattle.dob_files.specs.Faults.{fault_of_shelf};
 

@@ -1,8 +1,9 @@
 -- The faults of the records, of the header and of opening the file are those of asking it, and by the file of a value table the answer is right.
 use Rattle.dob_query.proofs.Common.{◌≡◌, List, inr, subst, sym, ℕ, IfOk, Result, Family, Profile, Setup, ClassTable, HasValue, Value, Stream, whole}
-use Rattle.dob_query.proofs.Common.{CountsClasses, Format, IsRefusal, IsRecorded, ShelfChange, AnswersOver, Ending, GivesOver, AnswersQuestionRight}
-use Rattle.dob_query.proofs.Common.{AreAnswerLines, AreRightAnswerLines, IsAnswerOf, IsAskFault, IsAskingFault, IsFaultOfAsking, IsOfNamed, IsPositionOf, IsRecordsFault}
-use Rattle.dob_query.proofs.Common.{IsToldBy, HasValueFile, IsTextOf, Fault, File, Memory, Table, Question, Moves, OfValue}
+use Rattle.dob_query.proofs.Common.{CountsClasses, Format, IsRefusal, IsRecorded, ShelfChange, Ending, GivesOver, AnswersQuestion, AnswersQuestionRight}
+use Rattle.dob_query.proofs.Common.{AreAnswerLines, AreRightAnswerLines, Asked, By, IsAnswerOf, IsAnswerTo, IsAskFault, IsAskingFault, IsFaultOfAsking, IsFaultTo, IsGapFor}
+use Rattle.dob_query.proofs.Common.{IsFileOf, IsOfNamed, IsOpeningFault, IsPositionOf, IsRecordsFault, IsTableAnswer, IsTableFault}
+use Rattle.dob_query.proofs.Common.{FailsWhere, IfErr, Err, Ok, String, false, is_io, IsToldBy, HasValueFile, IsTextOf, Fault, File, Memory, Table, Question, Moves, OfValue}
 use Rattle.dob_pieces.specs.Profiles.{IsAllowed}
 use Rattle.dob_value.specs.Follows.{IsTable, IsValueTable}
 use Rattle.dob_dbfile.specs.Format.{IsFile}
@@ -14,8 +15,14 @@ use Rattle.dob_probe.proofs.Best.{lines_are_best}
 use Rattle.dob_probe.proofs.ByValue.{valued_rightly}
 use Rattle.dob_records.proofs.Tabled.{given_by_record, line_by, listed_by, record_of_given}
 use Rattle.dob_files.proofs.TableFaults.{over_weaker, right_table}
-use Rattle.dob_query.specs.ByTable.{AnswersTableRight, AreTableLines, IsTableFault}
+use Rattle.dob_words.specs.declared.command.orders.By.TheVariants as way
+use Rattle.dob_files.specs.declared.fault.Fault.TheVariants.{Text}
+use Rattle.dob_text.specs.declared.fault.TextFault.{TextFault}
+use Rattle.dob_files.specs.Faults.{fault_of_table}
+use Rattle.dob_probe.specs.declared.gap.Gap.{Gap}
+use Rattle.dob_probe.specs.declared.gap.Gap.TheVariants as gap
 use Rattle.std.proofs.Common.{arith}
+use Rattle.std.specs.Prelude.{string_bytes}
 
 -- what each of the bytes that a file may have gives of an Ok value, all of them give of it
 pub ok_each : {T E : Type 0} (Has : List ℕ → Type 0) (P : List ℕ → T → Type 0) (result : Result T E) → ((bytes : List ℕ) → Has bytes → IfOk result (P bytes))
@@ -59,9 +66,51 @@ module _ (question : Question) (Has : List ℕ → Type 0) (p : Setup) where
   source_asks Gives Memory gives holds = tt
   source_asks Gives fault gives holds = absurd holds
 
-  -- and of asking for the position of a text
-  pub asks_for_text : (words : List ℕ) (fault : Fault) → IsTextOf words p → IsAskingFault question Has p fault → IsAskFault question Has words fault
-  asks_for_text words fault named holds = grind arith
+-- none is a text's
+no_text : (by : By) (question : Question) (Has : List ℕ → Type 0) (p : Setup) (fault : TextFault) → IsFaultTo by question Has p (Text fault) → ⊥
+no_text way.Table question Has p fault holds = holds
+no_text way.Records question Has p fault holds = holds
+
+-- a fault of asking for a position is one of asking for the text's
+pub asks_for_text : (asked : Asked) (Has : List ℕ → Type 0) (p : Setup) (words : List ℕ) (fault : Fault) → IsTextOf words p
+    → IsFaultTo asked.by asked.question Has p fault → IsAskFault asked Has words fault
+asks_for_text asked Has p words (Text fault) named holds = absurd (no_text asked.by asked.question Has p fault holds)
+asks_for_text asked Has p words Memory named holds = tt
+asks_for_text asked Has p words fault named holds = (p, named, holds)
+
+-- a fault of opening the file is one of asking its table
+pub opening_asks : (question : Question) (Has : List ℕ → Type 0) (p : Setup) (fault : Fault) → IsOpeningFault Has fault → IsFaultTo way.Table question Has p fault
+opening_asks question Has p (Table fault) holds = absurd holds
+opening_asks question Has p fault holds = holds
+
+-- so is one of asking the table
+pub table_asks : (question : Question) (Has : List ℕ → Type 0) (table : ClassTable) (p : Setup) (fault : Fault) → IsFileOf Has table
+    → IsTableFault question table p fault → IsFaultTo way.Table question Has p fault
+table_asks question Has table p (Table fault) file holds = (table, file, holds)
+table_asks question Has table p fault file holds = grind arith
+
+-- no device fails in that
+no_device : (question : Question) (table : ClassTable) (p : Setup) (c : ShelfChange) (fault : Fault) → FailsWhere c false → IsTableFault question table p fault
+    → FailsWhere c (is_io fault)
+no_device question table p c fault works holds = grind arith
+
+pub by_table : {X : Type 0} (c : ShelfChange) (question : Question) (file : List ℕ) (table : ClassTable) (p : Setup) (result : Result (String X) Fault)
+    → IsFileOf (c.before.has file) table → FailsWhere c false → IfOk result (λ lines. IsTableAnswer question table p (string_bytes lines))
+    → IfErr result (IsTableFault question table p)
+    → GivesOver c (λ lines. IsAnswerTo way.Table question (c.before.has file) p (string_bytes lines)) (IsFaultTo way.Table question (c.before.has file) p) result
+by_table c question file table p (Ok lines) is works told fault = ((table, is, told), works)
+by_table c question file table p (Err lower) is works told fault = (table_asks question (c.before.has file) table p lower is fault, no_device question table p c lower works fault)
+
+-- ---- by what says values
+
+-- a table has a value for each position, so it leaves open only where a line breaks off
+pub table_gap : (question : Question) (table : ClassTable) (p : Setup) (why : Gap probing.Fault) → IsPositionOf table.family p
+    → IsGapFor question table.family (GivenBy table) (λ (q : Setup) (fault : probing.Fault). ⊥) p why → IsTableFault question table p (fault_of_table why)
+table_gap (OfValue form) table p (gap.Unsaid fault) member is = absurd is
+table_gap (Moves form) table p (gap.Unsaid fault) member is = absurd is.2
+table_gap line table p (gap.Unsaid fault) member is = absurd is.2
+table_gap question table p (gap.Inconsistent class) member is = (member, is)
+table_gap question table p gap.Memory member is = tt
 
 -- ---- by the file of a value table
 
@@ -127,27 +176,23 @@ module _ (Has : List ℕ → Type 0) (profile : Profile) (file : HasValueFile Ha
       (told_by_table table file.bytes answer.format file.right.table file.file by.named p question lines
       (subst (λ (family : Family). IsToldBy question family.profile (IsRecorded (whole file.bytes) answer.format family) p lines) same answer.told))
 
-pub question_right : (c : ShelfChange) (profile : Profile) (question : Question) (name words : List ℕ) (e : Ending) → HasValueFile (c.before.has name) profile
-    → AnswersOver c (AreAnswerLines question (c.before.has name) words) (IsAskFault question (c.before.has name) words) e → AnswersQuestionRight c profile question name words e
-question_right c profile question name words e file =
-    over_weaker c (AreAnswerLines question (c.before.has name) words) (AreRightAnswerLines question profile words) (IsAskFault question (c.before.has name) words) e
-    (λ lines told. record {
-      position = told.position;
-      named = told.named;
-      allowed = answer_allowed (c.before.has name) profile file told.position question lines told.told;
-      told = answer_right (c.before.has name) profile file told.position question lines told.told;
-    })
+-- what is told by the file is right, and the position is one of its rules
+pub told_right : (by : By) (question : Question) (Has : List ℕ → Type 0) (profile : Profile) → HasValueFile Has profile → (p : Setup) (lines : List ℕ)
+    → IsAnswerTo by question Has p lines → IsAllowed profile p × IsToldBy question profile (HasValue profile) p lines
+told_right way.Table question Has profile file p lines (table, is, told) =
+    let right = right_table Has profile file table is in
+    (table_allowed profile table right.0 right.1 p told.member, table_told profile table right.0 right.1 p told.member question lines told.told)
+told_right way.Records question Has profile file p lines told =
+    (answer_allowed Has profile file p question lines told, answer_right Has profile file p question lines told)
 
--- so does what is told by the whole table
-pub table_right : (c : ShelfChange) (profile : Profile) (question : Question) (name words : List ℕ) (e : Ending) → HasValueFile (c.before.has name) profile
-    → AnswersOver c (AreTableLines question (c.before.has name) words) (IsTableFault question (c.before.has name) words) e
-    → AnswersTableRight question c profile name words e
-table_right c profile question name words e file =
-    over_weaker c (AreTableLines question (c.before.has name) words) (AreRightAnswerLines question profile words)
-    (IsTableFault question (c.before.has name) words) e
-    (λ lines told. let is = right_table (c.before.has name) profile file told.table told.file in record {
-      position = told.position;
-      named = told.named;
-      allowed = table_allowed profile told.table is.0 is.1 told.position told.member;
-      told = table_told profile told.table is.0 is.1 told.position told.member question lines told.told;
-    })
+-- so is what is told of a text's position
+pub right_of : (by : By) (question : Question) (Has : List ℕ → Type 0) (profile : Profile) → HasValueFile Has profile → (words lines : List ℕ) (p : Setup)
+    → IsTextOf words p → IsAnswerTo by question Has p lines → AreRightAnswerLines question profile words lines
+right_of by question Has profile file words lines p named told =
+    let is = told_right by question Has profile file p lines told in record { position = p; named = named; allowed = is.0; told = is.1 }
+
+pub question_right : (c : ShelfChange) (profile : Profile) (asked : Asked) (name words : List ℕ) (e : Ending) → HasValueFile (c.before.has name) profile
+    → AnswersQuestion asked c name words e → AnswersQuestionRight asked c profile name words e
+question_right c profile asked name words e file =
+    over_weaker c (AreAnswerLines asked (c.before.has name) words) (AreRightAnswerLines asked.question profile words) (IsAskFault asked (c.before.has name) words) e
+    (λ lines told. right_of asked.by asked.question (c.before.has name) profile file words lines told.position told.named told.told)

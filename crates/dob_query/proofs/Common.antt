@@ -1,5 +1,5 @@
 -- The names that the proofs here use most, from other crates and the definitions of this one.
-pub use Rattle.std.proofs.Common.{◌-◌, ◌||◌, ◌∙◌, ◌≡◌, Bool, Global, List, Option, Some, ap, arith, codes, false, inl, inr, refl, rules, subst, sym, true, ℕ}
+pub use Rattle.std.proofs.Common.{◌-◌, ◌||◌, ◌∙◌, ◌≡◌, ◌⊎◌, Bool, Global, List, Option, Some, ap, arith, codes, false, inl, inr, refl, rules, subst, sym, true, ℕ}
 pub use Rattle.std.proofs.Math.Bool.{or-false}
 pub use Rattle.std.proofs.lemmas.Result.{err_from_is_err_and}
 pub use Rattle.std.specs.Fmt.{decimal}
@@ -23,14 +23,17 @@ pub use Rattle.dob_lines.specs.Tallies.{count_line}
 pub use Rattle.dob_files.specs.Endings.{AnswersOver, Ending, GivesOver}
 pub use Rattle.dob_files.specs.Faults.{fault_of_value, is_io}
 pub use Rattle.dob_files.specs.Keeping.{IsShelfFault}
-pub use Rattle.dob_files.specs.Tables.{HasValueFile, IsFileOf, IsOpeningFault, IsPlayFault, IsTextOf}
+pub use Rattle.dob_files.specs.Tables.{HasValueFile, IsFileOf, IsOpeningFault, IsTextOf}
 pub use Rattle.dob_files.specs.Telling.{AnswersLines, EndsLines, TellsOf}
 pub use Rattle.dob_files.specs.declared.fault.Fault.{Fault}
 pub use Rattle.dob_files.specs.declared.fault.Fault.TheVariants.{File, Memory, Table}
+pub use Rattle.dob_words.specs.declared.command.orders.Asked.{Asked}
+pub use Rattle.dob_words.specs.declared.command.orders.By.{By}
 pub use Rattle.dob_words.specs.declared.command.orders.Question.{Question}
 pub use Rattle.dob_words.specs.declared.command.orders.Question.TheVariants.{Moves, Value as OfValue}
-pub use Rattle.dob_query.specs.Each.{AnswersEachRight, AreEachLines, IsAnswer, IsEachFault, IsGivenTo, IsToldValue, answer_line}
-pub use Rattle.dob_query.specs.Program.{IsFaultOf, IsValueOf}
-pub use Rattle.dob_query.specs.Questions.{AnswersQuestionRight, AreAnswerLines, AreRightAnswerLines, GivesWhole, IsAnswerBy, IsAnswerOf, IsAskFault}
-pub use Rattle.dob_query.specs.Questions.{IsAskingFault, IsFaultOfAsking, IsOfNamed, IsRecordsFault, IsToldBy, LacksFor}
+pub use Rattle.dob_query.specs.Program.{IsFaultOf}
+pub use Rattle.dob_query.specs.Questions.{AnswersQuestion, AnswersQuestionRight, AreAnswerLines, AreRightAnswerLines, GivesWhole, IsAnswerBy, IsAnswerOf}
+pub use Rattle.dob_query.specs.Questions.{IsAnswerTo, IsAskFault, IsAskingFault, IsFaultOfAsking, IsFaultTo, IsGapFor, IsOfNamed, IsRecordsFault, IsRecordsGap}
+pub use Rattle.dob_query.specs.Questions.{IsTableAnswer, IsTableFault, IsToldBy}
+pub use Rattle.dob_query.specs.QuestionsEach.{AnswersEach, AnswersEachRight, AreEachLines, IsEachFault}
 pub use Rattle.dob_query.specs.Shows.{AnswersShowRight, AreDrawn, AreRightShowLines, AreShowLines, IsDrawingFault, IsShowFault, drawn_line}

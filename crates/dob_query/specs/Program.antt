@@ -2,26 +2,15 @@
 use Rattle.std.specs.Prelude.{ℕ, List}
 use Rattle.dob_pieces.specs.declared.profile.Profile.{Profile}
 use Rattle.dob_pieces.specs.declared.setup.Setup.{Setup}
-use Rattle.dob_pieces.specs.Profiles.{IsAllowed}
 use Rattle.dob_pieces.specs.Setups.{IsLegal}
 use Rattle.dob_text.specs.PositionText.{Spells}
 use Rattle.dob_text.specs.Faults.{HasTextFault}
-use Rattle.dob_distance.specs.declared.value.Value.{Value}
-use Rattle.dob_distance.specs.Values.{HasValue}
 use Rattle.dob_value.specs.Rosters.{SomeTooDeep, HasSamePieces}
 use Rattle.dob_files.specs.declared.fault.Fault.{Fault}
 use Rattle.dob_files.specs.declared.fault.Fault.TheVariants.{Text, TooDeep, Memory}
 use Rattle.dob_files.specs.Endings.{AnswersOver, Ending}
 use Rattle.dob_shelf.specs.Shelves.{ShelfChange}
 use Rattle.dob_query.specs.Questions.{AreRightAnswerLines, plain_value}
-
--- the text is that of a position of the profile, whose value this is by definition
-pub record IsValueOf (profile : Profile) (text : List ℕ) (value : Value) : Type 0 where
-  pub position : Setup
-  pub legal : IsLegal position
-  pub allowed : IsAllowed profile position
-  pub spelled : Spells text position
-  pub right : HasValue profile position value
 
 -- The fault is given only where it is the text's first one, E26 behind all others, or memory failed.
 abbrev pub IsFaultOf : Profile → List ℕ → Fault → Type 0

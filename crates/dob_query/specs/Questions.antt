@@ -1,5 +1,5 @@
--- What the program owes where it is asked about a position by a database file of which only the header and the records that it needs are read.
-use Rattle.std.specs.Prelude.{◌≡◌, ◌⊎◌, ◌||◌, ℕ, Bool, false, true, IfOk, List, Result, String, string_bytes}
+-- What the program owes where it is asked about a position by a database file: by its whole table, or by its header and the records that are needed.
+use Rattle.std.specs.Prelude.{◌≡◌, ◌⊎◌, ◌||◌, ℕ, Bool, false, true, IfErr, IfOk, List, Result, String, string_bytes}
 use Rattle.dob_pieces.specs.declared.profile.Family.{Family}
 use Rattle.dob_pieces.specs.declared.profile.Profile.{Profile}
 use Rattle.dob_pieces.specs.declared.profile.Profile.TheVariants.{A}
@@ -16,16 +16,22 @@ use Rattle.dob_dbfile.specs.declared.header.Format.{Format}
 use Rattle.dob_device.specs.Devices.{Stream, whole}
 use Rattle.dob_dbfile.specs.Faults.{CountsClasses, fails}
 use Rattle.dob_dbfile.specs.Looking.{HasFrontFault}
+use Rattle.dob_value.specs.Follows.{ClassTable}
 use Rattle.dob_probe.specs.declared.by_value.ValuedMove.{ValuedMove}
 use Rattle.dob_probe.specs.declared.fault.Fault as probing
 use Rattle.dob_probe.specs.declared.fault.Fault.TheVariants as table_fault
+use Rattle.dob_probe.specs.declared.gap.Gap.{Gap}
+use Rattle.dob_probe.specs.declared.gap.Gap.TheVariants as gap
 use Rattle.dob_probe.specs.Faults.{IsRefusal}
-use Rattle.dob_probe.specs.Lines.{IsLine}
-use Rattle.dob_probe.specs.Said.{BreaksBy}
+use Rattle.dob_probe.specs.Lines.{GivenBy, IsLine}
+use Rattle.dob_probe.specs.Said.{IsGapOfLine, IsGapOfMoves, fails as says_failed, is_failing}
 use Rattle.dob_probe.specs.ValuedMoves.{AreValuedMoves}
-use Rattle.dob_records.specs.Records.{IsRecorded, LacksAlong, LacksNext, LacksRecord}
+use Rattle.dob_records.specs.Records.{IsRecorded, LacksRecord}
 use Rattle.dob_files.specs.declared.fault.Fault.{Fault}
 use Rattle.dob_files.specs.declared.fault.Fault.TheVariants.{Text, File, Table, Memory, Io}
+use Rattle.dob_words.specs.declared.command.orders.Asked.{Asked}
+use Rattle.dob_words.specs.declared.command.orders.By.{By}
+use Rattle.dob_words.specs.declared.command.orders.By.TheVariants as way
 use Rattle.dob_words.specs.declared.command.orders.LineForm.{LineForm}
 use Rattle.dob_words.specs.declared.command.orders.LineForm.TheVariants as line_form
 use Rattle.dob_words.specs.declared.command.orders.MovesForm.{MovesForm}
@@ -39,13 +45,16 @@ use Rattle.dob_files.specs.Faults.{is_io}
 use Rattle.dob_lines.specs.Objects.{line_object, moves_object, value_object}
 use Rattle.dob_lines.specs.Values.{value_line}
 use Rattle.dob_lines.specs.Played.{moves_lines, played_drawing}
-use Rattle.dob_files.specs.Tables.{IsShut, IsTextOf}
+use Rattle.dob_files.specs.Tables.{IsFileOf, IsOpeningFault, IsShut, IsTextOf}
 use Rattle.dob_lines.specs.ValuedMoves.{best_move_line, move_lines}
 use Rattle.dob_shelf.specs.Shelves.{ShelfChange}
 
--- the question that `value` and `probe` answer
+-- the question that `value` answers, and `probe` by a table
 abbrev pub plain_value : Question
 plain_value = ask.Value value_form.Plain
+
+abbrev pub probed : Asked
+probed = record { question = plain_value; by = way.Table }
 
 -- ---- the answer, where Has says which value a position has
 
@@ -86,6 +95,44 @@ IsToldBy (ask.Value form) profile Has p = TellsValue (value_told form p) Has p
 IsToldBy (ask.Moves form) profile Has p = TellsMoves (moves_told form p) profile Has p
 IsToldBy (ask.Line form) profile Has p = TellsPlay (line_told form p) profile Has p
 
+-- why no value is told: it isn't said, by Lacks for that reason; or memory failed
+abbrev pub IsGapOfValue : {F : Type 0} → (Setup → F → Type 0) → Setup → Gap F → Type 0
+IsGapOfValue Lacks p (gap.Unsaid fault) = Lacks p fault
+IsGapOfValue Lacks p (gap.Inconsistent class) = ⊥
+IsGapOfValue Lacks p gap.Memory = Unit {0}
+
+-- why the question isn't answered: a value that it needs isn't said, or the line breaks off at that class; or memory failed
+abbrev pub IsGapFor : {F : Type 0} → Question → Family → (Setup → Value → Type 0) → (Setup → F → Type 0) → Setup → Gap F → Type 0
+IsGapFor (ask.Value form) family Has Lacks p why = IsGapOfValue Lacks p why
+IsGapFor (ask.Moves form) family Has Lacks p why = IsGapOfMoves family.profile Lacks p why
+IsGapFor (ask.Line form) family Has Lacks p why = IsGapOfLine family Has Lacks p why
+
+-- What a call gives that answers by what says values: the lines, or why there are none. What the source holds it still holds, and it has failed just where it
+-- had or the call's fault is a device's.
+pub record GivesSaid {X H F : Type 0} (question : Question) (family : Family) (p : Setup) (Holds Still : H → Type 0) (says : H → Setup → Value → Type 0)
+    (lacks : H → Setup → F → Type 0) (had_failed has_failed : Bool) (is_failure : F → Bool) (result : Result (String X) (Gap F)) : Type 0 where
+  pub ok : (held : H) → Holds held → IfOk result (λ lines. IsToldBy question family.profile (says held) p (string_bytes lines))
+  pub fault : (held : H) → Holds held → IfErr result (IsGapFor question family (says held) (lacks held) p)
+  pub still : (held : H) → Holds held → Still held
+  pub failed : has_failed ≡ (had_failed || says_failed (is_failing is_failure) result)
+
+-- ---- by a table
+
+-- the position is of the table's family, and the lines answer the question by it
+pub record IsTableAnswer (question : Question) (table : ClassTable) (position : Setup) (lines : List ℕ) : Type 0 where
+  pub member : IsPositionOf table.family position
+  pub told : IsToldBy question table.family.profile (GivenBy table) position lines
+
+-- a fault of asking a table: it refuses the position, or the line breaks off by it; or memory failed
+abbrev pub IsTableFault : Question → ClassTable → Setup → Fault → Type 0
+IsTableFault question table p (Table (table_fault.Inconsistent class)) =
+    IsPositionOf table.family p × IsGapFor question table.family (GivenBy table) (λ (q : Setup) (fault : probing.Fault). ⊥) p (gap.Inconsistent class)
+IsTableFault question table p (Table fault) = IsRefusal table.family p fault
+IsTableFault question table p Memory = Unit {0}
+IsTableFault question table p _ = ⊥
+
+-- ---- by the records of a stream
+
 -- the stream's header names the family and the format, and the position is of that family
 pub record IsOfNamed (stream : Stream) (position : Setup) (format : Format) (family : Family) : Type 0 where
   pub named : CountsClasses format family stream.bytes
@@ -98,24 +145,16 @@ pub record IsAnswerOf (question : Question) (stream : Stream) (position : Setup)
   pub by : IsOfNamed stream position format family
   pub told : IsToldBy question family.profile (IsRecorded stream format family) position lines
 
--- ---- faults
-
--- a record that the question needs isn't whole
-abbrev pub LacksFor : Question → Stream → Format → Family → Setup → file.Fault → Type 0
-LacksFor (ask.Value form) = LacksRecord
-LacksFor (ask.Moves form) = LacksNext
-LacksFor (ask.Line form) = LacksAlong
-
--- where it asks for the line, that breaks off at the class
-abbrev pub BreaksFor : Question → Stream → Format → Family → Setup → ℕ → Type 0
-BreaksFor (ask.Line form) stream format family p class = BreaksBy family (IsRecorded stream format family) p class
-BreaksFor _ stream format family p class = ⊥
+-- why its records don't answer the question
+abbrev pub IsRecordsGap : Question → Stream → Format → Family → Setup → Gap file.Fault → Type 0
+IsRecordsGap question stream format family = IsGapFor question family (IsRecorded stream format family) (LacksRecord stream format family)
 
 -- a fault of answering by the records of a source that shows these streams, in that format and family
 abbrev pub IsRecordsFault : Question → (Stream → Type 0) → Format → Family → Setup → Fault → Type 0
-IsRecordsFault question Shows format family p (File fault) = (stream : Stream) → Shows stream → LacksFor question stream format family p fault
+IsRecordsFault question Shows format family p (File fault) =
+    (stream : Stream) → Shows stream → IsRecordsGap question stream format family p (gap.Unsaid fault)
 IsRecordsFault question Shows format family p (Table (table_fault.Inconsistent class)) =
-    (stream : Stream) → Shows stream → BreaksFor question stream format family p class
+    (stream : Stream) → Shows stream → IsRecordsGap question stream format family p (gap.Inconsistent class)
 IsRecordsFault question Shows format family p Memory = Unit {0}
 IsRecordsFault question Shows format family p _ = ⊥
 
@@ -137,9 +176,9 @@ IsRefusedBy stream position fault =
 -- failed.
 abbrev pub IsFaultOfAsking : Question → (Stream → Type 0) → Setup → Fault → Type 0
 IsFaultOfAsking question Gives p (File fault) = (stream : Stream) → Gives stream → (fault ≡ file_fault.Memory) ⊎ (HasFrontFault stream fault
-    ⊎ ((format : Format) × (family : Family) × IsOfNamed stream p format family × LacksFor question stream format family p fault))
+    ⊎ ((format : Format) × (family : Family) × IsOfNamed stream p format family × IsRecordsGap question stream format family p (gap.Unsaid fault)))
 IsFaultOfAsking question Gives p (Table (table_fault.Inconsistent class)) = (stream : Stream) → Gives stream
-    → (format : Format) × (family : Family) × IsOfNamed stream p format family × BreaksFor question stream format family p class
+    → (format : Format) × (family : Family) × IsOfNamed stream p format family × IsRecordsGap question stream format family p (gap.Inconsistent class)
 IsFaultOfAsking question Gives p (Table table_fault.Memory) = ⊥
 IsFaultOfAsking question Gives p (Table fault) = (stream : Stream) → Gives stream → IsRefusedBy stream p fault
 IsFaultOfAsking question Gives p Memory = Unit {0}
@@ -151,15 +190,31 @@ IsFaultOfAsking question Gives p _ = ⊥
 abbrev pub GivesWhole : (List ℕ → Type 0) → Stream → Type 0
 GivesWhole Has stream = (bytes : List ℕ) × Has bytes × (stream ≡ whole bytes)
 
--- the lines answer the question of the position by the file
+-- the lines answer the question of the position by the file's records
 abbrev pub IsAnswerBy : Question → (List ℕ → Type 0) → Setup → List ℕ → Type 0
 IsAnswerBy question Has position lines = (bytes : List ℕ) → Has bytes → IsAnswerOf question (whole bytes) position lines
 
--- the same of the position that a text names
-pub record AreAnswerLines (question : Question) (Has : List ℕ → Type 0) (words lines : List ℕ) : Type 0 where
+-- a fault of asking them, or of opening the file
+abbrev pub IsAskingFault : Question → (List ℕ → Type 0) → Setup → Fault → Type 0
+IsAskingFault question Has position Io = IsShut Has
+IsAskingFault question Has position fault = IsFaultOfAsking question (GivesWhole Has) position fault
+
+-- the lines answer it by the whole file or by its records
+abbrev pub IsAnswerTo : By → Question → (List ℕ → Type 0) → Setup → List ℕ → Type 0
+IsAnswerTo way.Table question Has position lines = (table : ClassTable) × IsFileOf Has table × IsTableAnswer question table position lines
+IsAnswerTo way.Records question Has position lines = IsAnswerBy question Has position lines
+
+-- a fault of asking it so
+abbrev pub IsFaultTo : By → Question → (List ℕ → Type 0) → Setup → Fault → Type 0
+IsFaultTo way.Table question Has position (Table fault) = (table : ClassTable) × IsFileOf Has table × IsTableFault question table position (Table fault)
+IsFaultTo way.Table question Has position fault = IsOpeningFault Has fault
+IsFaultTo way.Records question Has position fault = IsAskingFault question Has position fault
+
+-- the lines answer what the position is asked that a text names
+pub record AreAnswerLines (asked : Asked) (Has : List ℕ → Type 0) (words lines : List ℕ) : Type 0 where
   pub position : Setup
   pub named : IsTextOf words position
-  pub told : IsAnswerBy question Has position lines
+  pub told : IsAnswerTo asked.by asked.question Has position lines
 
 -- the lines answer it by the values that positions have by definition and the rules of the profile, which allow the position
 pub record AreRightAnswerLines (question : Question) (profile : Profile) (words lines : List ℕ) : Type 0 where
@@ -168,20 +223,18 @@ pub record AreRightAnswerLines (question : Question) (profile : Profile) (words 
   pub allowed : IsAllowed profile position
   pub told : IsToldBy question profile (HasValue profile) position lines
 
--- a fault of asking the file for the position, or of opening it
-abbrev pub IsAskingFault : Question → (List ℕ → Type 0) → Setup → Fault → Type 0
-IsAskingFault question Has position Io = IsShut Has
-IsAskingFault question Has position fault = IsFaultOfAsking question (GivesWhole Has) position fault
-
--- A fault of asking for the position of a text: the text's, or memory failed; the file is asked only where the text is a position's.
-abbrev pub IsAskFault : Question → (List ℕ → Type 0) → List ℕ → Fault → Type 0
-IsAskFault question Has words (Text fault) = text.HasTextFault A words fault
-IsAskFault question Has words Memory = Unit {0}
-IsAskFault question Has words fault = (position : Setup) × IsTextOf words position × IsAskingFault question Has position fault
+-- A fault of asking that of the position of a text: the text's, or memory failed; the file is asked only where the text is a position's.
+abbrev pub IsAskFault : Asked → (List ℕ → Type 0) → List ℕ → Fault → Type 0
+IsAskFault asked Has words (Text fault) = text.HasTextFault A words fault
+IsAskFault asked Has words Memory = Unit {0}
+IsAskFault asked Has words fault = (position : Setup) × IsTextOf words position × IsFaultTo asked.by asked.question Has position fault
 
 -- ---- what the program does
 
+abbrev pub AnswersQuestion : Asked → ShelfChange → List ℕ → List ℕ → Ending → Type 0
+AnswersQuestion asked c file words = AnswersOver c (AreAnswerLines asked (c.before.has file) words) (IsAskFault asked (c.before.has file) words)
+
 -- the same, where the lines say what is right by definition and the rules of the profile
-abbrev pub AnswersQuestionRight : ShelfChange → Profile → Question → List ℕ → List ℕ → Ending → Type 0
-AnswersQuestionRight c profile question file words =
-    AnswersOver c (AreRightAnswerLines question profile words) (IsAskFault question (c.before.has file) words)
+abbrev pub AnswersQuestionRight : Asked → ShelfChange → Profile → List ℕ → List ℕ → Ending → Type 0
+AnswersQuestionRight asked c profile file words =
+    AnswersOver c (AreRightAnswerLines asked.question profile words) (IsAskFault asked (c.before.has file) words)

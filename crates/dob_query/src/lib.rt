@@ -3,20 +3,16 @@
 // Choices:
 // - `show` draws in letters, those of a position's text; `show --svg` makes its file last.
 // - `look --each` reads the header once, before standard input; a record that isn't whole refuses its line alone, a device that fails ends all.
-// - `line` reads the whole file, as `probe` does; `line --each` asks the records, since each of its lines needs but a few of them.
+// - The whole table and the records of a file are asked by the same code, as what says values (`Values`): `probe` and `line` by the one, the others by the other.
 #![tactic(auto)]
 
-mod by_table;
 mod counts;
-mod each;
 mod questions;
 mod questions_each;
 mod shows;
 mod values;
 
-pub use by_table::{answer_line, answer_probe};
 pub use counts::answer_count;
-pub use each::answer_each;
 pub use questions::answer_question;
 pub use questions_each::answer_question_each;
 pub use shows::answer_show;

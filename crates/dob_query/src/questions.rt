@@ -1,47 +1,91 @@
-// The answer to a question of a position by the header and the records of a database file that it needs, and how that is told.
-ghost use Rattle.std.specs.Prelude.{◌≡◌, false, IfErr, IfOk, string_bytes};
+// The answer to a question of a position by a database file, by its table or by its header and the records that are needed, and how that is told.
+ghost use Rattle.std.specs.Prelude.{◌≡◌, ◌||◌, false, IfErr, IfOk, string_bytes};
 ghost use Rattle.dob_rank.specs.Families.{IsPositionOf};
 ghost use Rattle.dob_device.specs.Devices.{Stream};
 ghost use Rattle.dob_dbfile.specs.Faults.{fails};
+ghost use Rattle.dob_distance.specs.Codes.{IsEntry};
+ghost use Rattle.dob_probe.specs.Said.{AreSingle, fails as says_failed, is_failing};
 ghost use Rattle.dob_shelf.specs.Shelves.{Leaving, SameFiles};
 ghost use Rattle.dob_files.specs.Endings.{GivesLines};
 ghost use Rattle.dob_files.specs.Faults.{is_io};
-ghost use Rattle.dob_words.specs.declared.command.orders.Question.TheVariants as ask;
-ghost use Rattle.dob_query.specs.Questions.{GivesTold, IsAnswerBy, IsAnswerOf, IsAskingFault, IsFaultOfAsking, IsRecordsFault, line_told, moves_told, value_told, AreAnswerLines, IsAskFault};
+ghost use Rattle.dob_words.specs.declared.command.orders.By.TheVariants as way;
+ghost use Rattle.dob_query.specs.Questions.{AreAnswerLines, GivesSaid, GivesTold, IsAnswerBy, IsAnswerOf, IsAnswerTo, IsAskFault, IsAskingFault, IsFaultOfAsking, IsFaultTo};
+ghost use Rattle.dob_query.specs.Questions.{IsGapOfValue, IsRecordsFault, IsTableAnswer, IsTableFault, line_told, moves_told, value_told};
 
 use dob_classes::Classes;
 use dob_dbfile::{Format, PlacedSource, read_classes};
-use dob_files::{Lines, position_named};
+use dob_files::{Lines, open, position_named};
 use dob_lines::{
     best_move_line, line_object, line_of, move_lines, moves_lines, moves_object, played_drawing,
     value_object,
 };
 use dob_moves::Move;
 use dob_pieces::{Memory, Position};
-use dob_probe::{ValuedMove, check_member};
-use dob_records::{line_by_records, moves_by_records, value_at};
+use dob_probe::{Gap, ValuedMove, Values, check_member, line_by, moves_by};
+use dob_records::Records;
 use dob_shelf::Shelf;
-use dob_value::Value;
-use dob_words::command::{LineForm, MovesForm, Question, ValueForm};
+use dob_value::{Table, Value};
+use dob_words::command::{Asked, By, LineForm, MovesForm, Question, ValueForm};
 use std::alloc::Global;
 
-/// The lines that answer the question of the position that the text names, by the header of the file and the records that it needs. The file is
-/// opened only if the text is a position's.
+/// The lines that answer what the position is asked that the text names. The file is opened only if the text is a position's; by a wrong one a line may break
+/// off.
 pub fn answer_question<S: Shelf>(
     alloc: Global,
     shelf: &mut S,
     file: &str,
-    question: Question,
+    asked: Asked,
     text: &str,
 ) -> Lines
     ensures { Leaving SameFiles S.state shelf.old shelf.new (λ c.
-        GivesLines c (AreAnswerLines question (c.before.has file.now) text.now) (IsAskFault question (c.before.has file.now) text.now) result) }
+        GivesLines c (AreAnswerLines asked (c.before.has file.now) text.now) (IsAskFault asked (c.before.has file.now) text.now) result) }
 {
     let position = position_named(text)?;
-    answer_of(alloc, shelf, file, question, &position)
+    match asked.by {
+        By::Table => answer_by_table(alloc, shelf, file, asked.question, &position),
+        By::Records => answer_of(alloc, shelf, file, asked.question, &position),
+    }
 }
 
-/// The same of a position.
+// The lines that answer the question of the position, by the table of the file.
+fn answer_by_table<S: Shelf>(
+    alloc: Global,
+    shelf: &mut S,
+    file: &str,
+    question: Question,
+    position: &Position,
+) -> Lines
+    ensures { Leaving SameFiles S.state shelf.old shelf.new (λ c.
+        GivesLines c (IsAnswerTo way.Table question (c.before.has file.now) position.now.setup)
+        (IsFaultTo way.Table question (c.before.has file.now) position.now.setup) result) }
+{
+    let table = open(alloc, shelf, file)?;
+    answer_in_table(alloc, &table, question, position)
+}
+
+/// The same by a table.
+pub(crate) fn answer_in_table(
+    alloc: Global,
+    table: &Table,
+    question: Question,
+    position: &Position,
+) -> Lines
+    ensures ok { IfOk result (λ lines. IsTableAnswer question table.now position.now.setup (string_bytes lines)) }
+    ensures fault { IfErr result (IsTableFault question table.now position.now.setup) }
+{
+    check_member(table.family(), position)?;
+    let mut nothing = ();
+    Ok(told_by(
+        alloc,
+        table,
+        &mut nothing,
+        table.classes(),
+        question,
+        position,
+    )?)
+}
+
+/// The same by the header of the file and the records that are needed.
 pub(crate) fn answer_of<S: Shelf>(
     alloc: Global,
     shelf: &mut S,
@@ -92,65 +136,61 @@ pub(crate) fn answer_by_records<R: PlacedSource>(
         format classes.now.family position.now.setup result }
     ensures fault { IfErr result (IsRecordsFault question (R.shows source.old) format classes.now.family position.now.setup) }
 {
+    let records = Records { format, classes };
+    Ok(told_by(alloc, &records, source, classes, question, position)?)
+}
+
+// The lines that answer the question of a position of the family, by what says values.
+fn told_by<S, V: Values<S>>(
+    alloc: Global,
+    by: &V,
+    source: &mut S,
+    classes: &Classes,
+    question: Question,
+    position: &Position,
+) -> Result<String, Gap<V::Fault>>
+    requires stands { V.stands by.now }
+    requires single { (held : V.Held) → AreSingle classes.now.family (V.says by.now held) }
+    requires family { V.family_of by.now ≡ classes.now.family }
+    requires member { IsPositionOf classes.now.family position.now.setup }
+    ensures { GivesSaid question classes.now.family position.now.setup (V.holds source.old) (V.holds source.new) (V.says by.now) (V.lacks by.now)
+        (V.has_failed source.old) (V.has_failed source.new) V.is_failure result }
+{
     match question {
-        Question::Value(form) => told_value(alloc, source, format, classes, form, position),
-        Question::Moves(form) => told_moves(alloc, source, format, classes, form, position),
-        Question::Line(form) => told_play(alloc, source, format, classes, form, position),
+        Question::Value(form) => {
+            let value = said_value(by, source, position)?;
+            Ok(value_told(alloc, form, position, value)?)
+        }
+        Question::Moves(form) => {
+            let legal = moves_by(alloc, by, source, classes.family, position)?;
+            Ok(moves_told(alloc, form, position, &legal)?)
+        }
+        Question::Line(form) => {
+            let value = said_value(by, source, position)?;
+            let moves = line_by(alloc, by, source, classes, *position, value)?;
+            Ok(line_told(alloc, form, position, value, &moves)?)
+        }
     }
 }
 
-// What is told of the value.
-fn told_value<R: PlacedSource>(
-    alloc: Global,
-    source: &mut R,
-    format: Format,
-    classes: &Classes,
-    form: ValueForm,
+// The value that is said of the position.
+fn said_value<S, V: Values<S>>(
+    by: &V,
+    source: &mut S,
     position: &Position,
-) -> Lines
-    requires { IsPositionOf classes.now.family position.now.setup }
-    ensures told { GivesTold (ask.Value form) (R.shows source.old) (R.shows source.new) (R.has_failed source.old) (R.has_failed source.new)
-        format classes.now.family position.now.setup result }
-    ensures fault { IfErr result (IsRecordsFault (ask.Value form) (R.shows source.old) format classes.now.family position.now.setup) }
+) -> Result<Value, Gap<V::Fault>>
+    requires stands { V.stands by.now }
+    requires member { IsPositionOf (V.family_of by.now) position.now.setup }
+    ensures said { (held : V.Held) → V.holds source.old held → IfOk result (V.says by.now held position.now.setup) }
+    ensures entry { IfOk result IsEntry }
+    ensures fault { (held : V.Held) → V.holds source.old held → IfErr result (IsGapOfValue (V.lacks by.now held) position.now.setup) }
+    ensures held { (held : V.Held) → V.holds source.old held → V.holds source.new held }
+    ensures failed { V.has_failed source.new ≡ (V.has_failed source.old || says_failed (is_failing V.is_failure) result) }
 {
-    let value = value_at(source, format, classes, position)?;
-    Ok(value_told(alloc, form, position, value)?)
-}
-
-// What is told of the moves with their values.
-fn told_moves<R: PlacedSource>(
-    alloc: Global,
-    source: &mut R,
-    format: Format,
-    classes: &Classes,
-    form: MovesForm,
-    position: &Position,
-) -> Lines
-    requires { IsPositionOf classes.now.family position.now.setup }
-    ensures told { GivesTold (ask.Moves form) (R.shows source.old) (R.shows source.new) (R.has_failed source.old) (R.has_failed source.new)
-        format classes.now.family position.now.setup result }
-    ensures fault { IfErr result (IsRecordsFault (ask.Moves form) (R.shows source.old) format classes.now.family position.now.setup) }
-{
-    let legal = moves_by_records(alloc, source, format, classes, position)?;
-    Ok(moves_told(alloc, form, position, &legal)?)
-}
-
-// What is told of the line.
-fn told_play<R: PlacedSource>(
-    alloc: Global,
-    source: &mut R,
-    format: Format,
-    classes: &Classes,
-    form: LineForm,
-    position: &Position,
-) -> Lines
-    requires { IsPositionOf classes.now.family position.now.setup }
-    ensures told { GivesTold (ask.Line form) (R.shows source.old) (R.shows source.new) (R.has_failed source.old) (R.has_failed source.new)
-        format classes.now.family position.now.setup result }
-    ensures fault { IfErr result (IsRecordsFault (ask.Line form) (R.shows source.old) format classes.now.family position.now.setup) }
-{
-    let (value, moves) = line_by_records(alloc, source, format, classes, position)?;
-    Ok(line_told(alloc, form, position, value, &moves)?)
+    match by.value_at(source, position) {
+        Ok(value) => Ok(value),
+        Err(fault) => Err(Gap::Unsaid(fault)),
+    }
 }
 
 // The lines that tell that value of the position.
@@ -184,8 +224,8 @@ fn moves_told(
     }
 }
 
-/// The lines that tell these moves, the line of a position of that value.
-pub(crate) fn line_told(
+// The lines that tell these moves, the line of a position of that value.
+fn line_told(
     alloc: Global,
     form: LineForm,
     position: &Position,

@@ -1,29 +1,48 @@
-// The answers to the lines of standard input, each by the records of a database file that it needs, whatever the file's size.
-ghost use Rattle.std.specs.Prelude.{◌≡◌, ◌||◌, Ok, false, true, IfOk, MatchResult, string_bytes};
+// The answers to the lines of standard input by a database file, whose table or header is read before the first line.
+ghost use Rattle.std.specs.Prelude.{◌≡◌, ◌⊎◌, ◌||◌, Err, false, true, IfErr, IfOk, string_bytes};
 ghost use Rattle.dob_device.specs.Devices.{Stream};
 ghost use Rattle.dob_dbfile.specs.Faults.{fails};
 ghost use Rattle.dob_device.specs.Sinks.{change};
 ghost use Rattle.dob_files.specs.Faults.{is_io};
-ghost use Rattle.dob_query.specs.QuestionsEach.{EndsRecords, GivesRecordAnswer, IsRecordEnd, IsToldOf, TellsRecords, AnswersLine, ArePlaceLines, IsPlacesFault};
-ghost use Rattle.dob_query.specs.QuestionsEach.{bytes_of, end_of, ended_lines, ends_all, ends_all_in, fault_object};
-ghost use Rattle.dob_files.specs.Telling.{TellsEach, TellsOver};
+ghost use Rattle.dob_files.specs.declared.fault.Fault.TheVariants.{Memory as OutOfMemory};
+ghost use Rattle.dob_query.specs.QuestionsEach.{AnswersLine, AreEachLines, EndsRecords, GivesLine, IsEachFault, IsKept, IsRecordAnswer, IsRecordEnd, IsTableLine, IsToldOf, TellsRecords};
+ghost use Rattle.dob_query.specs.QuestionsEach.{bytes_of, end_of, ended_lines, ends_all, fault_object};
+ghost use Rattle.dob_query.specs.Questions.{IsTableAnswer};
+ghost use Rattle.dob_files.specs.Telling.{TellsEach, TellsOver, told_of};
 ghost use Rattle.dob_shelf.specs.Shelves.{Leaving, SameFiles};
-ghost use Rattle.dob_query.specs.Questions.{GivesWhole};
+ghost use Rattle.dob_words.specs.declared.command.orders.By.TheVariants as way;
 
-use crate::questions::answer_by_records;
+use crate::questions::{answer_by_records, answer_in_table};
 use dob_classes::Classes;
 use dob_dbfile::{Format, PlacedSource, Sink, read_classes};
-use dob_files::{Answerer, Fault, LineAnswers, Lines, position_on, tell_each};
+use dob_files::{Answerer, Fault, LineAnswers, Lines, open, position_on, tell_each};
 use dob_pieces::Memory;
 use dob_probe::check_member;
 use dob_shelf::Shelf;
-use dob_words::command::{LineForm, MovesForm, Question, ValueForm};
+use dob_value::Table;
+use dob_words::command::{Asked, By, LineForm, MovesForm, Question, ValueForm};
 use std::alloc::Global;
 
-/// Tells the answer to the question of the position of each line of standard input, by the records of the file that it needs, and whether one of them was
-/// refused. The header is read before the first line, and the classes of its family are opened once. An empty line stands behind each answer where one may
-/// have more lines than one.
+/// Tells the answer to what the position of each line of standard input is asked, and whether one of them was refused. The file's table is read before the first
+/// line; or its header, and of each line the records that it needs. An empty line stands behind each answer where one may have more lines than one.
 pub fn answer_question_each<S: Shelf, O: Sink>(
+    alloc: Global,
+    shelf: &mut S,
+    out: &mut O,
+    file: &str,
+    asked: Asked,
+) -> Result<bool, Fault>
+    ensures { Leaving SameFiles S.state shelf.old shelf.new (λ c. TellsOver c
+        (AreEachLines asked.by asked.question (c.before.has file.now)) (IsEachFault asked.by c file.now) (change (O.state out.old) (O.state out.new)) result) }
+{
+    match asked.by {
+        By::Table => tell_by_table(alloc, shelf, out, file, asked.question),
+        By::Records => tell_by_records(alloc, shelf, out, file, asked.question),
+    }
+}
+
+// The same by the table of the file.
+fn tell_by_table<S: Shelf, O: Sink>(
     alloc: Global,
     shelf: &mut S,
     out: &mut O,
@@ -31,8 +50,50 @@ pub fn answer_question_each<S: Shelf, O: Sink>(
     question: Question,
 ) -> Result<bool, Fault>
     ensures { Leaving SameFiles S.state shelf.old shelf.new (λ c. TellsOver c
-        (ArePlaceLines (AnswersLine question (GivesWhole (c.before.has file.now))) question (c.before.has file.now)) (IsPlacesFault c file.now)
-        (change (O.state out.old) (O.state out.new)) result) }
+        (AreEachLines way.Table question (c.before.has file.now)) (IsEachFault way.Table c file.now) (change (O.state out.old) (O.state out.new)) result) }
+{
+    let table = open(alloc, shelf, file)?;
+    tell_each(alloc, &mut ByTable { table, question }, shelf, out)
+}
+
+// What answers lines by a table.
+#[derive(Drop)]
+struct ByTable {
+    table: Table,
+    question: Question,
+}
+
+impl Answerer for ByTable {
+    ghost answers = { λ by. IsToldOf by.question (IsTableLine (AnswersLine (IsTableAnswer by.question by.table)) by.question by.table) };
+
+    ghost ends = { λ _ fault. fault ≡ OutOfMemory };
+
+    ghost has_failed = { λ _. false };
+
+    fn answer(&mut self, alloc: Global, line: &[u8]) -> Result<LineAnswers, Fault> {
+        let answer = line_in_table(alloc, &self.table, self.question, line);
+        told_line(alloc, answer, self.question)
+    }
+}
+
+// The table's answer to the question of the line's position, or why there is none.
+fn line_in_table(alloc: Global, table: &Table, question: Question, line: &[u8]) -> Lines
+    ensures { GivesLine (IsTableLine (AnswersLine (IsTableAnswer question table.now)) question table.now line.now) result }
+{
+    let position = position_on(line)?;
+    answer_in_table(alloc, table, question, &position)
+}
+
+// The same by the records of the file that each line needs, whatever the file's size. The classes of its family are opened once.
+fn tell_by_records<S: Shelf, O: Sink>(
+    alloc: Global,
+    shelf: &mut S,
+    out: &mut O,
+    file: &str,
+    question: Question,
+) -> Result<bool, Fault>
+    ensures { Leaving SameFiles S.state shelf.old shelf.new (λ c. TellsOver c
+        (AreEachLines way.Records question (c.before.has file.now)) (IsEachFault way.Records c file.now) (change (O.state out.old) (O.state out.new)) result) }
 {
     let source = shelf.find(file)?;
     let (source, told) = told_by(alloc, shelf, out, source, question);
@@ -86,29 +147,27 @@ struct ByRecords<R> {
 }
 
 impl<R: PlacedSource> Answerer for ByRecords<R> {
-    ghost answers = { λ by. IsToldOf by.question (R.shows by.source) by.format by.classes.family };
+    ghost answers = { λ by. IsToldOf by.question (IsRecordAnswer by.question (R.shows by.source) by.format by.classes.family) };
 
     ghost ends = { λ by. IsRecordEnd (R.shows by.source) };
 
     ghost has_failed = { λ by. R.has_failed by.source };
 
     fn answer(&mut self, alloc: Global, line: &[u8]) -> Result<LineAnswers, Fault> {
-        let answer = line_answer(answer_at(
+        let answer = line_by_records(
             alloc,
             &mut self.source,
             self.format,
             &self.classes,
             self.question,
             line,
-        ))?;
-        let is_refused = answer.is_err();
-        let lines = ended_lines(alloc, answer, self.question)?;
-        Ok(LineAnswers { lines, is_refused })
+        );
+        told_line(alloc, answer, self.question)
     }
 }
 
-// The answer to the question of the line's position, or why there is none.
-fn answer_at<R: PlacedSource>(
+// The records' answer to the question of the line's position, or why there is none.
+fn line_by_records<R: PlacedSource>(
     alloc: Global,
     source: &mut R,
     format: Format,
@@ -116,7 +175,7 @@ fn answer_at<R: PlacedSource>(
     question: Question,
     line: &[u8],
 ) -> Lines
-    ensures answer { GivesRecordAnswer question (R.shows source.old) format classes.now.family line.now result }
+    ensures answer { GivesLine (IsRecordAnswer question (R.shows source.old) format classes.now.family line.now) result }
     ensures shown { (stream : Stream) → R.shows source.old stream → R.shows source.new stream }
     ensures failed { R.has_failed source.new ≡ (R.has_failed source.old || fails is_io result) }
 {
@@ -125,18 +184,18 @@ fn answer_at<R: PlacedSource>(
     answer_by_records(alloc, source, format, classes, question, &position)
 }
 
-// The answer, but where it is a fault that ends all.
-fn line_answer(answer: Lines) -> Result<Lines, Fault>
-    ensures { MatchResult result (λ kept. (kept ≡ answer) × (ends_all_in answer ≡ false)) (λ fault. (answer ≡ Err fault) × (ends_all fault ≡ true)) }
+// What is told of a line for that answer, but where it is a fault that ends all.
+fn told_line(alloc: Global, answer: Lines, question: Question) -> Result<LineAnswers, Fault>
+    ensures told { IfOk result (λ told. IsKept question answer (told_of told)) }
+    ensures ended { IfErr result (λ fault. (fault ≡ OutOfMemory) ⊎ ((answer ≡ Err fault) × (ends_all fault ≡ true))) }
+    ensures failed { fails is_io result ≡ fails is_io answer }
 {
     match answer {
-        Ok(lines) => Ok(Ok(lines)),
-        Err(fault) => {
-            if ends_all(fault) {
-                Err(fault)
-            } else {
-                Ok(Err(fault))
-            }
+        Err(fault) if ends_all(fault) => Err(fault),
+        answer => {
+            let is_refused = answer.is_err();
+            let lines = ended_lines(alloc, answer, question)?;
+            Ok(LineAnswers { lines, is_refused })
         }
     }
 }

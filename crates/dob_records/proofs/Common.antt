@@ -12,7 +12,6 @@ pub use Rattle.dob_dbfile.proofs.Looked.{one_record, table_has_record, table_rec
 pub use Rattle.dob_device.specs.Devices.{Stream, whole}
 pub use Rattle.dob_dbfile.specs.Looking.{HasRecord}
 pub use Rattle.dob_dbfile.specs.declared.header.Format.{Format}
-pub use Rattle.dob_probe.proofs.ByValue.{said_valued}
 pub use Rattle.dob_probe.specs.Lines.{GivenBy, IsLine}
 pub use Rattle.dob_probe.specs.declared.by_value.ValuedMove.{ValuedMove}
 pub use Rattle.dob_records.specs.Records.{IsRecorded}

@@ -1,4 +1,4 @@
--- What the records of a stream say of positions, and which records are read.
+-- What the records of a stream say of positions.
 use Rattle.std.specs.Prelude.{ℕ, ◌<◌}
 use Rattle.dob_pieces.specs.declared.profile.Family.{Family}
 use Rattle.dob_pieces.specs.declared.setup.Setup.{Setup}
@@ -8,7 +8,6 @@ use Rattle.dob_dbfile.specs.declared.fault.Fault.{Fault}
 use Rattle.dob_dbfile.specs.declared.header.Format.{Format}
 use Rattle.dob_device.specs.Devices.{Stream}
 use Rattle.dob_dbfile.specs.Looking.{HasRecord, HasRecordFault}
-use Rattle.dob_probe.specs.Said.{IsAlong, IsNext}
 
 -- the record of the position's class says that value, in a stream of that format and family
 pub record IsRecorded (stream : Stream) (format : Format) (family : Family) (position : Setup) (value : Value) : Type 0 where
@@ -23,12 +22,3 @@ pub record LacksRecord (stream : Stream) (format : Format) (family : Family) (po
   pub number : IsInClass family position class
   pub below : class < classes_of family
   pub fails : HasRecordFault stream format class fault
-
--- the record of a position to which a move of p leads isn't whole
-abbrev pub LacksNext : Stream → Format → Family → Setup → Fault → Type 0
-LacksNext stream format family p fault = (q : Setup) × IsNext family.profile p q × LacksRecord stream format family q fault
-
--- nor is that of p, or of a position to which a move leads from one on its line
-abbrev pub LacksAlong : Stream → Format → Family → Setup → Fault → Type 0
-LacksAlong stream format family p fault =
-    (q : Setup) × IsAlong family.profile (IsRecorded stream format family) p q × LacksRecord stream format family q fault

@@ -1,4 +1,4 @@
-// The value of a position by the record of its class.
+// The records of a file, which say values by the classes of its family.
 ghost use Rattle.std.specs.Prelude.{◌≡◌, ◌||◌, IfErr, IfOk};
 ghost use Rattle.dob_rank.specs.Families.{IsPositionOf};
 ghost use Rattle.dob_distance.specs.Codes.{IsEntry};
@@ -12,12 +12,10 @@ use dob_pieces::Position;
 use dob_probe::Values;
 use dob_value::Value;
 
-/// The value that the record of the position's class says.
-///
-/// # Errors
-///
-/// `Truncated` and `Io`, as of `read_value`.
-pub fn value_at<R: PlacedSource>(
+// The value that the record of the position's class says.
+//
+// Errors: `Truncated` and `Io`, as of `read_value`.
+fn value_at<R: PlacedSource>(
     source: &mut R,
     format: Format,
     classes: &Classes,
@@ -35,9 +33,9 @@ pub fn value_at<R: PlacedSource>(
 
 /// The records of a file in that format, by the classes of its family.
 #[derive(Clone, Copy)]
-pub(crate) struct Records<'a> {
-    pub(crate) format: Format,
-    pub(crate) classes: &'a Classes,
+pub struct Records<'a> {
+    pub format: Format,
+    pub classes: &'a Classes,
 }
 
 impl<R: PlacedSource> Values<R> for Records<'_> {

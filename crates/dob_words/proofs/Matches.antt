@@ -123,13 +123,15 @@ asked_texts : (a : Asked) (m : ArgMatches)
 asked_texts a m = grind arith
 
 -- by `--each` alone it is clear
-each_clear : (a : Asked) (x n r y j z : Option Text) (file : Bor Text) (flag : Text) → x ≡ Some file.now → y ≡ Some flag → z ≡ None → IsFlaggedBy a n r j
+each_clear : (a : Asked) (x n r y j z : Option Text) (file : Bor Text) (flag : Text) → x ≡ Some file.now → y ≡ Some flag → z ≡ None
+    → IsFlaggedBy a.by a.question n r y j
     → IsReadFor (cleared (asks (name_of (subcommand_asked a)) (texts_asked (subcommand_asked a) x n r y j z))) (Some (order.EachLine file a))
 each_clear a x n r y j z file flag f e p is = grind arith
 
 pub each_read : (a : Asked) (m : ArgMatches) (file : Bor Text) → first_value (found_of m) (codes "FILE") ≡ Some file.now
     → IsOneOf (first_value (found_of m) (codes "each")) (first_value (found_of m) (codes "POSITION")) (Some None)
-    → IsFlaggedBy a (first_value (found_of m) (codes "numbered")) (first_value (found_of m) (codes "records")) (first_value (found_of m) (codes "json"))
+    → IsFlaggedBy a.by a.question (first_value (found_of m) (codes "numbered")) (first_value (found_of m) (codes "records")) (first_value (found_of m) (codes "each"))
+    (first_value (found_of m) (codes "json"))
     → IsReadFor (cleared (asks (name_of (subcommand_asked a)) (texts_in (form_for (subcommand_asked a)) m))) (Some (order.EachLine file a))
 each_read a m file f one is =
     subst (λ (texts : List (Option Text)). IsReadFor (cleared (asks (name_of (subcommand_asked a)) texts)) (Some (order.EachLine file a))) (asked_texts a m)

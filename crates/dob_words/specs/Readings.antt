@@ -1,5 +1,5 @@
 -- How what was read of the words goes with what they ask for.
-use Rattle.std.specs.Prelude.{◌≡◌, IfSome, true, List, [], ◌∷◌, None, Option, Some, codes, is_some, option_map}
+use Rattle.std.specs.Prelude.{◌≡◌, ◌||◌, IfSome, true, List, [], ◌∷◌, None, Option, Some, codes, is_some, option_map}
 use Rattle.std.specs.Borrow.{Bor}
 use Rattle.clap.specs.declared.error.kind.ErrorKind.{ErrorKind}
 use Rattle.clap.specs.declared.error.kind.ErrorKind.TheVariants as kind
@@ -8,7 +8,8 @@ use Rattle.dob_words.specs.Lines.{IsAmong, IsCommandLine}
 use Rattle.dob_words.specs.Words.{Meaning, asks, help, is_number, number_in, profile_named, usage, version}
 use Rattle.dob_words.specs.Shapes.{ReadRow}
 use Rattle.dob_words.specs.declared.command.orders.Asked.{Asked}
-use Rattle.dob_words.specs.declared.command.orders.Asked.TheVariants as ask
+use Rattle.dob_words.specs.declared.command.orders.By.{By}
+use Rattle.dob_words.specs.declared.command.orders.By.TheVariants as way
 use Rattle.dob_words.specs.declared.command.orders.LineForm.{LineForm}
 use Rattle.dob_words.specs.declared.command.orders.LineForm.TheVariants as line
 use Rattle.dob_words.specs.declared.command.orders.LinesOrder.{LinesOrder}
@@ -16,6 +17,7 @@ use Rattle.dob_words.specs.declared.command.orders.LinesOrder.TheVariants as lin
 use Rattle.dob_words.specs.declared.command.orders.MovesForm.TheVariants as moves
 use Rattle.dob_words.specs.declared.command.orders.Order.{Order}
 use Rattle.dob_words.specs.declared.command.orders.Order.TheVariants as order
+use Rattle.dob_words.specs.declared.command.orders.Question.{Question}
 use Rattle.dob_words.specs.declared.command.orders.Question.TheVariants as question
 use Rattle.dob_words.specs.declared.command.orders.StatsForm.{StatsForm}
 use Rattle.dob_words.specs.declared.command.orders.StatsForm.TheVariants as stats
@@ -56,14 +58,16 @@ AreNamed (row ∷ more) = (name_of row.0 ≡ row.1.now) × AreNamed more
 abbrev pub form_for : Subcommand → Form
 form_for s = form_named (name_of s)
 
--- the subcommand that asks this
+-- the subcommand that asks this question by that of a file
+abbrev pub subcommand_by : By → Question → Subcommand
+subcommand_by way.Table (question.Value _) = subcommand.Probe
+subcommand_by way.Records (question.Value _) = subcommand.Look
+subcommand_by _ (question.Moves moves.Best) = subcommand.Best
+subcommand_by _ (question.Moves _) = subcommand.Moves
+subcommand_by _ (question.Line _) = subcommand.Line
+
 abbrev pub subcommand_asked : Asked → Subcommand
-subcommand_asked ask.Probe = subcommand.Probe
-subcommand_asked (ask.Line _) = subcommand.Line
-subcommand_asked (ask.Records (question.Value _)) = subcommand.Look
-subcommand_asked (ask.Records (question.Moves moves.Best)) = subcommand.Best
-subcommand_asked (ask.Records (question.Moves _)) = subcommand.Moves
-subcommand_asked (ask.Records (question.Line _)) = subcommand.Line
+subcommand_asked asked = subcommand_by asked.by asked.question
 
 -- the subcommand that the order is for
 abbrev pub subcommand_of : LinesOrder → Subcommand
@@ -99,22 +103,24 @@ stats_form csv (Some _) = stats.Objects
 stats_form (Some _) None = stats.Csv
 stats_form None None = stats.Lines
 
--- the flags `--numbered`, `--records` and `--json` are given where that is asked
-abbrev pub IsFlaggedBy : Asked → Option Text → Option Text → Option Text → Type 0
-IsFlaggedBy (ask.Records (question.Value value.Plain)) numbered records json = json ≡ None
-IsFlaggedBy (ask.Records (question.Value value.Object)) numbered records json = is_some json ≡ true
-IsFlaggedBy (ask.Records (question.Moves moves.Plain)) numbered records json = json ≡ None
-IsFlaggedBy (ask.Records (question.Moves moves.Object)) numbered records json = is_some json ≡ true
-IsFlaggedBy (ask.Records (question.Line form)) numbered records json = (is_some records ≡ true) × (form ≡ line_form numbered json)
-IsFlaggedBy (ask.Line form) numbered records json = (records ≡ None) × (form ≡ line_form numbered json)
-IsFlaggedBy _ numbered records json = Unit {0}
+-- The flags `--numbered`, `--records`, `--each` and `--json` are given where that is asked so. Moves are asked of the records alone, and a line of the whole
+-- table where neither `--records` nor `--each` is given.
+abbrev pub IsFlaggedBy : By → Question → Option Text → Option Text → Option Text → Option Text → Type 0
+IsFlaggedBy _ (question.Value value.Plain) numbered records each json = json ≡ None
+IsFlaggedBy _ (question.Value value.Object) numbered records each json = is_some json ≡ true
+IsFlaggedBy way.Table (question.Moves _) numbered records each json = ⊥
+IsFlaggedBy way.Records (question.Moves moves.Plain) numbered records each json = json ≡ None
+IsFlaggedBy way.Records (question.Moves moves.Object) numbered records each json = is_some json ≡ true
+IsFlaggedBy way.Records (question.Moves moves.Best) numbered records each json = Unit {0}
+IsFlaggedBy way.Table (question.Line form) numbered records each json = (records ≡ None) × (each ≡ None) × (form ≡ line_form numbered json)
+IsFlaggedBy way.Records (question.Line form) numbered records each json =
+    ((is_some records || is_some each) ≡ true) × (form ≡ line_form numbered json)
 
 -- the texts that the subcommand asks by, by those of FILE, `--numbered`, `--records`, `--each`, `--json` and POSITION
 abbrev pub texts_asked : Subcommand → Option Text → Option Text → Option Text → Option Text → Option Text → Option Text → List (Option Text)
-texts_asked subcommand.Look file numbered records each json position = file ∷ each ∷ json ∷ position ∷ []
-texts_asked subcommand.Moves file numbered records each json position = file ∷ each ∷ json ∷ position ∷ []
+texts_asked subcommand.Best file numbered records each json position = file ∷ each ∷ position ∷ []
 texts_asked subcommand.Line file numbered records each json position = file ∷ numbered ∷ records ∷ each ∷ json ∷ position ∷ []
-texts_asked _ file numbered records each json position = file ∷ each ∷ position ∷ []
+texts_asked _ file numbered records each json position = file ∷ each ∷ json ∷ position ∷ []
 
 -- the text that may be left out
 abbrev pub text_given : Option (Bor Text) → Option Text
@@ -134,7 +140,7 @@ HasLinesTexts texts (lines.Build build) =
     × (build.nodes ≡ option_map number_in n) × (build.profile ≡ profile_named rules) × (build.is_watched ≡ is_some flag)
 HasLinesTexts texts (lines.Ask file asked position) =
     (numbered records json : Option Text) × (texts_asked (subcommand_asked asked) (Some file.now) numbered records None json (Some position.now) ≡ texts)
-    × IsFlaggedBy asked numbered records json
+    × IsFlaggedBy asked.by asked.question numbered records None json
 HasLinesTexts texts (lines.Check file is_watched) = (flag : Option Text) × (Some file.now ∷ flag ∷ [] ≡ texts) × (is_watched ≡ is_some flag)
 HasLinesTexts texts (lines.Show file picture position) = text_given file ∷ text_given picture ∷ Some position.now ∷ [] ≡ texts
 HasLinesTexts texts (lines.Stats file form) = (csv json : Option Text) × (Some file.now ∷ csv ∷ json ∷ [] ≡ texts) × (form ≡ stats_form csv json)
@@ -156,7 +162,7 @@ abbrev pub HasTexts : List (Option Text) → Order → Type 0
 HasTexts texts (order.Lines o) = HasLinesTexts texts o
 HasTexts texts (order.EachLine file asked) =
     (numbered records json : Option Text) × (each : Text) × (texts_asked (subcommand_asked asked) (Some file.now) numbered records (Some each) json None ≡ texts)
-    × IsFlaggedBy asked numbered records json
+    × IsFlaggedBy asked.by asked.question numbered records (Some each) json
 
 -- the order is for this subcommand and these texts
 abbrev pub IsOrder : Text → List (Option Text) → Order → Type 0

@@ -235,7 +235,7 @@ takes_lines name =
     bytes_eq (codes "probe") name || (bytes_eq (codes "look") name
     || (bytes_eq (codes "moves") name || (bytes_eq (codes "best") name || bytes_eq (codes "line") name)))
 
--- of `--each` and a POSITION, which these have behind FILE, with `--json` between them, and `line` with two flags before them, just one is given
+-- of `--each` and a POSITION, which these have behind FILE, with `--json` between them but in `best`, and `line` with two flags before them, just one is given
 abbrev pub is_clear : List (Option Text) → Bool
 is_clear (file ∷ each ∷ position ∷ []) = if is_some each then not (is_some position) else is_some position
 is_clear (file ∷ each ∷ json ∷ position ∷ []) = if is_some each then not (is_some position) else is_some position
@@ -299,4 +299,4 @@ build rules set nodes file progress = asks (codes "build") (Some set ∷ nodes �
 
 -- the value of the position by the table of the file
 abbrev pub probe : Text → Text → Meaning
-probe file position = asks (codes "probe") (Some file ∷ None ∷ Some position ∷ [])
+probe file position = asks (codes "probe") (Some file ∷ None ∷ None ∷ Some position ∷ [])

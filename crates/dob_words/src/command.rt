@@ -28,7 +28,7 @@ use clap::error::ErrorKind;
 use clap::{Arg, ArgAction, ArgMatches, Command, Error, value_parser};
 use misplaced::Misplaced;
 pub use orders::{
-    Asked, BuildOrder, CertifyOrder, LineForm, LinesOrder, MovesForm, Order, PuzzleSearch,
+    Asked, BuildOrder, By, CertifyOrder, LineForm, LinesOrder, MovesForm, Order, PuzzleSearch,
     Question, ReachSearch, StatsForm, ValueForm,
 };
 use std::alloc::{AllocError, Global};

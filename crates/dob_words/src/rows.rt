@@ -105,7 +105,7 @@ pub const FIRST_ROWS: &[Row] = &[
         "probe",
         "Prints the value of a position by a database file",
         &[DB],
-        &[EACH],
+        &[EACH, JSON],
         &[LONE_POSITION],
     ),
     (
@@ -505,6 +505,8 @@ next by its own answer. The file is read and tested once, before the first answe
 
 Answers: `win D`, `loss D` or `draw`, where D is the distance in plies. With `--each` the status is 0 where
 all lines were answered, and 1 where one was refused.
+
+With `--json`: an object on a line, as `dobutsu look --help` says.
 
 Example: dobutsu probe --db 000.db \"..l/.../L../... - -\" prints `win 3`. `dobutsu value --help` says
 how a position is written. Two positions, the second with a malformed hand:

@@ -3,9 +3,11 @@ ghost use Rattle.std.specs.Prelude.{◌≡◌, IfSome, Option, Some, codes, is_s
 ghost use Rattle.clap.specs.Words.{first_value, found_of};
 ghost use Rattle.dob_words.specs.Forms.{Text};
 ghost use Rattle.dob_words.specs.Shapes.{HasFit, texts_in};
-ghost use Rattle.dob_words.specs.Readings.{IsLinesOrder, IsFlaggedBy, IsOneOf, IsReadFor, form_for, line_form, name_of, stats_form, subcommand_asked, text_given};
+ghost use Rattle.dob_words.specs.Readings.{IsLinesOrder, IsFlaggedBy, IsOneOf, IsReadFor, form_for, line_form, name_of, stats_form, subcommand_asked, subcommand_by, text_given};
 ghost use Rattle.dob_words.specs.Words.{asks, cleared, is_number, number_in, profile_named};
-ghost use Rattle.dob_words.specs.declared.rows.Subcommand.TheVariants.{Build, Certify, Line, Look, Moves, Puzzles, Reach, Zugzwangs};
+ghost use Rattle.dob_words.specs.declared.command.orders.Question.TheVariants as ask;
+ghost use Rattle.dob_words.specs.declared.command.orders.ValueForm.TheVariants as value;
+ghost use Rattle.dob_words.specs.declared.rows.Subcommand.TheVariants.{Build, Certify, Line, Moves, Puzzles, Reach, Zugzwangs};
 
 use crate::rows::Subcommand;
 use clap::ArgMatches;
@@ -55,15 +57,20 @@ pub enum LineForm {
     Drawn,
 }
 
-/// What a position is asked by a database file.
+/// What a position is asked by a database file, and by what of it.
 #[derive(Clone, Copy)]
-pub enum Asked {
-    /// Its value, by the whole table.
-    Probe,
-    /// Its line, by the whole table.
-    Line(LineForm),
-    /// The question, by the records that its answer needs.
-    Records(Question),
+pub struct Asked {
+    pub question: Question,
+    pub by: By,
+}
+
+/// By what of a file it is asked.
+#[derive(Clone, Copy)]
+pub enum By {
+    /// By its table, which is read whole and tested.
+    Table,
+    /// By its header and the records that the answer needs.
+    Records,
 }
 
 /// What the program is asked to do.
@@ -218,15 +225,22 @@ pub(super) fn order_for<'a>(subcommand: Subcommand, inner: &ArgMatches<'a>) -> O
     ensures { IsReadFor (cleared (asks (name_of subcommand) (texts_in (form_for subcommand) inner.now))) result }
 {
     match subcommand {
-        Subcommand::Probe => asked_order(inner, Asked::Probe),
-        Subcommand::Look => asked_order(inner, look_asked(inner.get_str("json"))),
+        Subcommand::Probe => asked_order(inner, value_asked(By::Table, inner.get_str("json"))),
+        Subcommand::Look => asked_order(inner, value_asked(By::Records, inner.get_str("json"))),
         Subcommand::Moves => asked_order(inner, moves_asked(inner.get_str("json"))),
-        Subcommand::Best => asked_order(inner, Asked::Records(Question::Moves(MovesForm::Best))),
+        Subcommand::Best => asked_order(
+            inner,
+            Asked {
+                question: Question::Moves(MovesForm::Best),
+                by: By::Records,
+            },
+        ),
         Subcommand::Line => asked_order(
             inner,
             line_asked(
                 inner.get_str("numbered"),
                 inner.get_str("records"),
+                inner.get_str("each"),
                 inner.get_str("json"),
             ),
         ),
@@ -350,37 +364,53 @@ fn certify_order<'a>(inner: &ArgMatches<'a>) -> LinesOrder<'a>
     })
 }
 
-// What `look` asks by its flag.
-fn look_asked(json: Option<&str>) -> Asked
-    ensures subcommand { subcommand_asked result ≡ Look }
-    ensures flagged { (numbered records : Option Text) → IsFlaggedBy result numbered records (text_given json.entry) }
+// What `probe` and `look` ask by their flag.
+fn value_asked(by: By, json: Option<&str>) -> Asked
+    ensures subcommand { subcommand_asked result ≡ subcommand_by by (ask.Value value.Plain) }
+    ensures flagged { (numbered records each : Option Text) → IsFlaggedBy result.by result.question numbered records each (text_given json.entry) }
 {
-    match json {
-        None => Asked::Records(Question::Value(ValueForm::Plain)),
-        Some(_) => Asked::Records(Question::Value(ValueForm::Object)),
+    let form = match json {
+        None => ValueForm::Plain,
+        Some(_) => ValueForm::Object,
+    };
+    Asked {
+        question: Question::Value(form),
+        by,
     }
 }
 
 // What `moves` asks by its flag.
 fn moves_asked(json: Option<&str>) -> Asked
     ensures subcommand { subcommand_asked result ≡ Moves }
-    ensures flagged { (numbered records : Option Text) → IsFlaggedBy result numbered records (text_given json.entry) }
+    ensures flagged { (numbered records each : Option Text) → IsFlaggedBy result.by result.question numbered records each (text_given json.entry) }
 {
-    match json {
-        None => Asked::Records(Question::Moves(MovesForm::Plain)),
-        Some(_) => Asked::Records(Question::Moves(MovesForm::Object)),
+    let form = match json {
+        None => MovesForm::Plain,
+        Some(_) => MovesForm::Object,
+    };
+    Asked {
+        question: Question::Moves(form),
+        by: By::Records,
     }
 }
 
-// What `line` asks by its flags.
-fn line_asked(numbered: Option<&str>, records: Option<&str>, json: Option<&str>) -> Asked
+// What `line` asks by its flags. Each of many lines needs but a few of the records.
+fn line_asked(
+    numbered: Option<&str>,
+    records: Option<&str>,
+    each: Option<&str>,
+    json: Option<&str>,
+) -> Asked
     ensures subcommand { subcommand_asked result ≡ Line }
-    ensures flagged { IsFlaggedBy result (text_given numbered.entry) (text_given records.entry) (text_given json.entry) }
+    ensures flagged { IsFlaggedBy result.by result.question (text_given numbered.entry) (text_given records.entry) (text_given each.entry) (text_given json.entry) }
 {
-    let form = line_form(numbered, json);
-    match records {
-        None => Asked::Line(form),
-        Some(_) => Asked::Records(Question::Line(form)),
+    let by = match (records, each) {
+        (None, None) => By::Table,
+        _ => By::Records,
+    };
+    Asked {
+        question: Question::Line(line_form(numbered, json)),
+        by,
     }
 }
 
@@ -409,8 +439,8 @@ fn stats_form(csv: Option<&str>, json: Option<&str>) -> StatsForm
 // What the matches ask for by one position or by `--each`, if it is clear.
 fn asked_order<'a>(inner: &ArgMatches<'a>, asked: Asked) -> Option<Order<'a>>
     requires fit { HasFit (form_for (subcommand_asked asked)) inner.now }
-    requires flagged { IsFlaggedBy asked (first_value (found_of inner.now) (codes "numbered")) (first_value (found_of inner.now) (codes "records"))
-        (first_value (found_of inner.now) (codes "json")) }
+    requires flagged { IsFlaggedBy asked.by asked.question (first_value (found_of inner.now) (codes "numbered")) (first_value (found_of inner.now) (codes "records"))
+        (first_value (found_of inner.now) (codes "each")) (first_value (found_of inner.now) (codes "json")) }
     ensures { IsReadFor (cleared (asks (name_of (subcommand_asked asked)) (texts_in (form_for (subcommand_asked asked)) inner.now))) result }
 {
     let file = text(inner, "FILE");

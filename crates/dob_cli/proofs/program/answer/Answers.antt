@@ -16,7 +16,7 @@ pub returns-in-Reach : goal.returns-in-Reach
 returns-in-Reach g c = rw c.in-Reach.is c.answer_reach.ensures
 
 pub returns-in-Ask : goal.returns-in-Ask
-returns-in-Ask g c = rw c.in-Ask.is c.answer_asked.ensures
+returns-in-Ask g c = rw c.in-Ask.is c.answer_question.ensures
 
 pub returns-in-Check : goal.returns-in-Check
 returns-in-Check g c = rw c.in-Check.is c.answer_check.ensures

@@ -14,7 +14,7 @@ returns-in-Ok-clause-told g c =
     let gives = g.S.Src.Source.gives c.args.source in
     let shows = g.S.Src.Source.shows c.args.source in
     let later = g.S.Src.Source.shows c.read_classes.new.source in
-    each_weaker input input (TellsOf (IsToldOf question later format family)) (TellsRecords question gives shows) _ _ _ _
+    each_weaker input input (TellsOf (IsToldOf question (IsRecordAnswer question later format family))) (TellsRecords question gives shows) _ _ _ _
     (change (g.O.Sink.state c.args.out.now) (g.O.Sink.state c.tell_each-told.new.out)) c.tell_each-told.result refl
     (λ lines is_refused text told. record {
       format = format;

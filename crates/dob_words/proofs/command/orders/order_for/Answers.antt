@@ -17,10 +17,10 @@ there form label None needed fit = absurd (true≢false (sym needed ∙ fit))
 there form label (Some text) needed fit = refl
 
 pub asked_order-requires-clause-fit : goal.asked_order-requires-clause-fit
-asked_order-requires-clause-fit c = fits _ subcommand.Probe _ c.in-Probe.is c.requires
+asked_order-requires-clause-fit c = grind arith
 
 pub asked_order-requires-clause-flagged : goal.asked_order-requires-clause-flagged
-asked_order-requires-clause-flagged c = tt
+asked_order-requires-clause-flagged c = grind (arith, c.value_asked.ensures.flagged)
 
 pub asked_order-requires-in-Best-clause-fit : goal.asked_order-requires-in-Best-clause-fit
 asked_order-requires-in-Best-clause-fit c = fits _ subcommand.Best _ c.in-Best.is c.requires
@@ -128,7 +128,7 @@ pub asked_order-requires-in-Look-clause-fit : goal.asked_order-requires-in-Look-
 asked_order-requires-in-Look-clause-fit c = grind arith
 
 pub asked_order-requires-in-Look-clause-flagged : goal.asked_order-requires-in-Look-clause-flagged
-asked_order-requires-in-Look-clause-flagged c = grind (arith, c.look_asked.ensures.flagged)
+asked_order-requires-in-Look-clause-flagged c = grind (arith, c.value_asked-in-Look.ensures.flagged)
 
 pub returns-in-Look : goal.returns-in-Look
 returns-in-Look c = grind arith

@@ -1,7 +1,7 @@
 -- The records are those of the position of the line, which is one of the family.
 use Rattle.dob_query.proofs.Common.{Global, err_from_is_err_and}
 use Rattle.dob_query.proofs.Placed.{refused_line, told_line}
-use Rattle.dob_query.proofs.questions_each.answer_at.Goals as goal
+use Rattle.dob_query.proofs.questions_each.line_by_records.Goals as goal
 
 pub returns-in_err-position-clause-answer : goal.returns-in_err-position-clause-answer
 returns-in_err-position-clause-answer g c =
