@@ -1,4 +1,5 @@
-# The page: its scenes, its values by both rules, mouse, keys and fingers, and that nothing leaves it, in headless Chromium; less of it in Firefox.
+# The page: its scenes, its values by both rules, mouse, keys and fingers, and that nothing leaves it, in headless Chromium; less of it in Firefox, and of either
+# a quarter of the scenes by the proved engine too.
 # Takes minutes.
 
 # Counts tests that can't be run here, and says why.
@@ -53,10 +54,12 @@ fi
 
 # The page with the proved engine, of which `tools/page` makes the module, and with the plain one.
 if needs chromium wasm-opt; then
-    mkdir "$work/files"
-    export DOBUTSU_FILES="$work/files"
+    mkdir "$work/files" "$work/scenes"
+    export DOBUTSU_FILES="$work/files" DOBUTSU_SCENES="$work/scenes"
     add_counts python3 page/test/page_test.py "$work/dobutsu.html" "$program"
+    firefox=no
     if command -v firefox-esr firefox >/dev/null; then
+        firefox=yes
         add_counts python3 page/test/page_test.py "$work/dobutsu.html" "$program" --firefox
     else
         leave_out 2 'the page in Firefox with either engine, since it is not there (apt-get install firefox-esr)'
@@ -65,7 +68,8 @@ if needs chromium wasm-opt; then
     good=no
     if tools/page "$work/proved.html" >"$work/out" 2>&1 && grep -q '^window.DobutsuWasm = ' "$work/proved.html"; then good=yes; fi
     note "tools/page makes the page with the proved engine: $(tail -1 "$work/out")" "$good"
-    add_counts python3 page/test/page_test.py "$work/proved.html" "$program" told opening certificates certificates/whole_B
+    add_counts python3 page/test/page_test.py "$work/proved.html" "$program" scenes/elsewhere told opening certificates certificates/whole_B
+    [ "$firefox" = no ] || add_counts python3 page/test/page_test.py "$work/proved.html" "$program" scenes/elsewhere --firefox
     if command -v node >/dev/null; then
         if node page/test/wasm.test.js page/out/dobutsu_web.wasm 500 >"$work/out" 2>&1; then good=yes; else good=no; fi
         note "page/test/wasm.test.js: $(tail -1 "$work/out")" "$good"
