@@ -1,5 +1,4 @@
-# The page: its scenes, its values by both rules, mouse, keys and fingers, and that nothing leaves it, in headless Chromium; less of it in Firefox, and of either
-# a quarter of the scenes by the proved engine too.
+# The page in Chromium: scenes, values by both rules, mouse, keys and fingers, and that nothing leaves it; less of it in Firefox and by the proved engine.
 # Takes minutes.
 
 # Counts tests that can't be run here, and says why.
