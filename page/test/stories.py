@@ -372,27 +372,6 @@ def keys(at):
     at.key("e", "x", "c", tell="while a position is set up no exercise is drawn")
 
 
-def focus(at):
-    """The focus stays: on a button that looks up and comes to its end, and at its place in a list that is drawn anew."""
-    at.table(PLAIN, tell=False)
-    at.focus("#next", tell="the focus is on Next move")
-    for number in range(1, 7):
-        at.key("Enter", tell=f"{number} steps" if number in (1, 5, 6) else False)
-    at.focus("#undo")
-    for number in range(1, 7):
-        at.key("Enter", tell=f"{number} steps back" if number in (1, 5, 6) else False)
-    at.focus("#redo")
-    at.key("Enter", tell=False)
-    at.key("Enter", tell="two steps on")
-    at.focus("#moves li:nth-child(2) button")
-    at.key("h", tell="values are hidden, the second move has the focus")
-    at.key("h", tell="and shown")
-    at.focus("#line .move")
-    at.choose("measure", "moves", tell="the line has it")
-    at.focus("#record .move[tabindex='0']")
-    at.language("ja", tell="and the moves played")
-
-
 def dragged(at):
     """Pieces are dragged: to their square, back, off the board, to a wrong one; a hand's piece too."""
     at.table(PLAIN, tell=False)
@@ -418,5 +397,5 @@ def dragged(at):
 
 STORIES = {
     it.__name__: it
-    for it in (start, table, values, ends, hover, chosen, flipped, drops, sky, line, hidden, set_up, set_up_wrong, texts, link, link_wrong, rules, keys, focus, dragged)
+    for it in (start, table, values, ends, hover, chosen, flipped, drops, sky, line, hidden, set_up, set_up_wrong, texts, link, link_wrong, rules, keys, dragged)
 } | stories_files.STORIES | stories_play.STORIES | stories_class.STORIES | stories_looks.STORIES
