@@ -1,6 +1,6 @@
 -- The names that the proofs here use most, from other crates and the definitions of this one.
 pub use Rattle.std.proofs.Common.{◌∙◌, ◌∷◌, ◌≡◌, Bool, List, None, Option, Some, [], ap, arith, codes, false, inl, inr, option_map, refl, rules, subst}
-pub use Rattle.std.proofs.Common.{sym, true≢false, ℕ}
+pub use Rattle.std.proofs.Common.{sym, true, true≢false, ℕ}
 pub use Rattle.std.specs.Prelude.{Err, IsTrue}
 pub use Rattle.dob_pieces.specs.declared.profile.Profile.{Profile}
 pub use Rattle.dob_dbfile.specs.Format.{bytes_of}

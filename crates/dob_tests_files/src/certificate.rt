@@ -68,7 +68,17 @@ fn answers(
     let position = classes.class_at(class);
     let alloc = rt.alloc();
     assert!(rt; verify(alloc, classes, certificate, &position, claim) == wanted);
-    assert!(rt; verify_watched(rt, alloc, classes, certificate, &position, claim, &Unwatched) == wanted);
+    assert!(rt;
+        verify_watched(
+            rt,
+            alloc,
+            classes,
+            certificate,
+            &position,
+            claim,
+            &Unwatched
+        ) == wanted
+    );
 }
 
 // The claim of the class is proved where it is true, and else each entry is passed and the claim isn't.
