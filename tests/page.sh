@@ -1,4 +1,4 @@
-# The page in Chromium: scenes, values by both rules, mouse, keys and fingers, and that nothing leaves it; less of it in Firefox and by the proved engine.
+# The page: its scenes, its values by both rules, mouse, keys and fingers, and that nothing leaves it, in headless Chromium; less of it in Firefox.
 # Takes minutes.
 
 # Counts tests that can't be run here, and says why.
@@ -53,12 +53,11 @@ fi
 
 # The page with the proved engine, of which `tools/page` makes the module, and with the plain one.
 if needs chromium wasm-opt; then
-    mkdir "$work/files" "$work/scenes"
-    export DOBUTSU_FILES="$work/files" DOBUTSU_SCENES="$work/scenes"
+    mkdir "$work/files"
+    export DOBUTSU_FILES="$work/files"
+    add_counts python3 page/test/scenes.py --page "$work/dobutsu.html"
     add_counts python3 page/test/page_test.py "$work/dobutsu.html" "$program"
-    firefox=no
     if command -v firefox-esr firefox >/dev/null; then
-        firefox=yes
         add_counts python3 page/test/page_test.py "$work/dobutsu.html" "$program" --firefox
     else
         leave_out 2 'the page in Firefox with either engine, since it is not there (apt-get install firefox-esr)'
@@ -67,8 +66,7 @@ if needs chromium wasm-opt; then
     good=no
     if tools/page "$work/proved.html" >"$work/out" 2>&1 && grep -q '^window.DobutsuWasm = ' "$work/proved.html"; then good=yes; fi
     note "tools/page makes the page with the proved engine: $(tail -1 "$work/out")" "$good"
-    add_counts python3 page/test/page_test.py "$work/proved.html" "$program" scenes/elsewhere told opening certificates certificates/whole_B
-    [ "$firefox" = no ] || add_counts python3 page/test/page_test.py "$work/proved.html" "$program" scenes/elsewhere --firefox
+    add_counts python3 page/test/page_test.py "$work/proved.html" "$program" told opening certificates certificates/whole_B
     if command -v node >/dev/null; then
         if node page/test/wasm.test.js page/out/dobutsu_web.wasm 500 >"$work/out" 2>&1; then good=yes; else good=no; fi
         note "page/test/wasm.test.js: $(tail -1 "$work/out")" "$good"

@@ -82,7 +82,7 @@ ATTEMPTS = {
 def asked(checks, screen):
     """By the log of a browser's whole run: nothing was asked for but the page itself, and nothing went wrong in it."""
     events = screen.browser.events
-    sought = {it["params"]["request"]["url"].split("#")[0].split("?")[0] for it in events if it["method"] == "Network.requestWillBeSent"}
+    sought = {it["params"]["request"]["url"].split("#")[0] for it in events if it["method"] == "Network.requestWillBeSent"}
     checks.expect("what was asked for", {it for it in sought if not it.startswith(("data:", "blob:"))} - {screen.url, "about:blank"}, set())
     wrong = [json.dumps(it)[:300] for it in events if it["method"] == "Runtime.exceptionThrown"]
     checks.expect("exceptions", wrong, [])

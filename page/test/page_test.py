@@ -1,7 +1,7 @@
 #!/usr/bin/env python3
 """Tests the page in headless Chromium, offline: page/test/page_test.py PAGE PROGRAM [--firefox] [--jobs N] [--until-failure] [--seconds] [TOPIC[/PART]..]
 
-Scenes say what is seen and heard (scenes.py); the other topics test what a scene can't say. Their values come from the program `dobutsu`, of small files that it
+Scenes say what is seen and heard, and scenes.py plays them; the topics here test what a scene can't say. Their values come from the program `dobutsu`, of small files that it
 builds. A topic is a module here with a dictionary PARTS; `--list` in place of the page prints topics and parts. Some parts are left out where they aren't
 named: `told/short`, which is `told/values` with few positions, `certificates/whole_B`, and `lasting/acts_4` and further seeds; `scenes/elsewhere` names a
 quarter of the scenes. With `--firefox` the browser is Firefox, by default with the parts that need no call of Chromium's
@@ -20,6 +20,7 @@ import time
 
 sys.dont_write_bytecode = True
 sys.path.insert(0, str(pathlib.Path(__file__).resolve().parent))
+import board
 import certificates
 import classroom
 import glance
@@ -40,7 +41,7 @@ from program import Program
 from screen import Screen
 
 TOPICS = {
-    "scenes": scenes, "told": told, "opening": opening, "links": links, "certificates": certificates, "classroom": classroom,
+    "scenes": scenes, "told": told, "opening": opening, "board": board, "links": links, "certificates": certificates, "classroom": classroom,
     "glance": glance, "handling": handling, "lasting": lasting, "layout": layout, "lesson": lesson, "looks": looks,
     "mistakes": mistakes,
 }
@@ -57,7 +58,7 @@ LONG = [("certificates", "whole_A"), ("lasting", "acts_1"), ("lasting", "acts_2"
 
 def parts_of(names):
     """The (topic, part) pairs that the words name: of a topic all parts but those that have to be named, of no word all topics."""
-    for name in names or TOPICS:
+    for name in names or [it for it in TOPICS if it != "scenes"]:  # which scenes.py plays, one after the other
         if name == "scenes/elsewhere":
             yield from [("scenes", it) for it in scenes.ELSEWHERE]
             continue
