@@ -26,9 +26,8 @@ pub trait Watch {
         ensures { told self.now classes };
 }
 
-/// Nobody learns how far it is.
-#[derive(Clone, Copy)]
-pub struct Unwatched;
+// Nobody learns of it.
+pub(crate) struct Unwatched;
 
 impl Watch for Unwatched {
     ghost told = { λ _ _. Unit {0} };

@@ -13,11 +13,10 @@ use Rattle.dob_rank.proofs.Marked.Marks.{numbering}
 use Rattle.dob_rank.proofs.Marked.Representatives.{IsPlaceOf, place_found}
 use Rattle.dob_rank.proofs.OfFamilies.FamilyOrder.{rank_of-same}
 use Rattle.dob_rank.proofs.OfFamilies.Present.{allowed, HasClass-marked}
-use Rattle.dob_classes.proofs.OfFamilies.FamilyNumbers.{IsInClass-class_number, class_number-below, class_number-mirrored, class_number-representative}
+use Rattle.dob_classes.proofs.OfFamilies.FamilyNumbers.{IsInClass-class_number, class_number-mirrored, class_number-representative}
 use Rattle.dob_classes.proofs.OfFamilies.FamilyRepresentatives.{one_class, one_of_class, same_representative}
-use Rattle.dob_certificate.specs.Ascending.{listed_entry}
-use Rattle.dob_certificate.specs.Listed.{IsEntryFor, IsEntryOf}
-use Rattle.dob_certificate.proofs.Orders.{no_entry, one_place}
+use Rattle.dob_certificate.specs.Listed.{IsEntryFor}
+use Rattle.dob_certificate.proofs.Orders.{one_place}
 
 -- ---- the position of a rank
 
@@ -81,9 +80,6 @@ ascending family ranks plies are = λ k within.
 -- ---- the entries that they stand for
 
 module _ (family : Family) (ranks plies : List ℕ) where
-  pub length-entries : length ranks ≡ length (entries_by family ranks plies)
-  length-entries = sym (length-map-range_with_len (entry_by family ranks plies) 0 (length ranks))
-
   pub entry_there : (place : ℕ) → place < length ranks → Contains (entries_by family ranks plies) (entry_by family ranks plies place)
   entry_there place within = (
     place,
@@ -111,18 +107,6 @@ module _ (family : Family) (ranks plies : List ℕ) (are : AreRanks family ranks
   representative_at place within =
       let at = are.each place within in
       ((ranked_is family (slice_index ranks place) at.below).position, at.first)
-
-  -- it stands for the entry there
-  pub stands_for : (place : ℕ) → place < length ranks →
-      IsEntryOf family (listed_entry (entries_by family ranks plies) place) (ranked_setup family (slice_index ranks place)) (slice_index plies place)
-  stands_for place within =
-      let is = representative_at place within in
-      rw (get_or-map-range_with_len (entry_by family ranks plies) 0 (length ranks) place place no_entry within (omega arith)) (record {
-        within = class_number-below family (ranked_setup family (slice_index ranks place)) is.0;
-        represents = is;
-        number = has_class family (ranked_setup family (slice_index ranks place)) is;
-        plies_are = refl;
-      })
 
   module _ (q earlier : Setup) (is : IsPositionOf family q) (stands : RepresentativeOf q earlier) (earlier_is : IsPositionOf family earlier) where
     -- where the position is in the class of an entry, the entry's rank is that of the earlier of the position and its mirror image

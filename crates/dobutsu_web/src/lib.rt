@@ -13,6 +13,7 @@ mod asked;
 mod claims;
 mod classes;
 mod headers;
+mod lists;
 mod numbers;
 mod places;
 mod ranked;
