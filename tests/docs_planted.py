@@ -18,10 +18,10 @@ def with_planted(path, old, new):
     return page, row.replace(f"`{old}`", f"`{new}`")
 
 
-planted = ("docs/PROOF.md", "ByTable.antt", "Plays.antt"), ("CONTRIBUTING.md", "listing.rt", "sweep.rt"), ("CONTRIBUTING.md", "count.rt", "share.rt")
+planted = ("docs/PROOF.md", "QuestionsEach.antt", "Plays.antt"), ("CONTRIBUTING.md", "listing.rt", "sweep.rt"), ("CONTRIBUTING.md", "count.rt", "share.rt")
 for path, old, new in planted:
     assert [*pages.misfiled(*with_planted(path, old, new))], new
-row = with_planted("docs/PROOF.md", "ByTable.antt", "Plays.antt")[1]
+row = with_planted("docs/PROOF.md", "QuestionsEach.antt", "Plays.antt")[1]
 assert [path.name for path in pages.uncounted(row)] == ["Plays.antt"]
 row = next(line for line in (pages.TOP / "docs/PROOF.md").read_text().split("\n") if "rows.rt" in line)
 assert pages.with_lines(row) == row and pages.with_lines(row.replace("src/rows.rt", "src/command.rt")) != row, row
