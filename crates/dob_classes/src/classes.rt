@@ -71,23 +71,23 @@ impl Classes {
         ensures number { result ≡ class_number self.now.family position.now.setup }
         ensures bound { result < classes_of self.now.family }
     {
-        self.class_shown(&Board::of(&position.setup))
+        self.class_by(&Board::of(&position.setup))
     }
 
     /// The number of the class of the position of the family that the board shows.
-    pub fn class_shown(&self, board: &Board) -> u64
+    pub fn class_by(&self, board: &Board) -> u64
         requires { (setup : Setup) × IsShown self.now.family setup board.now }
         ensures { (setup : Setup) → IsShown self.now.family setup board.now → result ≡ class_number self.now.family setup }
     {
         if board.is_later_image() {
-            self.class_by(&board.mirrored())
+            self.class_of_either(&board.mirrored())
         } else {
-            self.class_by(board)
+            self.class_of_either(board)
         }
     }
 
     // The same. It takes longer where the mirror image is the earlier one.
-    fn class_by(&self, board: &Board) -> u64
+    fn class_of_either(&self, board: &Board) -> u64
         requires { (setup : Setup) × IsShown self.now.family setup board.now }
         ensures { (setup : Setup) → IsShown self.now.family setup board.now → result ≡ class_number self.now.family setup }
     {
@@ -108,20 +108,19 @@ impl Classes {
         ensures number { IfSome result (λ class. class ≡ class_number self.now.family position.now.setup) }
         ensures bound { IfSome result (λ class. class < classes_of self.now.family) }
     {
-        let (is_representative, class) = self.look_up(&Board::of(&position.setup));
-        if is_representative { Some(class) } else { None }
+        self.class_if_representative(&Board::of(&position.setup))
     }
 
-    /// The number of the class of the position that the board shows, if that is the class's representative.
-    pub fn class_of_shown(&self, board: &Board) -> Option<u64>
+    /// The number of the class of the position of the family that the board shows, if that is the class's representative.
+    pub fn class_if_representative(&self, board: &Board) -> Option<u64>
         requires { (setup : Setup) × IsShown self.now.family setup board.now }
         ensures class { (setup : Setup) → IsShown self.now.family setup board.now → MatchOption result (¬ IsFirstOfTwo setup)
             (λ class. IsFirstOfTwo setup × HasClass self.now.family setup class) }
         ensures number { (setup : Setup) → IsShown self.now.family setup board.now → IfSome result (λ class. class ≡ class_number self.now.family setup) }
         ensures bound { IfSome result (λ class. class < classes_of self.now.family) }
     {
-        let (is_first, class) = self.look_up(board);
-        if is_first { Some(class) } else { None }
+        let (is_representative, class) = self.look_up(board);
+        if is_representative { Some(class) } else { None }
     }
 
     /// The representative of the class of that number, which is below the number of classes.
@@ -190,6 +189,7 @@ impl Classes {
     }
 
     // Whether the position of the family that the board shows is a representative, and how many stand before it.
+    #[inline(always)]
     fn look_up(&self, board: &Board) -> (bool, u64)
         requires { (setup : Setup) × IsShown self.now.family setup board.now }
         ensures mark { (setup : Setup) → IsShown self.now.family setup board.now

@@ -1,44 +1,26 @@
 // What is known of each class before anything is settled: its status and its number of moves.
 ghost use Rattle.std.specs.Prelude.{◌<◌, IfOk};
-ghost use Rattle.dob_pieces.specs.Boards.{IsBoardOf};
 ghost use Rattle.dob_rank.specs.Families.{classes_of};
 ghost use Rattle.dob_rank.specs.Families.{class_setup};
 ghost use Rattle.dob_lawful.specs.Openings.{IsOpening, AreOpenings, AreOwnOpenings};
 
-use dob_classes::{Classes, Shown};
+use dob_classes::Classes;
 use dob_lists::{SegmentLength, Segments};
-use dob_moves::status_and_count_shown;
-use dob_pieces::{Memory, Profile, Side};
+use dob_moves::status_and_count_by;
+use dob_pieces::{Memory, Side};
 use dob_safra::NodeCount;
 use dob_share::{Opening, places_among};
 use std::alloc::Global;
-
-// The status and number of moves, by the rules of the profile, of the position that the board shows to the mover. The position only
-// says what it shows.
-#[inline(always)]
-fn opening_of(profile: Profile, shown: &Shown) -> Opening
-    requires { IsBoardOf shown.now.position.setup shown.now.board }
-    ensures { IsOpening profile shown.now.position.setup result }
-{
-    let board = &shown.board;
-    let (status, moves) = status_and_count_shown(
-        profile,
-        &shown.position,
-        &board.masks(),
-        board.hands.mover,
-    );
-    Opening { status, moves }
-}
 
 /// The status and the number of moves of the class of that number.
 pub fn opening_in(classes: &Classes, class: u64) -> Opening
     requires { class < classes_of classes.now.family }
     ensures { IsOpening classes.now.family.profile (class_setup classes.now.family class) result }
 {
-    opening_of(
-        classes.family.profile,
-        &classes.shown_at(class, Side::Mover),
-    )
+    // The board is taken out, so that nothing reads the cells and they aren't made.
+    let board = classes.shown_at(class, Side::Mover).board;
+    let (status, moves) = status_and_count_by(classes.family.profile, &board);
+    Opening { status, moves }
 }
 
 /// The status and the number of moves of each class, in the order of the classes, in segments of that length.

@@ -1,4 +1,5 @@
 -- Lists of moves appended piece by piece.
-use Rattle.dob_moves.proofs.Common.{append_assoc, append-nil}
+use Rattle.dob_moves.proofs.Common.{◌++◌, ◌≡◌, List, append_assoc, Move}
 
-pub ruleset appends = (append_assoc, append-nil)
+pub three_appended : (a b c d x y z : List Move) → b ≡ a ++ x → c ≡ b ++ y → d ≡ c ++ z → d ≡ a ++ (x ++ y ++ z)
+three_appended a b c d x y z first second third = rw (third, second, first) (search append_assoc)

@@ -8,7 +8,7 @@ pub use Rattle.std.proofs.lemmas.List.{append-nil, get_or-set_other, get_or-set_
 pub use Rattle.std.proofs.lemmas.List.Elements.{Contains-append_cases, Contains-append_left, Contains-append_right, filter-append, filter_map-append}
 pub use Rattle.std.specs.List.{cons_option, count_by, filter, filter_map}
 pub use Rattle.std.specs.Option.{is_some}
-pub use Rattle.dob_pieces.proofs.Attacks.{attacks_piece, lion_at, lion_mask, own_attacks}
+pub use Rattle.dob_pieces.proofs.Attacks.{attacks_piece, own_attacks}
 pub use Rattle.dob_pieces.proofs.Boards.{HasFewPieces-turned, HasLions-turned, IsLegal-mirrored, all_below, all_below-at, at-board_by, at-turned}
 pub use Rattle.dob_pieces.proofs.Boards.{board_by-from_cells, count-moved, count-set, leads-apart, leads-to_board, length-mirrored, length-turned, lions-turned}
 pub use Rattle.dob_pieces.proofs.Boards.{one_lion, total-turned, within-from_piece}
@@ -17,7 +17,8 @@ pub use Rattle.dob_pieces.proofs.Lists.{rising-cond, rising-each, rising-lower, 
 pub use Rattle.dob_pieces.proofs.MaskBits.{IsLowest, IsMask-and, lowest_is, next_left, none_passes, without}
 pub use Rattle.dob_pieces.proofs.MaskWalks.{IsCounted, IsCounting, IsQuiet, IsWalked, counted_ones, walk_end, walk_less, walk_next, walk_next_at, walk_start}
 pub use Rattle.dob_pieces.specs.Lists.{each_below, one_if}
-pub use Rattle.dob_pieces.specs.Masks.{AreMasks, IsMask, attacks, is_empty, is_end, is_own, own_kind}
+pub use Rattle.dob_pieces.specs.Boards.{IsBoardOf, is_enemy}
+pub use Rattle.dob_pieces.specs.Masks.{AreSquares, IsMask, attacks, is_empty, is_end, is_own, own_kind}
 pub use Rattle.dob_pieces.specs.Pieces.{kind_in_hand, kind_on_board, other_side}
 unfoldable pub use Rattle.dob_pieces.specs.Pieces.{leads}
 pub use Rattle.dob_pieces.specs.Profiles.{IsAllowed, is_far, may_stand}

@@ -1,7 +1,7 @@
 -- A position has few moves: each piece of the mover has at most eight steps, and of each kind in hand there are at most as many drops as squares are empty.
 use Rattle.dob_moves.proofs.Common.{if◌then◌else◌, ◌*◌, ◌++◌, ◌+◌, ◌<◌, ◌||◌, ◌∷◌, ◌≡◌, ◌≤◌, ⊎_elim, Bool, List, None, Option, Some, [], arith, false, length, suc}
-use Rattle.dob_moves.proofs.Common.{true, zero, ℕ, length-append, option_to_list, slice_index_or, cases_lt, filter_map, cons_option, count_by, is_some, one_if, all_drops, ap, refl, ◌∙◌, Side}
-use Rattle.dob_moves.proofs.Common.{all_steps, drops_of, put_on, put_if, steps_by, steps_from, steps_if, step_by, cond, is_empty, own_kind, each_below, may_put, Cell, IsLegal, at, held, holds_kind, piece_of}
+use Rattle.dob_moves.proofs.Common.{true, zero, ℕ, length-append, option_to_list, slice_index_or, cases_lt, filter_map, cons_option, count_by, is_some, one_if, all_drops, ap, refl, Side}
+use Rattle.dob_moves.proofs.Common.{all_steps, drops_of, put_if, steps_by, steps_from, steps_if, step_by, cond, is_empty, own_kind, may_put, Cell, IsLegal, at, held, holds_kind, piece_of}
 use Rattle.dob_moves.proofs.Common.{rules, append_assoc, holds_lion, total, HandKind, Kind, Lion, Mover, Enemy, Profile, Setup, Elsewhere, Move}
 use Rattle.dob_moves.proofs.Listed.{drops_all, drops_none, puts_on}
 use Rattle.dob_moves.specs.MoveLists.{can_catch, has_tried, moves_of}

@@ -3,6 +3,7 @@ mod Common  -- names of other crates and of this one's definitions, for the proo
 -- What a move leads to.
 pub mod Turns  -- when a turned setup is a position
 pub mod Outcomes  -- what stands after a move is legal
+pub mod Arrivals  -- what the enemy sees of a move
 pub mod ByProfile  -- moves by the rules of a profile
 pub mod Kept  -- what a move by them leads to is allowed
 pub mod Mirrors  -- moves of mirror images

@@ -1,7 +1,7 @@
 -- The steps and drops that masks give are those of the walk over all squares.
 use Rattle.dob_moves.proofs.Common.{◌&&◌, ◌<◌, ◌∙◌, ◌∷◌, ◌≡◌, Bool, List, None, Some, [], ap, bit_and, cond, false, length, nat_lt, option_to_list, refl, true}
-use Rattle.dob_moves.proofs.Common.{ℕ, lt-ltb, is_some, IsMask-and, one_if, IsCounting, IsQuiet, each_below, IsMask, is_empty, is_end, is_own, own_kind, leads}
-use Rattle.dob_moves.proofs.Common.{Cell, at, held, HandKind, Kind, Profile, Setup, grows_at, may_put, drops_of, put_if, put_on, steps_from, steps_if}
+use Rattle.dob_moves.proofs.Common.{ℕ, lt-ltb, is_some, IsMask-and, one_if, IsCounting, IsQuiet, each_below, IsMask, is_empty, is_end, is_enemy, is_own, own_kind, leads}
+use Rattle.dob_moves.proofs.Common.{Cell, at, held, piece_of, HandKind, Kind, Mover, Profile, Setup, grows_at, may_put, drops_of, put_if, put_on, steps_by, steps_from, steps_if}
 use Rattle.dob_moves.proofs.Common.{Elsewhere, Move, Put, Step}
 use Rattle.dob_moves.proofs.Masked.{end_is}
 use Rattle.dob_moves.proofs.Tables.{step_to}
@@ -12,6 +12,11 @@ use Rattle.std.proofs.Common.{rules}
 -- the squares on which its steps may end
 abbrev pub may_step : Setup → Kind → ℕ → ℕ → Bool
 may_step p kind from to = leads kind from to && is_end (at p to)
+
+-- where a step may end it catches what stands there
+pub end_catch : (cell : Cell) → is_end cell ≡ true → is_enemy cell ≡ is_some cell
+end_catch None h = refl
+end_catch (Some piece) h = h
 
 -- the step to a square
 abbrev pub steps_to : Setup → Kind → ℕ → ℕ → List Move
@@ -59,6 +64,11 @@ own_at p square = is_own (at p square)
 pub from_quiet : (p : Setup) → IsQuiet (own_at p) (steps_from Elsewhere p)
 unfolding steps_from
 from_quiet p from isnt = ap (steps_if Elsewhere p from) (no_own (at p from) isnt)
+
+-- those of its kind
+pub from_kind : (p : Setup) (kind : Kind) (from : ℕ) → at p from ≡ Some (piece_of Mover kind) → steps_from Elsewhere p from ≡ steps_by Elsewhere p kind from
+unfolding steps_from
+from_kind p kind from e = ap (λ (cell : Cell). steps_if Elsewhere p from (own_kind cell)) e
 
 -- ---- drops
 

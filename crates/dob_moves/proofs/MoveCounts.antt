@@ -12,8 +12,6 @@ use Rattle.dob_moves.proofs.Cases.{one_status}
 use Rattle.dob_moves.proofs.MoveLists.{tried_at, AreMoves-moves_of}
 use Rattle.dob_moves.proofs.Verdicts.{catch_answer}
 
-pub ruleset counts = (length-append)
-
 -- ---- all moves
 
 by_tests : (profile : Profile) (p : Setup) → length p.board ≡ 12 → HasStatus profile p Open → (o : Option Move) (tried : Bool) → o ≡ first (all_steps AtLion p) →
@@ -79,7 +77,7 @@ pub record CountsOn (p : Setup) (left after count new : ℕ) : Type 0 where
 
 pub count_next : (p : Setup) (left place after count steps : ℕ) → AreCounted p left count → 0 < left
     → place ≡ trailing_zeros w16 left → after ≡ without left place
-    → steps ≡ length (steps_from Elsewhere p place) → steps ≤ 12 → CountsOn p left after count (count + steps)
+    → (own_at p place ≡ true → steps ≡ length (steps_from Elsewhere p place)) → steps ≤ 12 → CountsOn p left after count (count + steps)
 count_next p left place after count steps w some e gone is few =
     let it = next_left (own_at p) w.walk.upto left place w.walk.left_are some e in
     let next = walk_next_at w.walk some e gone {new = w.items ++ steps_from Elsewhere p place} (from_quiet p) (λ passes. refl) in
@@ -89,7 +87,7 @@ count_next p left place after count steps w some e gone is few =
       next = record {
         items = w.items ++ steps_from Elsewhere p place;
         walk = next.0;
-        number = omega (arith, length-append w.items (steps_from Elsewhere p place), is, w.number);
+        number = omega (arith, length-append w.items (steps_from Elsewhere p place), is it.passes, w.number);
         few = omega (arith, next.1, it.not_before, w.few, few);
       };
     }

@@ -1,6 +1,7 @@
 pub mod Moves
 pub mod Statuses
 pub mod Outcomes
+pub mod Arrivals
 pub mod Mirrors
 pub mod Laws
 pub mod Walks

@@ -58,8 +58,8 @@ fn stepped(position: &Position, kind: Kind, from: Square, to: Square, grows: boo
     }
 }
 
-// The kind of the stepping piece afterwards.
-fn arrives_as(kind: Kind, grows: bool) -> Kind
+/// The kind of the stepping piece afterwards.
+pub(crate) fn arrives_as(kind: Kind, grows: bool) -> Kind
     ensures { result ≡ arrives_as kind grows }
 {
     if grows { Kind::Hen } else { kind }
@@ -86,9 +86,9 @@ fn dropped(position: &Position, kind: HandKind, to: Square) -> Setup
     }
 }
 
-// The mover's hand after a step to that square.
+/// The mover's hand after a step to that square.
 #[tactic(auto, using(crate::proofs::Outcomes::held_few))]
-fn with_caught(position: &Position, to: Square) -> Hand
+pub(crate) fn with_caught(position: &Position, to: Square) -> Hand
     ensures { result ≡ with_caught position.now.setup.hands.mover (at position.now.setup to) }
 {
     let hand = position.setup.hands.mover;

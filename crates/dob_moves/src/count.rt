@@ -1,11 +1,12 @@
-// The number of a position's moves, counted without a list of them. What is counted is found by the masks of the position and the
-// mover's hand: a setup only says of what they are, and no body reads a board.
+// The number of a position's moves, counted without a list of them, by the position's board alone.
 ghost use Rattle.std.specs.Prelude.{◌≡◌, ◌↔◌, ◌≤◌, ◌*◌, IsTrue, length};
 ghost use Rattle.dob_pieces.specs.declared.profile.Profile.TheVariants.{A};
-ghost use Rattle.dob_pieces.specs.Masks.{AreMasks};
+ghost use Rattle.dob_pieces.specs.Boards.{IsBoardOf};
+ghost use Rattle.dob_pieces.specs.Masks.{AreSquares, is_empty, is_end};
+ghost use Rattle.dob_pieces.specs.Setups.{IsLegal};
 ghost use Rattle.dob_pieces.specs.declared.setup.Setup.{Setup};
 ghost use Rattle.dob_moves.specs.Moves.{CanGo};
-ghost use Rattle.dob_moves.specs.Walks.{steps_by, steps_from, all_steps, drops_of, all_drops};
+ghost use Rattle.dob_moves.specs.Walks.{steps_by, all_steps, drops_of, all_drops};
 ghost use Rattle.dob_moves.specs.MoveLists.{moves_of};
 ghost use Rattle.dob_moves.specs.Laws.{most_moves};
 ghost use Rattle.dob_moves.specs.Statuses.{HasStatus};
@@ -16,89 +17,72 @@ use crate::droppable::squares_for;
 use crate::position_status::Status;
 use crate::status_of::status_by;
 use dob_pieces::{
-    Hand, HandKind, Kind, Masks, Position, Profile, Square, lowest_square, without_square,
+    Board, Hand, HandKind, Kind, Position, Profile, Square, lowest_square, without_square,
 };
 
-// The number of steps of a piece of that kind on that square, other than onto the enemy lion.
-fn count_steps_by(masks: &Masks, kind: Kind, from: Square) -> u8
-    requires { (setup : Setup) × AreMasks setup masks.now }
-    ensures number { (setup : Setup) → AreMasks setup masks.now → result ≡ length (steps_by Elsewhere setup kind from) }
+// The number of steps of a piece of that kind on that square that end on one of these squares.
+fn count_steps_by(ends: u16, kind: Kind, from: Square) -> u8
+    ensures number { (setup : Setup) → AreSquares setup is_end ends → result ≡ length (steps_by Elsewhere setup kind from) }
     ensures few { result ≤ 12 }
 {
-    (kind.targets(from) & masks.ends).count_ones() as u8
-}
-
-// The number of the mover's steps from that square.
-#[tactic(auto, unfolding(crate::specs::Walks::steps_from))]
-fn count_steps_from(masks: &Masks, from: Square) -> u8
-    requires { (setup : Setup) × AreMasks setup masks.now }
-    ensures number { (setup : Setup) → AreMasks setup masks.now → result ≡ length (steps_from Elsewhere setup from) }
-    ensures few { result ≤ 12 }
-{
-    match masks.own_kind(from) {
-        Some(kind) => count_steps_by(masks, kind, from),
-        None => 0,
-    }
+    (kind.targets(from) & ends).count_ones() as u8
 }
 
 // The number of the mover's steps.
-fn count_steps(masks: &Masks) -> u8
-    requires { (setup : Setup) × AreMasks setup masks.now }
-    ensures number { (setup : Setup) → AreMasks setup masks.now → result ≡ length (all_steps Elsewhere setup) }
+fn count_steps(board: &Board) -> u8
+    requires { (setup : Setup) × IsBoardOf setup board.now }
+    ensures number { (setup : Setup) → IsBoardOf setup board.now → result ≡ length (all_steps Elsewhere setup) }
     ensures few { result ≤ 12 * 12 }
 {
+    let ends = board.ends();
     let mut count = 0;
-    let mut left = masks.own;
+    let mut left = board.own();
     while left != 0 {
         let from = lowest_square(left);
-        count += count_steps_from(masks, from);
+        count += count_steps_by(ends, board.own_kind(from), from);
         left = without_square(left, from);
     }
     count
 }
 
-// The number of drops of that kind.
-fn count_drops_of(profile: Profile, masks: &Masks, hand: Hand, kind: HandKind) -> u8
-    requires { (setup : Setup) × AreMasks setup masks.now × (hand ≡ setup.hands.mover) }
-    ensures number { (setup : Setup) → AreMasks setup masks.now → hand ≡ setup.hands.mover → result ≡ length (drops_of profile setup kind) }
+// The number of drops of that kind from the hand on one of these squares.
+fn count_drops_of(profile: Profile, hand: Hand, empty: u16, kind: HandKind) -> u8
+    ensures number { (setup : Setup) → AreSquares setup is_empty empty → hand ≡ setup.hands.mover → result ≡ length (drops_of profile setup kind) }
     ensures few { result ≤ 12 }
 {
     if hand.count(kind) == 0 {
         return 0;
     }
-    (masks.empty & squares_for(profile, kind)).count_ones() as u8
+    (empty & squares_for(profile, kind)).count_ones() as u8
 }
 
 // The number of drops.
-#[tactic(auto, using(crate::proofs::MoveCounts::counts), unfolding(crate::specs::Walks::all_drops))]
-fn count_drops(profile: Profile, masks: &Masks, hand: Hand) -> u8
-    requires { (setup : Setup) × AreMasks setup masks.now × (hand ≡ setup.hands.mover) }
-    ensures number { (setup : Setup) → AreMasks setup masks.now → hand ≡ setup.hands.mover → result ≡ length (all_drops profile setup) }
+fn count_drops(profile: Profile, board: &Board) -> u8
+    ensures number { (setup : Setup) → IsBoardOf setup board.now → result ≡ length (all_drops profile setup) }
     ensures few { result ≤ 36 }
 {
-    count_drops_of(profile, masks, hand, HandKind::Chick)
-        + count_drops_of(profile, masks, hand, HandKind::Elephant)
-        + count_drops_of(profile, masks, hand, HandKind::Giraffe)
+    let hand = board.hands.mover;
+    let empty = board.empty();
+    count_drops_of(profile, hand, empty, HandKind::Chick)
+        + count_drops_of(profile, hand, empty, HandKind::Elephant)
+        + count_drops_of(profile, hand, empty, HandKind::Giraffe)
 }
 
-/// Whether the mover has a step, other than onto the enemy lion, or a drop.
-pub(crate) fn has_move(position: &Position, masks: &Masks, hand: Hand) -> bool
-    requires masks { AreMasks position.now.setup masks.now }
-    requires hand { hand ≡ position.now.setup.hands.mover }
-    ensures { IsTrue result ↔ ((move : Moved) × CanGo A position.now.setup move) }
+/// Whether the mover of the position has a step, other than onto the enemy lion, or a drop.
+pub(crate) fn has_move(board: &Board) -> bool
+    requires { (p : Setup) × IsLegal p × IsBoardOf p board.now }
+    ensures { (p : Setup) → IsLegal p → IsBoardOf p board.now → (IsTrue result ↔ ((move : Moved) × CanGo A p move)) }
 {
-    count_steps(masks) + count_drops(Profile::A, masks, hand) != 0
+    count_steps(board) + count_drops(Profile::A, board) != 0
 }
 
-// The number of moves of a position of that status.
-fn count_at(profile: Profile, position: &Position, masks: &Masks, hand: Hand, status: Status) -> u8
-    requires masks { AreMasks position.now.setup masks.now }
-    requires hand { hand ≡ position.now.setup.hands.mover }
-    requires status { HasStatus profile position.now.setup status }
-    ensures { result ≡ length (moves_of profile position.now.setup) }
+// The number of moves of the position, which has that status.
+fn count_at(profile: Profile, board: &Board, status: Status) -> u8
+    requires { (p : Setup) × IsLegal p × IsBoardOf p board.now }
+    ensures { (p : Setup) → IsLegal p → IsBoardOf p board.now → HasStatus profile p status → result ≡ length (moves_of profile p) }
 {
     match status {
-        Status::Open => { count_steps(masks) + count_drops(profile, masks, hand) }
+        Status::Open => { count_steps(board) + count_drops(profile, board) }
         _ => 0,
     }
 }
@@ -110,28 +94,19 @@ pub fn status_and_count(profile: Profile, position: &Position) -> (Status, u8)
     ensures count { result.1 ≡ length (moves_of profile position.now.setup) }
     ensures few { result.1 ≤ most_moves }
 {
-    let masks = Masks::of(&position.setup);
-    status_and_count_shown(profile, position, &masks, position.setup.hands.mover)
+    status_and_count_by(profile, &Board::of(&position.setup))
 }
 
-/// Status and number of moves by the position's masks and the mover's hand. The position only says of what they are: a caller that makes it for
-/// this call alone doesn't make it when the program runs.
-#[tactic(auto, using(crate::proofs::Shared::share_status, crate::proofs::FewMoves::moves_few))]
+/// The same of the position that the board shows.
 #[inline(always)]
-pub fn status_and_count_shown(
-    profile: Profile,
-    position: &Position,
-    masks: &Masks,
-    hand: Hand,
-) -> (Status, u8)
-    requires masks { AreMasks position.now.setup masks.now }
-    requires hand { hand ≡ position.now.setup.hands.mover }
-    ensures status { HasStatus profile position.now.setup result.0 }
-    ensures count { result.1 ≡ length (moves_of profile position.now.setup) }
+pub fn status_and_count_by(profile: Profile, board: &Board) -> (Status, u8)
+    requires { (p : Setup) × IsLegal p × IsBoardOf p board.now }
+    ensures status { (p : Setup) → IsLegal p → IsBoardOf p board.now → HasStatus profile p result.0 }
+    ensures count { (p : Setup) → IsLegal p → IsBoardOf p board.now → result.1 ≡ length (moves_of profile p) }
     ensures few { result.1 ≤ most_moves }
 {
-    let status = status_by(position, masks, hand);
-    (status, count_at(profile, position, masks, hand, status))
+    let status = status_by(board);
+    (status, count_at(profile, board, status))
 }
 
 /// The number of moves of the position by the rules of the profile, as many as `moves` lists: 0 if it isn't open.

@@ -15,6 +15,7 @@
 
 mod applying;
 mod at_place;
+mod boards_after;
 mod count;
 mod droppable;
 mod first_moves;
@@ -26,9 +27,10 @@ mod status_of;
 
 pub use applying::apply;
 pub use at_place::{catch_at, move_at};
-pub use count::{count_moves, status_and_count, status_and_count_shown};
+pub use boards_after::board_after;
+pub use count::{count_moves, status_and_count, status_and_count_by};
 pub use first_moves::{Aim, own_kind, put_on, step_onto};
 pub use game_move::Move;
 pub use listing::{moves, moves_into};
 pub use position_status::Status;
-pub use status_of::{enemy_lion, first_catch, own_lion, status};
+pub use status_of::{first_catch, status};

@@ -1,17 +1,20 @@
-// The list of a position's moves: the squares of masks, from the lowest on, which is the move order.
+// The list of a position's moves: the squares of masks, from the lowest on, which is the move order. The position's board says all that is asked.
 ghost use Rattle.std.specs.Prelude.{◌≡◌, [], ◌++◌, IfOk, OnOk, OnErr};
-ghost use Rattle.dob_pieces.specs.Masks.{AreMasks};
+ghost use Rattle.dob_pieces.specs.Boards.{IsBoardOf};
+ghost use Rattle.dob_pieces.specs.Masks.{AreSquares, is_empty, is_end};
+ghost use Rattle.dob_pieces.specs.declared.setup.Setup.{Setup};
 ghost use Rattle.dob_moves.specs.Statuses.{HasStatus, AreMoves};
-ghost use Rattle.dob_moves.specs.Walks.{steps_by, steps_from, all_steps, drops_of, all_drops};
+ghost use Rattle.dob_moves.specs.Walks.{steps_by, all_steps, drops_of, all_drops};
 ghost use Rattle.dob_moves.specs.declared.first_moves.Aim.TheVariants.{Elsewhere};
 
 use crate::droppable::squares_for;
-use crate::first_moves::{grows_at, own_kind};
+use crate::first_moves::grows_at;
 use crate::game_move::Move;
 use crate::position_status::Status;
 use crate::status_of::status_by;
 use dob_pieces::{
-    HandKind, Kind, Masks, Memory, Position, Profile, Setup, Square, lowest_square, without_square,
+    Board, Hand, HandKind, Kind, Memory, Position, Profile, Square, has_square, lowest_square,
+    without_square,
 };
 use std::alloc::Global;
 
@@ -19,25 +22,26 @@ use std::alloc::Global;
 // more than 38 moves. Other positions have none, and cost no memory.
 const ROOM: usize = 40;
 
-// Appends the steps of a piece of that kind on that square, other than onto the enemy lion.
+// Appends the steps of a piece of that kind on that square that end on one of these squares.
 fn push_steps_by(
     moves: &mut Vec<Move>,
-    setup: &Setup,
-    masks: &Masks,
+    board: &Board,
+    ends: u16,
     kind: Kind,
     from: Square,
 ) -> Result<(), Memory>
-    requires { AreMasks setup.now masks.now }
-    ensures { OnOk result (moves.new.items ≡ moves.old.items ++ steps_by Elsewhere setup.now kind from) }
+    requires { (setup : Setup) × IsBoardOf setup board.now × AreSquares setup is_end ends }
+    ensures { (setup : Setup) → IsBoardOf setup board.now → AreSquares setup is_end ends
+        → OnOk result (moves.new.items ≡ moves.old.items ++ steps_by Elsewhere setup kind from) }
 {
-    let mut left = kind.targets(from) & masks.ends;
+    let mut left = kind.targets(from) & ends;
     while left != 0 {
         let to = lowest_square(left);
         moves.push(Move::Step {
             kind,
             from,
             to,
-            catch: setup.at(to).is_some(),
+            catch: has_square(board.enemies, to),
             grows: grows_at(kind, to),
         })?;
         left = without_square(left, to);
@@ -45,52 +49,37 @@ fn push_steps_by(
     Ok(())
 }
 
-// Appends the mover's steps from that square.
-#[tactic(auto, using(crate::proofs::Appends::appends), unfolding(crate::specs::Walks::steps_from))]
-fn push_steps_from(
-    moves: &mut Vec<Move>,
-    setup: &Setup,
-    masks: &Masks,
-    from: Square,
-) -> Result<(), Memory>
-    requires { AreMasks setup.now masks.now }
-    ensures { OnOk result (moves.new.items ≡ moves.old.items ++ steps_from Elsewhere setup.now from) }
-{
-    match own_kind(setup.at(from)) {
-        Some(kind) => push_steps_by(moves, setup, masks, kind, from),
-        None => Ok(()),
-    }
-}
-
 // Appends the mover's steps.
-fn push_steps(moves: &mut Vec<Move>, setup: &Setup, masks: &Masks) -> Result<(), Memory>
-    requires { AreMasks setup.now masks.now }
-    ensures { OnOk result (moves.new.items ≡ moves.old.items ++ all_steps Elsewhere setup.now) }
+fn push_steps(moves: &mut Vec<Move>, board: &Board) -> Result<(), Memory>
+    requires { (setup : Setup) × IsBoardOf setup board.now }
+    ensures { (setup : Setup) → IsBoardOf setup board.now → OnOk result (moves.new.items ≡ moves.old.items ++ all_steps Elsewhere setup) }
 {
-    let mut left = masks.own;
+    let ends = board.ends();
+    let mut left = board.own();
     while left != 0 {
         let from = lowest_square(left);
-        push_steps_from(moves, setup, masks, from)?;
+        push_steps_by(moves, board, ends, board.own_kind(from), from)?;
         left = without_square(left, from);
     }
     Ok(())
 }
 
-// Appends the drops of that kind.
+// Appends the drops of that kind from the hand on one of these squares.
 fn push_drops_of(
     moves: &mut Vec<Move>,
     profile: Profile,
-    setup: &Setup,
-    masks: &Masks,
+    hand: Hand,
+    empty: u16,
     kind: HandKind,
 ) -> Result<(), Memory>
-    requires { AreMasks setup.now masks.now }
-    ensures { OnOk result (moves.new.items ≡ moves.old.items ++ drops_of profile setup.now kind) }
+    requires { (setup : Setup) × AreSquares setup is_empty empty × (hand ≡ setup.hands.mover) }
+    ensures { (setup : Setup) → AreSquares setup is_empty empty → hand ≡ setup.hands.mover
+        → OnOk result (moves.new.items ≡ moves.old.items ++ drops_of profile setup kind) }
 {
-    if setup.hands.mover.count(kind) == 0 {
+    if hand.count(kind) == 0 {
         return Ok(());
     }
-    let mut left = masks.empty & squares_for(profile, kind);
+    let mut left = empty & squares_for(profile, kind);
     while left != 0 {
         let to = lowest_square(left);
         moves.push(Move::Put { kind, to })?;
@@ -100,19 +89,15 @@ fn push_drops_of(
 }
 
 // Appends the drops.
-#[tactic(auto, using(crate::proofs::Appends::appends), unfolding(crate::specs::Walks::all_drops))]
-fn push_drops(
-    moves: &mut Vec<Move>,
-    profile: Profile,
-    setup: &Setup,
-    masks: &Masks,
-) -> Result<(), Memory>
-    requires { AreMasks setup.now masks.now }
-    ensures { OnOk result (moves.new.items ≡ moves.old.items ++ all_drops profile setup.now) }
+fn push_drops(moves: &mut Vec<Move>, profile: Profile, board: &Board) -> Result<(), Memory>
+    requires { (setup : Setup) × IsBoardOf setup board.now }
+    ensures { (setup : Setup) → IsBoardOf setup board.now → OnOk result (moves.new.items ≡ moves.old.items ++ all_drops profile setup) }
 {
-    push_drops_of(moves, profile, setup, masks, HandKind::Chick)?;
-    push_drops_of(moves, profile, setup, masks, HandKind::Elephant)?;
-    push_drops_of(moves, profile, setup, masks, HandKind::Giraffe)
+    let hand = board.hands.mover;
+    let empty = board.empty();
+    push_drops_of(moves, profile, hand, empty, HandKind::Chick)?;
+    push_drops_of(moves, profile, hand, empty, HandKind::Elephant)?;
+    push_drops_of(moves, profile, hand, empty, HandKind::Giraffe)
 }
 
 /// Clears the list, writes the moves of an open position by the rules of the profile into it, each once, in the move order,
@@ -128,10 +113,10 @@ pub fn moves_into(
     ensures memory { OnErr result (moves.new.items ≡ []) }
 {
     moves.clear();
-    let masks = Masks::of(&position.setup);
-    match status_by(position, &masks, position.setup.hands.mover) {
+    let board = Board::of(&position.setup);
+    match status_by(&board) {
         Status::Open => {
-            let Ok(()) = push_moves(moves, profile, &position.setup, &masks) else {
+            let Ok(()) = push_moves(moves, profile, &board) else {
                 moves.clear();
                 return Err(Memory);
             };
@@ -142,19 +127,14 @@ pub fn moves_into(
 }
 
 // Appends the steps and drops.
-fn push_moves(
-    moves: &mut Vec<Move>,
-    profile: Profile,
-    setup: &Setup,
-    masks: &Masks,
-) -> Result<(), Memory>
-    requires { AreMasks setup.now masks.now }
-    ensures { OnOk result (moves.new.items ≡ moves.old.items
-        ++ (all_steps Elsewhere setup.now ++ all_drops profile setup.now)) }
+fn push_moves(moves: &mut Vec<Move>, profile: Profile, board: &Board) -> Result<(), Memory>
+    requires { (setup : Setup) × IsBoardOf setup board.now }
+    ensures { (setup : Setup) → IsBoardOf setup board.now
+        → OnOk result (moves.new.items ≡ moves.old.items ++ (all_steps Elsewhere setup ++ all_drops profile setup)) }
 {
     moves.reserve(ROOM)?;
-    push_steps(moves, setup, masks)?;
-    push_drops(moves, profile, setup, masks)
+    push_steps(moves, board)?;
+    push_drops(moves, profile, board)
 }
 
 /// The moves of an open position by the rules of the profile, each once, in the move order; no moves of any other position.

@@ -1,11 +1,10 @@
 -- Who attacks a square, and where the lions stand, by masks.
-use Rattle.dob_pieces.proofs.Common.{◌&&◌, ◌<◌, ◌||◌, ◌∙◌, ◌∷◌, ◌≡◌, Bool, List, None, Some, [], ap, arith, bit_and, bit_or, cond, get_or, inl, inr, length}
-use Rattle.dob_pieces.proofs.Common.{refl, suc, sym, true, ℕ, cases_Bool, sum_by-cons, trailing_zeros, w16, count_by, AreMasks, AreSquares, IsMask, attacks}
+use Rattle.dob_pieces.proofs.Common.{◌&&◌, ◌<◌, ◌||◌, ◌∙◌, ◌∷◌, ◌≡◌, Bool, List, None, Some, [], ap, arith, bit_or, cond, get_or, inl, inr, length}
+use Rattle.dob_pieces.proofs.Common.{refl, suc, sym, true, ℕ, cases_Bool, sum_by-cons, trailing_zeros, w16, count_by, AreSquares, IsMask, attacks}
 use Rattle.dob_pieces.proofs.Common.{attacks_by, is_piece, is_lion, is_side, leads, Cell, HasLions, at, holds_lion, piece_of, Kind, Chick, Elephant, Giraffe}
 use Rattle.dob_pieces.proofs.Common.{Hen, Lion, Piece, Side, Enemy, Mover, Setup}
 use Rattle.std.proofs.Math.Bool.{or-false}
-use Rattle.dob_pieces.specs.declared.masks.Masks.{Masks}
-use Rattle.dob_pieces.proofs.MaskBits.{IsMask-and, IsMask-or, IsMask-same, lowest_is, some_passes}
+use Rattle.dob_pieces.proofs.MaskBits.{IsMask-or, IsMask-same, lowest_is, some_passes}
 
 -- ---- the lions
 
@@ -71,22 +70,16 @@ any_attacks : (cell : Cell) (from to : ℕ) → any_kind cell (λ kind. leads ki
 any_attacks None from to = refl
 any_attacks (Some piece) from to = any_piece piece.side piece.kind (λ kind. leads kind from to)
 
--- the squares of each kind, and those from which it steps to the target
-pub attackers_are : (p : Setup) (masks : Masks) (target lion giraffe elephant chick hen : ℕ) → AreMasks p masks
-    → IsMask (λ from. leads Lion from target) lion → IsMask (λ from. leads Giraffe from target) giraffe
-    → IsMask (λ from. leads Elephant from target) elephant → IsMask (λ from. leads Chick from target) chick
-    → IsMask (λ from. leads Hen from target) hen
-    → IsMask (λ from. attacks p from target)
-    (bit_or (bit_or (bit_or (bit_or (bit_and masks.lion lion) (bit_and masks.giraffes giraffe)) (bit_and masks.elephants elephant))
-    (bit_and masks.chicks chick)) (bit_and masks.hens hen))
-attackers_are p masks target lion giraffe elephant chick hen are to_lion to_giraffe to_elephant to_chick to_hen =
+-- of each kind those that step to the target
+abbrev AreOf : Setup → ℕ → Kind → ℕ → Type 0
+AreOf p target kind = IsMask (λ from. of_kind (at p from) kind (leads kind from target))
+
+pub attackers_are : (p : Setup) (target lion giraffe elephant chick hen : ℕ) → AreOf p target Lion lion → AreOf p target Giraffe giraffe
+    → AreOf p target Elephant elephant → AreOf p target Chick chick → AreOf p target Hen hen
+    → IsMask (λ from. attacks p from target) (bit_or (bit_or (bit_or (bit_or lion giraffe) elephant) chick) hen)
+attackers_are p target lion giraffe elephant chick hen lions giraffes elephants chicks hens =
     IsMask-same _ (λ from. attacks p from target) _ (λ from lt. any_attacks (at p from) from target)
-    (IsMask-or _ _ _ _ (IsMask-or _ _ _ _ (IsMask-or _ _ _ _ (IsMask-or _ _ _ _
-    (IsMask-and _ _ _ _ are.lion_is to_lion)
-    (IsMask-and _ _ _ _ are.giraffes_are to_giraffe))
-    (IsMask-and _ _ _ _ are.elephants_are to_elephant))
-    (IsMask-and _ _ _ _ are.chicks_are to_chick))
-    (IsMask-and _ _ _ _ are.hens_are to_hen))
+    (IsMask-or _ _ _ _ (IsMask-or _ _ _ _ (IsMask-or _ _ _ _ (IsMask-or _ _ _ _ lions giraffes) elephants) chicks) hens)
 
 -- ---- who attacks
 

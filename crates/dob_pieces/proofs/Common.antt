@@ -14,7 +14,7 @@ pub use Rattle.std.specs.List.{AllZip, Any, count_by, list_any, range_with_len, 
 pub use Rattle.std.specs.Prelude.{MatchResult, Result, Vec, slice_get}
 pub use mathlib.Core.Bool.{beq}
 pub use Rattle.dob_pieces.specs.Lists.{each_below, one_if, sum_below}
-pub use Rattle.dob_pieces.specs.Masks.{AreMasks, AreSquares, IsMask, attacks, attacks_by, entry_of, is_empty, is_end, is_own, is_piece, kind_place}
+pub use Rattle.dob_pieces.specs.Masks.{AreSquares, IsMask, attacks, attacks_by, entry_of, is_empty, is_end, is_own, is_piece, kind_place}
 pub use Rattle.dob_pieces.specs.Masks.{own_kind, side_place}
 pub use Rattle.dob_pieces.specs.Pieces.{is_lion, is_side, other_side}
 unfoldable pub use Rattle.dob_pieces.specs.Pieces.{leads}
@@ -28,5 +28,5 @@ pub use Rattle.dob_pieces.specs.declared.kind.Kind.TheVariants.{Chick, Elephant,
 pub use Rattle.dob_pieces.specs.declared.kind.Piece.{Piece}
 pub use Rattle.dob_pieces.specs.declared.kind.Side.{Side}
 pub use Rattle.dob_pieces.specs.declared.kind.Side.TheVariants.{Enemy, Mover}
-pub use Rattle.dob_pieces.specs.declared.masks.TheConstants.{ALL_SQUARES, PLANES}
+pub use Rattle.dob_pieces.specs.declared.masks.TheConstants.{ALL_SQUARES}
 pub use Rattle.dob_pieces.specs.declared.setup.Setup.{Setup}

@@ -15,7 +15,7 @@ pub mod MaskWalks  -- walks over the squares of a mask
 pub mod Attacks  -- who attacks a square
 pub mod Targets  -- the tables of steps are the steps of the kinds
 pub mod Planes  -- several masks in one word
-pub mod OwnKinds  -- the mover's piece on a square, by the masks
+pub mod OwnKinds  -- the mover's piece on a square
 -- Boards as sets of squares.
 pub mod BoardPlanes  -- sets of squares in one pass over a setup's cells
 pub mod BoardChanges  -- sets of squares when one square changes

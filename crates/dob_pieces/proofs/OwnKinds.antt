@@ -1,14 +1,20 @@
--- The mover's piece on a square, found by the masks.
-use Rattle.dob_pieces.proofs.Common.{◌≡◌, None, Some, arith, false, true, is_piece, own_kind, Cell, piece_of, Kind, Chick, Elephant, Giraffe, Hen, Lion, Mover}
+-- The mover's piece on a square, by the sets of a board.
+use Rattle.dob_pieces.proofs.Common.{◌≡◌, Some, arith, false, true, is_own, own_kind, Cell, piece_of, Kind, Chick, Elephant, Giraffe, Hen, Mover}
+use Rattle.dob_pieces.specs.Boards.{is_elephant, is_giraffe, is_hen, is_own_lion}
 
--- a cell with the mover's piece of that kind
-pub that_kind : (kind : Kind) (cell : Cell) → is_piece Mover kind cell ≡ true → Some kind ≡ own_kind cell
-that_kind kind cell h = grind arith
+pub own_giraffe : (cell : Cell) → is_own cell ≡ true → is_giraffe cell ≡ true → cell ≡ Some (piece_of Mover Giraffe)
+own_giraffe cell own is = grind arith
 
--- a cell with none of the five
-pub no_kind : (cell : Cell) → is_piece Mover Lion cell ≡ false → is_piece Mover Giraffe cell ≡ false → is_piece Mover Elephant cell ≡ false
-    → is_piece Mover Chick cell ≡ false → is_piece Mover Hen cell ≡ false → None ≡ own_kind cell
-no_kind cell l g e c h = grind arith
+pub own_elephant : (cell : Cell) → is_own cell ≡ true → is_elephant cell ≡ true → cell ≡ Some (piece_of Mover Elephant)
+own_elephant cell own is = grind arith
+
+pub own_hen : (cell : Cell) → is_own cell ≡ true → is_hen cell ≡ true → cell ≡ Some (piece_of Mover Hen)
+own_hen cell own is = grind arith
+
+-- a chick is what is left
+pub own_chick : (cell : Cell) → is_own cell ≡ true → is_own_lion cell ≡ false → is_giraffe cell ≡ false → is_elephant cell ≡ false → is_hen cell ≡ false
+    → cell ≡ Some (piece_of Mover Chick)
+own_chick cell own l g e h = grind arith
 
 -- what a cell whose own piece has that kind holds
 pub own_cell : (cell : Cell) (kind : Kind) → own_kind cell ≡ Some kind → cell ≡ Some (piece_of Mover kind)

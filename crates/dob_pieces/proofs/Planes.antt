@@ -1,14 +1,15 @@
--- Masks made in one pass over the board: several in one word, twelve bits each, which no sum carries over.
-use Rattle.dob_pieces.proofs.Common.{◌%◌, ◌&&◌, ◌+◌, ◌-◌, ◌/◌, ◌<◌, ◌^◌, ◌||◌, ◌∙◌, ◌∷◌, ◌≡◌, ◌≤◌, Bool, List, None, Some, [], ap, arith, bit_and, drop, false}
-use Rattle.dob_pieces.proofs.Common.{length, map, not, refl, slice_index_or, suc, sym, true, ℕ, get_or-map, length-drop, length-map, bit_mask_l, mask_l-lt}
-use Rattle.dob_pieces.proofs.Common.{bit_not, AreSquares, IsMask, entry_of, is_empty, is_own, is_piece, kind_place, side_place, Cell, at, piece_of, Kind, Chick}
-use Rattle.dob_pieces.proofs.Common.{Elephant, Giraffe, Hen, Lion, Side, Enemy, Mover, ALL_SQUARES, PLANES, Setup}
+-- Sets made in one pass over the board: several in one word, twelve bits each, which no sum carries over. Sets of two others.
+use Rattle.dob_pieces.proofs.Common.{◌%◌, ◌&&◌, ◌+◌, ◌/◌, ◌<◌, ◌^◌, ◌||◌, ◌∷◌, ◌≡◌, ◌≤◌, Bool, List, None, Some, [], arith, bit_and, bit_or, drop, false}
+use Rattle.dob_pieces.proofs.Common.{length, map, not, refl, slice_index_or, sym, true, ℕ, get_or-map, length-drop, length-map, bit_mask_l, mask_l-lt}
+use Rattle.dob_pieces.proofs.Common.{bit_not, AreSquares, IsMask, kind_place, side_place, Cell, at, piece_of, Kind, Chick}
+use Rattle.dob_pieces.proofs.Common.{Elephant, Giraffe, Hen, Lion, Side, Enemy, Mover, ALL_SQUARES, Setup}
 use Rattle.std.proofs.Common.{◌*◌, w16}
 use Rattle.std.specs.Simd.Lanes.{mask_l}
 use Rattle.std.proofs.Math.Pow.{pow_mono}
-use Rattle.std.proofs.Math.Seq.{drop-cons}
-use Rattle.dob_pieces.proofs.MaskBits.{IsMask-and, IsMask-without, IsMask-same}
+use Rattle.dob_pieces.proofs.MaskBits.{IsMask-and, IsMask-or, IsMask-without, IsMask-same}
 use Rattle.dob_pieces.proofs.Targets.{is_mask}
+use Rattle.dob_pieces.specs.Boards.{IsBoardOf, is_chick, is_elephant, is_giraffe}
+use Rattle.dob_pieces.specs.declared.board.Board.{Board}
 
 -- ---- one mask
 
@@ -25,44 +26,11 @@ are_squares setup test mask twelve e = grind (arith, mask_of-lt, bit_mask_l, get
 
 -- ---- five planes in one word
 
-abbrev pub is_lion : Cell → Bool
-is_lion cell = is_piece Mover Lion cell || is_piece Enemy Lion cell
-
-abbrev pub is_straight : Cell → Bool
-is_straight cell = is_piece Mover Giraffe cell || is_piece Mover Hen cell
-
-abbrev pub is_aslant : Cell → Bool
-is_aslant cell = is_piece Mover Elephant cell || is_piece Mover Hen cell
-
-abbrev pub is_chick_or_empty : Cell → Bool
-is_chick_or_empty cell = is_piece Mover Chick cell || is_empty cell
-
 -- five numbers of twelve bits in one
 abbrev pub word_by : ℕ → ℕ → ℕ → ℕ → ℕ → ℕ
 word_by a b c d e = a + 4096 * b + 16777216 * c + 68719476736 * d + 281474976710656 * e
 
-unfoldable pub word_of : List Cell → ℕ
-word_of cells = word_by (mask_of is_own cells) (mask_of is_lion cells) (mask_of is_straight cells) (mask_of is_aslant cells) (mask_of is_chick_or_empty cells)
-
-word_piece : (side : Side) (kind : Kind) (cells : List Cell)
-    → word_of (Some (piece_of side kind) ∷ cells) ≡ 2 * word_of cells + entry_of PLANES (Some (piece_of side kind))
-unfolding word_of
-word_piece Mover Lion cells = omega arith
-word_piece Enemy Lion cells = omega arith
-word_piece _ _ cells = omega arith
-
-word_cell : (cell : Cell) (cells : List Cell) → word_of (cell ∷ cells) ≡ 2 * word_of cells + entry_of PLANES cell
-unfolding word_of
-word_cell None cells = omega arith
-word_cell (Some piece) cells = word_piece piece.side piece.kind cells
-
--- ---- one more square
-
-word_more : (board : List Cell) (i word read : ℕ) → i < length board → word ≡ word_of (drop (suc i) board)
-    → read ≡ entry_of PLANES (slice_index_or board i None) → 2 * word + read ≡ word_of (drop i board)
-word_more board i word read lt w r = grind (arith, drop-cons, word_cell)
-
--- ---- the masks in a word
+-- ---- the sets in a word
 
 -- a mask of at most twelve cells has twelve bits
 pub mask_of-small : (test : Cell → Bool) (cells : List Cell) → length cells ≤ 12 → mask_of test cells < 4096
@@ -85,15 +53,6 @@ pub record AreIn (word a b c d e : ℕ) : Type 0 where
 pub word_by-parts : (a b c d e : ℕ) → a < 4096 → b < 4096 → c < 4096 → d < 4096 → e < 4096 → AreIn (word_by a b c d e) a b c d e
 word_by-parts a b c d e small-a small-b small-c small-d small-e = grind arith
 
-word_small : (cells : List Cell) → length cells ≤ 12 → word_of cells < 2 ^ 60
-unfolding word_of
-word_small cells le = grind (arith, word_by-small, mask_of-small)
-
-pub word_planes : (cells : List Cell) → length cells ≤ 12 → AreIn (word_of cells) (mask_of is_own cells) (mask_of is_lion cells)
-    (mask_of is_straight cells) (mask_of is_aslant cells) (mask_of is_chick_or_empty cells)
-unfolding word_of
-word_planes cells le = grind (arith, word_by-parts, mask_of-small)
-
 -- ---- the pass over the board
 
 pub from_start : (board : List Cell) (square : ℕ) → length board ≡ 12 → length (drop square board) ≤ 12
@@ -105,23 +64,7 @@ pub record IsRead (word next bound : ℕ) (after : ℕ) : Type 0 where
   pub small_next : next < bound
   pub next_is : next ≡ after
 
-pub word_read : (board : List Cell) (square word read : ℕ) → length board ≡ 12 → 0 < square → square ≤ 12 → word ≡ word_of (drop square board)
-    → read ≡ entry_of PLANES (slice_index_or board (square - 1) None)
-    → IsRead word (2 * word + read) (2 ^ 60) (word_of (drop (square - 1) board))
-word_read board square word read twelve some le w r =
-    let e : square ≡ suc (square - 1) = omega arith in
-    let next = word_more board (square - 1) word read (omega arith) (w ∙ ap (λ (k : ℕ). word_of (drop k board)) e) r in
-    let before = word_small (drop square board) (from_start board square twelve) in
-    let after = word_small (drop (square - 1) board) (from_start board (square - 1) twelve) in
-    record { small = rw w before; small_next = rw next after; next_is = next }
-
--- nothing is read of no squares
-pub none_read : (board : List Cell) → length board ≡ 12 → 0 ≡ word_of (drop 12 board)
-unfolding word_of
-none_read (a ∷ b ∷ c ∷ d ∷ e ∷ i ∷ j ∷ k ∷ l ∷ m ∷ n ∷ o ∷ []) twelve = omega arith
-none_read board twelve = absurd (omega arith)
-
--- ---- what the planes say of each cell
+-- ---- what two sets say of each cell
 
 abbrev pub all_cells : List Cell
 all_cells =
@@ -158,7 +101,7 @@ everywhere test all = IsMask-same (λ square. true) test ALL_SQUARES (λ square 
 pub all_are : (setup : Setup) → AreSquares setup (λ cell. true) ALL_SQUARES
 all_are setup = everywhere (λ square. true) (λ square. refl)
 
--- the masks of two planes
+-- the squares of two sets
 pub of_both : (setup : Setup) (f g test : Cell → Bool) (a b : ℕ) → map (λ cell. f cell && g cell) all_cells ≡ map test all_cells
     → AreSquares setup f a → AreSquares setup g b → AreSquares setup test (bit_and a b)
 of_both setup f g test a b e is are =
@@ -166,9 +109,29 @@ of_both setup f g test a b e is are =
     (λ square lt. same_test (λ cell. f cell && g cell) test e (at setup square))
     (IsMask-and (λ square. f (at setup square)) (λ square. g (at setup square)) a b is are)
 
+-- those of the first without the second
 pub of_first : (setup : Setup) (f g test : Cell → Bool) (a b : ℕ) → map (λ cell. f cell && not (g cell)) all_cells ≡ map test all_cells
     → AreSquares setup f a → AreSquares setup g b → AreSquares setup test (bit_and a (bit_not w16 b))
 of_first setup f g test a b e is are =
     IsMask-same (λ square. f (at setup square) && not (g (at setup square))) (λ square. test (at setup square)) (bit_and a (bit_not w16 b))
     (λ square lt. same_test (λ cell. f cell && not (g cell)) test e (at setup square))
     (IsMask-without (λ square. f (at setup square)) (λ square. g (at setup square)) a b is are)
+
+abbrev pub either : (Cell → Bool) → (Cell → Bool) → Cell → Bool
+either f g cell = f cell || g cell
+
+-- and those of either
+pub of_either : (setup : Setup) (f g test : Cell → Bool) (a b : ℕ) → map (either f g) all_cells ≡ map test all_cells → AreSquares setup f a
+    → AreSquares setup g b → AreSquares setup test (bit_or a b)
+of_either setup f g test a b e is are =
+    IsMask-same (λ s. f (at setup s) || g (at setup s)) (λ s. test (at setup s)) (bit_or a b) (λ s lt. same_test (either f g) test e (at setup s))
+    (IsMask-or (λ s. f (at setup s)) (λ s. g (at setup s)) a b is are)
+
+-- a piece other than a lion
+abbrev pub is_other : Cell → Bool
+is_other = either (either is_chick is_elephant) is_giraffe
+
+pub others_are : (setup : Setup) (b : Board) → IsBoardOf setup b → AreSquares setup is_other (bit_or (bit_or b.chicks b.elephants) b.giraffes)
+others_are setup b are =
+    of_either setup (either is_chick is_elephant) is_giraffe is_other _ b.giraffes refl
+    (of_either setup is_chick is_elephant (either is_chick is_elephant) b.chicks b.elephants refl are.chicks_are are.elephants_are) are.giraffes_are

@@ -1,5 +1,5 @@
 -- A setup as sets of squares, with no list of cells.
-use Rattle.std.specs.Prelude.{◌≡◌, ℕ, ◌/◌, ◌%◌, ◌||◌, Bool, false, Some, None}
+use Rattle.std.specs.Prelude.{◌≡◌, ℕ, ◌/◌, ◌%◌, ◌||◌, Bool, false, Some, None, length}
 use Rattle.dob_pieces.specs.declared.board.Board.{Board}
 use Rattle.dob_pieces.specs.declared.kind.HandKind.TheVariants as hand
 use Rattle.dob_pieces.specs.declared.kind.Kind.TheVariants.{Lion, Hen}
@@ -7,7 +7,7 @@ use Rattle.dob_pieces.specs.declared.kind.Side.TheVariants.{Mover, Enemy}
 use Rattle.dob_pieces.specs.declared.setup.Setup.{Setup}
 use Rattle.dob_pieces.specs.Masks.{AreSquares, is_piece, is_prey}
 use Rattle.dob_pieces.specs.Pieces.{is_side}
-use Rattle.dob_pieces.specs.Setups.{Cell, holds_kind}
+use Rattle.dob_pieces.specs.Setups.{Cell, HasLions, holds_kind}
 
 abbrev pub is_own_lion : Cell → Bool
 is_own_lion = is_piece Mover Lion
@@ -43,6 +43,10 @@ pub record IsBoardOf (setup : Setup) (board : Board) : Type 0 where
   pub hens_are : AreSquares setup is_hen board.hens
   pub enemies_are : AreSquares setup is_enemy board.enemies
   pub hands_are : board.hands ≡ setup.hands
+
+-- twelve squares, on which each side has one lion
+abbrev pub HasTwoLions : Setup → Type 0
+HasTwoLions setup = (length setup.board ≡ 12) × HasLions setup
 
 -- ---- sets in one word, twelve bits each
 

@@ -6,7 +6,6 @@ use Rattle.dob_pieces.specs.declared.kind.Kind.TheVariants.{Lion, Giraffe, Eleph
 use Rattle.dob_pieces.specs.declared.kind.Side.{Side}
 use Rattle.dob_pieces.specs.declared.kind.Side.TheVariants.{Mover, Enemy}
 use Rattle.dob_pieces.specs.declared.setup.Setup.{Setup}
-use Rattle.dob_pieces.specs.declared.masks.Masks.{Masks}
 use Rattle.dob_pieces.specs.Pieces.{is_side, leads}
 use Rattle.dob_pieces.specs.Setups.{Cell, at}
 
@@ -69,18 +68,6 @@ attacks_by (Some piece) from to = is_side Mover piece.side && leads piece.kind f
 -- the mover's piece on the first square attacks the second
 abbrev pub attacks : Setup → ℕ → ℕ → Bool
 attacks p from to = attacks_by (at p from) from to
-
--- each mask has the squares that its name says
-pub record AreMasks (setup : Setup) (masks : Masks) : Type 0 where
-  pub lion_is : AreSquares setup (is_piece Mover Lion) masks.lion
-  pub giraffes_are : AreSquares setup (is_piece Mover Giraffe) masks.giraffes
-  pub elephants_are : AreSquares setup (is_piece Mover Elephant) masks.elephants
-  pub chicks_are : AreSquares setup (is_piece Mover Chick) masks.chicks
-  pub hens_are : AreSquares setup (is_piece Mover Hen) masks.hens
-  pub own_are : AreSquares setup is_own masks.own
-  pub ends_are : AreSquares setup is_end masks.ends
-  pub empty_are : AreSquares setup is_empty masks.empty
-  pub enemy_lion_is : AreSquares setup (is_piece Enemy Lion) masks.enemy_lion
 
 -- the places of the kinds and of the sides in their lists
 abbrev pub kind_place : Kind → ℕ

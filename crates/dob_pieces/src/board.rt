@@ -1,14 +1,16 @@
 // What stands on the board as sets of squares by side and kind, with no list of cells: what must be fast reads these. A setup's sets come from one pass over
 // its cells, without a branch on what stands there.
-ghost use Rattle.std.specs.Prelude.{◌≡◌, ℕ, Bool};
-ghost use Rattle.dob_pieces.specs.Boards.{IsBoardOf, HasPlanes};
-ghost use Rattle.dob_pieces.specs.Masks.{AreMasks, IsMask};
-ghost use Rattle.dob_pieces.specs.Setups.{mirrored, turned};
+ghost use Rattle.std.specs.Prelude.{◌≡◌, ℕ, Bool, true};
+ghost use Rattle.dob_pieces.specs.Boards.{IsBoardOf, HasPlanes, HasTwoLions};
+ghost use Rattle.dob_pieces.specs.Masks.{AreSquares, IsMask, attacks, is_empty, is_end, is_own, is_piece};
+ghost use Rattle.dob_pieces.specs.Setups.{at, mirrored, piece_of, turned};
 ghost use Rattle.dob_pieces.specs.Squares.{mirrored_square};
+ghost use Rattle.dob_pieces.specs.declared.kind.Side.TheVariants.{Mover, Enemy};
 ghost use Rattle.dob_pieces.specs.declared.setup.Setup.{Setup};
 
 use crate::hand::Hands;
-use crate::masks::{ALL_SQUARES, CellTable, Masks, entry_of, plane};
+use crate::kind::Kind;
+use crate::masks::{ALL_SQUARES, CellTable, entry_of, has_square, lowest_square, plane};
 use crate::setup::Setup;
 use crate::square::Square;
 
@@ -158,23 +160,87 @@ impl Board {
         aside & COLUMN_C != 0
     }
 
-    /// The masks of the setup.
-    pub fn masks(&self) -> Masks
-        ensures { (setup : Setup) → IsBoardOf setup self.now → AreMasks setup result }
+    /// The mover's pieces.
+    #[inline(always)]
+    pub fn own(&self) -> u16
+        ensures { (setup : Setup) → IsBoardOf setup self.now → AreSquares setup is_own result }
+    {
+        self.own_lion | (self.chicks | self.elephants | self.giraffes) & !self.enemies
+    }
+
+    // The mover's pieces of that kind.
+    #[inline(always)]
+    fn own_of(&self, kind: Kind) -> u16
+        ensures { (setup : Setup) → IsBoardOf setup self.now → AreSquares setup (is_piece Mover kind) result }
+    {
+        match kind {
+            Kind::Lion => self.own_lion,
+            Kind::Giraffe => self.giraffes & !self.enemies,
+            Kind::Elephant => self.elephants & !self.enemies,
+            Kind::Chick => self.chicks & !(self.hens | self.enemies),
+            Kind::Hen => self.hens & !self.enemies,
+        }
+    }
+
+    /// The empty squares.
+    #[inline(always)]
+    pub fn empty(&self) -> u16
+        ensures { (setup : Setup) → IsBoardOf setup self.now → AreSquares setup is_empty result }
     {
         let pieces = self.chicks | self.elephants | self.giraffes;
-        let empty = ALL_SQUARES & !(self.own_lion | self.enemy_lion | pieces);
-        Masks {
-            lion: self.own_lion,
-            giraffes: self.giraffes & !self.enemies,
-            elephants: self.elephants & !self.enemies,
-            chicks: self.chicks & !(self.hens | self.enemies),
-            hens: self.hens & !self.enemies,
-            own: self.own_lion | pieces & !self.enemies,
-            ends: empty | self.enemies,
-            empty,
-            enemy_lion: self.enemy_lion,
+        ALL_SQUARES & !(self.own_lion | self.enemy_lion | pieces)
+    }
+
+    /// Where a step of the mover may end: empty squares, and enemy pieces other than the lion.
+    #[inline(always)]
+    pub fn ends(&self) -> u16
+        ensures { (setup : Setup) → IsBoardOf setup self.now → AreSquares setup is_end result }
+    {
+        self.empty() | self.enemies
+    }
+
+    /// The mover's pieces that attack the square.
+    pub fn attackers(&self, target: Square) -> u16
+        ensures { (setup : Setup) → IsBoardOf setup self.now → IsMask (λ from. attacks setup from target) result }
+    {
+        self.own_of(Kind::Lion) & Kind::Lion.sources(target)
+            | self.own_of(Kind::Giraffe) & Kind::Giraffe.sources(target)
+            | self.own_of(Kind::Elephant) & Kind::Elephant.sources(target)
+            | self.own_of(Kind::Chick) & Kind::Chick.sources(target)
+            | self.own_of(Kind::Hen) & Kind::Hen.sources(target)
+    }
+
+    /// The kind of the mover's piece on the square, on which one stands.
+    pub fn own_kind(&self, square: Square) -> Kind
+        ensures { (setup : Setup) → IsBoardOf setup self.now → is_own (at setup square) ≡ true → at setup square ≡ Some (piece_of Mover result) }
+    {
+        if has_square(self.own_lion, square) {
+            Kind::Lion
+        } else if has_square(self.giraffes, square) {
+            Kind::Giraffe
+        } else if has_square(self.elephants, square) {
+            Kind::Elephant
+        } else if has_square(self.hens, square) {
+            Kind::Hen
+        } else {
+            Kind::Chick
         }
+    }
+
+    /// The square of the mover's lion.
+    pub fn own_lion_square(&self) -> Square
+        requires { (setup : Setup) × HasTwoLions setup × IsBoardOf setup self.now }
+        ensures { (setup : Setup) → HasTwoLions setup → IsBoardOf setup self.now → at setup result ≡ Some (piece_of Mover Kind.Lion) }
+    {
+        lowest_square(self.own_lion)
+    }
+
+    /// The square of the enemy's lion.
+    pub fn enemy_lion_square(&self) -> Square
+        requires { (setup : Setup) × HasTwoLions setup × IsBoardOf setup self.now }
+        ensures { (setup : Setup) → HasTwoLions setup → IsBoardOf setup self.now → at setup result ≡ Some (piece_of Enemy Kind.Lion) }
+    {
+        lowest_square(self.enemy_lion)
     }
 }
 

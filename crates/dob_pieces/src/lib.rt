@@ -9,7 +9,7 @@
 //   proved against it.
 // - Masks are numbers of sixteen bits, not a type: `IsMask` says which squares one has, and `&` and `|` stay what they are.
 // - A table by what stands on a cell has two indices, kind and owner (`entry_of`), in rows of four whose last entry is padding, so that the index is an
-//   address. Nine masks, and the seven sets of a `Board`, come from five planes of one word.
+//   address. The seven sets of a `Board` come from five planes of one word.
 // - A position has two forms. A `Setup` is twelve cells and the hands: definitions, texts and other languages speak of it. A `Board` is sets of squares by
 //   side and kind, and the hands: what must be fast reads it. A relation (`IsBoardOf`) says what it shows, so contracts can speak of a setup that the code
 //   doesn't have.
@@ -19,6 +19,7 @@
 #![tactic(auto)]
 
 mod board;
+mod changes;
 mod fault;
 mod hand;
 mod kind;
@@ -36,7 +37,7 @@ pub use board::Board;
 pub use fault::PositionFault;
 pub use hand::{Hand, Hands};
 pub use kind::{HandKind, Kind, Piece, Side};
-pub use masks::{ALL_SQUARES, Masks, lowest_square, without_square};
+pub use masks::{ALL_SQUARES, has_square, lowest_square, without_square};
 pub use memory::Memory;
 pub use piece_set::{PieceSet, SetText};
 pub use position::Position;

@@ -15,7 +15,7 @@ ghost use Rattle.dob_unmove.specs.Threats.{IsThreat};
 use crate::earlier::open_before;
 use crate::walk::{Taker, take_all};
 use dob_classes::Classes;
-use dob_pieces::{Memory, Position, Setup};
+use dob_pieces::{Board, Memory, Position, Setup};
 use dob_unmove::{Threat, Undo, may_give_back};
 
 // What finds classes: their numbering, and the threat to the enemy lion in the setup from which ways back are taken.
@@ -75,9 +75,10 @@ fn gather(room: Vec<u64>, classes: &Classes, representative: &Position) -> Resul
     let mut found = room;
     found.clear();
     let after = representative.turned();
+    let board = Board::of(&after);
     let finder = Finder {
         classes,
-        threat: Threat::of(&after),
+        threat: Threat::of(&board),
     };
     take_all(&finder, &after, &mut found)?;
     let image = representative.mirrored();
@@ -85,9 +86,10 @@ fn gather(room: Vec<u64>, classes: &Classes, representative: &Position) -> Resul
         return Ok(found);
     }
     let image_after = image.turned();
+    let image_board = Board::of(&image_after);
     let image_finder = Finder {
         classes,
-        threat: Threat::of(&image_after),
+        threat: Threat::of(&image_board),
     };
     take_all(&image_finder, &image_after, &mut found)?;
     Ok(found)

@@ -9,7 +9,6 @@ pub use Rattle.std.proofs.lemmas.List.Elements.{Contains-append_left, Contains-a
 pub use Rattle.std.proofs.lemmas.List.Quantifiers.{all_pairs_push}
 pub use Rattle.std.proofs.lemmas.Option.{get_or_from_slice_get, same_Some, slice_get_read, slice_get_within}
 pub use Rattle.std.specs.List.{list_any}
-pub use Rattle.dob_pieces.proofs.Attacks.{lion_at, lion_mask}
 pub use Rattle.dob_pieces.proofs.Boards.{at-turned, length-turned, one_lion}
 pub use Rattle.dob_pieces.proofs.Elements.{before_or_here, get_front, standing}
 pub use Rattle.dob_pieces.specs.Setups.{HasLions, IsLegal, at, held, mirrored, piece_of, turned_cell, with_one_less}
@@ -45,7 +44,6 @@ pub use Rattle.dob_probe.specs.Faults.{IsFaultOfLine}
 pub use Rattle.dob_probe.specs.Lines.{Begins, BreaksAt, Continues, EndsAt, GivenBy, GoesOnTo, IsFirstTo, IsLine, LacksMove, LeadsTo, value_wanted}
 pub use Rattle.dob_probe.specs.Outlines.{AreAlike, AreLike, AreOutlines, IsOutline, IsOutlineOf, same_outline}
 pub use Rattle.dob_probe.specs.Puzzles.{ArePuzzles, IsListedNext, IsPassed, IsPuzzle, IsSpread, puzzle_of}
-pub use Rattle.dob_probe.specs.ShownMoves.{HasArrived}
 pub use Rattle.dob_probe.specs.SingleMoves.{IsPuzzleOf, IsSingleMove}
 pub use Rattle.dob_probe.specs.Slots.{AreSlots, part_of}
 pub use Rattle.dob_probe.specs.Sums.{AreSummed, HasNext, IsGreatestWin, TellsDraw, value_after}

@@ -5,7 +5,6 @@ pub mod Entries  -- each entry is that of a class, and a position has one
 pub mod Ways  -- lines as they grow, and where they break off
 pub mod Relations  -- what holds by one relation of positions and values holds by another
 pub mod Best  -- by the value table lines are the best lines, and none breaks off
-pub mod ShownMoves  -- what the enemy sees of a move, and the class that sets of squares show
 pub mod Kept  -- what is kept of a list of values, as the list grows
 pub mod Following  -- the one value that follows from the successors' values
 pub mod Verdicts  -- the first fault among the verdicts of all classes

@@ -2,7 +2,6 @@ pub mod Lines
 pub mod Said
 pub mod Checks
 pub mod Sums
-pub mod ShownMoves
 pub mod ValuedMoves
 pub mod Walks
 pub mod Outlines  -- positions that are alike

@@ -23,7 +23,6 @@ mod members;
 mod outlines;
 mod probes;
 mod puzzles;
-mod shown_moves;
 mod successors;
 mod values;
 mod walks;

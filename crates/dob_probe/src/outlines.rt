@@ -4,8 +4,7 @@ ghost use Rattle.std.specs.List.{list_any};
 ghost use Rattle.dob_pieces.specs.Setups.{held, holds_kind, total};
 ghost use Rattle.dob_probe.specs.Outlines.{IsOutline, same_outline};
 
-use dob_moves::{enemy_lion, own_lion};
-use dob_pieces::{HandKind, Masks, Position};
+use dob_pieces::{Board, HandKind, Position};
 
 /// How many pieces of each kind stand on the board, hens counted with the chicks, and where the lions stand.
 #[derive(Clone, Copy)]
@@ -21,13 +20,13 @@ pub(crate) struct Outline {
 pub(crate) fn outline_of(position: &Position) -> Outline
     ensures { IsOutline position.now.setup result }
 {
-    let masks = Masks::of(&position.setup);
+    let board = Board::of(&position.setup);
     Outline {
         chicks: on_board(position, HandKind::Chick),
         elephants: on_board(position, HandKind::Elephant),
         giraffes: on_board(position, HandKind::Giraffe),
-        lion: own_lion(position, &masks).index(),
-        enemy_lion: enemy_lion(position, &masks).index(),
+        lion: board.own_lion_square().index(),
+        enemy_lion: board.enemy_lion_square().index(),
     }
 }
 

@@ -15,8 +15,7 @@ ghost use Rattle.dob_distance.specs.Distances.{lesser_of, greater_of};
 ghost use Rattle.dob_probe.specs.Lines.{GivenBy};
 ghost use Rattle.dob_probe.specs.Sums.{AreSummed, HasNext, value_after};
 
-use crate::shown_moves::bits_after;
-use dob_moves::{Move, Status, moves_into};
+use dob_moves::{Move, Status, board_after, moves_into};
 use dob_pieces::{Board, Memory, Position};
 use dob_value::{Table, Value, outcome_of};
 
@@ -153,8 +152,8 @@ fn value_shown(table: &Table, position: &Position, seen: &Board, played: Move) -
     requires seen { IsBoardOf (turned position.now.setup) seen.now }
     ensures { (q : Setup) → Goes table.now.family.profile position.now.setup played q → GivenBy table.now q result }
 {
-    let board = bits_after(position, seen, played);
-    let class = table.classes().class_shown(&board);
+    let board = board_after(position, seen, played);
+    let class = table.classes().class_by(&board);
     table.value(class)
 }
 

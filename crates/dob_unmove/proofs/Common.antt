@@ -13,7 +13,7 @@ pub use Rattle.std.proofs.lemmas.Result.{on_ok_weaker}
 pub use Rattle.std.specs.Int.{trailing_zeros, w16}
 pub use Rattle.std.specs.List.{count_by, filter}
 pub use Rattle.std.specs.Option.{MatchOption, is_some}
-pub use Rattle.dob_pieces.proofs.Attacks.{attacks_piece, cell_lion, is_that_lion, lion_at, lion_mask, own_attacks}
+pub use Rattle.dob_pieces.proofs.Attacks.{attacks_piece, cell_lion, is_that_lion, lion_at, own_attacks}
 pub use Rattle.dob_pieces.proofs.Boards.{HasFewPieces-turned, HasLions-turned, IsLegal-mirrored, all_below, all_below-at, at-mirrored, at-turned, leads-apart}
 pub use Rattle.dob_pieces.proofs.Boards.{leads-to_board, length-mirrored, length-turned, one_lion, own_lion, total-mirrored, within-from_piece}
 pub use Rattle.dob_pieces.proofs.Lists.{cond_sound, cons_cases, each_sound, head_in, none_in_empty}
@@ -22,7 +22,7 @@ pub use Rattle.dob_pieces.proofs.Planes.{everywhere}
 pub use Rattle.dob_pieces.proofs.Symmetries.{at-image, turned-mirrored, turned-turned}
 pub use Rattle.dob_pieces.proofs.Targets.{has_bits, is_mask}
 pub use Rattle.dob_pieces.specs.Lists.{each_below, one_if}
-pub use Rattle.dob_pieces.specs.Masks.{AreMasks, IsMask, attacks, attacks_by, is_empty, is_kind, is_own, is_piece, kind_place}
+pub use Rattle.dob_pieces.specs.Masks.{AreSquares, IsMask, attacks, attacks_by, is_empty, is_kind, is_own, is_piece, kind_place}
 pub use Rattle.dob_pieces.specs.Pieces.{kind_in_hand, kind_on_board}
 unfoldable pub use Rattle.dob_pieces.specs.Pieces.{leads}
 pub use Rattle.dob_pieces.specs.Profiles.{IsAllowed, is_far, may_stand}

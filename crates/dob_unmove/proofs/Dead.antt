@@ -96,10 +96,10 @@ module _ (walk : Walk) (w : CanWalk walk) where
   -- ---- where the move can't have ended
 
   abbrev lion_now : ℕ
-  lion_now = trailing_zeros w16 walk.ways.now.masks.lion
+  lion_now = trailing_zeros w16 walk.ways.now.board.own_lion
 
   lion_is_now : at after lion_now ≡ own_lion
-  lion_is_now = lion_at after Mover walk.ways.now.masks.lion lion_now (turned_squares after legal) (turned_lions after legal) w.ways_are.masks_are.lion_is refl
+  lion_is_now = lion_at after Mover walk.ways.now.board.own_lion lion_now (turned_squares after legal) (turned_lions after legal) w.ways_are.board_is.own_lion_is refl
 
   pub ends_dead : AreDead (RepresentsClass family) after (may_have_ended after threat w.ways_are.stays) (undoes_at after)
   ends_dead k lt off u inside =
@@ -141,6 +141,12 @@ end_home after danger stays to lions tells on square there =
       | inl at_home ↦ inr (tells square there ∙ at_home)
       | inr moved ↦ inl (one_lion Mover after square to lions there (lion_passes Mover (at after to) moved))
     ]
+
+pub own_end : (after : Setup) (danger : Threat) (stays : Bool) (square : ℕ) → may_have_ended after danger stays square ≡ true
+    → is_own (at after square) ≡ true
+own_end after danger stays square on =
+    (and_parts (is_own (at after square)) (not (elsewhere danger.attackers square))
+    (and_parts _ (stays || is_piece Mover Lion (at after square)) on).0).0
 
 pub calm_end : (after : Setup) (danger : Threat) (stays : Bool) (square : ℕ) → may_have_ended after danger stays square ≡ true
     → elsewhere danger.attackers square ≡ false

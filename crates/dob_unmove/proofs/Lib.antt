@@ -18,6 +18,6 @@ pub mod Homes  -- where the mover's lion of a representative stands
 pub mod Gathered  -- what the ways add, one list after the other
 pub mod Dead  -- ways that lead back to no open representative
 pub mod Standing  -- which ways a piece can have made
-pub mod WayMasks  -- the masks of the ways
+pub mod WayMasks  -- the sets of the ways
 pub mod OwnImages  -- positions that are their own mirror images
 pub mod BitUndone  -- and when a move is taken back

@@ -13,12 +13,6 @@ chick_apart own true chick hen = hen
 chick_apart own false chick hen = chick
 
 module _ (after : Setup) (to : ℕ) where
-  pub ways_of_none : own_kind (at after to) ≡ None → undoes_at after to ≡ []
-  unfolding undoes_at unsteps unputs
-  ways_of_none none = rw (empty Lion, empty Giraffe, empty Elephant, empty (arrives_at Chick to), empty Hen, empty Chick) where
-    empty : (kind : Kind) → stands (at after to) kind ≡ false
-    empty kind = false_from_ne_true (stands (at after to) kind) (λ is. let own = ap own_kind (stands-true (at after to) kind is) in cc)
-
   pub ways_of_lion : at after to ≡ Some (piece_of Mover Lion) → undoes_at after to ≡ unsteps after Lion to
   unfolding undoes_at unsteps unputs
   ways_of_lion there = rw (there, chick_apart Lion (row to == 3) refl refl, append-nil)

@@ -1,5 +1,7 @@
 -- What is known of a walk over the ways to take a move back and of a square on which that move may have ended, and what is gathered.
-use Rattle.std.specs.Prelude.{◌≡◌, ℕ, List, false}
+use Rattle.std.specs.Prelude.{◌≡◌, ℕ, List, true, false}
+use Rattle.dob_pieces.specs.Masks.{is_own}
+use Rattle.dob_pieces.specs.Setups.{at}
 use Rattle.dob_rank.specs.Families.{IsPositionOf, RepresentsClass}
 use Rattle.dob_unmove.specs.declared.predecessors.End.{End}
 use Rattle.dob_unmove.specs.declared.predecessors.Walk.{Walk}
@@ -14,9 +16,10 @@ pub record CanWalk (walk : Walk) : Type 0 where
   pub of_set : IsSeenTurned (IsPositionOf walk.classes.now.family) walk.after.value
   pub ways_are : AreWays walk.after.value walk.ways.now
 
--- no piece on another square attacks the enemy lion, and the mover's lion came there or stands at home
+-- a piece of the mover stands there, none on another square attacks the enemy lion, and the mover's lion came there or stands at home
 pub record CanEnd (end : End) : Type 0 where
   pub walk : CanWalk end.walk.now
+  pub own : is_own (at end.walk.now.after.value end.to) ≡ true
   pub calm : elsewhere end.walk.now.ways.now.threat.attackers end.to ≡ false
   pub home : HasLionHome end.walk.now.after.value end.walk.now.ways.now.threat.lion end.to
 

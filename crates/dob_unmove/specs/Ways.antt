@@ -7,7 +7,7 @@ use Rattle.dob_pieces.specs.declared.setup.Setup.{Setup}
 use Rattle.dob_pieces.specs.Pieces.{leads}
 use Rattle.dob_pieces.specs.Squares.{column}
 use Rattle.dob_pieces.specs.Setups.{at, piece_of}
-use Rattle.dob_pieces.specs.Masks.{IsMask, AreMasks, is_own, is_empty, is_piece}
+use Rattle.dob_pieces.specs.Masks.{AreSquares, IsMask, is_own, is_empty, is_piece}
 use Rattle.dob_unmove.specs.declared.attackers.Threat.{Threat}
 use Rattle.dob_unmove.specs.declared.ways.Ways.{Ways}
 use Rattle.dob_pieces.specs.Boards.{IsBoardOf}
@@ -46,8 +46,8 @@ may_come after lion kind to square =
 -- what is known of the setup after a move
 pub record AreWays (after : Setup) (ways : Ways) : Type 0 where
   pub board_is : IsBoardOf after ways.board
-  pub masks_are : AreMasks after ways.masks
   pub threat_is : IsThreat after ways.threat
+  pub empty_are : AreSquares after is_empty ways.empty
   pub homes_are : IsMask (is_home ways.threat.lion) ways.homes
   pub stays : Bool
   pub home_is : TellsHome after ways.threat.lion stays

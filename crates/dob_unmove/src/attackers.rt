@@ -3,13 +3,14 @@
 // that was before.
 ghost use Rattle.std.specs.Prelude.{◌≡◌, ◌<◌, ℕ};
 ghost use Rattle.dob_pieces.specs.declared.setup.Setup.{Setup};
-ghost use Rattle.dob_pieces.specs.Masks.{IsMask, AreMasks, attacks};
+ghost use Rattle.dob_pieces.specs.Boards.{IsBoardOf};
+ghost use Rattle.dob_pieces.specs.Masks.{IsMask, attacks};
 ghost use Rattle.dob_pieces.specs.Setups.{IsLegal};
 ghost use Rattle.dob_unmove.specs.Classes.{IsSeenTurned};
 ghost use Rattle.dob_unmove.specs.Threats.{elsewhere, stood_before, AreAttackers, IsThreat};
 
 use crate::undo::Undo;
-use dob_pieces::{Masks, Setup, Square, lowest_square, without_square};
+use dob_pieces::{Board, Square, lowest_square, without_square};
 
 /// From which squares a square is attacked.
 #[derive(Clone, Copy)]
@@ -57,23 +58,14 @@ fn attackers_in(attackers: u16) -> Attackers
 
 impl Threat {
     /// Where the enemy lion stands, and who attacks it, after a move and before the board is turned.
-    pub fn of(after: &Setup) -> Threat
-        requires { IsSeenTurned IsLegal after.now }
-        ensures { IsThreat after.now result }
+    pub fn of(board: &Board) -> Threat
+        requires { (after : Setup) × IsSeenTurned IsLegal after × IsBoardOf after board.now }
+        ensures { (after : Setup) → IsSeenTurned IsLegal after → IsBoardOf after board.now → IsThreat after result }
     {
-        Threat::by(after, &Masks::of(after))
-    }
-
-    /// The threat by the masks of that setup.
-    pub(crate) fn by(after: &Setup, masks: &Masks) -> Threat
-        requires legal { IsSeenTurned IsLegal after.now }
-        requires masks { AreMasks after.now masks.now }
-        ensures { IsThreat after.now result }
-    {
-        let lion = lowest_square(masks.enemy_lion);
+        let lion = board.enemy_lion_square();
         Threat {
             lion,
-            attackers: attackers_in(masks.attackers(lion)),
+            attackers: attackers_in(board.attackers(lion)),
         }
     }
 

@@ -19,6 +19,3 @@ pub use attackers::Threat;
 pub use earlier::{enemy_cell, holds_caught, may_give_back, without_caught};
 pub use predecessors::{back, back_into};
 pub use undo::Undo;
-
-// Changes of boards, as moves that are made have them too.
-pub use bits_before::{with_enemy, without};

@@ -1,4 +1,4 @@
-// The classes from which a class is reached: the walk over the ways back that masks leave.
+// The classes from which a class is reached: the walk over the ways back that the board leaves.
 ghost use Rattle.std.specs.Prelude.{◌≡◌, ◌↔◌, true, false, ◌<◌, ℕ, ◌∷◌, [], Some, IsTrue, IfOk, OnOk, MatchOption};
 ghost use Rattle.dob_pieces.specs.declared.profile.Profile.TheVariants.{A};
 ghost use Rattle.dob_pieces.specs.declared.setup.Setup.{Setup};
@@ -87,7 +87,7 @@ impl Walk<'_> {
         ensures { Finds (RepresentsClass self.now.classes.now.family) (earlier self.now.after.value undo) result }
     {
         if may_give_back(self.classes.family.profile, &undo) {
-            class_if_shown(self.classes, &bits_before(self.ways.board, undo))
+            class_if_representative(self.classes, &bits_before(self.ways.board, undo))
         } else {
             None
         }
@@ -100,10 +100,7 @@ impl End<'_> {
         requires { CanEnd self.now }
         ensures { OnOk result (Collects self.now.walk.now (undoes_at self.now.walk.now.after.value self.now.to) found.old.items found.new.items) }
     {
-        match self.walk.ways.masks.own_kind(self.to) {
-            Some(kind) => self.gather_kind(kind, found),
-            None => Ok(()),
-        }
+        self.gather_kind(self.walk.ways.board.own_kind(self.to), found)
     }
 
     // Those from which the mover's piece of that kind came to the square, on which it stands.
@@ -231,12 +228,12 @@ impl End<'_> {
 }
 
 // The class whose representative is the position of the family that the sets show; `None` if it is none.
-fn class_if_shown(classes: &Classes, board: &Board) -> Option<u64>
+fn class_if_representative(classes: &Classes, board: &Board) -> Option<u64>
     requires { (setup : Setup) × IsShown classes.now.family setup board.now }
     ensures { (setup : Setup) → IsShown classes.now.family setup board.now
         → MatchOption result (¬ ((class : ℕ) × RepresentsClass classes.now.family setup class)) (RepresentsClass classes.now.family setup) }
 {
-    classes.class_of_shown(board)
+    classes.class_if_representative(board)
 }
 
 // Whether the representative of the class is its own mirror image. What is known of the turned setup says mostly that it isn't.
@@ -247,7 +244,7 @@ fn is_own_image(classes: &Classes, class: u64, ways: &Ways) -> bool
 {
     if ways.has_lions_on_b() {
         let shown = classes.shown_at(class, Side::Mover);
-        return class_if_shown(classes, &shown.board.mirrored()).is_some();
+        return class_if_representative(classes, &shown.board.mirrored()).is_some();
     }
     false
 }
@@ -265,7 +262,7 @@ fn gather(room: Vec<u64>, classes: &Classes, class: u64, shown: &Shown) -> Resul
     let mut found = room;
     found.clear();
     let after = shown.position.turned();
-    let ways = Ways::by(&after, shown.board);
+    let ways = Ways::of(shown.board);
     let walk = Walk {
         classes,
         after: Snapshot::of(&after),
@@ -276,7 +273,7 @@ fn gather(room: Vec<u64>, classes: &Classes, class: u64, shown: &Shown) -> Resul
         return Ok(found);
     }
     let image = after.mirrored();
-    let image_ways = Ways::by(&image, ways.board.mirrored());
+    let image_ways = Ways::of(ways.board.mirrored());
     let image_walk = Walk {
         classes,
         after: Snapshot::of(&image),

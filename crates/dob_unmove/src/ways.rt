@@ -1,4 +1,4 @@
-// What masks show of the ways to take a move back: where it may have ended, and from where a piece may have come, so that what
+// What a board shows of the ways to take a move back: where it may have ended, and from where a piece may have come, so that what
 // stood before was open and the earlier one of its class. All other ways are skipped.
 ghost use Rattle.std.specs.Prelude.{◌≡◌, not, IsTrue};
 ghost use Rattle.dob_pieces.specs.Masks.{IsMask};
@@ -12,7 +12,7 @@ ghost use Rattle.dob_unmove.specs.Walks.{holds_caught};
 
 use crate::attackers::{Attackers, Threat};
 use crate::earlier::holds_caught;
-use dob_pieces::{ALL_SQUARES, Board, Kind, Masks, Setup, Square};
+use dob_pieces::{ALL_SQUARES, Board, Kind, Square};
 
 // The squares of rows 1 to 3 on column a, and those on columns a and b.
 const HOMES_ON_A: u16 = 0b000_001_001_001;
@@ -22,12 +22,13 @@ const HOMES_ON_A_AND_B: u16 = 0b000_011_011_011;
 // The squares of columns a and c.
 const BESIDE_B: u16 = 0b101_101_101_101;
 
-/// What the masks of a setup after a move show, in which the side that made it is the mover.
+/// What the board after a move shows, in which the side that made it is the mover.
 #[derive(Clone, Copy)]
 pub(crate) struct Ways {
     pub(crate) board: Board,
-    pub(crate) masks: Masks,
     pub(crate) threat: Threat,
+    /// The empty squares.
+    pub(crate) empty: u16,
     /// Where the mover's lion of a representative may stand.
     pub(crate) homes: u16,
     /// Where the move may have ended.
@@ -57,25 +58,23 @@ fn calm_ends(attackers: Attackers) -> u16
 }
 
 impl Ways {
-    /// What is known of the ways that lead to the setup, by its sets of squares.
-    pub(crate) fn by(after: &Setup, board: Board) -> Ways
-        requires legal { IsSeenTurned IsLegal after.now }
-        requires board { IsBoardOf after.now board }
-        ensures { AreWays after.now result }
+    /// What is known of the ways that lead there.
+    pub(crate) fn of(board: Board) -> Ways
+        requires { (after : Setup) × IsSeenTurned IsLegal after × IsBoardOf after board }
+        ensures { (after : Setup) → IsSeenTurned IsLegal after → IsBoardOf after board → AreWays after result }
     {
-        let masks = board.masks();
-        let threat = Threat::by(after, &masks);
+        let threat = Threat::of(&board);
         let homes = homes_of(threat.lion);
-        let calm = masks.own & calm_ends(threat.attackers);
-        let ends = if masks.lion & homes == 0 {
-            calm & masks.lion
+        let calm = board.own() & calm_ends(threat.attackers);
+        let ends = if board.own_lion & homes == 0 {
+            calm & board.own_lion
         } else {
             calm
         };
         Ways {
             board,
-            masks,
             threat,
+            empty: board.empty(),
             homes,
             ends,
         }
@@ -85,7 +84,7 @@ impl Ways {
     pub(crate) fn sources(&self, kind: Kind, to: Square) -> u16
         ensures { (after : Setup) → AreWays after self.now → IsMask (may_come after self.now.threat.lion kind to) result }
     {
-        kind.sources(to) & self.masks.empty & !kind.sources(self.threat.lion) & self.homes_for(kind)
+        kind.sources(to) & self.empty & !kind.sources(self.threat.lion) & self.homes_for(kind)
     }
 
     // Where a piece of that kind may have stood as far as the lions say: the lion at home, and any other everywhere.
@@ -109,6 +108,6 @@ impl Ways {
     pub(crate) fn has_lions_on_b(&self) -> bool
         ensures { (after : Setup) → IsSeenTurned IsLegal after → AreWays after self.now → mirrored after ≡ after → IsTrue result }
     {
-        (self.masks.lion | self.masks.enemy_lion) & BESIDE_B == 0
+        (self.board.own_lion | self.board.enemy_lion) & BESIDE_B == 0
     }
 }

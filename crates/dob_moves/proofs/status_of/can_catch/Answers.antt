@@ -4,11 +4,9 @@ use Rattle.dob_moves.proofs.Masked.{no_attack, some_attack}
 use Rattle.dob_moves.proofs.status_of.can_catch.Goals as goal
 
 pub returns : goal.returns
-returns c =
-    let p = c.args.position.now.setup in
-    let are = c.attackers.ensures p c.requires.masks in
+returns c = λ p legal are stands.
+    let attack = c.attackers.ensures p are in
     let mask = c.attackers.result in (
-      λ h. some_attack p c.args.lion mask c.requires.lion are (λ e. eqb-false mask 0 (not-true _ h) e),
-      λ catch. not_from_false _ (ne_eqb mask 0
-          (λ none. no_attack p c.args.lion mask c.args.position.now.legal.squares c.args.position.now.legal.lions c.requires.lion are none catch)),
+      λ h. some_attack p c.args.lion mask stands attack (λ e. eqb-false mask 0 (not-true _ h) e),
+      λ catch. not_from_false _ (ne_eqb mask 0 (λ none. no_attack p c.args.lion mask legal.squares legal.lions stands attack none catch)),
     )

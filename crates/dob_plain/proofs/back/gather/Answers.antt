@@ -10,18 +10,35 @@ use Rattle.dob_unmove.specs.Classes.{RepresentsClass}
 use Rattle.dob_unmove.specs.Walks.{undoes}
 use Rattle.dob_plain.proofs.back.gather.Goals as goal
 
+pub of-requires : goal.of-requires
+of-requires c =
+    let p = c.args.representative.now in
+    (c.turned-after.result, (p.setup, p.legal, c.turned-after.ensures), c.of-board.ensures)
+
 pub take_all-requires : goal.take_all-requires
-take_all-requires c = ((c.args.representative.now.setup, c.requires.1.0.0, c.turned-after.ensures), c.of.ensures)
+take_all-requires c =
+    let p = c.args.representative.now in (
+      (p.setup, c.requires.1.0.0, c.turned-after.ensures),
+      c.of.ensures c.turned-after.result (p.setup, p.legal, c.turned-after.ensures) c.of-board.ensures,
+    )
 
 pub class_if_representative-requires : goal.class_if_representative-requires
 class_if_representative-requires c =
     position_mirrored c.args.classes.now.family c.args.representative.now.setup c.mirrored-image.result.setup c.requires.1.0.0 c.mirrored-image.ensures
 
+pub of-requires-2 : goal.of-requires-2
+of-requires-2 c =
+    let image = c.mirrored-image.result in
+    (c.turned-image_after.result, (image.setup, image.legal, c.turned-image_after.ensures), c.of-image_board.ensures)
+
 pub take_all-requires-2 : goal.take_all-requires-2
 take_all-requires-2 c =
     let image = c.mirrored-image.result.setup in
     let is = position_mirrored c.args.classes.now.family c.args.representative.now.setup image c.requires.1.0.0 c.mirrored-image.ensures in
-    ((image, is, c.turned-image_after.ensures), c.of-2.ensures)
+    let legal = c.mirrored-image.result.legal in (
+      (image, is, c.turned-image_after.ensures),
+      c.of-2.ensures c.turned-image_after.result (image, legal, c.turned-image_after.ensures) c.of-image_board.ensures,
+    )
 
 pub returns-then-is_some : goal.returns-then-is_some
 returns-then-is_some c =

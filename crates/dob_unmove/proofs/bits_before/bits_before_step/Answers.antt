@@ -1,5 +1,5 @@
 -- The square is cleared, what was caught comes back, and the piece stands where it came from.
-use Rattle.dob_unmove.proofs.Common.{rules, subst, sym, Hands, Mover, piece_added, IsBoardOf, CanGiveBack}
+use Rattle.dob_unmove.proofs.Common.{subst, sym, Hands, CanGiveBack}
 use Rattle.dob_unmove.proofs.BitUndone.{step_undone}
 use Rattle.dob_unmove.proofs.bits_before.bits_before_step.Goals as goal
 
@@ -10,6 +10,5 @@ without_caught-requires c =
 pub returns : goal.returns
 returns c = λ after can twelve are.
     step_undone after c.args.kind c.args.from c.args.to c.args.caught twelve can c.args.board _ _ _ _ are c.without.ensures c.with_caught-given_back.ensures
-    (λ before next empty w given. subst (IsBoardOf next) (sym c.with_own.ensures)
-    (rw c.index.ensures.value (piece_added before next c.args.from (search rules) _ given empty Mover c.args.kind w)))
+    c.with_own.ensures
     c.without_caught.ensures

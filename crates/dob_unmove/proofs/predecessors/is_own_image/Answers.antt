@@ -26,22 +26,22 @@ same_setup c q represents =
     c.shown_at-shown.ensures.representative c.shown_at-shown.ensures.class
     ∙ sym (class_setup_only family q c.args.class (classes_of family) count c.requires represents.0 represents.1)
 
-pub class_if_shown-requires : goal.class_if_shown-requires
-class_if_shown-requires c = (mirrored c.shown_at-shown.result.position.setup, image_shown (goal.at.class_if_shown-requires c).After-mirrored)
+pub class_if_representative-requires : goal.class_if_representative-requires
+class_if_representative-requires c = (mirrored c.shown_at-shown.result.position.setup, image_shown (goal.at.class_if_representative-requires c).After-mirrored)
 
 pub returns-then-has_lions_on_b : goal.returns-then-has_lions_on_b
 returns-then-has_lions_on_b c = λ q represents ways.
     let family = c.args.classes.now.family in
     let before = (goal.at.returns-then-has_lions_on_b c).After-mirrored in
-    let found = c.class_if_shown.ensures (mirrored q)
+    let found = c.class_if_representative.ensures (mirrored q)
     (subst (λ (s : Setup). IsShown family (mirrored s) c.mirrored.result) (same_setup before q represents) (image_shown before)) in (
-      λ some. own_image (RepresentsClass family) q (mirrored q) c.class_if_shown.result
+      λ some. own_image (RepresentsClass family) q (mirrored q) c.class_if_representative.result
           (IsNumbering-classes family) (c.args.class, represents) refl found (sym c.is_some.ensures ∙ some),
-      λ own. elim (cases_Bool (is_some c.class_if_shown.result)) [
+      λ own. elim (cases_Bool (is_some c.class_if_representative.result)) [
         | inl some ↦ c.is_some.ensures ∙ some
         | inr none ↦
             absurd
-            (other_image (RepresentsClass family) q (mirrored q) c.class_if_shown.result (c.args.class, represents) refl found
+            (other_image (RepresentsClass family) q (mirrored q) c.class_if_representative.result (c.args.class, represents) refl found
             none own)
       ],
     )

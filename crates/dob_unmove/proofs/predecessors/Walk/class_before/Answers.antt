@@ -21,8 +21,8 @@ shown c =
     shown_before walk.classes.now.family walk.after.value c.args.undo c.requires.can w.of_set _ _ (sym c.may_give_back.ensures ∙ c.if-may_give_back.true)
     c.requires.home w.ways_are.board_is c.bits_before.ensures
 
-pub class_if_shown-requires : goal.class_if_shown-requires
-class_if_shown-requires c = (earlier c.args.self.now.after.value c.args.undo, shown (goal.at.class_if_shown-requires c).After-bits_before)
+pub class_if_representative-requires : goal.class_if_representative-requires
+class_if_representative-requires c = (earlier c.args.self.now.after.value c.args.undo, shown (goal.at.class_if_representative-requires c).After-bits_before)
 
 pub returns-then-may_give_back : goal.returns-then-may_give_back
 returns-then-may_give_back c =
@@ -31,8 +31,8 @@ returns-then-may_give_back c =
     let before = earlier walk.after.value c.args.undo in
     let open_there = was_open walk.after.value walk.ways.now.threat (legal_turned walk.classes.now.family walk.after.value w.of_set)
     w.ways_are.threat_is c.args.undo c.requires.can c.requires.calm in
-    finds_from (RepresentsClass walk.classes.now.family) before before c.class_if_shown.result refl open_there
-    (c.class_if_shown.ensures before (shown (goal.at.returns-then-may_give_back c).After-bits_before))
+    finds_from (RepresentsClass walk.classes.now.family) before before c.class_if_representative.result refl open_there
+    (c.class_if_representative.ensures before (shown (goal.at.returns-then-may_give_back c).After-bits_before))
 
 pub returns-else-may_give_back : goal.returns-else-may_give_back
 returns-else-may_give_back c = λ w.

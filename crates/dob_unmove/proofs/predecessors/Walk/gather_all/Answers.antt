@@ -1,7 +1,7 @@
 -- The squares of the mask are gone over from the lowest on, and the ways of the others are dead.
 use Rattle.dob_unmove.proofs.Common.{arith, RepresentsClass, undoes, undoes_at, may_have_ended}
 use Rattle.dob_unmove.proofs.Gathered.{gathered_start, gathered_less, passes_lowest, gathered_next, gathered_end}
-use Rattle.dob_unmove.proofs.Dead.{ends_dead, calm_end, end_home}
+use Rattle.dob_unmove.proofs.Dead.{ends_dead, calm_end, end_home, own_end}
 use Rattle.dob_unmove.proofs.Kept.{legal_turned}
 use Rattle.dob_unmove.proofs.Undone.{turned_lions}
 use Rattle.dob_unmove.proofs.predecessors.Walk.gather_all.Goals as goal
@@ -26,6 +26,7 @@ gather_all-requires c =
     let ends = passes_lowest (c.loop-left.invariant w) (omega arith) c.lowest_square-to.ensures in
     record {
       walk = w;
+      own = own_end after walk.ways.now.threat stays to ends;
       calm = calm_end after walk.ways.now.threat stays to ends;
       home =
           end_home after walk.ways.now.threat stays to (turned_lions after (legal_turned walk.classes.now.family after w.of_set)) w.ways_are.home_is ends;

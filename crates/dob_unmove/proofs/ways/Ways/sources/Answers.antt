@@ -6,4 +6,4 @@ pub returns : goal.returns
 returns c = λ after are.
     IsMask-and _ _ _ _
     (IsMask-without _ (λ (s : ℕ). leads c.args.kind s c.args.self.now.threat.lion) _ _
-    (IsMask-and _ _ _ _ c.sources.ensures are.masks_are.empty_are) c.sources-2.ensures) (c.homes_for.ensures after are)
+    (IsMask-and _ _ _ _ c.sources.ensures are.empty_are) c.sources-2.ensures) (c.homes_for.ensures after are)
