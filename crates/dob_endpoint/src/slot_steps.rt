@@ -77,7 +77,7 @@ impl Inlet {
         let Some(batch) = &self.slot else {
             return 0;
         };
-        batch.items().len()
+        batch.len()
     }
 
     /// Takes the inbox's next batch into the slot, if that is empty; tries once. The slot is empty afterwards only if the

@@ -1,14 +1,27 @@
--- Items taken one after the other: looked at before, from lists, and from a queue of which the first ones are taken and gone.
+-- Items taken one after the other, whose classes were looked at before.
 use Rattle.dob_history.proofs.Common.{◌%◌, ◌++◌, ◌+◌, ◌<◌, ◌∙◌, ◌∷◌, ◌≡◌, ◌≢◌, ◌≤◌, All, All-drop, All-take, AreKept, AreSeen, AreTaken, AreTakenBefore}
 use Rattle.dob_history.proofs.Common.{Cause, Err, Family, HasItemEntries, HistoryView, IfErr, IsErrAnd, IsHistory, IsReason, IsSeen, IsTaken, Item, List}
-use Rattle.dob_history.proofs.Common.{Draw, Ok, OnOk, Option, Result, Share, StopsAt, StopsFirst, TakesFirst, [], add-one, ap, append_assoc, arith, cases_eq}
+use Rattle.dob_history.proofs.Common.{Draw, Ok, OnOk, StayKept, Option, Result, Share, StopsAt, StopsFirst, TakesFirst, [], add-one, ap, append_assoc, arith, cases_eq}
 use Rattle.dob_history.proofs.Common.{drop, drop-append_seam, drop-cons, err_from_is_err_and, get_or, get_or-set_other, get_or-set_same, get_or_default}
 use Rattle.dob_history.proofs.Common.{inl, inr, length, length-append, refl, set, subst, suc, sym, take, take-append-drop, take-append_seam, take-suc, zero}
 use Rattle.dob_history.proofs.Common.{ℕ}
-use Rattle.std.proofs.lemmas.List.{length-take-le}
-use Rattle.dob_history.proofs.Kepts.{emitted_still}
+use Rattle.std.proofs.lemmas.List.{append-nil, drop_all, length-take-le, take_all}
+use Rattle.std.proofs.lemmas.List.Elements.{All-get_or}
+use Rattle.dob_history.proofs.Kepts.{emitted_still, kept_back}
+use Rattle.dob_share.proofs.PartItems.{items_of_parts-length, part_item, parts_before, parts_more}
+use Rattle.dob_share.specs.Items.{item_for, items_in_all, items_of_parts}
+use Rattle.dob_share.specs.declared.news.Part.{Part}
+use Rattle.dob_distance.specs.declared.value.Value.TheVariants.{Win}
 use Rattle.dob_share.specs.declared.share.Seen.{Seen}
 use Rattle.dob_stops.specs.declared.cause.Cause.TheVariants as cause
+
+-- a part beyond the end of a list
+abbrev pub no_part : Part
+no_part = record { settlement = record { number = 0; class = 0; was = Win 0; now = Win 0 }; items = 0 }
+
+-- an item of no class, where a list has none
+pub no_item : Item
+no_item = record { number = 0; to = 0; was = Draw; now = Draw }
 
 -- ---- room doesn't matter
 
@@ -127,31 +140,10 @@ stops_first (item ∷ items) share history some = record {
   reason = tt;
 }
 
--- ---- a queue: two parts
-
-taken_append : (xs ys : List Item) (share mid after : Share) (history longer grown : HistoryView) → AreTaken xs share mid history longer →
-    AreTaken ys mid after longer grown → AreTaken (xs ++ ys) share after history grown
-taken_append [] ys share mid after history longer grown none two =
-    all_with_room ys share after history longer grown none.1 (subst (λ (s : Share). AreTaken ys s after longer grown) none.0 two)
-taken_append (x ∷ xs) ys share mid after history longer grown one two =
-    (one.0, one.1, one.2, taken_append xs ys one.0 mid after one.1 longer grown one.3 two)
+-- ---- a queue: those that are taken are the first of it, and gone
 
 pub takes_none : (items : List Item) (share : Share) (history : HistoryView) → TakesFirst items items share share history history
 takes_none items share history = record { front = []; items_are = refl; taken = (refl, refl) }
-
-pub takes_more : {items rest left : List Item} {share mid after : Share} {history longer grown : HistoryView} → TakesFirst items rest share mid history longer →
-    TakesFirst rest left mid after longer grown → TakesFirst items left share after history grown
-takes_more {left = left} {share = share} {mid = mid} {after = after} {history = history} {longer = longer} {grown = grown} one two = record {
-  front = one.front ++ two.front;
-  items_are = one.items_are ∙ ap (λ xs. one.front ++ xs) two.items_are ∙ sym (append_assoc one.front two.front left);
-  taken = taken_append one.front two.front share mid after history longer grown one.taken two.taken;
-}
-
--- ---- those that lie side by side
-
--- those in front have values that a table can have where all have
-pub front_entries : (queue front back : List Item) → front ++ back ≡ queue → All HasItemEntries queue → All HasItemEntries front
-front_entries queue front back is entries = rw take-append_seam at (rw (← is) at (All-take HasItemEntries (length front) queue entries))
 
 pub left_entries : {items left : List Item} {share after : Share} {history grown : HistoryView} → TakesFirst items left share after history grown →
     All HasItemEntries items → All HasItemEntries left
@@ -159,63 +151,58 @@ left_entries {items = items} {left = left} takes entries =
     subst (λ xs. All HasItemEntries xs) (ap (drop (length takes.front)) takes.items_are ∙ drop-append_seam takes.front left)
     (All-drop HasItemEntries (length takes.front) items entries)
 
-module _ (queue front back : List Item) (count : ℕ) (share after : Share) (history grown : HistoryView) (is : front ++ back ≡ queue) where
-  dropped : count ≡ length front → drop count queue ≡ back
-  dropped all = ap (λ (k : ℕ). drop k queue) all ∙ ap (drop (length front)) (sym is) ∙ drop-append_seam front back
+module _ (queue : List Item) (count : ℕ) (share after : Share) (history grown : HistoryView) where
+  left : (why : Cause) (before : AreTakenBefore queue count share after history grown why) → drop count queue ≡ before.item ∷ before.behind
+  left why before = ap (λ (k : ℕ). drop k queue) (sym before.counted) ∙ ap (drop (length before.front)) before.items_are
+      ∙ drop-append_seam before.front (before.item ∷ before.behind)
 
-  split : (why : Cause) (before : AreTakenBefore front count share after history grown why) →
-      queue ≡ before.front ++ ((before.item ∷ before.behind) ++ back)
-  split why before = sym is ∙ ap (λ xs. xs ++ back) before.items_are ∙ append_assoc before.front (before.item ∷ before.behind) back
+  none_left : count ≡ length queue → drop count queue ≡ []
+  none_left all = drop_all count queue (omega (arith, all))
 
-  left : (why : Cause) (before : AreTakenBefore front count share after history grown why) → drop count queue ≡ (before.item ∷ before.behind) ++ back
-  left why before = ap (λ (k : ℕ). drop k queue) (sym before.counted) ∙ ap (drop (length before.front)) (split why before)
-      ∙ drop-append_seam before.front ((before.item ∷ before.behind) ++ back)
-
-  pub front_taken : (result : Result (Unit {0}) Cause) → OnOk result (AreTaken front share after history grown) → OnOk result (count ≡ length front) →
-      IfErr result (λ why. AreTakenBefore front count share after history grown why) → TakesFirst queue (drop count queue) share after history grown
-  front_taken (Ok done) taken all before = record { front = front; items_are = sym is ∙ ap (λ xs. front ++ xs) (sym (dropped all)); taken = taken }
+  pub front_taken : (result : Result (Unit {0}) Cause) → OnOk result (AreTaken queue share after history grown) → OnOk result (count ≡ length queue) →
+      IfErr result (λ why. AreTakenBefore queue count share after history grown why) → TakesFirst queue (drop count queue) share after history grown
+  front_taken (Ok done) taken all before = record { front = queue; items_are = sym (append-nil queue) ∙ ap (λ xs. queue ++ xs) (sym (none_left all)); taken = taken }
   front_taken (Err why) taken all before = record {
     front = before.front;
-    items_are = split why before ∙ ap (λ xs. before.front ++ xs) (sym (left why before));
+    items_are = before.items_are ∙ ap (λ xs. before.front ++ xs) (sym (left why before));
     taken = before.taken;
   }
 
-  pub front_stops : (result : Result (Unit {0}) Cause) → IfErr result (λ why. AreTakenBefore front count share after history grown why) →
+  pub front_stops : (result : Result (Unit {0}) Cause) → IfErr result (λ why. AreTakenBefore queue count share after history grown why) →
       IfErr result (λ why. StopsFirst (drop count queue) after why)
   front_stops (Ok done) before = tt
-  front_stops (Err why) before = record { item = before.item; behind = before.behind ++ back; first = left why before; reason = before.reason }
+  front_stops (Err why) before = record { item = before.item; behind = before.behind; first = left why before; reason = before.reason }
 
-  pub fewer : (result : Result (Unit {0}) Cause) → OnOk result (count ≡ length front) → (queue ≢ [] → 0 < length front) →
-      OnOk result (queue ≢ [] → length (drop count queue) < length queue)
-  fewer (Ok done) all some = λ busy. omega (arith, some busy, ap length (dropped all), ap length (sym is), length-append front back)
-  fewer (Err why) all some = tt
+  pub front_all : (result : Result (Unit {0}) Cause) → OnOk result (count ≡ length queue) → OnOk result (drop count queue ≡ [])
+  front_all (Ok done) all = none_left all
+  front_all (Err why) all = tt
 
--- ---- items looked at before they are taken
+-- ---- classes looked at before their items are taken
 
--- for the items from the first up to the end, what stands at the place of each in its group holds of the item's class
-unfoldable pub AreHeld : {A : Type 0} → (ℕ → A → Type 0) → ℕ → ℕ → List Item → List A → Type 0
-AreHeld {A = A} holds first end items held = (place : ℕ) (item : Item) (x : A) → first ≤ place → place < end →
-    item ≡ get_or items place item → x ≡ get_or held (place % 32) x → holds item.to x
+-- for the classes from the first up to the end, what stands at the place of each in its group holds of the class
+unfoldable pub AreHeld : {A : Type 0} → (ℕ → A → Type 0) → ℕ → ℕ → List ℕ → List A → Type 0
+AreHeld {A = A} holds first end classes held = (place class : ℕ) (x : A) → first ≤ place → place < end →
+    class ≡ get_or classes place class → x ≡ get_or held (place % 32) x → holds class x
 
-pub none_held : {A : Type 0} (holds : ℕ → A → Type 0) (first : ℕ) (items : List Item) (held : List A) → AreHeld holds first first items held
+pub none_held : {A : Type 0} (holds : ℕ → A → Type 0) (first : ℕ) (classes : List ℕ) (held : List A) → AreHeld holds first first classes held
 unfolding AreHeld
-none_held holds first items held place item x from below item_is x_is = absurd (omega arith)
+none_held holds first classes held place class x from below class_is x_is = absurd (omega arith)
 
 -- one more
-pub one_held : {A : Type 0} (holds : ℕ → A → Type 0) (first end : ℕ) (items : List Item) (held : List A) (default : Item) (new : A) →
-    first % 32 ≡ 0 → end < first + 32 → first ≤ end → end < length items → length held ≡ 32 → holds (get_or items end default).to new →
-    AreHeld holds first end items held → AreHeld holds first (end + 1) items (set held (end % 32) new)
+pub one_held : {A : Type 0} (holds : ℕ → A → Type 0) (first end : ℕ) (classes : List ℕ) (held : List A) (default : ℕ) (new : A) →
+    first % 32 ≡ 0 → end < first + 32 → first ≤ end → end < length classes → length held ≡ 32 → holds (get_or classes end default) new →
+    AreHeld holds first end classes held → AreHeld holds first (end + 1) classes (set held (end % 32) new)
 unfolding AreHeld
-one_held holds first end items held default new starts near from inside whole is so_far place item x after below item_is x_is =
+one_held holds first end classes held default new starts near from inside whole is so_far place class x after below class_is x_is =
     elim (cases_eq place end) [
       | inl e ↦
-          let same_item : item ≡ get_or items end default = item_is ∙ ap (λ (k : ℕ). get_or items k item) e ∙ get_or_default items end item default inside in
+          let same_class : class ≡ get_or classes end default = class_is ∙ ap (λ (k : ℕ). get_or classes k class) e ∙ get_or_default classes end class default inside in
           let same : x ≡ new = x_is ∙ ap (λ (k : ℕ). get_or (set held (end % 32) new) (k % 32) x) e
           ∙ get_or-set_same held (end % 32) new x (omega arith) in
-          rw (same_item, same) is
+          rw (same_class, same) is
       | inr n ↦
           let apart : place % 32 ≢ end % 32 = omega arith in
-          so_far place item x after (omega arith) item_is (x_is ∙ get_or-set_other held (end % 32) (place % 32) new x apart)
+          so_far place class x after (omega arith) class_is (x_is ∙ get_or-set_other held (end % 32) (place % 32) new x apart)
     ]
 
 read_again : {A : Type 0} (xs : List A) (k : ℕ) (default : A) → get_or xs k default ≡ get_or xs k (get_or xs k default)
@@ -224,37 +211,122 @@ read_again (x ∷ xs) zero default = refl
 read_again (x ∷ xs) (suc k) default = read_again xs k default
 
 -- the one at a place
-pub held_at : {A : Type 0} (holds : ℕ → A → Type 0) (first end : ℕ) (items : List Item) (held : List A) (default : Item) (place : ℕ) (x : A) →
-    AreHeld holds first end items held → first ≤ place → place < end → x ≡ get_or held (place % 32) x → holds (get_or items place default).to x
+pub held_at : {A : Type 0} (holds : ℕ → A → Type 0) (first end : ℕ) (classes : List ℕ) (held : List A) (default place : ℕ) (x : A) →
+    AreHeld holds first end classes held → first ≤ place → place < end → x ≡ get_or held (place % 32) x → holds (get_or classes place default) x
 unfolding AreHeld
-held_at holds first end items held default place x all from below x_is =
-    all place (get_or items place default) x from below (read_again items place default) x_is
+held_at holds first end classes held default place x all from below x_is =
+    all place (get_or classes place default) x from below (read_again classes place default) x_is
 
 -- all of the group
-pub group_looked : (first end : ℕ) (share : Share) (items : List Item) (looks : List (Option Seen)) → first % 32 ≡ 0 →
-    ((place : ℕ) → place < length items → place < first + 32 → place < end) →
-    AreHeld (IsSeen share) first end items looks → AreSeen first share items looks
+pub group_looked : (first end : ℕ) (share : Share) (classes : List ℕ) (looks : List (Option Seen)) → first % 32 ≡ 0 →
+    ((place : ℕ) → place < length classes → place < first + 32 → place < end) →
+    AreHeld (IsSeen share) first end classes looks → AreSeen first share classes looks
 unfolding AreHeld AreSeen
-group_looked first end share items looks starts all looked place item look inside group item_is look_is =
-    looked place item look (omega arith) (all place inside (omega arith)) item_is look_is
+group_looked first end share classes looks starts all looked place class look inside group class_is look_is =
+    looked place class look (omega arith) (all place inside (omega arith)) class_is look_is
 
--- an item of no class, where a list has none
-pub no_item : Item
-no_item = record { number = 0; to = 0; was = Draw; now = Draw }
-
--- what has been seen of the item that is next
-pub seen_next : (next k : ℕ) (share : Share) (items : List Item) (looks : List (Option Seen)) (item : Item) (look : Option Seen) → next ≡ k →
-    AreSeen next share items looks → k < length items → IsSeen share (get_or items k item).to (get_or looks (next % 32) look)
+-- what has been seen of the class that is next
+pub seen_next : (next : ℕ) (share : Share) (classes : List ℕ) (looks : List (Option Seen)) (class : ℕ) (look : Option Seen) →
+    AreSeen next share classes looks → next < length classes → class ≡ get_or classes next class → IsSeen share class (get_or looks (next % 32) look)
 unfolding AreSeen
-seen_next next k share items looks item look same seen inside =
-    seen next (get_or items k item) (get_or looks (next % 32) look) (omega arith) refl
-    (ap (λ (j : ℕ). get_or items j item) (sym same) ∙ read_again items next item ∙ ap (λ (j : ℕ). get_or items next (get_or items j item)) same)
-    (read_again looks (next % 32) look)
+seen_next next share classes looks class look seen inside class_is =
+    seen next class (get_or looks (next % 32) look) inside refl class_is (read_again looks (next % 32) look)
 
 -- behind it
-pub seen_behind : (next : ℕ) (share after : Share) (items : List Item) (looks : List (Option Seen)) →
-    ((class : ℕ) (look : Option Seen) → IsSeen share class look → IsSeen after class look) → AreSeen next share items looks →
-    0 < (next + 1) % 32 → AreSeen (next + 1) after items looks
+pub seen_behind : (next : ℕ) (share after : Share) (classes : List ℕ) (looks : List (Option Seen)) →
+    ((class : ℕ) (look : Option Seen) → IsSeen share class look → IsSeen after class look) → AreSeen next share classes looks →
+    0 < (next + 1) % 32 → AreSeen (next + 1) after classes looks
 unfolding AreSeen
-seen_behind next share after items looks still seen within place item look inside group item_is look_is =
-    still item.to look (seen place item look inside (omega arith) item_is look_is)
+seen_behind next share after classes looks still seen within place class look inside group class_is look_is =
+    still class look (seen place class look inside (omega arith) class_is look_is)
+
+-- ---- the items of parts, one after the other
+
+-- the first items of the parts are taken, so many, and the classes of a group that has begun were looked at
+pub record IsTaking (parts : List Part) (classes : List ℕ) (count : ℕ) (share after : Share) (history grown : HistoryView) (looks : List (Option Seen)) : Type 0 where
+  pub taken : AreTaken (take count (items_of_parts parts classes)) share after history grown
+  pub room : history.room ≤ grown.room + count
+  pub kept : (family : Family) → AreKept family share.nodes share.id share history → AreKept family share.nodes share.id after grown
+  pub seen : 0 < count % 32 → AreSeen count after classes looks
+
+pub none_taken : (parts : List Part) (classes : List ℕ) (share : Share) (history : HistoryView) (looks : List (Option Seen)) →
+    IsTaking parts classes 0 share share history history looks
+none_taken parts classes share history looks = record { taken = (refl, refl); room = omega arith; kept = λ family kept. kept; seen = λ within. absurd (omega arith) }
+
+-- The next item is one of a part.
+pub record IsNext (parts : List Part) (classes : List ℕ) (k index count : ℕ) (part : Part) (class : ℕ) : Type 0 where
+  pub listed : items_in_all parts ≡ length classes
+  pub there : k < length parts
+  pub read : part ≡ get_or parts k part
+  pub low : index < part.items
+  pub counted : count ≡ items_in_all (take k parts) + index
+  pub class_is : class ≡ get_or classes count class
+
+module _ {parts : List Part} {classes : List ℕ} {k index count : ℕ} {part : Part} {class : ℕ} (next : IsNext parts classes k index count part class) where
+  abbrev items : List Item
+  items = items_of_parts parts classes
+
+  pub next_within : count < length classes
+  next_within = let few = parts_before parts k part next.there next.read in omega (arith, next.listed, next.low, next.counted, few)
+
+  pub item_within : count < length items
+  item_within = let many = items_of_parts-length parts classes (omega (arith, next.listed)) in omega (arith, many, next_within, next.listed)
+
+  pub item_is : (default : Item) → get_or items count default ≡ item_for part.settlement class
+  item_is default = part_item parts classes k index count part class default next.there next.read next.low (omega (arith, next.listed)) next.counted next.class_is
+
+  pub next_entries : All HasItemEntries items → HasItemEntries (item_for part.settlement class)
+  next_entries entries = subst HasItemEntries (item_is no_item) (All-get_or HasItemEntries items count no_item item_within entries)
+
+  module _ {share mid : Share} {history longer : HistoryView} {looks : List (Option Seen)} (so_far : IsTaking parts classes count share mid history longer looks) where
+    pub one_taken : {after : Share} {grown : HistoryView} {looked : List (Option Seen)} → IsTaken (item_for part.settlement class) mid after longer grown →
+        longer.room ≤ grown.room + 1 → StayKept mid longer after grown → ((class : ℕ) (look : Option Seen) → IsSeen mid class look → IsSeen after class look) →
+        AreSeen count mid classes looked → IsTaking parts classes (count + 1) share after history grown looked
+    one_taken {after = after} {grown = grown} {looked = looked} one room kept seen looks = record {
+      taken = taken_next items count no_item share mid after history longer grown item_within so_far.taken
+          (subst (λ (item : Item). IsTaken item mid after longer grown) (sym (item_is no_item)) one);
+      room = let before = so_far.room in omega (arith, before, room);
+      kept = λ family whole. kept_back (so_far.kept family whole) kept;
+      seen = seen_behind count mid after classes looked seen looks;
+    }
+
+    pub stopped_there : (why : Cause) → IsReason (item_for part.settlement class) mid why → StopsAt items share history why
+    stopped_there why reason = stops_there items count no_item share mid history longer why item_within so_far.taken
+        (subst (λ (item : Item). IsReason item mid why) (sym (item_is no_item)) reason)
+
+    pub before_there : {after : Share} {grown : HistoryView} (why : Cause) → (after ≡ mid) × (grown ≡ longer) → IsReason (item_for part.settlement class) mid why →
+        AreTakenBefore items count share after history grown why
+    before_there {after = after} {grown = grown} why same reason =
+        taken_before items count no_item share mid after history longer grown why item_within so_far.taken same
+        (subst (λ (item : Item). IsReason item mid why) (sym (item_is no_item)) reason)
+
+-- it is, by the part and the class that stand there
+pub is_next : (parts : List Part) (classes : List ℕ) (k index count : ℕ) → items_in_all parts ≡ length classes → k < length parts →
+    index < (get_or parts k no_part).items → count ≡ items_in_all (take k parts) + index → IsNext parts classes k index count (get_or parts k no_part) (get_or classes count 0)
+is_next parts classes k index count listed there low counted = record {
+  listed = listed;
+  there = there;
+  read = read_again parts k no_part;
+  low = low;
+  counted = counted;
+  class_is = read_again classes count 0;
+}
+
+-- behind the items of a part are those of the next one
+pub part_done : (parts : List Part) (k index count : ℕ) → k < length parts → index ≡ (get_or parts k no_part).items → count ≡ items_in_all (take k parts) + index →
+    count ≡ items_in_all (take (k + 1) parts)
+part_done parts k index count there done counted =
+    let more = parts_more parts k (get_or parts k no_part) there (read_again parts k no_part) in omega (arith, more, done, counted)
+
+pub all_counted : (parts : List Part) (classes : List ℕ) (k count : ℕ) → items_in_all parts ≡ length classes → length parts ≤ k →
+    count ≡ items_in_all (take k parts) → count ≡ length classes
+all_counted parts classes k count listed past counted = counted ∙ ap items_in_all (take_all k parts past) ∙ listed
+
+-- all are taken
+pub all_taken : {parts : List Part} {classes : List ℕ} {count : ℕ} {share after : Share} {history grown : HistoryView} {looks : List (Option Seen)} →
+    items_in_all parts ≡ length classes → count ≡ length classes → IsTaking parts classes count share after history grown looks →
+    AreTaken (items_of_parts parts classes) share after history grown
+all_taken {parts = parts} {classes = classes} {count = count} {share = share} {after = after} {history = history} {grown = grown} listed all so_far =
+    subst (λ (xs : List Item). AreTaken xs share after history grown)
+    (take_all count (items_of_parts parts classes) (let many = items_of_parts-length parts classes (omega (arith, listed)) in omega (arith, many, all, listed)))
+    so_far.taken

@@ -6,6 +6,7 @@ use Rattle.dob_rank.specs.Families.{classes_of}
 use Rattle.dob_distance.specs.Codes.{IsEntry}
 use Rattle.dob_share.specs.declared.news.Settlement.{Settlement}
 use Rattle.dob_share.specs.declared.news.Item.{Item}
+use Rattle.dob_share.specs.declared.news.Part.{Part}
 use Rattle.dob_share.specs.declared.share.Share.{Share}
 use Rattle.dob_share.specs.Owners.{owner_of}
 use Rattle.dob_share.specs.Cells.{Cell, SameCell, changed}
@@ -17,6 +18,10 @@ use Rattle.dob_stops.specs.declared.cause.Cause.TheVariants.{TooDeep, Contradict
 -- the item's values are such as a table can have
 abbrev pub HasItemEntries : Item → Type 0
 HasItemEntries item = IsEntry item.was × IsEntry item.now
+
+-- so are those of a part's items
+abbrev pub HasPartEntries : Part → Type 0
+HasPartEntries part = IsEntry part.settlement.was × IsEntry part.settlement.now
 
 -- the cell counts wins in odd and knows a loss in an even number of plies
 pub record HasParities (cell : Cell) : Type 0 where

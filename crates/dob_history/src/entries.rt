@@ -1,20 +1,18 @@
-// Which items a node takes of others: those with values that a table can have.
+// Which items a node takes of others: those of settlements with values that a table can have.
 ghost use Rattle.std.specs.Prelude.{◌↔◌, IsTrue};
 ghost use Rattle.std.specs.List.{All};
 ghost use Rattle.dob_distance.specs.Codes.{IsEntry};
-ghost use Rattle.dob_history.specs.TakenItems.{HasItemEntries};
+ghost use Rattle.dob_history.specs.TakenItems.{HasPartEntries};
 
 use dob_distance::{MAX_DISTANCE, Value};
-use dob_share::Item;
+use dob_share::Part;
 
-/// Whether the values of each item, before and after, are such as a table can have: a draw, or a win in an odd or a loss in an even
-/// number of plies, of at most `MAX_DISTANCE`. `Node::apply_batch` takes no other items.
-pub fn have_entries(items: &[Item]) -> bool
-    ensures { IsTrue result ↔ All HasItemEntries items.now }
+/// Whether the values of each part's settlement, before and after, are such as a table can have: a draw, or a win in an odd or a loss in
+/// an even number of plies, of at most `MAX_DISTANCE`. `Node::apply_batch` takes no batch of others.
+pub fn have_entries(parts: &[Part]) -> bool
+    ensures { IsTrue result ↔ All HasPartEntries parts.now }
 {
-    items
-        .iter()
-        .all(|item| is_entry(item.was) && is_entry(item.now))
+    parts.iter().all(|part| is_entry(part.settlement.was) && is_entry(part.settlement.now))
 }
 
 // Whether a table can have the value.

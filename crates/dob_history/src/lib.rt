@@ -17,4 +17,4 @@ mod taking;
 pub use entries::have_entries;
 pub use history::History;
 pub use start_statuses::StartStatuses;
-pub use taking::{take_items, take_queue};
+pub use taking::take_parts;

@@ -1,3 +1,4 @@
+pub mod WaitingItems
 pub mod Outboxes
 pub mod NodeViews
 pub mod Levels

@@ -7,12 +7,14 @@
 // - What `apply_batch` asks of items is a test of its own (`have_entries`), since an item's fields are open. A runner makes it; a world needn't.
 // - `expand` takes back what it added: an outbox doesn't show its room, so if one runs out of memory the settlement is taken out of those before it
 //   (`Outbox::take_back`), which needs no memory.
-// - A node has an outbox for itself too, which stays empty, so that outboxes stand by the numbers of their receivers.
+// - A node has an outbox for itself too, which stays empty, so that outboxes stand by the numbers of their receivers. Its own items wait as those of an
+//   outbox do, by settlements and classes, with room that is made before (`OwnItems`).
 #![tactic(auto)]
 
 mod node;
 mod node_core;
 mod outboxes;
+mod own_items;
 
 pub use dob_history::have_entries;
 pub use dob_lawful::{laws, opening, opening_in};

@@ -7,6 +7,7 @@ ghost use Rattle.dob_node.specs.Nodes.{IsSound, IsShareOf, IsOpenedBy};
 
 use crate::node_core::Core;
 use crate::outboxes::{are_empty, empty_outboxes};
+use crate::own_items::OwnItems;
 use dob_classes::Classes;
 use dob_history::{History, StartStatuses};
 use dob_lawful::own_openings;
@@ -18,7 +19,6 @@ use dob_stops::Cause;
 use dob_update::{Batch, BatchSize};
 use dob_value::Value;
 use std::alloc::Global;
-use std::collections::VecDeque;
 use std::marker::Model;
 
 /// A node that owns the classes k * nodes + id of a family, one of several nodes. Once a call that grows it or applies an item has failed, the
@@ -120,7 +120,7 @@ impl Node {
     pub fn first_own(&self) -> Option<Item>
         ensures { result ≡ slice_get self.now.own 0 }
     {
-        self.core.own.front().copied()
+        self.core.own.first()
     }
 
     /// Applies the first of the own items. False if there is none.
@@ -339,7 +339,7 @@ fn node_with(
         share,
         history,
         expanded: 0,
-        own: VecDeque::new(alloc),
+        own: OwnItems::new(alloc),
         outboxes,
         targets: Vec::new(alloc),
         taken: 0,

@@ -1,22 +1,20 @@
 // What a node's steps change: its cells, its history, its own items and its outboxes. A step that fails leaves no note here.
-ghost use Rattle.std.specs.Prelude.{◌≡◌, ◌+◌, ◌<◌, ◌≤◌, ◌++◌, length, IfOk};
+ghost use Rattle.std.specs.Prelude.{◌≡◌, ◌<◌, IfOk};
 ghost use Rattle.std.specs.List.{All};
-ghost use Rattle.std.specs.VecDeque.{deque_len, deque_capacity};
-ghost use Rattle.dob_share.specs.Items.{items_of};
 ghost use Rattle.dob_history.specs.TakenItems.{HasItemEntries};
 
 use crate::outboxes::add_for_others;
+use crate::own_items::OwnItems;
 use dob_classes::Classes;
-use dob_history::{History, take_items, take_queue};
+use dob_history::{History, take_parts};
 use dob_pieces::{Family, Memory};
 use dob_safra::NodeCount;
-use dob_share::{Item, Settlement, Share, owner};
+use dob_share::Share;
 use dob_stops::Cause;
 use dob_unmove::back_into;
-use dob_update::{Batch, BatchSize, Outbox, item_for};
+use dob_update::{Batch, BatchSize, Outbox};
 use dob_value::Value;
 use std::alloc::Global;
-use std::collections::VecDeque;
 use std::mem;
 
 /// How many batches a node may cut for another.
@@ -33,7 +31,7 @@ pub(crate) struct Core {
     pub(crate) share: Share,
     pub(crate) history: History,
     pub(crate) expanded: u64,
-    pub(crate) own: VecDeque<Item>,
+    pub(crate) own: OwnItems,
     pub(crate) outboxes: Vec<Outbox>,
     // A list whose room each expansion uses again.
     pub(crate) targets: Vec<u64>,
@@ -61,7 +59,7 @@ impl Core {
         let targets = back_into(room, classes, settlement.class)?;
         self.own.reserve(targets.len())?;
         add_for_others(&mut self.outboxes, settlement, &targets, self.id)?;
-        push_own(&mut self.own, settlement, &targets, self.nodes, self.id);
+        self.own.add(settlement, &targets, self.nodes, self.id);
         self.targets = targets;
         self.expanded += 1;
         Ok(true)
@@ -73,13 +71,12 @@ impl Core {
         ensures step { AppliesOwn result (going self.old) (going self.new) }
         ensures sound { IsSound (going self.new) }
     {
-        if self.own.is_empty() {
+        let Some(item) = self.own.first() else {
             return Ok(false);
-        }
-        let item = self.own[0];
+        };
         let seen = self.share.see(item.to);
         self.history.take_seen(&mut self.share, item, seen)?;
-        self.own.pop_front();
+        self.own.drop_first();
         Ok(true)
     }
 
@@ -89,7 +86,7 @@ impl Core {
         ensures step { AppliesEveryOwn result (going self.old) (going self.new) }
         ensures sound { IsSound (going self.new) }
     {
-        take_queue(&mut self.share, &mut self.history, &mut self.own)
+        self.own.apply(&mut self.share, &mut self.history)
     }
 
     /// Applies the items of a batch in order, and makes its growths first.
@@ -99,10 +96,15 @@ impl Core {
         ensures step { AppliesAll batch.now.items result (going self.old) (going self.new) }
         ensures sound { IsSound (going self.new) }
     {
-        let items = batch.items();
         self.taken = 0;
-        self.history.reserve(items.len() as u64)?;
-        take_items(&mut self.share, &mut self.history, &mut self.taken, items)?;
+        self.history.reserve(batch.len() as u64)?;
+        take_parts(
+            &mut self.share,
+            &mut self.history,
+            &mut self.taken,
+            batch.parts(),
+            batch.classes(),
+        )?;
         Ok(())
     }
 
@@ -146,24 +148,5 @@ impl Core {
             values.push(self.share.value(class))?;
         }
         Ok(values)
-    }
-}
-
-// Appends the settlement's items for the owner `id`, one of `nodes`; `targets` are the classes with a move into the settled
-// one, and there is room for an item of each.
-fn push_own(
-    queue: &mut VecDeque<Item>,
-    settlement: Settlement,
-    targets: &[u64],
-    nodes: NodeCount,
-    id: usize,
-)
-    requires { deque_len queue.old + length targets.now ≤ deque_capacity queue.old }
-    ensures { queue.new.items ≡ queue.old.items ++ items_of (λ _. targets.now) nodes id settlement }
-{
-    for class in targets {
-        if owner(*class, nodes.get()) == id {
-            queue.push_back_reserved(item_for(settlement, *class));
-        }
     }
 }

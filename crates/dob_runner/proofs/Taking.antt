@@ -10,14 +10,11 @@ module _ {family : Family} {n from to : ℕ} {inlet : Inlet} {batch : BatchView}
   same_batch : tested.batch ≡ batch
   same_batch = same_Some tested.batch batch (sym tested.held ∙ held)
 
-  pub of_sender : batch.from ≡ from
-  of_sender = ap (λ (b : BatchView). b.from) (sym same_batch) ∙ tested.sender
-
   pub of_other : batch.from ≢ to
-  of_other same = tested.other (sym of_sender ∙ same)
+  of_other same = tested.other (sym tested.sender ∙ ap (λ (b : BatchView). b.from) same_batch ∙ same)
 
-  pub fits_node : IsBatchFor family n batch.from to batch
-  fits_node = subst (λ (k : ℕ). IsBatchFor family n k to batch) (sym of_sender) (subst (IsBatchFor family n from to) same_batch tested.fits)
+  pub fits_node : IsBatchFor family n to batch
+  fits_node = subst (IsBatchFor family n to) same_batch tested.fits
 
 pub unchanged_same : (node : Node) → IsUnchanged node node
 unchanged_same node = record { same = (refl, refl, refl, refl); kept = (refl, refl, refl); outboxes = refl }

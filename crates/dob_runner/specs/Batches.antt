@@ -6,10 +6,10 @@ use Rattle.dob_update.specs.Batches.{BatchView}
 use Rattle.dob_history.specs.TakenItems.{HasItemEntries}
 use Rattle.dob_endpoint.specs.declared.slots.Inlet.{Inlet}
 
--- a batch of the family among n nodes, from that node to the other, with items that have such values as a table can have
-pub record IsBatchFor (family : Family) (n from to : ℕ) (batch : BatchView) : Type 0 where
+-- a batch of the family among n nodes, for that node, with items that have such values as a table can have
+pub record IsBatchFor (family : Family) (n to : ℕ) (batch : BatchView) : Type 0 where
   pub of : (batch.family ≡ family) × (batch.n ≡ n)
-  pub link : (batch.from ≡ from) × (batch.to ≡ to)
+  pub receiver : batch.to ≡ to
   pub entries : All HasItemEntries batch.items
 
 -- In the slot lies a batch of the node `from`, which is for the node `to`, another one, of that family and one of n.
@@ -18,4 +18,4 @@ pub record HoldsFor (family : Family) (n from to : ℕ) (inlet : Inlet) : Type 0
   pub held : inlet.slot ≡ Some batch
   pub sender : batch.from ≡ from
   pub other : from ≢ to
-  pub fits : IsBatchFor family n from to batch
+  pub fits : IsBatchFor family n to batch

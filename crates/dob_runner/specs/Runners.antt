@@ -59,11 +59,10 @@ pub record HasRefused (runner : Runner) (why : Cause) : Type 0 where
   pub was : Runner
   pub going : was.failed ≡ None
   pub kept : KeepsRunner was runner
-  pub from : ℕ
-  pub other : from ≢ was.endpoint.seat.node
   pub batch : BatchView
-  pub fits : IsBatchFor was.family was.endpoint.seat.nodes from was.endpoint.seat.node batch
-  pub came : items_worked runner.endpoint.inlet from ≡ items_worked was.endpoint.inlet from ++ batch.items
+  pub other : batch.from ≢ was.endpoint.seat.node
+  pub fits : IsBatchFor was.family was.endpoint.seat.nodes was.endpoint.seat.node batch
+  pub came : items_worked runner.endpoint.inlet batch.from ≡ items_worked was.endpoint.inlet batch.from ++ batch.items
   pub before : HasTakenBefore batch.items was.node runner.node why
 
 -- the node has something to send to another one, for which it has cut 2^40 batches

@@ -1,5 +1,7 @@
 // Which batches are a node's to work in, and whether the one in its slot is.
 ghost use Rattle.std.specs.Prelude.{◌≡◌, ◌↔◌, ℕ, IsTrue, MatchOption};
+ghost use Rattle.std.specs.List.{All};
+ghost use Rattle.dob_history.specs.TakenItems.{HasItemEntries};
 ghost use Rattle.dob_runner.specs.Batches.{IsBatchFor, HoldsFor};
 
 use dob_endpoint::Inlet;
@@ -19,24 +21,27 @@ pub(crate) fn sender_for(inlet: &Inlet, family: Family, nodes: usize, to: usize)
     if from == to {
         return None;
     }
-    if !is_for(batch, family, nodes, from, to) {
+    if !is_for(batch, family, nodes, to) {
         return None;
     }
     Some(from)
 }
 
-// Whether the batch is one of the family among `nodes` nodes, from that node to the other, with items that have such values
-// as a table can have.
-fn is_for(batch: &Batch, family: Family, nodes: usize, from: usize, to: usize) -> bool
-    ensures { IsTrue result ↔ IsBatchFor family nodes from to batch.now }
+// Whether the batch is one of the family among `nodes` nodes, for that node, with items that have such values as a table can have.
+fn is_for(batch: &Batch, family: Family, nodes: usize, to: usize) -> bool
+    ensures { IsTrue result ↔ IsBatchFor family nodes to batch.now }
 {
-    if !is_one_family(batch.family(), family) || batch.nodes() != nodes {
+    if !is_one_family(batch.family(), family) || batch.nodes() != nodes || batch.to() != to {
         return false;
     }
-    if batch.from() != from || batch.to() != to {
-        return false;
-    }
-    have_entries(batch.items())
+    has_entries(batch)
+}
+
+// Whether its items have such values as a table can have.
+fn has_entries(batch: &Batch) -> bool
+    ensures { IsTrue result ↔ All HasItemEntries batch.now.items }
+{
+    have_entries(batch.parts())
 }
 
 // Whether the two are one family.

@@ -13,3 +13,5 @@ pub mod Opened  -- what has been opened grows by a slot with its run; a share as
 -- Cells that sum up what is known.
 pub mod Learning  -- what such a cell takes next
 pub mod Sums  -- such a cell still sums up after a change for the better
+-- Items of settlements.
+pub mod PartItems  -- items of parts, of which only the classes are listed

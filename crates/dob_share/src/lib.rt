@@ -28,7 +28,7 @@ mod steps;
 
 pub use fault::Fault;
 pub use listed::opening_at;
-pub use news::{Item, Settlement};
+pub use news::{Item, Part, Settlement, item_for};
 pub use opening::Opening;
 pub use owners::{owner, quotient};
 pub use share::{Seen, Share, places_among};

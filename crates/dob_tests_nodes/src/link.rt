@@ -38,9 +38,9 @@ fn gives(rt: &impl Abort, link: &mut impl Link, expected: (u64, usize)) {
 
 // The first item of the batch, and how many it has.
 fn told(batch: &Batch) -> (u64, usize) {
-    match batch.items() {
+    match batch.classes() {
         [] => (0, 0),
-        items => (items[0].to, items.len()),
+        classes => (classes[0], classes.len()),
     }
 }
 

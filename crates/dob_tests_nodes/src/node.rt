@@ -1,5 +1,7 @@
 // Nodes over lions alone, by values known from outside.
-ghost use Rattle.std.specs.Prelude.{◌≡◌, ◌<◌, ◌≤◌, None};
+ghost use Rattle.std.specs.Prelude.{◌≡◌, ◌↔◌, ◌<◌, ◌≤◌, IsTrue, None};
+ghost use Rattle.std.specs.List.{All};
+ghost use Rattle.dob_history.specs.TakenItems.{HasItemEntries};
 ghost use Rattle.dob_node.specs.Nodes.{IsSound};
 
 mod segments;
@@ -75,8 +77,8 @@ impl Log {
             return;
         }
         self.skips.push(batch.skip()).expect(rt, "room");
-        for item in batch.items() {
-            self.told.push(item.to).expect(rt, "room");
+        for class in batch.classes() {
+            self.told.push(*class).expect(rt, "room");
         }
     }
 }
@@ -204,6 +206,13 @@ fn items_of_one_settlement_go_in_batches(rt: HostRuntime) {
     assert!(rt; first.is_idle() && second.is_idle() && !improves(&first) && !improves(&second));
 }
 
+// Whether the batch's items have such values as a table can have.
+fn has_entries(batch: &Batch) -> bool
+    ensures { IsTrue result ↔ All HasItemEntries batch.now.items }
+{
+    have_entries(batch.parts())
+}
+
 // Hands the next batch of at most `size` items to the node: how many settlements it has then.
 fn hands_over<A: Abort>(rt: &A, outbox: &mut Outbox, node: &mut Node, size: usize) -> u64
     requires sound { IsSound node.old }
@@ -218,7 +227,7 @@ fn hands_over<A: Abort>(rt: &A, outbox: &mut Outbox, node: &mut Node, size: usiz
     assert!(rt; outbox.cut_count() < 100);
     let size = BatchSize::new(size).expect(rt, "a size");
     let batch = outbox.cut(size).expect(rt, "memory").expect(rt, "a batch");
-    assert!(rt; have_entries(batch.items()));
+    assert!(rt; has_entries(&batch));
     node.apply_batch(&batch).expect(rt, "items that fit");
     node.settled()
 }

@@ -42,7 +42,7 @@ fn cut(rt: &impl Abort, outbox: &mut Outbox, size: usize) -> Result<Batch, Memor
 // The classes that the batch lists.
 fn told(alloc: Global, batch: &Batch) -> Result<Vec<u64>, Memory> {
     let mut classes = Vec::new(alloc);
-    for item in batch.items() {
+    for item in &batch.items(alloc)? {
         classes.push(item.to)?;
     }
     Ok(classes)
@@ -83,7 +83,7 @@ fn cut_last(rt: &impl Abort, alloc: Global, outbox: &mut Outbox) -> Result<(), M
     let third = cut(rt, outbox, 2)?;
     tells(rt, alloc, &third, &[35], 4, 1)?;
     assert!(rt; third.number() == 2);
-    assert!(rt; third.items()[0].now == Value::Win(7));
+    assert!(rt; third.items(alloc)?[0].now == Value::Win(7));
     Ok(())
 }
 
@@ -116,7 +116,7 @@ fn cut_over_settlements(rt: &impl Abort, alloc: Global, outbox: &mut Outbox) -> 
     tells(rt, alloc, &both, &[35, 9], 4, 2)?;
     let last = both.parts().last().expect(rt, "a part");
     assert!(rt; last.settlement.number == 2);
-    assert!(rt; !both.items().is_empty());
+    assert!(rt; both.len() == 2);
     both.shorten(1);
     tells(rt, alloc, &both, &[35], 4, 1)
 }

@@ -139,7 +139,7 @@ fn is_numbered(batch: &Option<Batch>, number: u64) -> bool {
     let Some(batch) = batch else {
         return false;
     };
-    batch.number() == number && batch.items().len() == 5
+    batch.number() == number && batch.len() == 5
 }
 
 // A batch that has no room comes back, and is taken when the one before it is out.

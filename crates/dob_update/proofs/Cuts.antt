@@ -1,9 +1,9 @@
 -- What is cut from an outbox: the parts in front with their items, and what is left.
 use Rattle.dob_update.proofs.Common.{◌++◌, ◌+◌, ◌<◌, ◌∙◌, ◌≡◌, ◌≢◌, ◌≤◌, List, [], ap, arith, drop, length, length-take-le, min, refl, subst, sym, take, ℕ}
-use Rattle.dob_update.proofs.Common.{drop_min, take_min, Family, Item, IsCut, OutboxView, behind, front, items_in_all, items_of_parts}
+use Rattle.dob_update.proofs.Common.{drop_min, take_min, Family, Item, IsCut, OutboxView, behind, front, items_in_all, items_of_parts, AreItemsRun}
 use Rattle.dob_update.proofs.Common.{settlements_of, skip_behind, AreListed, IsItemRun, Part}
 use Rattle.dob_update.proofs.Runs.{total-front, front_settlements, run_cut, gone_behind}
-use Rattle.dob_update.proofs.PartItems.{items_of_parts-front, items_of_parts-behind, many_listed, none_listed, listed_behind}
+use Rattle.dob_update.proofs.PartItems.{items_in_front, items_of_parts-behind, many_listed, none_listed, listed_behind}
 
 -- The first k items of those that the outbox lists are cut, `size` of them or all.
 pub record IsCutting (family : Family) (n to : ℕ) (parts : List Part) (skip : ℕ) (classes : List ℕ) (size k : ℕ) : Type 0 where
@@ -21,14 +21,11 @@ module _ {family : Family} {n to : ℕ} {parts : List Part} {skip : ℕ} {classe
   pub parts_within : k ≤ items_in_all parts
   parts_within = let counted = cutting.listed.counted in let least = cutting.least in omega (arith, counted, least)
 
-  classes_within : k ≤ length classes
+  pub classes_within : k ≤ length classes
   classes_within = let least = cutting.least in omega (arith, least)
 
   items_within : k ≤ length all
   items_within = let many = many_listed cutting.listed in let least = cutting.least in omega (arith, many, least)
-
-  pub front_within : items_in_all (front k parts) ≤ length classes
-  front_within = let many = total-front parts k parts_within in let within = classes_within in omega (arith, many, within)
 
   pub still_listed : AreListed family n to (behind k parts) (skip_behind skip k parts) (drop k classes)
   still_listed = listed_behind family n to parts skip k classes cutting.listed classes_within
@@ -40,14 +37,21 @@ module _ {family : Family} {n to : ℕ} {parts : List Part} {skip : ℕ} {classe
   pub some_there : k ≢ 0 → all ≢ []
   some_there some none = some (let no_class = (none_listed cutting.listed).0 none in let least = cutting.least in omega (arith, no_class, least))
 
-  module _ (taken : List Part) (items : List Item) (taken_is : taken ≡ front k parts) (made : items ≡ items_of_parts taken classes) where
-    items_are : items ≡ take k all
-    items_are = made ∙ ap (λ (ps : List Part). items_of_parts ps classes) taken_is ∙ items_of_parts-front k parts classes enough parts_within
+  module _ (taken : List Part) (gone : List ℕ) (taken_is : taken ≡ front k parts) (gone_is : gone ≡ take k classes) where
+    abbrev items : List Item
+    items = items_of_parts taken gone
 
-    pub run_taken : k ≢ 0 → IsItemRun family n to taken skip items
-    run_taken some = subst (λ (xs : List Item). IsItemRun family n to taken skip xs) (sym items_are)
-        (subst (λ (ps : List Part). IsItemRun family n to ps skip (take k all)) (sym taken_is)
-        (run_cut family n to parts skip k all cutting.listed.rest (omega (arith, some)) items_within))
+    items_are : items ≡ take k all
+    items_are = ap (λ (ps : List Part). items_of_parts ps gone) taken_is ∙ ap (λ (xs : List ℕ). items_of_parts (front k parts) xs) gone_is
+        ∙ items_in_front k parts classes enough parts_within
+
+    pub run_taken : k ≢ 0 → AreItemsRun family n to taken skip gone
+    run_taken some = record {
+      counted = let many = total-front parts k parts_within in ap items_in_all taken_is ∙ many ∙ sym (ap length gone_is ∙ length-take-le k classes classes_within);
+      run = subst (λ (xs : List Item). IsItemRun family n to taken skip xs) (sym items_are)
+          (subst (λ (ps : List Part). IsItemRun family n to ps skip (take k all)) (sym taken_is)
+          (run_cut family n to parts skip k all cutting.listed.rest (omega (arith, some)) items_within));
+    }
 
     pub is_cut : (from next new_skip : ℕ) (left : List Part) (others : List ℕ) → left ≡ behind k parts → new_skip ≡ skip_behind skip k parts → others ≡ drop k classes →
         (let old : OutboxView = record { family = family; n = n; from = from; to = to; settlements = settlements_of parts; skip = skip; items = all; next = next } in

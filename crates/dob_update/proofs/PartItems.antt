@@ -2,26 +2,15 @@
 use Rattle.dob_update.proofs.Common.{nat_tests}
 use Rattle.dob_update.proofs.Common.{◌++◌, ◌+◌, ◌-◌, ◌<◌, ◌∙◌, ◌∷◌, ◌≡◌, ◌≤◌, List, [], ap, arith, drop, get_or, inl, inr, length, length-append, length-drop}
 use Rattle.dob_update.proofs.Common.{length-take-le, refl, subst, sym, take, ℕ, cases_lt, append-nil, append_assoc, drop-append-le, drop-drop}
-use Rattle.dob_update.proofs.Common.{drop_at, drop_more, length-map, map-append, take-append-le, take-take, take_all, filter, map, Family, predecessors}
+use Rattle.dob_update.proofs.Common.{drop_all, drop_at, drop_more, length-map, map-append, take-append-le, take-take, take_all, filter, map, Family, predecessors}
 use Rattle.dob_update.proofs.Common.{owner_of, Item, Settlement, OutboxView, added, with_items, item_for, items_of, behind, front, items_in_all, items_of_parts}
-use Rattle.dob_update.proofs.Common.{settlement_of, settlements_of, skip_behind, target_of, AreListed, IsRest, Part}
+use Rattle.dob_update.proofs.Common.{settlement_of, settlements_of, skip_behind, target_of, AreItemsRun, AreListed, IsRest, Part}
 use Rattle.std.specs.Prelude.{◌==◌, ◌^◌}
 use Rattle.std.proofs.lemmas.List.{take-append-drop, drop-take, take_at, map_more, get_or-drop, nil_from_length}
 use Rattle.dob_distance.specs.declared.value.Value.TheVariants.{Win}
 use Rattle.dob_update.proofs.PartLists.{front-zero, behind-within, behind-past}
+use Rattle.dob_share.proofs.PartItems.{items_of_parts-length, targets_of_items}
 use Rattle.dob_update.proofs.Runs.{total-front, rest_many, rest_added, rest_cut}
-
--- there are as many as the parts say
-pub items_of_parts-length : (parts : List Part) (classes : List ℕ) → items_in_all parts ≤ length classes → length (items_of_parts parts classes) ≡ items_in_all parts
-items_of_parts-length [] classes within = refl
-items_of_parts-length (part ∷ parts) classes within =
-    omega (
-      arith,
-      length-append (map (item_for part.settlement) (take part.items classes)) (items_of_parts parts (drop part.items classes)),
-      length-map (take part.items classes) (item_for part.settlement),
-      length-take-le part.items classes (omega (arith, within)),
-      items_of_parts-length parts (drop part.items classes) (omega (arith, within, length-drop part.items classes)),
-    )
 
 -- one part more, with its classes
 pub items_of_parts-push : (parts : List Part) (part : Part) (classes more : List ℕ) → items_in_all parts ≡ length classes → part.items ≡ length more
@@ -104,11 +93,26 @@ items_of_parts-behind k parts classes enough within =
     sym (drop_at (items_of_parts (front k parts) classes) (items_of_parts (behind k parts) (drop k classes)) k (long k parts classes enough within))
     ∙ ap (λ (xs : List Item). drop k xs) (items_of_parts-split k parts classes)
 
--- ---- the classes of items
+-- classes behind those of the parts don't matter
+items_of_parts-take : (parts : List Part) (m : ℕ) (classes : List ℕ) → items_in_all parts ≤ m → items_of_parts parts (take m classes) ≡ items_of_parts parts classes
+items_of_parts-take [] m classes within = refl
+items_of_parts-take (part ∷ parts) m classes within =
+    let whole : part.items + (m - part.items) ≡ m = omega (arith, within) in
+    let left : drop part.items (take m classes) ≡ take (m - part.items) (drop part.items classes) =
+    ap (λ (k : ℕ). drop part.items (take k classes)) (sym whole) ∙ drop-take part.items (m - part.items) classes in
+    ap (λ (xs : List ℕ). map (item_for part.settlement) xs ++ items_of_parts parts (drop part.items (take m classes)))
+    (take-take part.items m classes (omega (arith, within)))
+    ∙ ap (λ (xs : List ℕ). map (item_for part.settlement) (take part.items classes) ++ items_of_parts parts xs) left
+    ∙ ap (λ (xs : List Item). map (item_for part.settlement) (take part.items classes) ++ xs)
+    (items_of_parts-take parts (m - part.items) (drop part.items classes) (omega (arith, within)))
 
-pub targets_of_items : (s : Settlement) (classes : List ℕ) → map target_of (map (item_for s) classes) ≡ classes
-targets_of_items s [] = refl
-targets_of_items s (class ∷ classes) = ap (λ (xs : List ℕ). class ∷ xs) (targets_of_items s classes)
+-- so the items in front are those of the parts and of the classes in front
+pub items_in_front : (k : ℕ) (parts : List Part) (classes : List ℕ) → items_in_all parts ≤ length classes → k ≤ items_in_all parts →
+    items_of_parts (front k parts) (take k classes) ≡ take k (items_of_parts parts classes)
+items_in_front k parts classes enough within =
+    items_of_parts-take (front k parts) k classes (let many = total-front parts k within in omega (arith, many)) ∙ items_of_parts-front k parts classes enough within
+
+-- ---- the classes of items
 
 -- items of one settlement, from the classes that they are for
 pub items_again : (s : Settlement) (items : List Item) (classes : List ℕ) → items ≡ map (item_for s) classes → map (item_for s) (map target_of items) ≡ items
@@ -126,9 +130,9 @@ items_more s before items classes start index class within read so_far =
     (ap (λ (c : ℕ). own ++ item_for s c ∷ []) (read ∙ sym (get_or-drop start classes index class))
     ∙ sym (map_more (item_for s) (drop start classes) index class (omega (arith, within, length-drop start classes))))
 
--- the items of the parts so far, and what is left to make
-pub record IsMaking (parts : List Part) (classes : List ℕ) (index next : ℕ) (list : List Item) : Type 0 where
-  pub so_far : list ++ items_of_parts (drop index parts) (drop next classes) ≡ items_of_parts parts classes
+-- the items of the parts so far, behind the first ones, and what is left to make
+pub record IsMaking (parts : List Part) (classes : List ℕ) (index next : ℕ) (first list : List Item) : Type 0 where
+  pub so_far : list ++ items_of_parts (drop index parts) (drop next classes) ≡ first ++ items_of_parts parts classes
   pub within : next + items_in_all (drop index parts) ≤ length classes
 
 pub next_part : (parts : List Part) (index : ℕ) (part : Part) → index < length parts → part ≡ get_or parts index part → drop index parts ≡ part ∷ drop (index + 1) parts
@@ -139,14 +143,14 @@ abbrev pub no_part : Part
 no_part = record { settlement = record { number = 0; class = 0; was = Win 0; now = Win 0 }; items = 0 }
 
 -- the next part's classes are there
-pub making_within : (parts : List Part) (classes : List ℕ) (index next : ℕ) (list : List Item) (part : Part) → index < length parts → part ≡ get_or parts index part
-    → IsMaking parts classes index next list → next + part.items ≤ length classes
-making_within parts classes index next list part there read l = grind (arith, next_part)
+pub making_within : (parts : List Part) (classes : List ℕ) (index next : ℕ) (first list : List Item) (part : Part) → index < length parts → part ≡ get_or parts index part
+    → IsMaking parts classes index next first list → next + part.items ≤ length classes
+making_within parts classes index next first list part there read l = grind (arith, next_part)
 
-pub making_more : (parts : List Part) (classes : List ℕ) (index next : ℕ) (list more : List Item) (part : Part) → index < length parts → part ≡ get_or parts index part
-    → IsMaking parts classes index next list → more ≡ list ++ map (item_for part.settlement) (take part.items (drop next classes))
-    → IsMaking parts classes (index + 1) (next + part.items) more
-making_more parts classes index next list more part there read l is = record {
+pub making_more : (parts : List Part) (classes : List ℕ) (index next : ℕ) (first list more : List Item) (part : Part) → index < length parts → part ≡ get_or parts index part
+    → IsMaking parts classes index next first list → more ≡ list ++ map (item_for part.settlement) (take part.items (drop next classes))
+    → IsMaking parts classes (index + 1) (next + part.items) first more
+making_more parts classes index next first list more part there read l is = record {
   so_far =
       let own = map (item_for part.settlement) (take part.items (drop next classes)) in
       let left = items_of_parts (drop (index + 1) parts) (drop part.items (drop next classes)) in
@@ -158,12 +162,22 @@ making_more parts classes index next list more part there read l is = record {
       omega (arith, ap items_in_all (next_part parts index part there read), l.within);
 }
 
+-- all are made
+pub making_all : (parts : List Part) (classes : List ℕ) (index next : ℕ) (first list : List Item) → length parts ≤ index → IsMaking parts classes index next first list →
+    list ≡ first ++ items_of_parts parts classes
+making_all parts classes index next first list past l = grind (arith, append-nil list, drop_all index parts past, l.so_far)
+
 -- ---- what an outbox lists
 
 -- there is an item for each class that is listed
 pub many_listed : {family : Family} {n to : ℕ} {parts : List Part} {skip : ℕ} {classes : List ℕ} → AreListed family n to parts skip classes →
     length (items_of_parts parts classes) ≡ length classes
 many_listed {parts = parts} {classes = classes} listed = grind (arith, items_of_parts-length)
+
+-- so it is of a batch
+pub many_in_run : {family : Family} {n to : ℕ} {parts : List Part} {skip : ℕ} {classes : List ℕ} → AreItemsRun family n to parts skip classes →
+    length (items_of_parts parts classes) ≡ length classes
+many_in_run {parts = parts} {classes = classes} run = grind (arith, items_of_parts-length)
 
 -- so that there is none just where no class is
 pub none_listed : {family : Family} {n to : ℕ} {parts : List Part} {skip : ℕ} {classes : List ℕ} → AreListed family n to parts skip classes →

@@ -5,6 +5,9 @@ use Rattle.dob_update.proofs.Common.{length-append, length-drop, length-take-le,
 use Rattle.dob_update.proofs.Common.{append-nil, append_assoc, drop-append-le, drop-drop, drop_at, length-map, map-append, take-append-le, take-take, Family}
 use Rattle.dob_update.proofs.Common.{predecessors, Item, Settlement, BatchView, IsBatch, IsFront, IsOutbox, OutboxView, items_for, items_of, AreParts, AreWhole}
 use Rattle.dob_update.proofs.Common.{behind, front, items_in_all, settlement_of, settlements_of, skip_behind, with_number, IsItemRun, IsRest, count_for, Part}
+use Rattle.std.proofs.lemmas.List.Elements.{All-cons, All-nil}
+use Rattle.std.specs.List.{All}
+use Rattle.dob_share.specs.Items.{HasItem}
 use Rattle.dob_update.specs.Batches.{HasItemIn}
 use Rattle.dob_update.proofs.PartLists.{behind-within, behind-past, skip-within, skip-past}
 
@@ -42,6 +45,11 @@ module _ (count : Settlement → ℕ) where
       → part.items < 2 ^ 64 → AreWhole count skip (parts ++ part ∷ [])
   AreWhole-push [] skip part w some all low = (some, omega (arith, w, all), omega (arith, all, low), refl)
   AreWhole-push (first ∷ parts) skip part w some all low = (w.0, w.1, w.2, AreWhole-push parts 0 part w.3 some all low)
+
+-- each part has an item
+pub parts_have : (count : Settlement → ℕ) (skip : ℕ) (parts : List Part) → AreParts count skip parts → All HasItem parts
+parts_have count skip [] are = All-nil HasItem
+parts_have count skip (part ∷ parts) are = All-cons HasItem part parts are.0 (parts_have count 0 parts are.3)
 
 some_parts : (parts : List Part) → 0 < items_in_all parts → 0 < length parts
 some_parts [] some = absurd (omega (arith, some))

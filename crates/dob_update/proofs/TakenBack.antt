@@ -5,7 +5,8 @@ use Rattle.dob_update.proofs.Common.{OutboxView, items_for, with_items, item_for
 use Rattle.dob_update.proofs.Common.{AreListed, count_for, Part}
 use Rattle.std.proofs.lemmas.List.{take_at, take_more, take-append-drop, nil_from_length, same_from_push}
 use Rattle.dob_update.proofs.Runs.{items-append, whole_is}
-use Rattle.dob_update.proofs.PartItems.{items_of_parts-length, items_of_parts-push, total-push, with_some}
+use Rattle.dob_share.proofs.PartItems.{items_of_parts-length}
+use Rattle.dob_update.proofs.PartItems.{items_of_parts-push, total-push, with_some}
 
 -- ---- the last part
 

@@ -1,9 +1,7 @@
 -- Settlements with the number of items that each of them has somewhere. Only types' invariants and calls inside the crate name these.
-use Rattle.std.specs.Prelude.{◌≡◌, ℕ, ◌+◌, ◌-◌, ◌^◌, ◌<◌, ◌≤◌, ◌==◌, nat_lt, min, cond, List, [], ◌∷◌, ◌++◌, length, map, take, drop}
+use Rattle.std.specs.Prelude.{◌≡◌, ℕ, ◌+◌, ◌-◌, ◌^◌, ◌<◌, ◌≤◌, ◌==◌, nat_lt, min, cond, List, [], ◌∷◌, ◌++◌, length, map}
 use Rattle.dob_share.specs.declared.news.Settlement.{Settlement}
-use Rattle.dob_share.specs.declared.news.Item.{Item}
-use Rattle.dob_update.specs.declared.part.Part.{Part}
-use Rattle.dob_share.specs.Items.{item_for}
+use Rattle.dob_share.specs.declared.news.Part.{Part}
 
 abbrev pub settlement_of : Part → Settlement
 settlement_of part = part.settlement
@@ -14,20 +12,6 @@ settlements_of parts = map settlement_of parts
 -- so many items of the part's settlement
 abbrev pub with_number : Part → ℕ → Part
 with_number part items = record part { items = items }
-
--- how many items there are in all
-abbrev pub items_in_all : List Part → ℕ
-items_in_all [] = 0
-items_in_all (part ∷ parts) = part.items + items_in_all parts
-
--- the class that an item is for
-abbrev pub target_of : Item → ℕ
-target_of item = item.to
-
--- the items of the parts, where the classes that they are for are listed one part after the other
-abbrev pub items_of_parts : List Part → List ℕ → List Item
-items_of_parts [] classes = []
-items_of_parts (part ∷ parts) classes = map (item_for part.settlement) (take part.items classes) ++ items_of_parts parts (drop part.items classes)
 
 -- the parts of the first k items
 abbrev pub front : ℕ → List Part → List Part

@@ -4,9 +4,9 @@ use Rattle.dob_pieces.specs.declared.profile.Family.{Family}
 use Rattle.dob_unmove.specs.Edges.{predecessors}
 use Rattle.dob_share.specs.declared.news.Settlement.{Settlement}
 use Rattle.dob_share.specs.declared.news.Item.{Item}
-use Rattle.dob_update.specs.declared.part.Part.{Part}
-use Rattle.dob_share.specs.Items.{items_of}
-use Rattle.dob_update.specs.Parts.{AreParts, AreWhole, settlements_of, items_in_all, items_of_parts}
+use Rattle.dob_share.specs.declared.news.Part.{Part}
+use Rattle.dob_share.specs.Items.{items_of, items_in_all, items_of_parts}
+use Rattle.dob_update.specs.Parts.{AreParts, AreWhole, settlements_of}
 use Rattle.dob_update.specs.Batches.{items_for}
 
 -- how many items a settlement has for the node `to`
@@ -29,3 +29,8 @@ pub record IsRest (family : Family) (n to : ℕ) (parts : List Part) (skip : ℕ
 pub record AreListed (family : Family) (n to : ℕ) (parts : List Part) (skip : ℕ) (classes : List ℕ) : Type 0 where
   pub counted : items_in_all parts ≡ length classes
   pub rest : IsRest family n to parts skip (items_of_parts parts classes)
+
+-- as many classes are listed as the parts have items, and the parts' items for these are a run of those of the settlements
+pub record AreItemsRun (family : Family) (n to : ℕ) (parts : List Part) (skip : ℕ) (classes : List ℕ) : Type 0 where
+  pub counted : items_in_all parts ≡ length classes
+  pub run : IsItemRun family n to parts skip (items_of_parts parts classes)

@@ -1,22 +1,10 @@
 // The items that a settlement makes.
 ghost use Rattle.std.specs.Prelude.{◌≡◌, ◌<◌, ◌++◌, ℕ, length, take, OnOk, OnErr};
 ghost use Rattle.dob_share.specs.declared.news.Settlement.{Settlement as Settled};
-ghost use Rattle.dob_share.specs.Items.{item_for, items_of};
+ghost use Rattle.dob_share.specs.Items.{items_of};
 
 use dob_pieces::Memory;
-use dob_share::{Item, Settlement, owner};
-
-/// The news of the settlement for an edge from the class `to`.
-pub fn item_for(settlement: Settlement, to: u64) -> Item
-    ensures { result ≡ item_for settlement to }
-{
-    Item {
-        number: settlement.number,
-        to,
-        was: settlement.was,
-        now: settlement.now,
-    }
-}
+use dob_share::{Item, Settlement, item_for, owner};
 
 /// Appends the settlement's items for the owner `to`, one of `nodes`: one for each of the predecessors of its class that are
 /// this owner's, in their order. After `Memory` those for the first of the predecessors, however many, are appended.

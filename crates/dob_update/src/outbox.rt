@@ -6,16 +6,14 @@ ghost use Rattle.std.specs.VecDeque.{deque_len, deque_capacity};
 ghost use Rattle.dob_unmove.specs.Edges.{predecessors};
 ghost use Rattle.dob_share.specs.declared.news.Settlement.{Settlement as Settled};
 ghost use Rattle.dob_share.specs.Owners.{owner_of};
-ghost use Rattle.dob_share.specs.Items.{item_for, items_of};
-ghost use Rattle.dob_update.specs.Parts.{front, behind, skip_behind, items_in_all, items_of_parts, target_of, AreWhole};
+ghost use Rattle.dob_share.specs.Items.{items_of, items_in_all, target_of};
+ghost use Rattle.dob_update.specs.Parts.{front, behind, skip_behind, AreWhole};
 ghost use Rattle.dob_update.specs.Batches.{OutboxView, IsOutbox, HasOneMore, IsCut, empty_outbox, added};
 
 use crate::batch::Batch;
-use crate::items::item_for;
-use crate::part::Part;
 use crate::sizes::BatchSize;
 use dob_pieces::{Family, Memory};
-use dob_share::{Item, Settlement, owner};
+use dob_share::{Item, Part, Settlement, owner};
 use std::alloc::Global;
 use std::collections::VecDeque;
 use std::marker::Model;
@@ -38,7 +36,8 @@ pub struct Outbox {
 
 impl Model for Outbox {
     ghost use Rattle.std.specs.Prelude.{◌≡◌};
-    ghost use Rattle.dob_update.specs.Parts.{settlements_of, items_of_parts};
+    ghost use Rattle.dob_share.specs.Items.{items_of_parts};
+    ghost use Rattle.dob_update.specs.Parts.{settlements_of};
     ghost use Rattle.dob_update.specs.Batches.{OutboxView};
     ghost use Rattle.dob_update.specs.Runs.{AreListed};
 
@@ -161,11 +160,10 @@ impl Outbox {
             return Ok(None);
         }
         let mut parts = Vec::with_capacity(self.alloc, taken)?;
-        let mut items = Vec::with_capacity(self.alloc, taken)?;
+        let mut classes = Vec::with_capacity(self.alloc, taken)?;
         let skip = self.skip;
         self.skip = move_parts(&mut self.parts, &mut parts, skip, taken);
-        front_items(&mut items, &parts, &self.classes);
-        drop_classes(&mut self.classes, taken);
+        move_classes(&mut self.classes, &mut classes, taken);
         let batch = Batch::new(
             self.family,
             self.nodes,
@@ -174,7 +172,7 @@ impl Outbox {
             self.next,
             parts,
             skip,
-            items,
+            classes,
         );
         self.next += 1;
         Ok(Some(batch))
@@ -237,40 +235,28 @@ fn move_parts(parts: &mut VecDeque<Part>, list: &mut Vec<Part>, skip: usize, k: 
     before
 }
 
-// Lists the items of the parts, whose classes are the first of those, in an empty list with room for them.
-fn front_items(list: &mut Vec<Item>, parts: &[Part], classes: &VecDeque<u64>)
-    requires empty { list.old.items ≡ [] }
-    requires within { items_in_all parts.now ≤ length classes.now.items }
-    requires room { vec_len list.old + items_in_all parts.now ≤ vec_capacity list.old }
-    ensures { list.new.items ≡ items_of_parts parts.now classes.now.items }
+// Moves the first `k` classes to the list, which has room for them.
+fn move_classes(classes: &mut VecDeque<u64>, list: &mut Vec<u64>, k: usize)
+    requires within { k ≤ length classes.old.items }
+    requires room { vec_len list.old + k ≤ vec_capacity list.old }
+    ensures moved { list.new.items ≡ list.old.items ++ take k classes.old.items }
+    ensures left { classes.new.items ≡ drop k classes.old.items }
 {
-    let mut next = 0;
-    for part in parts {
-        push_part_items(list, part.settlement, classes, next, part.items);
-        next += part.items;
-    }
+    push_first(list, classes, k);
+    drop_classes(classes, k);
 }
 
-// Appends the news of the settlement for `count` classes, those from that place on, for which there is room.
-#[tactic(auto, using(crate::proofs::PartItems::items_more))]
-fn push_part_items(
-    list: &mut Vec<Item>,
-    settlement: Settlement,
-    classes: &VecDeque<u64>,
-    start: usize,
-    count: usize,
-)
-    requires within { start + count ≤ length classes.now.items }
-    requires room { vec_len list.old + count ≤ vec_capacity list.old }
-    ensures items { list.new.items ≡ list.old.items ++ map (item_for settlement) (take count (drop start classes.now.items)) }
-    ensures len { vec_len list.new ≡ vec_len list.old + count }
-    ensures capacity { vec_capacity list.new ≡ vec_capacity list.old }
+// Appends the first `k` classes to the list, which has room for them: those that lie side by side all at once.
+fn push_first(list: &mut Vec<u64>, classes: &VecDeque<u64>, k: usize)
+    requires within { k ≤ length classes.now.items }
+    requires room { vec_len list.old + k ≤ vec_capacity list.old }
+    ensures { list.new.items ≡ list.old.items ++ take k classes.now.items }
 {
-    let _length = classes.len();
-    for index in 0..count {
-        let class = classes[start + index];
-        list.push_reserved(item_for(settlement, class));
-    }
+    let (front, behind) = classes.as_slices();
+    let first = k.min(front.len());
+    // There is room.
+    let _ = list.extend_from_slice(&front[..first]);
+    let _ = list.extend_from_slice(&behind[..k - first]);
 }
 
 // Drops the first `k` classes, all at once: they go behind the others, of which mostly few are left, and are cut off there.

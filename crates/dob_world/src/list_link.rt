@@ -47,7 +47,7 @@ impl ListLink {
         ensures some { IfSome result (λ count. (batch : BatchView) × (rest : List BatchView) × (self.now.waiting ≡ batch ∷ rest) × (count ≡ length batch.items)) }
     {
         match self.slots.front() {
-            Some(batch) => Some(batch.items().len()),
+            Some(batch) => Some(batch.len()),
             None => None,
         }
     }

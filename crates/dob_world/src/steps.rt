@@ -1,5 +1,5 @@
 // What an event does to the nodes and the lane that it names.
-ghost use Rattle.std.specs.Prelude.{◌≡◌, ◌≢◌, ◌+◌, ◌<◌, ◌≤◌, ◌^◌, None, Err, ◌↔◌, ◌⊎◌, [], ◌++◌, length, vec_len, vec_capacity};
+ghost use Rattle.std.specs.Prelude.{◌≡◌, ◌≢◌, ◌+◌, ◌<◌, ◌≤◌, ◌^◌, None, Err, ◌↔◌, ◌⊎◌, [], ◌++◌, length, take, vec_len, vec_capacity};
 ghost use Rattle.std.specs.Prelude.{true, false, IfErr, OnOk, OnErr};
 ghost use Rattle.std.specs.List.{All};
 ghost use Rattle.dob_stops.specs.declared.cause.Cause.TheVariants as cause;
@@ -10,7 +10,7 @@ use crate::lane::Lane;
 use crate::link::Link;
 use dob_node::{Cause, Node};
 use dob_share::Item;
-use dob_update::BatchSize;
+use dob_update::{Batch, BatchSize};
 
 // Applies the first own item of a node, and lists it as applied. False if there is none.
 //
@@ -76,7 +76,7 @@ pub(crate) fn post(
     let Some(batch) = node.cut_for(to, batch_size)? else {
         unreachable!();
     };
-    list_items(&mut lane.sent, batch.items());
+    batch.list_items(&mut lane.sent);
     // It has room.
     let _ = lane.link.offer(batch);
     Ok(true)
@@ -109,21 +109,22 @@ pub(crate) fn receive(node: &mut Node, lane: &mut Lane) -> Result<bool, Cause>
         unreachable!();
     };
     match node.apply_batch(&batch) {
-        Ok(()) => list_items(&mut lane.applied, batch.items()),
+        Ok(()) => batch.list_items(&mut lane.applied),
         Err(cause) => {
-            list_items(&mut lane.applied, &batch.items()[..node.taken()]);
+            list_first(&mut lane.applied, &batch, node.taken());
             return Err(cause);
         }
     }
     Ok(true)
 }
 
-// Lists the items, for which there is room.
-fn list_items(list: &mut Vec<Item>, items: &[Item])
-    requires { vec_len list.old + length items.now ≤ vec_capacity list.old }
-    ensures { list.new.items ≡ list.old.items ++ items.now }
+// Lists the first `k` items of the batch; there is room for all of them.
+fn list_first(list: &mut Vec<Item>, batch: &Batch, k: usize)
+    requires within { k ≤ length batch.now.items }
+    requires room { vec_len list.old + length batch.now.items ≤ vec_capacity list.old }
+    ensures { list.new.items ≡ list.old.items ++ take k batch.now.items }
 {
-    for item in items {
-        list.push_reserved(*item);
-    }
+    let before = list.len();
+    batch.list_items(list);
+    list.truncate(before + k);
 }

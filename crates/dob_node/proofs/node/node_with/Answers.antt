@@ -11,7 +11,7 @@ returns-clause-opened c = λ openings are out. record {
   places = places_are out c.requires.owner;
   statuses = out.statuses;
   cells = opened_cells out c.requires.owner c.args.family are;
-  nothing = (refl, c.new.ensures.items);
+  nothing = (refl, c.new.ensures);
   going = refl;
   outboxes = c.in_ok-outboxes.ensures.empty;
 }
@@ -25,7 +25,7 @@ returns-clause-sound c =
           (subst (λ (xs : List Settlement). c.in_ok-history.history ≡ record { id = c.args.id; n = c.args.nodes; settlements = xs; room = 0 })
           (share_opened out c.requires.owner) c.in_ok-history.ensures);
       emitted = omega arith;
-      entries = subst (λ xs. All HasItemEntries xs) (sym c.new.ensures.items) (All-nil HasItemEntries);
+      entries = subst (λ xs. All HasItemEntries xs) (sym c.new.ensures) (All-nil HasItemEntries);
       receivers = c.in_ok-outboxes.ensures.whole;
       addressed = addressed_empty c.args.family c.args.nodes c.args.id c.in_ok-outboxes.outboxes.items c.in_ok-outboxes.ensures.empty;
       nothing_to_self = ap (λ (o : OutboxView). o.items) (c.in_ok-outboxes.ensures.empty c.args.id);

@@ -16,9 +16,9 @@ list_items-requires c =
     let items = (outbox_to c.args.node.now c.args.to).items in
     let cut = subst (λ given. IfSome given (λ (b : BatchView). HasCut c.args.to size b c.args.node.now c.cut_for.new.self)) c.in-Some.is
     c.in_ok-batch.ensures.step.cut in
-    let listed : length c.items.result.now ≡ min size (length items) = ap length (c.items.ensures.items ∙ cut.cut.items) ∙ length-take size items in
+    let listed : length c.in-Some.batch.items ≡ min size (length items) = ap length cut.cut.items ∙ length-take size items in
     let count : c.min-count.result ≡ min (length items) size = c.min-count.ensures ∙ ap₂ min c.left_for.ensures c.get.ensures.value in
-    fits_as_counted (vec_len c.reserve.new.self) (length c.items.result.now) c.min-count.result size (length items) _ listed count c.in_ok-reserve.ensures.ok
+    fits_as_counted (vec_len c.reserve.new.self) (length c.in-Some.batch.items) c.min-count.result size (length items) _ listed count c.in_ok-reserve.ensures.ok
 
 pub returns-clause-posted : goal.returns-clause-posted
 returns-clause-posted c = λ e.
@@ -32,7 +32,6 @@ returns-clause-posted c = λ e.
           c.in_ok-batch.ensures.step.cut;
       link = ap (λ w. link_of w c.offer.new.self.capacity) steps
           ∙ ap (λ k. link_of (c.args.lane.now.link.waiting ++ c.in-Some.batch ∷ []) k) c.offer.ensures.capacity;
-      sent = c.list_items.ensures ∙ ap (λ xs. xs ++ c.items.result.now) c.in_ok-reserve.ensures.items
-          ∙ ap (λ xs. c.args.lane.now.sent.items ++ xs) c.items.ensures.items;
+      sent = c.list_items.ensures ∙ ap (λ xs. xs ++ c.in-Some.batch.items) c.in_ok-reserve.ensures.items;
       same = refl;
     }

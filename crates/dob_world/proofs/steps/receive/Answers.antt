@@ -1,6 +1,8 @@
 -- The lane's first batch is one for the node, which takes and lists its items, or stops at one of them.
 use Rattle.dob_world.proofs.Common.{◌++◌, ◌∙◌, ◌∷◌, ap, length, refl, rules, subst, sym, take, All-head, All, BatchView, before_since, taken_since, IsBatchTo, link_of}
 use Rattle.dob_world.proofs.Firsts.{front_is}
+use Rattle.std.proofs.Common.{arith}
+use Rattle.std.proofs.lemmas.List.{length-append}
 use Rattle.dob_world.proofs.steps.receive.Goals as goal
 
 pub apply_batch-requires : goal.apply_batch-requires
@@ -16,13 +18,13 @@ apply_batch-requires c =
       going = search rules;
     }
 
-pub slice_bounds-list_items-end : goal.slice_bounds-list_items-end
-slice_bounds-list_items-end c =
+pub list_first-requires-clause-within : goal.list_first-requires-clause-within
+list_first-requires-clause-within c =
     let before = before_since c.in-Some-next.batch.items c.args.node.now c.reserve-2.new.self c.apply_batch.new.self c.in-Err.cause
     c.reserve-2.ensures.step.unchanged c.in-Err.ensures.step.before in
     let counted = before.counted ∙ sym c.taken.ensures in
-    sym (ap length (front_is c.items-in-Err.result.now before.front before.behind before.item c.taken.result
-    (c.items-in-Err.ensures.items ∙ before.items_are) counted) ∙ counted)
+    let few = ap length before.items_are ∙ length-append before.front (before.item ∷ before.behind) in
+    omega (arith, few, counted)
 
 pub returns-in-Err-clause-front : goal.returns-in-Err-clause-front
 returns-in-Err-clause-front c = λ other.
@@ -34,10 +36,10 @@ returns-in-Err-clause-front c = λ other.
       first = ap (λ w. link_of w c.args.lane.now.link.capacity) c.in-Some-next.ensures.some
           ∙ ap (λ k. link_of (batch ∷ c.next.new.self.waiting) k) (sym c.next.ensures.capacity);
       taken = before;
-      listed = c.list_items-in-Err.ensures
-          ∙ ap (λ xs. xs ++ take c.taken.result c.items-in-Err.result.now) c.in_ok-reserve.ensures.items
-          ∙ ap (λ xs. c.args.lane.now.applied.items ++ xs) (front_is c.items-in-Err.result.now before.front before.behind before.item c.taken.result
-          (c.items-in-Err.ensures.items ∙ before.items_are) (before.counted ∙ sym c.taken.ensures));
+      listed = c.list_first.ensures
+          ∙ ap (λ xs. xs ++ take c.taken.result batch.items) c.in_ok-reserve.ensures.items
+          ∙ ap (λ xs. c.args.lane.now.applied.items ++ xs) (front_is batch.items before.front before.behind before.item c.taken.result
+          before.items_are (before.counted ∙ sym c.taken.ensures));
       same = refl;
     }
 
@@ -48,7 +50,6 @@ returns-clause-received c = λ e. record {
       ∙ ap (λ k. link_of (c.in-Some-next.batch ∷ c.next.new.self.waiting) k) (sym c.next.ensures.capacity);
   taken = taken_since c.in-Some-next.batch.items c.args.node.now c.reserve-2.new.self c.apply_batch.new.self c.reserve-2.ensures.step.unchanged
       c.in-Ok.ensures.step.taken;
-  listed = c.list_items.ensures ∙ ap (λ xs. xs ++ c.items.result.now) c.in_ok-reserve.ensures.items
-      ∙ ap (λ xs. c.args.lane.now.applied.items ++ xs) c.items.ensures.items;
+  listed = c.list_items.ensures ∙ ap (λ xs. xs ++ c.in-Some-next.batch.items) c.in_ok-reserve.ensures.items;
   same = refl;
 }

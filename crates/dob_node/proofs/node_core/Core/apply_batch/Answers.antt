@@ -3,7 +3,25 @@ use Rattle.dob_node.proofs.Common.{err_from_is_err_and, going, rules}
 use Rattle.dob_history.proofs.Kepts.{kept_own}
 use Rattle.dob_history.proofs.TakenLists.{kept_with_room, stops_first}
 use Rattle.dob_node.proofs.TakenLists.{applies_err, applies_ok, still_sound}
+use Rattle.dob_node.proofs.Common.{◌≡◌, ◌∙◌, All, HasItemEntries, Item, List, ap, length, map, subst, sym, ℕ}
+use Rattle.std.proofs.lemmas.List.{length-map}
+use Rattle.dob_share.specs.Items.{items_in_all, items_of_parts, target_of}
 use Rattle.dob_node.proofs.node_core.Core.apply_batch.Goals as goal
+use Rattle.dob_node.proofs.node_core.Core.apply_batch.Goals.{After-classes}
+
+-- the items of the parts and classes are the batch's
+same_items : (c : After-classes) → items_of_parts c.parts.result.now c.classes.result.now ≡ c.args.batch.now.items
+same_items c = ap (λ (xs : List ℕ). items_of_parts c.parts.result.now xs) c.classes.ensures ∙ c.parts.ensures.items
+
+many : (c : After-classes) → length c.classes.result.now ≡ length c.args.batch.now.items
+many c = ap length c.classes.ensures ∙ length-map c.args.batch.now.items target_of
+
+pub take_parts-requires-clause-listed : goal.take_parts-requires-clause-listed
+take_parts-requires-clause-listed c = c.parts.ensures.total ∙ sym (many (goal.at.take_parts-requires-clause-listed c).After-classes)
+
+pub take_parts-requires-clause-entries : goal.take_parts-requires-clause-entries
+take_parts-requires-clause-entries c =
+    subst (λ (xs : List Item). All HasItemEntries xs) (sym (same_items (goal.at.take_parts-requires-clause-entries c).After-classes)) c.requires.entries
 
 pub returns-in_err-reserve-clause-step : goal.returns-in_err-reserve-clause-step
 returns-in_err-reserve-clause-step c =
@@ -11,36 +29,38 @@ returns-in_err-reserve-clause-step c =
     rw (given.1, given.2) (record {
       taken = tt;
       all = tt;
-      stopped = stops_first c.args.batch.now.items c.args.self.now.share c.args.self.now.history c.items-items.ensures.batch.some;
+      stopped = stops_first c.args.batch.now.items c.args.self.now.share c.args.self.now.history c.len.ensures.batch.some;
       before = search rules;
       memory = search rules;
     })
 
-pub take_items-requires-clause-kept : goal.take_items-requires-clause-kept
-take_items-requires-clause-kept c =
+pub take_parts-requires-clause-kept : goal.take_parts-requires-clause-kept
+take_parts-requires-clause-kept c =
     let node = c.args.self.now in
     let kept = kept_with_room node.family node.nodes node.id node.share node.history c.reserve.new.self c.reserve.ensures.same c.requires.sound.kept in
     (node.family, kept_own kept)
 
-pub returns-in_err-take_items-clause-step : goal.returns-in_err-take_items-clause-step
-returns-in_err-take_items-clause-step c =
-    let given = err_from_is_err_and c.from_residual-in_err-take_items.result c.from_residual-in_err-take_items.ensures.1 in
-    let out = rw c.items-items.ensures.items at c.in_err-take_items.ensures in
-    rw (given.1, given.2) (applies_err {node = going c.args.self.now} c.reserve.ensures.same c.args.batch.now.items c.take_items.new.taken _ out.stopped
-    out.before (λ memory. let few = c.take_items.ensures.memory in let room = c.in_ok-reserve.ensures in search rules))
+pub returns-in_err-take_parts-clause-step : goal.returns-in_err-take_parts-clause-step
+returns-in_err-take_parts-clause-step c =
+    let given = err_from_is_err_and c.from_residual-in_err-take_parts.result c.from_residual-in_err-take_parts.ensures.1 in
+    let at = (goal.at.returns-in_err-take_parts-clause-step c).After-classes in
+    let out = rw (same_items at, many at) at c.in_err-take_parts.ensures in
+    rw (given.1, given.2) (applies_err {node = going c.args.self.now} c.reserve.ensures.same c.args.batch.now.items c.take_parts.new.taken _ out.stopped
+    out.before (λ memory. let few = c.take_parts.ensures.memory in let room = c.in_ok-reserve.ensures in search rules))
 
-pub returns-in_err-take_items-clause-sound : goal.returns-in_err-take_items-clause-sound
-returns-in_err-take_items-clause-sound c =
-    let before = c.in_err-take_items.ensures.before in
-    still_sound {node = going c.args.self.now} c.reserve.ensures.same before.front c.requires.sound before.taken c.take_items.ensures.kept
+pub returns-in_err-take_parts-clause-sound : goal.returns-in_err-take_parts-clause-sound
+returns-in_err-take_parts-clause-sound c =
+    let before = c.in_err-take_parts.ensures.before in
+    still_sound {node = going c.args.self.now} c.reserve.ensures.same before.front c.requires.sound before.taken c.take_parts.ensures.kept
     c.requires.sound.entries
 
 pub returns-clause-step : goal.returns-clause-step
 returns-clause-step c =
-    let out = rw c.items-items.ensures.items at c.in_ok-take_items.ensures in
-    applies_ok {node = going c.args.self.now} c.reserve.ensures.same c.args.batch.now.items c.take_items.new.taken out.taken out.all
+    let at = (goal.at.returns-clause-step c).After-classes in
+    let out = rw (same_items at, many at) at c.in_ok-take_parts.ensures in
+    applies_ok {node = going c.args.self.now} c.reserve.ensures.same c.args.batch.now.items c.take_parts.new.taken out.taken out.all
 
 pub returns-clause-sound : goal.returns-clause-sound
 returns-clause-sound c =
-    let out = c.in_ok-take_items.ensures in
-    still_sound {node = going c.args.self.now} c.reserve.ensures.same c.items-items.result.now c.requires.sound out.taken out.kept c.requires.sound.entries
+    let out = c.in_ok-take_parts.ensures in
+    still_sound {node = going c.args.self.now} c.reserve.ensures.same (items_of_parts c.parts.result.now c.classes.result.now) c.requires.sound out.taken out.kept c.requires.sound.entries

@@ -22,9 +22,9 @@ returns-clause-sound c =
     let out = c.reach-settlement.ensures in
     let targets = c.deref-2.result.now in
     rw out.same (sound_expanded {node = going node} c.requires.sound (next_emitted node.expanded _ _ c.requires.sound.emitted c.len.ensures.count
-    c.if-self-len.false) (entries_more s node.own.items c.push_own.new.queue.items (items_of (λ _. targets) node.nodes node.id s)
+    c.if-self-len.false) (entries_more s node.own.items c.add.new.self.items (items_of (λ _. targets) node.nodes node.id s)
     (filter (λ to. owner_of node.nodes to == node.id) targets) out.was out.now c.requires.sound.entries refl
-    (c.push_own.ensures ∙ ap (λ xs. xs ++ items_of (λ _. targets) node.nodes node.id s) c.reserve.ensures.items))
+    (c.add.ensures ∙ ap (λ xs. xs ++ items_of (λ _. targets) node.nodes node.id s) c.reserve.ensures.items))
     out.was out.now c.in_ok-add_for_others.ensures.added)
 
 pub returns-in_err-add_for_others-clause-sound : goal.returns-in_err-add_for_others-clause-sound

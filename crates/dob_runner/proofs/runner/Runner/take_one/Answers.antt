@@ -168,9 +168,8 @@ returns-clause-step g c =
       was = r;
       going = c.requires;
       kept = record { endpoint = kept; family = refl; batch_size = refl; pace = refl };
-      from = batch.from;
-      other = of_other c.in-Some.ensures c.in-Some-accept.ensures.held;
       batch = batch;
+      other = of_other c.in-Some.ensures c.in-Some-accept.ensures.held;
       fits = fits_node c.in-Some.ensures c.in-Some-accept.ensures.held;
       came = same_inlet c.accept.new.self failed links.inlet batch.from
           ∙ worked_more inlet c.accept.new.self.inlet batch c.in-Some-accept.ensures.worked.1

@@ -1,7 +1,8 @@
 -- One settlement more, with the classes of its items.
 use Rattle.dob_update.proofs.Common.{◌++◌, ◌+◌, ◌-◌, ◌<◌, ◌==◌, ◌^◌, ◌∙◌, ◌∷◌, ◌≡◌, List, [], ap, arith, length, length-append, rules, subst, sym, ℕ}
 use Rattle.dob_update.proofs.Common.{length-map, filter, map, predecessors, owner_of, Item, OutboxView, added, item_for, items_of, Part}
-use Rattle.dob_update.proofs.PartItems.{targets_of_items, IsGrown, is_grown}
+use Rattle.dob_share.proofs.PartItems.{targets_of_items}
+use Rattle.dob_update.proofs.PartItems.{IsGrown, is_grown}
 use Rattle.dob_update.proofs.outbox.Outbox.add_targets.Goals as goal
 use Rattle.dob_update.proofs.outbox.Outbox.add_targets.Goals.{After-push_back_reserved}
 

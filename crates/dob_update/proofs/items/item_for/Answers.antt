@@ -1,6 +1,0 @@
--- The item speaks of the settlement that it comes from.
-use Rattle.std.proofs.Common.{rules}
-use Rattle.dob_update.proofs.items.item_for.Goals as goal
-
-pub returns : goal.returns
-returns c = search rules fits 100
