@@ -1,15 +1,15 @@
 -- What lists say of a position, by its status.
-use Rattle.dob_certificate.proofs.Common.{◌-◌, ◌<◌, ◌↔◌, ◌∙◌, ◌≡◌, ◌≤◌, ◌⊎◌, Bool, IsTrue, List, ap, arith, false, inl, inr, leb, not, refl, subst, sym, true, ℕ}
+use Rattle.dob_certificate.proofs.Common.{◌<◌, ◌↔◌, ◌∙◌, ◌≡◌, ◌≤◌, ◌⊎◌, Bool, IsTrue, List, ap, arith, false, inl, inr, leb, not, refl, subst, sym, true, ℕ}
 use Rattle.dob_certificate.proofs.Common.{nat_tests, Family, Profile, Setup, HasStatus, Caught, Open, Stuck, Tried, HasClass, IsRepresentative, classes_of}
-use Rattle.dob_certificate.proofs.Common.{lost_not_caught, lost_not_open, HasLost, IsHoldSupported, IsSaidHeld, IsEntryFor, HasPlies}
-use Rattle.dob_certificate.proofs.Common.{IsListedWithin, IsLossSupported, IsSaidLost, Entry, Supports}
+use Rattle.dob_certificate.proofs.Common.{lost_not_caught, lost_not_open, HasLost, IsHoldSupported, IsSaidHeld, IsEntryFor, IsEntryOf, HasPlies}
+use Rattle.dob_certificate.proofs.Common.{IsLossSupported, IsSaidLost, SaysLost, Entry, Supports, None, Option, Some}
 use Rattle.dob_moves.specs.declared.position_status.Status.{Status}
 use Rattle.dob_certificate.specs.declared.list_kind.ListKind.{ListKind}
 use Rattle.dob_certificate.specs.declared.list_kind.ListKind.TheVariants.{Lost, Held}
 use Rattle.dob_certificate.specs.Asked.{FindsLost, FindsWon, TakesForLost, plies_later}
 use Rattle.dob_certificate.specs.Lists.{IsSupported}
 use Rattle.dob_certificate.specs.Walks.{AllLead, SomeLeads}
-use Rattle.std.specs.Prelude.{MatchBool}
+use Rattle.std.specs.Prelude.{MatchBool, MatchOption}
 use Rattle.dob_certificate.proofs.Representatives.{at_class, of_class}
 
 -- ---- answers
@@ -28,15 +28,9 @@ not_so b is answered p = let so : b ≡ true = answered.1 p in absurd (cc)
 pub at_most : (m n : ℕ) → IsTrue (leb m n) ↔ (m ≤ n)
 at_most m n = (λ shown. grind (arith, nat_tests, shown), λ is. grind (arith, nat_tests, is))
 
--- of two claims neither holds, or only the second can; and a claim of two of which the first holds
+-- of two claims neither holds
 neither : {P Q : Type 0} → ¬ P → ¬ Q → IsTrue false ↔ (P ⊎ Q)
 neither not_p not_q = said_no (λ either. elim either [ inl p ↦ not_p p | inr q ↦ not_q q ])
-
-second : {P Q : Type 0} {b : Bool} → ¬ P → IsTrue b ↔ Q → IsTrue b ↔ (P ⊎ Q)
-second not_p given = (λ shown. inr (given.0 shown), λ either. elim either [ inl p ↦ absurd (not_p p) | inr q ↦ given.1 q ])
-
-also : {P Q : Type 0} {b : Bool} → P → IsTrue b ↔ Q → IsTrue b ↔ (P × Q)
-also p given = (λ shown. (p, given.0 shown), λ both. given.1 both.1)
 
 -- where a test's answer is known
 pub on_true : (P Q : Type 0) (b : Bool) → b ≡ true → MatchBool b P Q → P
@@ -84,20 +78,34 @@ not_both : (profile : Profile) (p : Setup) → HasStatus profile p Caught → ¬
 not_both profile p caught goes_on = goes_on.0 caught
 
 -- ---- classes that are lost
-module _ (family : Family) (lost : List Entry) (n : ℕ) (p : Setup) {s : Status} where
-  pub said_lost_caught : s ≡ Caught → HasStatus family.profile p s → IsTrue false ↔ IsSaidLost family lost n p
-  said_lost_caught is has =
-      let caught = of_status family.profile p has Caught is in
-      neither (λ over. lost_not_caught family.profile p over caught) (λ listed. not_both family.profile p caught listed.0)
+module _ (family : Family) (lost : List Entry) (p : Setup) where
+  pub says_caught : HasStatus family.profile p Caught → SaysLost family lost p None
+  says_caught caught = λ n said. elim said [ inl over ↦ lost_not_caught family.profile p over caught | inr listed ↦ not_both family.profile p caught listed.0 ]
 
-  pub said_lost_over : (s ≡ Tried) ⊎ (s ≡ Stuck) → HasStatus family.profile p s → IsTrue true ↔ IsSaidLost family lost n p
-  said_lost_over is has = said_yes (inl (over_by family.profile p has is))
+  -- where the game goes on the list says what its entry does
+  pub says_open : HasStatus family.profile p Open → (found : Option ℕ)
+      → MatchOption found ((entry : Entry) → ¬ IsEntryFor family lost p entry) (λ plies. HasPlies family lost p plies) → SaysLost family lost p found
+  says_open goes_on None none = λ n said. elim said [
+    | inl over ↦ lost_not_open family.profile p over goes_on
+    | inr listed ↦ none listed.1.0 listed.1.1
+  ]
+  says_open goes_on (Some plies) has = (
+    inr (goes_on, (has.entry, has.is, omega (arith, has.plies_are))),
+    λ n said. elim said [
+      | inl over ↦ absurd (lost_not_open family.profile p over goes_on)
+      | inr listed ↦ subst (λ (k : ℕ). k ≤ n) has.plies_are (subst (λ (e : Entry). e.plies ≤ n) (sym (has.alone listed.1.0 listed.1.1)) listed.1.2)
+    ],
+  )
 
-  pub said_lost_open : s ≡ Open → HasStatus family.profile p s → (b : Bool) → IsTrue b ↔ IsListedWithin family lost n p
-      → IsTrue b ↔ IsSaidLost family lost n p
-  said_lost_open is has b listed =
-      let goes_on = of_status family.profile p has Open is in
-      second (λ over. lost_not_open family.profile p over goes_on) (also goes_on listed)
+  -- what is said within the fewest plies is said within more
+  pub said_within : (fewest n : ℕ) → SaysLost family lost p (Some fewest) → IsTrue (leb fewest n) ↔ IsSaidLost family lost n p
+  said_within fewest n says = (
+    λ shown. elim says.0 [
+      | inl over ↦ inl over
+      | inr listed ↦ inr (listed.0, (listed.1.0, listed.1.1, omega (arith, (at_most fewest n).0 shown, listed.1.2)))
+    ],
+    λ said. (at_most fewest n).1 (says.1 n said),
+  )
 
 -- ---- classes that aren't lost
 module _ (family : Family) (held : List Entry) (n : ℕ) (p : Setup) {s : Status} where
@@ -190,6 +198,13 @@ supports_by Held family held entry p within is number b given = (
   λ shown. record { within = within; supported = at_class family (IsHoldSupported family held entry.plies) p entry.class within is number (given.0 shown) },
   λ supported. given.1 (of_class family (IsHoldSupported family held entry.plies) p entry.class within is number supported.supported),
 )
+
+-- the same of what is found lost, by the representative that stands for the entry
+pub supported_by : (kind : ListKind) (family : Family) (entries : List Entry) (entry : Entry) (p : Setup) (plies : ℕ) → IsEntryOf family entry p plies →
+    (b : Bool) → IsTrue b ↔ IsSupported kind family entries plies p → IsTrue b ↔ Supports kind family entries entry
+supported_by kind family entries entry p plies is b given =
+    supports_by kind family entries entry p is.within is.represents is.number b
+    (subst (λ (n : ℕ). IsTrue b ↔ IsSupported kind family entries n p) (sym is.plies_are) given)
 
 -- and an entry of no class isn't
 pub beyond : (kind : ListKind) (family : Family) (entries : List Entry) (entry : Entry) → classes_of family ≤ entry.class → ¬ Supports kind family entries entry

@@ -20,9 +20,9 @@ pub use Rattle.dob_distance.specs.Values.{HasLost, HasValue, Lost, Won}
 pub use Rattle.dob_certificate.specs.Ascending.{AreAscending, class_at, listed_entry}
 pub use Rattle.dob_certificate.specs.Claims.{Holds, Prove, ShowsDraw, ShowsLoss, ShowsWin, ShowsWon}
 pub use Rattle.dob_certificate.specs.Held.{IsHoldSupported, IsListedBeyond, IsSafe, IsSaidHeld, SupportsAllHeld, SupportsHeld, plies_asked}
-pub use Rattle.dob_certificate.specs.Listed.{HasPlies, IsEntryFor}
+pub use Rattle.dob_certificate.specs.Listed.{HasPlies, IsEntryFor, IsEntryOf}
 pub use Rattle.dob_certificate.specs.Lists.{Supports}
-pub use Rattle.dob_certificate.specs.Lost.{IsAnswered, IsListedWithin, IsLossSupported, IsSaidLost, SupportsAllLost, SupportsLost}
+pub use Rattle.dob_certificate.specs.Lost.{IsAnswered, IsListedWithin, IsLossSupported, IsSaidLost, SaysLost, SupportsAllLost, SupportsLost}
 pub use Rattle.dob_certificate.specs.declared.claim.Claim.{Claim}
 pub use Rattle.dob_certificate.specs.declared.entry.Entry.{Entry}
 pub use Rattle.dob_certificate.specs.declared.entry.TheConstants.{EVER}

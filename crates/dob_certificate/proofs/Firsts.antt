@@ -1,13 +1,12 @@
 -- Entries one after the other: all are supported so far, or the first that isn't is found.
 use Rattle.dob_certificate.proofs.Common.{◌+◌, ◌<◌, ◌↔◌, ◌≡◌, ◌≢◌, ◌≤◌, Bool, Contains, Err, IsTrue, List, arith, false, inr, length, refl, subst, sym, ℕ}
-use Rattle.dob_certificate.proofs.Common.{slice_get-get_or, Family, Setup, listed_entry, SupportsHeld, SupportsAllLost, Entry}
+use Rattle.dob_certificate.proofs.Common.{Family, Setup, listed_entry, SupportsHeld, SupportsAllLost, Entry}
 use borrow.Author.Count.{below_more}
-use Rattle.std.proofs.lemmas.Option.{get_or_from_slice_get, slice_get_within}
 use Rattle.dob_certificate.specs.declared.claim.Claim.{Claim as Claimed}
 use Rattle.dob_certificate.specs.declared.refusal.Refusal.{Refusal}
 use Rattle.dob_certificate.specs.declared.refusal.Refusal.TheVariants.{Memory, Unsupported, Claim}
 use Rattle.dob_certificate.specs.Refusals.{IsFirstUnsupported, IsEntryVerdict, IsListVerdict, IsRefusal}
-use Rattle.dob_certificate.proofs.Orders.{no_entry, read_at}
+use Rattle.dob_certificate.proofs.Orders.{listed_there, read_at}
 use Rattle.dob_certificate.proofs.Cases.{said_no}
 
 -- the entries before a place are supported
@@ -28,23 +27,16 @@ module _ (Supported : Entry → Type 0) (entries : List Entry) where
   first_found place Memory within before found = tt
   first_found place (Unsupported class) within before found = record {
     place = place;
-    entry = listed_entry entries place;
-    there = slice_get-get_or entries place no_entry within;
+    first = record { within = within; unsupported = found.1; before = before };
     class_is = sym found.0;
-    unsupported = found.1;
-    before = λ earlier other less is. subst Supported (get_or_from_slice_get entries earlier other no_entry is) (before earlier less);
   }
   first_found place Claim within before found = absurd found
 
 -- where some entry isn't supported not all are
 pub not_all : (Supported : Entry → Type 0) (entries : List Entry) (class : ℕ) → IsFirstUnsupported Supported entries class →
     ¬ ((entry : Entry) → Contains entries entry → Supported entry)
-not_all Supported entries class first all =
-    first.unsupported (all first.entry (
-      first.place,
-      slice_get_within entries first.place first.entry first.there,
-      get_or_from_slice_get entries first.place first.entry first.entry first.there,
-    ))
+not_all Supported entries class broken all =
+    let at = broken.first in at.unsupported (all (listed_entry entries broken.place) (broken.place, at.within, listed_there entries broken.place at.within))
 
 -- so what isn't passed isn't supported, where memory was left
 pub not_supported : (Supported : Entry → Type 0) (entries : List Entry) (why : Refusal) → IsListVerdict Supported entries (Err why) →

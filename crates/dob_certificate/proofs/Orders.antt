@@ -65,6 +65,9 @@ module _ {X : Type 0} (key : X → ℕ) (d : X) (xs : List X)
 pub read_at : (entries : List Entry) (place : ℕ) (entry : Entry) → place < length entries → get_or entries place entry ≡ entry → listed_entry entries place ≡ entry
 read_at entries place entry within is = get_or_default entries place no_entry entry within ∙ is
 
+pub listed_there : (entries : List Entry) (place : ℕ) → place < length entries → get_or entries place (listed_entry entries place) ≡ listed_entry entries place
+listed_there entries place within = sym (get_or_default entries place no_entry (listed_entry entries place) within)
+
 -- a class has one entry at most
 pub one_entry : (entries : List Entry) → AreAscending entries → (a b : Entry) → Contains entries a → Contains entries b → a.class ≡ b.class → a ≡ b
 one_entry entries ascending a b at_a at_b same =

@@ -1,8 +1,8 @@
 -- The entry of a position's class.
-use Rattle.std.specs.Prelude.{◌≡◌, ℕ, List, Contains}
+use Rattle.std.specs.Prelude.{◌≡◌, ◌<◌, ℕ, List, Contains}
 use Rattle.dob_pieces.specs.declared.profile.Family.{Family}
 use Rattle.dob_pieces.specs.declared.setup.Setup.{Setup}
-use Rattle.dob_rank.specs.Families.{IsInClass}
+use Rattle.dob_rank.specs.Families.{HasClass, IsInClass, IsRepresentative, classes_of}
 use Rattle.dob_certificate.specs.declared.entry.Entry.{Entry}
 
 -- the entry stands in the list, and the position is in its class
@@ -16,3 +16,10 @@ pub record HasPlies (family : Family) (entries : List Entry) (q : Setup) (plies 
   pub is : IsEntryFor family entries q entry
   pub plies_are : entry.plies ≡ plies
   pub alone : (other : Entry) → IsEntryFor family entries q other → entry ≡ other
+
+-- the position is the representative of the entry's class, one of the family's, and the entry has so many plies
+pub record IsEntryOf (family : Family) (entry : Entry) (p : Setup) (plies : ℕ) : Type 0 where
+  pub within : entry.class < classes_of family
+  pub represents : IsRepresentative family p
+  pub number : HasClass family p entry.class
+  pub plies_are : entry.plies ≡ plies

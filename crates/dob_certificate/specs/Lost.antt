@@ -1,5 +1,5 @@
 -- Classes that are lost within so many plies: what a list of them says, and what each of its entries has to show.
-use Rattle.std.specs.Prelude.{ℕ, ◌-◌, ◌≤◌, ◌<◌, ◌⊎◌, List, Contains}
+use Rattle.std.specs.Prelude.{ℕ, ◌-◌, ◌≤◌, ◌<◌, ◌⊎◌, List, Option, Some, None, Contains}
 use Rattle.dob_pieces.specs.declared.profile.Family.{Family}
 use Rattle.dob_pieces.specs.declared.setup.Setup.{Setup}
 use Rattle.dob_moves.specs.declared.game_move.Move.{Move}
@@ -18,6 +18,11 @@ IsListedWithin family lost n q = (entry : Entry) × IsEntryFor family lost q ent
 -- the position has lost, or it is open and listed
 abbrev pub IsSaidLost : Family → List Entry → ℕ → Setup → Type 0
 IsSaidLost family lost n q = HasLost family.profile q ⊎ (HasStatus family.profile q Open × IsListedWithin family lost n q)
+
+-- the fewest plies within which the list says that q is lost; nothing where it isn't said
+abbrev pub SaysLost : Family → List Entry → Setup → Option ℕ → Type 0
+SaysLost family lost q None = (n : ℕ) → ¬ IsSaidLost family lost n q
+SaysLost family lost q (Some plies) = IsSaidLost family lost plies q × ((n : ℕ) → IsSaidLost family lost n q → plies ≤ n)
 
 -- an open position with a move to one that is said to be lost within n plies
 pub record HasReply (family : Family) (lost : List Entry) (n : ℕ) (q : Setup) : Type 0 where

@@ -1,15 +1,17 @@
 -- Why a certificate is refused.
-use Rattle.std.specs.Prelude.{◌≡◌, ◌<◌, ◌⊎◌, ℕ, List, ◌++◌, codes, slice_get, Some, Contains}
+use Rattle.std.specs.Prelude.{◌≡◌, ◌⊎◌, ℕ, List, ◌++◌, codes, Contains}
 use Rattle.std.specs.Fmt.{decimal}
 use Rattle.std.specs.declared.result.Result.{Result}
 use Rattle.std.specs.declared.result.Result.TheVariants.{Ok, Err}
 use Rattle.dob_pieces.specs.Faults.{memory_text}
 use Rattle.dob_pieces.specs.declared.profile.Family.{Family}
 use Rattle.dob_pieces.specs.declared.setup.Setup.{Setup}
+use Rattle.dob_certificate.specs.Ascending.{class_at}
 use Rattle.dob_certificate.specs.declared.claim.Claim.{Claim as Claimed}
 use Rattle.dob_certificate.specs.declared.entry.Entry.{Entry}
 use Rattle.dob_certificate.specs.declared.refusal.Refusal.{Refusal}
 use Rattle.dob_certificate.specs.declared.refusal.Refusal.TheVariants.{Memory, Unsupported, Claim}
+use Rattle.dob_certificate.specs.Lists.{IsFirstAt}
 use Rattle.dob_certificate.specs.Lost.{SupportsLost, SupportsAllLost}
 use Rattle.dob_certificate.specs.Held.{SupportsHeld, SupportsAllHeld}
 use Rattle.dob_certificate.specs.Claims.{Show}
@@ -27,11 +29,8 @@ too_many_text most = codes "E39 TooMany more than " ++ decimal most ++ codes " e
 -- the first of the entries that isn't supported is of that class
 pub record IsFirstUnsupported (Supported : Entry → Type 0) (entries : List Entry) (class : ℕ) : Type 0 where
   pub place : ℕ
-  pub entry : Entry
-  pub there : slice_get entries place ≡ Some entry
-  pub class_is : entry.class ≡ class
-  pub unsupported : ¬ Supported entry
-  pub before : (earlier : ℕ) (other : Entry) → earlier < place → slice_get entries earlier ≡ Some other → Supported other
+  pub first : IsFirstAt Supported entries place
+  pub class_is : class_at entries place ≡ class
 
 -- in the order of the entries, those of the lost list first
 abbrev pub IsUnsupported : Family → List Entry → List Entry → ℕ → Type 0

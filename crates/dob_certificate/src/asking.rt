@@ -1,12 +1,13 @@
 // What a list of either kind is asked of a position: whether it takes it for lost, by what it says; for won, by a reply; for lost, whatever is played.
-ghost use Rattle.std.specs.Prelude.{◌≡◌, ◌≤◌, ◌<◌, ◌↔◌, true, false, IfOk, OnErr, IsTrue, MatchBool};
+ghost use Rattle.std.specs.Prelude.{◌≡◌, ◌≤◌, ◌<◌, ◌↔◌, true, false, length, IfOk, OnErr, IsTrue, MatchBool};
 ghost use Rattle.dob_moves.specs.declared.position_status.Status.{Status};
 ghost use Rattle.dob_moves.specs.Statuses.{HasStatus};
 ghost use Rattle.dob_rank.specs.Families.{IsPositionOf};
+ghost use Rattle.dob_certificate.specs.Ascending.{listed_entry};
 ghost use Rattle.dob_certificate.specs.Asked.{FindsLost, FindsWon, TakesForLost, plies_later};
 ghost use Rattle.dob_certificate.specs.Held.{IsListedBeyond, IsSafe, IsSaidHeld};
-ghost use Rattle.dob_certificate.specs.Lists.{IsSupported};
-ghost use Rattle.dob_certificate.specs.Lost.{IsListedWithin, IsSaidLost};
+ghost use Rattle.dob_certificate.specs.Lists.{Supports};
+ghost use Rattle.dob_certificate.specs.Lost.{IsSaidLost, SaysLost};
 ghost use Rattle.dob_certificate.specs.Walks.{AllLead, AreNumbered, GivenLead, SomeLeads};
 
 use crate::entry::EVER;
@@ -19,9 +20,22 @@ use dob_value::outcome_of;
 
 /// Whether a list of that kind shows a position to be lost within `plies`: by a lost list it is lost, by a held list it isn't shown not to be.
 #[derive(Clone, Copy)]
-pub struct LossQuestion {
-    pub kind: ListKind,
-    pub plies: u16,
+pub(crate) struct LossQuestion {
+    pub(crate) kind: ListKind,
+    pub(crate) plies: u16,
+}
+
+/// The fewest plies within which the list says that the position is lost, or that shows at once; `None` if it isn't said.
+pub fn said_lost<L: Lookup>(family: Family, lost: &L, position: &Position) -> Option<u16>
+    requires list { L.stands lost.now family }
+    requires member { IsPositionOf family position.now.setup }
+    ensures { SaysLost family (L.entries_of lost.now) position.now.setup result }
+{
+    match status(family.profile, position) {
+        Status::Caught => None,
+        Status::Tried | Status::Stuck => Some(0),
+        Status::Open => lost.plies_for(family, position),
+    }
 }
 
 /// Whether the list says that the position is lost within `plies`, or that shows at once.
@@ -35,21 +49,8 @@ pub(crate) fn is_said_lost<L: Lookup>(
     requires member { IsPositionOf family position.now.setup }
     ensures { IsTrue result ↔ IsSaidLost family (L.entries_of lost.now) plies position.now.setup }
 {
-    match status(family.profile, position) {
-        Status::Caught => false,
-        Status::Tried | Status::Stuck => true,
-        Status::Open => is_listed_within(family, lost, plies, position),
-    }
-}
-
-// Whether the list has the position's class with at most `plies`.
-fn is_listed_within<L: Lookup>(family: Family, lost: &L, plies: u16, position: &Position) -> bool
-    requires list { L.stands lost.now family }
-    requires member { IsPositionOf family position.now.setup }
-    ensures { IsTrue result ↔ IsListedWithin family (L.entries_of lost.now) plies position.now.setup }
-{
-    match lost.plies_for(family, position) {
-        Some(found) => found <= plies,
+    match said_lost(family, lost, position) {
+        Some(fewest) => fewest <= plies,
         None => false,
     }
 }
@@ -282,28 +283,35 @@ fn finds_lost<L: Lookup, M: Moves>(
     }
 }
 
-/// Whether the list supports an entry with `plies` of the position's class: by a lost list it finds the position lost, by a held one it doesn't.
+/// Whether a list of that kind supports the entry at that place: its class is one of the family's, whose representative a lost list finds lost and a held one
+/// doesn't.
 ///
 /// # Errors
 ///
 /// `Memory`.
-pub fn is_supported<L: Lookup, M: Moves>(
+pub(crate) fn supports_at<L: Lookup, M: Moves>(
     moves: &mut M,
     replies: &mut M,
     family: Family,
     list: &L,
-    question: LossQuestion,
-    position: &Position,
+    kind: ListKind,
+    place: usize,
 ) -> Result<bool, Memory>
     requires list { L.stands list.now family }
-    requires member { IsPositionOf family position.now.setup }
-    ensures supported { IfOk result (λ yes. IsTrue yes ↔ IsSupported question.kind family (L.entries_of list.now) question.plies position.now.setup) }
+    requires within { place < length (L.entries_of list.now) }
+    ensures supported { IfOk result (λ yes. IsTrue yes ↔ Supports kind family (L.entries_of list.now) (listed_entry (L.entries_of list.now) place)) }
     ensures failed { OnErr result M.may_fail }
 {
-    let lost = finds_lost(moves, replies, family, list, question, position)?;
-    match question.kind {
-        ListKind::Lost => Ok(lost),
-        ListKind::Held => Ok(!lost),
+    match list.entry_at(family, place) {
+        Some((position, plies)) => {
+            let question = LossQuestion { kind, plies };
+            let lost = finds_lost(moves, replies, family, list, question, &position)?;
+            match kind {
+                ListKind::Lost => Ok(lost),
+                ListKind::Held => Ok(!lost),
+            }
+        }
+        None => Ok(false),
     }
 }
 

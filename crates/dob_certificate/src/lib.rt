@@ -4,8 +4,8 @@
 // - An entry says "within", not "exactly": a class is lost within n plies if each move is answered into the list with two plies less. So entries may be
 //   loose and a list small; an exact claim takes a second list.
 // - A list says nothing of a position whose game has ended: the status decides first.
-// - Whether a list shows something is asked over two traits: `Lookup` finds a position's entry, by its class or by a rank, and `Moves` gives moves, from a
-//   list or by their places. So the page, which has no memory, asks the same.
+// - Whether a list shows something, and which entry is the first that it doesn't support, is asked over two traits: `Lookup` finds entries, by classes or by
+//   ranks, and `Moves` gives moves, from a list or by their places. So the page, which has no memory, asks the same.
 // - A class has one entry, by the type `Entries`: with two the smaller number could be looked up and the larger one tested.
 // - The first unsupported entry is named in the order of the lists, lost before held, whichever thread found it. The threads stand in `dob_check`, so that
 //   the library for C and the page link none.
@@ -25,14 +25,14 @@ mod room;
 mod too_many;
 mod verifying;
 
-pub use asking::{LossQuestion, is_supported};
+pub use asking::said_lost;
 pub use certificate::Certificate;
 pub use claim::{Claim, is_shown};
 pub use entries::Entries;
 pub use entry::{EVER, Entry};
 pub use list_kind::ListKind;
-pub use lists::{check_entry, check_list};
-pub use lookup::{Lookup, entry_for};
+pub use lists::{check_entry, check_list, first_broken};
+pub use lookup::{ByClass, Lookup};
 pub use moves::Moves;
 pub use refusal::Refusal;
 pub use room::Room;

@@ -1,48 +1,43 @@
 // Whether a list of a certificate supports its entries.
-ghost use Rattle.std.specs.Prelude.{◌≡◌, ◌<◌, ◌↔◌, length, IfOk, IsTrue};
+ghost use Rattle.std.specs.Prelude.{◌<◌, length, IfOk, OnErr};
 ghost use Rattle.dob_certificate.specs.Ascending.{listed_entry};
-ghost use Rattle.dob_certificate.specs.Lists.{Supports};
+ghost use Rattle.dob_certificate.specs.Lists.{IsFirstBroken, Supports};
 ghost use Rattle.dob_certificate.specs.Refusals.{IsEntryVerdict, IsListVerdict};
 
-use crate::asking::{LossQuestion, is_supported};
+use crate::asking::supports_at;
 use crate::entries::Entries;
-use crate::entry::Entry;
 use crate::list_kind::ListKind;
-use crate::lookup::ByClass;
+use crate::lookup::{ByClass, Lookup};
+use crate::moves::Moves;
 use crate::refusal::Refusal;
 use crate::room::Room;
 use dob_classes::Classes;
-use dob_pieces::Memory;
+use dob_pieces::{Family, Memory};
 
-// Whether a list of that kind supports the entry: its class is one of the family's, and its position shows what it has to.
-//
-// Error: `Memory`.
-fn supports(
-    room: &mut Room,
-    classes: &Classes,
+/// The place of the first entry that a list of that kind doesn't support, or `None` if it supports all. The moves and the replies are those of any position
+/// before, and after.
+///
+/// # Errors
+///
+/// `Memory`.
+pub fn first_broken<L: Lookup, M: Moves>(
+    moves: &mut M,
+    replies: &mut M,
+    family: Family,
+    list: &L,
     kind: ListKind,
-    entries: &Entries,
-    entry: Entry,
-) -> Result<bool, Memory>
-    ensures { IfOk result (λ yes. IsTrue yes ↔ Supports kind classes.now.family entries.now entry) }
+) -> Result<Option<usize>, Memory>
+    requires { L.stands list.now family }
+    ensures found { IfOk result (IsFirstBroken kind family (L.entries_of list.now)) }
+    ensures failed { OnErr result M.may_fail }
 {
-    let class = entry.class as u64;
-    if class < classes.class_count() {
-        let position = classes.class_at(class);
-        is_supported(
-            &mut room.moves,
-            &mut room.replies,
-            classes.family,
-            &ByClass { classes, entries },
-            LossQuestion {
-                kind,
-                plies: entry.plies,
-            },
-            &position,
-        )
-    } else {
-        Ok(false)
+    for place in 0..list.count() {
+        let supported = supports_at(moves, replies, family, list, kind, place)?;
+        if !supported {
+            return Ok(Some(place));
+        }
     }
+    Ok(None)
 }
 
 /// Passes the entry at that place of a list of that kind exactly if the list supports it.
@@ -60,12 +55,19 @@ pub fn check_entry(
     requires { place < length entries.now }
     ensures { IsEntryVerdict (Supports kind classes.now.family entries.now) (listed_entry entries.now place) result }
 {
-    let entry = entries.as_slice()[place];
-    let is_supported = supports(room, classes, kind, entries, entry)?;
-    if is_supported {
+    let list = ByClass { classes, entries };
+    let supported = supports_at(
+        &mut room.moves,
+        &mut room.replies,
+        classes.family,
+        &list,
+        kind,
+        place,
+    )?;
+    if supported {
         Ok(())
     } else {
-        Err(Refusal::Unsupported(entry.class))
+        Err(Refusal::Unsupported(entries.as_slice()[place].class))
     }
 }
 
@@ -82,8 +84,16 @@ pub fn check_list(
 ) -> Result<(), Refusal>
     ensures { IsListVerdict (Supports kind classes.now.family entries.now) entries.now result }
 {
-    for place in 0..entries.as_slice().len() {
-        check_entry(room, classes, kind, entries, place)?;
+    let list = ByClass { classes, entries };
+    let broken = first_broken(
+        &mut room.moves,
+        &mut room.replies,
+        classes.family,
+        &list,
+        kind,
+    )?;
+    match broken {
+        Some(place) => Err(Refusal::Unsupported(entries.as_slice()[place].class)),
+        None => Ok(()),
     }
-    Ok(())
 }

@@ -1,16 +1,17 @@
-// The entry of a position's class in a list of entries, however they are laid out.
-ghost use Rattle.std.specs.Prelude.{◌≡◌, List, IfSome, IfNone, MatchOption};
+// A list of entries, however they are laid out: its entries by their places, and that of a position's class.
+ghost use Rattle.std.specs.Prelude.{◌≡◌, ◌<◌, ◌≤◌, List, length, IfSome, IfNone, MatchOption};
 ghost use Rattle.dob_pieces.specs.declared.profile.Family.{Family as AnyFamily};
-ghost use Rattle.dob_rank.specs.Families.{IsPositionOf};
+ghost use Rattle.dob_rank.specs.Families.{IsPositionOf, classes_of};
 ghost use Rattle.dob_certificate.specs.declared.entry.Entry.{Entry as AnyEntry};
-ghost use Rattle.dob_certificate.specs.Listed.{HasPlies, IsEntryFor};
+ghost use Rattle.dob_certificate.specs.Ascending.{listed_entry};
+ghost use Rattle.dob_certificate.specs.Listed.{HasPlies, IsEntryFor, IsEntryOf};
 
 use crate::entries::Entries;
 use crate::entry::Entry;
 use dob_classes::Classes;
 use dob_pieces::{Family, Position};
 
-/// A list of entries in which the one of a position's class is found.
+/// A list of entries, which are found by their places and by the class of a position.
 pub trait Lookup {
     // By `stands list family` its entries are for classes of that family.
     ghost stands: { Self → AnyFamily → Type 0 };
@@ -25,13 +26,25 @@ pub trait Lookup {
         ensures { MatchOption result
             ((entry : AnyEntry) → ¬ IsEntryFor family (entries_of self.now) position.now.setup entry)
             (λ plies. HasPlies family (entries_of self.now) position.now.setup plies) };
+
+    /// How many entries there are.
+    fn count(&self) -> usize
+        ensures { result ≡ length (entries_of self.now) };
+
+    /// The representative of the class of the entry at that place, and the entry's plies; or `None` if the family has no such class.
+    fn entry_at(&self, family: Family, place: usize) -> Option<(Position, u16)>
+        requires stands { stands self.now family }
+        requires within { place < length (entries_of self.now) }
+        ensures { MatchOption result
+            (classes_of family ≤ (listed_entry (entries_of self.now) place).class)
+            (λ found. IsEntryOf family (listed_entry (entries_of self.now) place) found.0.setup found.1) };
 }
 
 /// Entries by ascending class, with the classes of their family.
 #[derive(Clone, Copy)]
-pub(crate) struct ByClass<'a> {
-    pub(crate) classes: &'a Classes,
-    pub(crate) entries: &'a Entries,
+pub struct ByClass<'a> {
+    pub classes: &'a Classes,
+    pub entries: &'a Entries,
 }
 
 impl Lookup for ByClass<'_> {
@@ -45,10 +58,25 @@ impl Lookup for ByClass<'_> {
             None => None,
         }
     }
+
+    fn count(&self) -> usize {
+        self.entries.as_slice().len()
+    }
+
+    fn entry_at(&self, _family: Family, place: usize) -> Option<(Position, u16)> {
+        let entry = self.entries.as_slice()[place];
+        let class = entry.class as u64;
+        if class < self.classes.class_count() {
+            let position = self.classes.class_at(class);
+            Some((position, entry.plies))
+        } else {
+            None
+        }
+    }
 }
 
-/// The entry of the position's class, or None if the list has none.
-pub fn entry_for(classes: &Classes, entries: &Entries, position: &Position) -> Option<Entry>
+// The entry of the position's class, or None if the list has none.
+fn entry_for(classes: &Classes, entries: &Entries, position: &Position) -> Option<Entry>
     requires { IsPositionOf classes.now.family position.now.setup }
     ensures some { IfSome result (IsEntryFor classes.now.family entries.now position.now.setup) }
     ensures none { IfNone result ((entry : Entry) → ¬ IsEntryFor classes.now.family entries.now position.now.setup entry) }

@@ -10,13 +10,13 @@ use Rattle.dob_moves.specs.declared.position_status.Status.TheVariants.{Open}
 use Rattle.dob_moves.specs.Moves.{Goes, place}
 use Rattle.dob_moves.specs.Statuses.{AreMoves, CanCatch, HasStatus}
 use Rattle.dob_certificate.specs.declared.entry.Entry.{Entry}
-use Rattle.dob_certificate.specs.Lost.{IsSaidLost, SupportsAllLost}
+use Rattle.dob_certificate.specs.Lost.{IsSaidLost, SaysLost, SupportsAllLost}
 use Rattle.dob_certificate.proofs.Bounds.{said_lost}
 use Rattle.dob_certify.proofs.Below.{AllBelow, all_done, all_more, all_none}
 use Rattle.dob_certify.specs.declared.replies.Lead.{Lead}
 use Rattle.dob_certify.specs.declared.replies.Reply.{Reply}
 use Rattle.dob_certify.specs.declared.replies.Reply.TheVariants.{Win, Loss}
-use Rattle.dob_certify.specs.Replies.{IsReply, IsRight, IsShortest, Leads, NoneLeads, SaysLost, loss, shorter}
+use Rattle.dob_certify.specs.Replies.{IsReply, IsRight, IsShortest, Leads, NoneLeads, loss, shorter}
 
 -- the lead stands at a place of the list below an index, and no move before it leads to what is said to be lost as soon
 pub record StandsFirst (family : Family) (lost : List Entry) (p : Setup) (legal : List Move) (lead : Lead) (upto : ℕ) : Type 0 where

@@ -9,15 +9,10 @@ use Rattle.dob_moves.specs.Moves.{Goes, place}
 use Rattle.dob_moves.specs.Statuses.{CanCatch, HasStatus, IsFirstCatch}
 use Rattle.dob_distance.specs.Values.{Lost, Won}
 use Rattle.dob_certificate.specs.declared.entry.Entry.{Entry}
-use Rattle.dob_certificate.specs.Lost.{IsSaidLost}
+use Rattle.dob_certificate.specs.Lost.{IsSaidLost, SaysLost}
 use Rattle.dob_certify.specs.declared.replies.Lead.{Lead}
 use Rattle.dob_certify.specs.declared.replies.Reply.{Reply}
 use Rattle.dob_certify.specs.declared.replies.Reply.TheVariants.{Win, Loss}
-
--- the fewest plies within which the list says that q is lost; nothing where it isn't said
-abbrev pub SaysLost : Family → List Entry → Setup → Option ℕ → Type 0
-SaysLost family lost q None = (n : ℕ) → ¬ IsSaidLost family lost n q
-SaysLost family lost q (Some plies) = IsSaidLost family lost plies q × ((n : ℕ) → IsSaidLost family lost n q → plies ≤ n)
 
 -- the move leads to a position that is said to be lost within so many plies
 pub record Leads (family : Family) (lost : List Entry) (p : Setup) (move : Move) (plies : ℕ) : Type 0 where

@@ -14,7 +14,7 @@ use crate::held::held_entries;
 use crate::lost::lost_entries;
 use crate::outcomes::{Listed, Outcomes, number_of};
 use dob_certificate::{Certificate, Claim, EVER, Entries, ListKind};
-use dob_check::{Watch, verify};
+use dob_check::{Unwatched, Watch, verify_watched};
 use dob_pieces::{Memory, Position};
 use dob_probe::probe;
 use dob_value::{Table, Value};
@@ -82,7 +82,15 @@ pub fn certify<R: Threads + Sync, W: Watch>(
     if !are_few(&certificate.lost, &certificate.held, most) {
         return Err(Fault::TooMany(most));
     }
-    verify(rt, alloc, table.classes(), &certificate, position, claim)?;
+    verify_watched(
+        rt,
+        alloc,
+        table.classes(),
+        &certificate,
+        position,
+        claim,
+        &Unwatched,
+    )?;
     Ok(Certified { claim, certificate })
 }
 

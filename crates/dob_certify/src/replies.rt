@@ -1,14 +1,13 @@
 // The move that a certificate gives.
 ghost use Rattle.std.specs.Prelude.{◌≡◌, IfOk};
-ghost use Rattle.dob_moves.specs.declared.position_status.Status.{Status};
-ghost use Rattle.dob_moves.specs.Statuses.{AreMoves, HasStatus};
+ghost use Rattle.dob_moves.specs.Statuses.{AreMoves};
 ghost use Rattle.dob_rank.specs.Families.{IsPositionOf};
 ghost use Rattle.dob_certificate.specs.Lost.{SupportsAllLost};
-ghost use Rattle.dob_certify.specs.Replies.{IsReply, IsRight, IsShortest, SaysLost, loss, shorter};
+ghost use Rattle.dob_certify.specs.Replies.{IsReply, IsRight, IsShortest, loss, shorter};
 
-use dob_certificate::{Entries, entry_for};
+use dob_certificate::{ByClass, Entries, said_lost};
 use dob_classes::Classes;
-use dob_moves::{Move, Status, first_catch, moves_into, status};
+use dob_moves::{Move, first_catch, moves_into};
 use dob_pieces::{Memory, Position};
 use dob_value::outcome_of;
 use std::alloc::Global;
@@ -65,9 +64,13 @@ fn found_reply(
     }
     let mut legal = Vec::new(alloc);
     moves_into(classes.family.profile, &mut legal, position)?;
-    match shortest(classes, lost, position, &legal) {
+    let list = ByClass {
+        classes,
+        entries: lost,
+    };
+    match shortest(&list, position, &legal) {
         Some(Lead { played, plies }) => Ok(Some(Reply::Win { played, plies })),
-        None => Ok(loss(said_lost(classes, lost, position))),
+        None => Ok(loss(said_lost(classes.family, &list, position))),
     }
 }
 
@@ -82,15 +85,16 @@ fn loss(plies: Option<u16>) -> Option<Reply>
 }
 
 // The first of the moves to a position that is said to be lost within the fewest plies.
-fn shortest(classes: &Classes, lost: &Entries, position: &Position, legal: &[Move]) -> Option<Lead>
-    requires member { IsPositionOf classes.now.family position.now.setup }
-    requires legal { AreMoves classes.now.family.profile position.now.setup legal.now }
-    ensures { IsShortest classes.now.family lost.now position.now.setup result }
+fn shortest(list: &ByClass, position: &Position, legal: &[Move]) -> Option<Lead>
+    requires member { IsPositionOf list.now.classes.now.family position.now.setup }
+    requires legal { AreMoves list.now.classes.now.family.profile position.now.setup legal.now }
+    ensures { IsShortest list.now.classes.now.family list.now.entries.now position.now.setup result }
 {
     let mut best = None;
+    let family = list.classes.family;
     for played in legal {
-        let outcome = outcome_of(classes.family, position, *played);
-        let found = said_lost(classes, lost, &outcome);
+        let outcome = outcome_of(family, position, *played);
+        let found = said_lost(family, list, &outcome);
         best = shorter(best, *played, found);
     }
     best
@@ -110,29 +114,5 @@ fn shorter(best: Option<Lead>, played: Move, found: Option<u16>) -> Option<Lead>
                 best
             }
         }
-    }
-}
-
-// The fewest plies within which the list says that the position is lost, or that shows at once; None if it isn't said.
-fn said_lost(classes: &Classes, lost: &Entries, position: &Position) -> Option<u16>
-    requires { IsPositionOf classes.now.family position.now.setup }
-    ensures { SaysLost classes.now.family lost.now position.now.setup result }
-{
-    match status(classes.family.profile, position) {
-        Status::Caught => None,
-        Status::Tried | Status::Stuck => Some(0),
-        Status::Open => plies_listed(classes, lost, position),
-    }
-}
-
-// The plies of the position's class, where the list has it.
-fn plies_listed(classes: &Classes, lost: &Entries, position: &Position) -> Option<u16>
-    requires member { IsPositionOf classes.now.family position.now.setup }
-    requires goes_on { HasStatus classes.now.family.profile position.now.setup Status.Open }
-    ensures { SaysLost classes.now.family lost.now position.now.setup result }
-{
-    match entry_for(classes, lost, position) {
-        Some(entry) => Some(entry.plies),
-        None => None,
     }
 }

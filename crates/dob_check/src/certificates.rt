@@ -7,7 +7,7 @@ ghost use Rattle.dob_certificate.specs.Claims.{Holds, Prove};
 ghost use Rattle.dob_certificate.specs.Refusals.{IsEntryVerdict, IsListVerdict, IsRefusal};
 ghost use Rattle.dob_check.specs.Watching.{IsToldAt};
 
-use crate::checks::{Unwatched, Watch, tell};
+use crate::checks::{Watch, tell};
 use dob_certificate::{
     Certificate, Claim, Entries, ListKind, Refusal, Room, check_claim, check_entry,
 };
@@ -18,34 +18,12 @@ use std::alloc::Global;
 use std::thread::Threads;
 
 /// As [`dob_certificate::verify`], its entries looked at by themselves, in as many threads as there are processors, each thread with
-/// one room for lists of moves. The answer is that of one thread.
+/// one room for lists of moves. The answer is that of one thread. It reports to the watch at each 65,536th entry of a list and at the last one that is
+/// left: of a certificate that passes it reports as many entries as there are.
 ///
 /// # Errors
 ///
-/// `Unsupported` with the class of the first entry, of the lost list and then of the held one, that its list doesn't support; `Claim`
-/// where all are supported, and the lists don't show the claim; `Memory`.
-pub fn verify(
-    rt: &(impl Threads + Sync),
-    alloc: Global,
-    classes: &Classes,
-    certificate: &Certificate,
-    position: &Position,
-    claim: Claim,
-) -> Result<(), Refusal>
-    requires { IsPositionOf classes.now.family position.now.setup }
-    ensures holds { IfOk result (λ _. Holds classes.now.family.profile position.now.setup claim) }
-    ensures proof { IfOk result (λ _. Prove classes.now.family certificate.now.lost certificate.now.held position.now.setup claim) }
-    ensures refusal { IfErr result (IsRefusal classes.now.family certificate.now.lost certificate.now.held position.now.setup claim) }
-{
-    verify_watched(rt, alloc, classes, certificate, position, claim, &Unwatched)
-}
-
-/// As [`verify`], and reports to the watch at each 65,536th entry of a list and at the last one that is left: of a certificate that
-/// passes it reports as many entries as there are.
-///
-/// # Errors
-///
-/// Those of [`verify`].
+/// Those of [`dob_certificate::verify`].
 pub fn verify_watched<R: Threads + Sync, W: Watch + Sync>(
     rt: &R,
     alloc: Global,

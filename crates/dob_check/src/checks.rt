@@ -26,8 +26,9 @@ pub trait Watch {
         ensures { told self.now classes };
 }
 
-// Nobody learns of it.
-pub(crate) struct Unwatched;
+/// Nobody learns how far it is.
+#[derive(Clone, Copy)]
+pub struct Unwatched;
 
 impl Watch for Unwatched {
     ghost told = { λ _ _. Unit {0} };

@@ -11,6 +11,6 @@ mod certificates;
 mod checks;
 mod counts;
 
-pub use certificates::{verify, verify_watched};
-pub use checks::{Watch, check, check_watched};
+pub use certificates::verify_watched;
+pub use checks::{Unwatched, Watch, check, check_watched};
 pub use counts::statistics;

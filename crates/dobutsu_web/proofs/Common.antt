@@ -12,9 +12,9 @@ pub use Rattle.dob_rank.specs.Families.{HasClass, IsPositionOf, IsRepresentative
 pub use Rattle.dob_classes.proofs.OfFamilies.FamilyNumbers.{IsPositionOf-mirrored, class_number-below}
 pub use Rattle.dob_certificate.proofs.Cases.{not_so}
 pub use Rattle.dob_certificate.specs.Claims.{Prove, Show}
-pub use Rattle.dob_certificate.specs.Lists.{Supports}
+pub use Rattle.dob_certificate.specs.Lists.{SupportsAll}
 pub use Rattle.dob_certificate.specs.declared.claim.Claim.{Claim}
 pub use Rattle.dob_certificate.specs.declared.entry.Entry.{Entry}
-pub use Rattle.dobutsu_web.specs.Certified.{AreProof, SupportsAll}
-pub use Rattle.dobutsu_web.specs.Ranked.{AreRanks, IsRankAt, entries_by, entries_in, entry_by, entry_in}
+pub use Rattle.dobutsu_web.specs.Certified.{AreProof}
+pub use Rattle.dobutsu_web.specs.Ranked.{AreRanks, IsRankAt, entries_by, entries_in, entry_by}
 unfoldable pub use Rattle.dobutsu_web.specs.Ranked.{ranked_setup}

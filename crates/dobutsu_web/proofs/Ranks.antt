@@ -2,6 +2,7 @@
 use Rattle.dobutsu_web.proofs.Common.{◌+◌, ◌-◌, ◌<◌, ◌↔◌, ◌∙◌, ◌≡◌, ◌≢◌, Contains, IsTrue, List, ap, arith, inl, inr, length, nat_eq, refl, slice_index, subst}
 use Rattle.dobutsu_web.proofs.Common.{sym, ℕ, nat_tests, Family, Setup}
 use Rattle.dobutsu_web.proofs.Common.{HasClass, IsPositionOf, IsRepresentative, Entry, AreRanks, entries_by, entry_by, ranked_setup}
+use Rattle.std.specs.Prelude.{IfSome, None, Option, Some}
 use Rattle.std.specs.List.Sorted.{IsStrictlyIncreasing}
 use Rattle.std.proofs.lemmas.List.FromFn.{length-map-range_with_len, get_or-map-range_with_len}
 use Rattle.dob_rank.specs.ClassRows.{marked_place}
@@ -13,10 +14,13 @@ use Rattle.dob_rank.proofs.Marked.Marks.{numbering}
 use Rattle.dob_rank.proofs.Marked.Representatives.{IsPlaceOf, place_found}
 use Rattle.dob_rank.proofs.OfFamilies.FamilyOrder.{rank_of-same}
 use Rattle.dob_rank.proofs.OfFamilies.Present.{allowed, HasClass-marked}
-use Rattle.dob_classes.proofs.OfFamilies.FamilyNumbers.{IsInClass-class_number, class_number-mirrored, class_number-representative}
+use Rattle.dob_classes.proofs.OfFamilies.FamilyNumbers.{IsInClass-class_number, class_number-below, class_number-mirrored, class_number-representative}
 use Rattle.dob_classes.proofs.OfFamilies.FamilyRepresentatives.{one_class, one_of_class, same_representative}
-use Rattle.dob_certificate.specs.Listed.{IsEntryFor}
-use Rattle.dob_certificate.proofs.Orders.{one_place}
+use Rattle.dob_certificate.specs.Ascending.{listed_entry}
+use Rattle.dob_certificate.specs.Listed.{IsEntryFor, IsEntryOf}
+use Rattle.dob_certificate.specs.Lists.{IsFirstBroken}
+use Rattle.dob_certificate.specs.declared.list_kind.ListKind.{ListKind}
+use Rattle.dob_certificate.proofs.Orders.{no_entry, one_place}
 
 -- ---- the position of a rank
 
@@ -80,6 +84,12 @@ ascending family ranks plies are = λ k within.
 -- ---- the entries that they stand for
 
 module _ (family : Family) (ranks plies : List ℕ) where
+  pub length-entries : length ranks ≡ length (entries_by family ranks plies)
+  length-entries = sym (length-map-range_with_len (entry_by family ranks plies) 0 (length ranks))
+
+  pub within_ranks : (place : ℕ) → place < length (entries_by family ranks plies) → place < length ranks
+  within_ranks place within = subst (λ n. place < n) (sym length-entries) within
+
   pub entry_there : (place : ℕ) → place < length ranks → Contains (entries_by family ranks plies) (entry_by family ranks plies place)
   entry_there place within = (
     place,
@@ -101,12 +111,30 @@ module _ (family : Family) (ranks plies : List ℕ) where
         },
       )
 
+-- the place of an entry that isn't supported is that of a rank
+pub broken_within : (kind : ListKind) (family : Family) (ranks plies : List ℕ) (found : Option ℕ) →
+    IsFirstBroken kind family (entries_by family ranks plies) found → IfSome found (λ place. place < length ranks)
+broken_within kind family ranks plies None broken = tt
+broken_within kind family ranks plies (Some place) broken = within_ranks family ranks plies place broken.within
+
 module _ (family : Family) (ranks plies : List ℕ) (are : AreRanks family ranks plies) where
   -- at each place stands a representative
   pub representative_at : (place : ℕ) → place < length ranks → IsRepresentative family (ranked_setup family (slice_index ranks place))
   representative_at place within =
       let at = are.each place within in
       ((ranked_is family (slice_index ranks place) at.below).position, at.first)
+
+  -- it stands for the entry there
+  pub stands_for : (place : ℕ) → place < length ranks →
+      IsEntryOf family (listed_entry (entries_by family ranks plies) place) (ranked_setup family (slice_index ranks place)) (slice_index plies place)
+  stands_for place within =
+      let is = representative_at place within in
+      rw (get_or-map-range_with_len (entry_by family ranks plies) 0 (length ranks) place place no_entry within (omega arith)) (record {
+        within = class_number-below family (ranked_setup family (slice_index ranks place)) is.0;
+        represents = is;
+        number = has_class family (ranked_setup family (slice_index ranks place)) is;
+        plies_are = refl;
+      })
 
   module _ (q earlier : Setup) (is : IsPositionOf family q) (stands : RepresentativeOf q earlier) (earlier_is : IsPositionOf family earlier) where
     -- where the position is in the class of an entry, the entry's rank is that of the earlier of the position and its mirror image

@@ -1,28 +1,17 @@
 -- What the two lists of a certificate show of a position, as a caller lays them out.
-use Rattle.std.specs.Prelude.{◌≡◌, ◌+◌, ◌<◌, ◌⊎◌, ℕ, List, length, Contains}
+use Rattle.std.specs.Prelude.{◌≡◌, ◌+◌, ◌⊎◌, ℕ, List, Some, length}
 use Rattle.dob_pieces.specs.declared.profile.Family.{Family}
 use Rattle.dob_pieces.specs.declared.setup.Setup.{Setup}
 use Rattle.dob_distance.specs.declared.value.Value.TheVariants.{Win, Loss, Draw}
 use Rattle.dob_certificate.specs.declared.claim.Claim.{Claim}
 use Rattle.dob_certificate.specs.declared.claim.Claim.TheVariants.{Exactly, LostWithin, WonWithin}
 use Rattle.dob_certificate.specs.declared.entry.Entry.{Entry}
-use Rattle.dob_certificate.specs.declared.list_kind.ListKind.{ListKind}
 use Rattle.dob_certificate.specs.declared.list_kind.ListKind.TheVariants.{Lost, Held}
 use Rattle.dob_certificate.specs.Claims.{Holds, Prove, Show}
-use Rattle.dob_certificate.specs.Lists.{Supports}
+use Rattle.dob_certificate.specs.Lists.{IsFirstBroken, SupportsAll}
 use Rattle.dobutsu_web.specs.declared.ranked.Listed.{Listed}
 use Rattle.dobutsu_web.specs.Asked.{IsTextAsked}
-use Rattle.dobutsu_web.specs.Ranked.{AreRanks, entry_by, entries_by}
-
--- a list of that kind supports each of its entries
-abbrev pub SupportsAll : ListKind → Family → List Entry → Type 0
-SupportsAll kind family entries = (entry : Entry) → Contains entries entry → Supports kind family entries entry
-
--- the entry at that place is the first that isn't supported
-pub record IsFirstBroken (kind : ListKind) (family : Family) (ranks plies : List ℕ) (broken : ℕ) : Type 0 where
-  pub within : broken < length ranks
-  pub unsupported : ¬ Supports kind family (entries_by family ranks plies) (entry_by family ranks plies broken)
-  pub before : (earlier : ℕ) → earlier < broken → Supports kind family (entries_by family ranks plies) (entry_by family ranks plies earlier)
+use Rattle.dobutsu_web.specs.Ranked.{AreRanks, entries_by}
 
 -- the claim has that number and so many plies
 abbrev pub IsClaimed : Claim → ℕ → ℕ → Type 0
@@ -52,9 +41,9 @@ pub record AreProof (family : Family) (lost held : List Entry) (p : Setup) (clai
 
 -- an entry isn't supported: at that place of the lost list, or of the held one, whose places are counted behind those of the lost
 abbrev pub AreBroken : Family → List ℕ → List ℕ → List ℕ → List ℕ → ℕ → Type 0
-AreBroken family lost lost_plies held held_plies broken = IsFirstBroken Lost family lost lost_plies broken
+AreBroken family lost lost_plies held held_plies broken = IsFirstBroken Lost family (entries_by family lost lost_plies) (Some broken)
     ⊎ (SupportsAll Lost family (entries_by family lost lost_plies) × (place : ℕ) × (broken ≡ length lost + place)
-    × IsFirstBroken Held family held held_plies place)
+    × IsFirstBroken Held family (entries_by family held held_plies) (Some place))
 
 -- all are, and the lists don't show the claim
 pub record AreSilent (family : Family) (lost held : List Entry) (p : Setup) (claim : Claim) : Type 0 where

@@ -35,9 +35,6 @@ pub record AreRanks (family : Family) (ranks plies : List ℕ) : Type 0 where
 
 -- ---- the same of a list that is handed on
 
-abbrev pub entry_in : Listed → ℕ → Entry
-entry_in listed place = entry_by listed.family listed.ranks.now listed.plies.now place
-
 abbrev pub entries_in : Listed → List Entry
 entries_in listed = entries_by listed.family listed.ranks.now listed.plies.now
 

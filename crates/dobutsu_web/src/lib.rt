@@ -13,7 +13,6 @@ mod asked;
 mod claims;
 mod classes;
 mod headers;
-mod lists;
 mod numbers;
 mod places;
 mod ranked;

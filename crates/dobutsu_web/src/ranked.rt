@@ -2,10 +2,10 @@
 // list is searched without memory of one's own.
 ghost use Rattle.std.specs.Prelude.{◌≡◌, ◌≢◌, ◌-◌, ◌<◌, ◌≤◌, ◌↔◌, ℕ, IsTrue, MatchOption, length, slice_index};
 ghost use Rattle.std.specs.List.Sorted.{IsStrictlyIncreasing};
-ghost use Rattle.dob_rank.specs.Families.{IsPositionOf, IsRepresentative, HasClass, size_of, rank_of};
+ghost use Rattle.dob_rank.specs.Families.{IsPositionOf, size_of, rank_of};
 ghost use Rattle.dob_pieces.specs.declared.setup.Setup.{Setup as AnySetup};
 ghost use Rattle.dob_rank.specs.Order.{IsFirstOfTwo, RepresentativeOf};
-ghost use Rattle.dobutsu_web.specs.Ranked.{AreRanksIn, IsRankAt, entries_in, entry_in, ranked_setup};
+ghost use Rattle.dobutsu_web.specs.Ranked.{AreRanksIn, IsRankAt, entries_in, ranked_setup};
 
 use dob_certificate::Lookup;
 use dob_pieces::{Family, Position};
@@ -76,16 +76,6 @@ fn rank_of_earlier(family: Family, position: &Position) -> u64
     if other < own { other } else { own }
 }
 
-/// The representative of the class at that place.
-pub(crate) fn position_at(listed: &Listed, place: usize) -> Position
-    requires ranks { AreRanksIn listed.now }
-    requires within { place < length listed.now.ranks.now }
-    ensures representative { IsRepresentative listed.now.family result.setup }
-    ensures class { HasClass listed.now.family result.setup (entry_in listed.now place).class }
-{
-    unrank(listed.family, u64::from(listed.ranks[place]))
-}
-
 impl Lookup for Listed<'_> {
     ghost stands = { λ listed family. (listed.family ≡ family) × AreRanksIn listed };
 
@@ -98,6 +88,32 @@ impl Lookup for Listed<'_> {
             None => None,
         }
     }
+
+    fn count(&self) -> usize {
+        self.ranks.len()
+    }
+
+    fn entry_at(&self, _family: Family, place: usize) -> Option<(Position, u16)> {
+        Some((position_at(self, place), plies_at(self, place)))
+    }
+}
+
+// The representative of the class at that place.
+fn position_at(listed: &Listed, place: usize) -> Position
+    requires ranks { AreRanksIn listed.now }
+    requires within { place < length listed.now.ranks.now }
+    ensures { result.setup ≡ ranked_setup listed.now.family (slice_index listed.now.ranks.now place) }
+{
+    unrank(listed.family, u64::from(listed.ranks[place]))
+}
+
+// Its plies.
+fn plies_at(listed: &Listed, place: usize) -> u16
+    requires ranks { AreRanksIn listed.now }
+    requires within { place < length listed.now.ranks.now }
+    ensures { result ≡ slice_index listed.now.plies.now place }
+{
+    listed.plies[place]
 }
 
 // The place of a rank, or `None` if it isn't there. A binary search.

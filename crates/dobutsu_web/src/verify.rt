@@ -1,18 +1,18 @@
 // Whether the two lists of a certificate prove what is claimed of a position.
-ghost use Rattle.std.specs.Prelude.{◌≡◌, ◌≢◌, ◌<◌, true, false};
+ghost use Rattle.std.specs.Prelude.{◌≡◌, ◌≢◌, ◌<◌, IfSome, length, true, false};
 ghost use Rattle.dob_certificate.specs.declared.list_kind.ListKind.TheVariants as ListKind;
+ghost use Rattle.dob_certificate.specs.Lists.{IsFirstBroken, SupportsAll};
 ghost use Rattle.dob_rank.specs.Families.{IsPositionOf};
 ghost use Rattle.dobutsu_web.specs.Asked.{IsRefused};
-ghost use Rattle.dobutsu_web.specs.Certified.{AreOne, HasNoRanks, IsAnswer, IsToldAnswer, SupportsAll};
+ghost use Rattle.dobutsu_web.specs.Certified.{AreOne, HasNoRanks, IsAnswer, IsToldAnswer};
 ghost use Rattle.dobutsu_web.specs.Ranked.{AreRanksIn, entries_in};
 
 use crate::asked::ask;
 use crate::claims::claim_of;
-use crate::lists::first_broken;
 use crate::numbers::{CLAIM, CLAIM_BYTE, NO_ROW, UNSUPPORTED};
 use crate::places::ByPlace;
 use crate::ranked::{Listed, are_ranks};
-use dob_certificate::{Claim, ListKind, is_shown};
+use dob_certificate::{Claim, ListKind, first_broken, is_shown};
 use dob_pieces::Position;
 
 /// Whether the two lists of a certificate prove what is claimed of the position of that text: a draw, a win or a loss in N plies where `kind` is 0, 1 or 2, a
@@ -76,7 +76,7 @@ fn answer(lost: &Listed, held: &Listed, position: &Position, claim: Claim, broke
     ensures answer { IsAnswer result lost.now.family lost.now.ranks.now lost.now.plies.now held.now.ranks.now held.now.plies.now position.now.setup claim broken.new }
     ensures unchanged { result ≢ 30 → broken.new ≡ broken.old }
 {
-    match first_broken(ListKind::Lost, lost) {
+    match broken_in(lost, ListKind::Lost) {
         Some(place) => {
             *broken = place as u64;
             UNSUPPORTED
@@ -101,7 +101,7 @@ fn answer_behind(
     ensures answer { IsAnswer result lost.now.family lost.now.ranks.now lost.now.plies.now held.now.ranks.now held.now.plies.now position.now.setup claim broken.new }
     ensures unchanged { result ≢ 30 → broken.new ≡ broken.old }
 {
-    match first_broken(ListKind::Held, held) {
+    match broken_in(held, ListKind::Held) {
         Some(place) => {
             *broken = lost.ranks.len() as u64 + place as u64;
             UNSUPPORTED
@@ -110,6 +110,18 @@ fn answer_behind(
             Ok(shown) => shown_number(shown),
             Err(_) => unreachable!(),
         },
+    }
+}
+
+// The place of the first entry that a list of that kind doesn't support, or `None` if it supports all.
+fn broken_in(listed: &Listed, kind: ListKind) -> Option<usize>
+    requires { AreRanksIn listed.now }
+    ensures broken { IsFirstBroken kind listed.now.family (entries_in listed.now) result }
+    ensures within { IfSome result (λ place. place < length listed.now.ranks.now) }
+{
+    match first_broken(&mut ByPlace, &mut ByPlace, listed.family, listed, kind) {
+        Ok(found) => found,
+        Err(_) => unreachable!(),
     }
 }
 

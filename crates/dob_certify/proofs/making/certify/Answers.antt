@@ -18,14 +18,14 @@ returns-then-not-are_few-clause-fault g c = record {
   };
 }
 
-pub returns-in_err-verify-clause-fault : goal.returns-in_err-verify-clause-fault
-returns-in_err-verify-clause-fault g c =
-    let p = err_from_is_err_and c.from_residual-in_err-verify.result c.from_residual-in_err-verify.ensures.1 in
+pub returns-in_err-verify_watched-clause-fault : goal.returns-in_err-verify_watched-clause-fault
+returns-in_err-verify_watched-clause-fault g c =
+    let p = err_from_is_err_and c.from_residual-in_err-verify_watched.result c.from_residual-in_err-verify_watched.ensures.1 in
     rw (p.1, p.2) (record {
       value = c.in_ok-value.value;
       given = c.in_ok-value.ensures.value;
       lost = c.in_ok-certificate.certificate.lost;
       held = c.in_ok-certificate.certificate.held;
       few = c.are_few.ensures.few.0 c.if-not-are_few.false;
-      refused = rw (c.claim_of-claim.ensures, c.classes.ensures.family) at c.in_err-verify.ensures.refusal;
+      refused = rw (c.claim_of-claim.ensures, c.classes.ensures.family) at c.in_err-verify_watched.ensures.refusal;
     })

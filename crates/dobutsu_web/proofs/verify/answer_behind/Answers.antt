@@ -5,13 +5,13 @@ use Rattle.dobutsu_web.proofs.verify.answer_behind.Goals as goal
 
 pub returns-in-Some-clause-answer : goal.returns-in-Some-clause-answer
 returns-in-Some-clause-answer c =
-    inr (inl (refl, inr (c.requires.supported, c.in-Some.place, refl, rw c.requires.one at c.in-Some.ensures)))
+    inr (inl (refl, inr (c.requires.supported, c.in-Some.place, refl, rw c.requires.one at c.in-Some.ensures.broken)))
 
 pub returns-in-Ok-clause-answer : goal.returns-in-Ok-clause-answer
 returns-in-Ok-clause-answer c =
     let lost = c.args.lost.now in
     let held = c.args.held.now in
-    let all = rw c.requires.one at c.in-None.ensures in
+    let all = rw c.requires.one at c.in-None.ensures.broken in
     let shows = rw c.requires.one at c.in-Ok.ensures.shown in
     elim (cases_Bool c.in-Ok.shown) [
       | inl on ↦ inl (
