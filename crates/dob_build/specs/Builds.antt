@@ -1,5 +1,5 @@
 -- What the program owes where it is asked to build a database file.
-use Rattle.std.specs.Prelude.{◌≡◌, ◌≢◌, ℕ, Bool, true, IsTrue, List, None, Option, Result, Some, String}
+use Rattle.std.specs.Prelude.{◌≡◌, ◌≢◌, ℕ, Bool, true, IsTrue, List, None, Option, Some}
 use Rattle.dob_pieces.specs.declared.piece_set.PieceSet.{PieceSet}
 use Rattle.dob_pieces.specs.Sets.{set_text}
 use Rattle.dob_pieces.specs.declared.profile.Family.{Family}
@@ -21,10 +21,10 @@ use Rattle.dob_stops.specs.declared.fault.Fault.{Fault as RunFault}
 use Rattle.dob_dbfile.specs.Format.{bytes_of}
 use Rattle.dob_files.specs.declared.fault.Fault.{Fault}
 use Rattle.dob_files.specs.declared.fault.Fault.TheVariants.{SetText, Run, File, Memory, Io}
-use Rattle.dob_shelf.specs.Shelves.{HasJust, SameFiles, ShelfChange}
+use Rattle.dob_shelf.specs.Shelves.{HasJust, SameFiles, SameOthers, ShelfChange}
 use Rattle.dob_files.specs.Keeping.{IsWritingFault}
 use Rattle.dob_lines.specs.Tallies.{class_lines}
-use Rattle.dob_files.specs.Endings.{AnswersOver, Ending, GivesLines}
+use Rattle.dob_files.specs.Owed.{Owed, lines_owed}
 
 -- so many nodes, where a number is given; else some number from 1 to 16
 abbrev pub AreNodes : Option ℕ → ℕ → Type 0
@@ -97,12 +97,8 @@ HasNoBuild profile text number _ = ⊥
 abbrev pub IsBuildFault : ShelfChange → Profile → List ℕ → Option ℕ → Fault → Type 0
 IsBuildFault c profile text number fault = HasNoBuild profile text number fault × SameFiles c.before.has c.after.has
 
--- what a call gives that builds such a file
-abbrev pub GivesBuild : {X : Type 0} → Profile → List ℕ → Option ℕ → List ℕ → Result (String X) Fault → ShelfChange → Type 0
-GivesBuild profile text number file result c =
-    GivesLines c (AreBuildLines c profile text number file) (IsBuildFault c profile text number) result
-
--- What the program does where it is asked for a file of the table of the piece set that a text names, by the rules of a profile, built by
--- so many nodes where a number is given. Where standard output fails it does so in lines that are right, and so the file is whole.
-abbrev pub AnswersBuild : ShelfChange → Profile → List ℕ → Option ℕ → List ℕ → Ending → Type 0
-AnswersBuild c profile text number file = AnswersOver c (AreBuildLines c profile text number file) (IsBuildFault c profile text number)
+-- What is owed for a file of the table of the piece set that a text names, by the rules of a profile, built by so many nodes where a number is given. Where
+-- standard output fails it does so in lines that are right, and so the file is whole.
+abbrev pub build_owed : Profile → List ℕ → Option ℕ → List ℕ → Owed
+build_owed profile text number file =
+    record (lines_owed (λ c. AreBuildLines c profile text number file) (λ c. IsBuildFault c profile text number)) { keeps = SameOthers file }

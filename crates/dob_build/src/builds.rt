@@ -3,9 +3,9 @@ ghost use Rattle.std.specs.Prelude.{◌≡◌, ℕ, false, IfOk, IfErr, MatchRes
 ghost use Rattle.dob_device.specs.Sinks.{change};
 ghost use Rattle.dob_pieces.specs.declared.profile.Family.{Family};
 ghost use Rattle.dob_files.specs.Keeping.{FillsSink};
-ghost use Rattle.dob_shelf.specs.Shelves.{Leaving, SameOthers};
+ghost use Rattle.dob_files.specs.Owed.{GivesOwed};
 ghost use Rattle.dob_safra.specs.Laws.{IsSize};
-ghost use Rattle.dob_build.specs.Builds.{AreBuilt, AreNodes, GivesBuild, HaveBuilt, IsRunFault, IsUnbuilt, IsUsualCrew};
+ghost use Rattle.dob_build.specs.Builds.{AreBuilt, AreNodes, HaveBuilt, IsRunFault, IsUnbuilt, IsUsualCrew, build_owed};
 
 use dob_classes::count_classes;
 use dob_dbfile::Sink;
@@ -33,8 +33,7 @@ pub fn answer_build<R: Threads + Wait + Sync + Console, S: Shelf>(
     shelf: &mut S,
     order: BuildOrder<'_>,
 ) -> Lines
-    ensures { Leaving (SameOthers order.entry.file.now) S.state shelf.old shelf.new
-        (GivesBuild order.entry.profile order.entry.set.now order.entry.nodes order.entry.file.now result) }
+    ensures { GivesOwed (build_owed order.entry.profile order.entry.set.now order.entry.nodes order.entry.file.now) S.state shelf.old shelf.new result }
 {
     let BuildOrder {
         profile,

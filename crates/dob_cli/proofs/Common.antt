@@ -15,8 +15,7 @@ pub use Rattle.dob_shelf.proofs.Shelves.{unchanged}
 pub use Rattle.dob_shelf.specs.Shelves.{ShelfChange, ShelfState, shelf_change}
 pub use Rattle.dob_files.proofs.Endings.{answered, answered_by}
 pub use Rattle.dob_files.specs.Endings.{AnswersOver, Ending, TellsOneFault}
-pub use Rattle.dob_query.specs.Program.{AnswersValue}
+pub use Rattle.dob_files.specs.Owed.{AnswersOwed}
 pub use Rattle.dob_files.specs.Tables.{HasValueFile}
 pub use Rattle.dob_files.specs.Telling.{AnswersLines, PutsAll, PutsText, StopsText, TellsOver}
 pub use Rattle.dob_files.specs.declared.fault.Fault.{Fault}
-pub use Rattle.dob_build.specs.Builds.{AnswersBuild}

@@ -1,14 +1,16 @@
 -- What the words ask for is done, and what a build leaves, `probe` finds: the value by definition.
 use Rattle.dob_cli.proofs.Common.{◌≡◌, List, Option, arith, inl, inr, option_map, refl, subst, ℕ, IsTrue, Profile, bytes_of, Change, Text, IsOrder}
 use Rattle.dob_cli.proofs.Common.{IsReadingOf, asks, meaning_of, number_in, profile_named, Reading, Order, ShelfChange, ShelfState, shelf_change, AnswersOver}
-use Rattle.dob_cli.proofs.Common.{Ending, TellsOneFault, AnswersValue, HasValueFile, Fault, AnswersBuild}
+use Rattle.dob_cli.proofs.Common.{Ending, TellsOneFault, AnswersOwed, HasValueFile, Fault}
 use Rattle.dob_files.specs.declared.fault.Fault.TheVariants.{Memory, Io}
 use Rattle.dob_files.specs.Faults.{status_of}
 use Rattle.dob_words.specs.declared.command.Reading.TheVariants as reading
 use Rattle.dob_cli.specs.Laws.{BuildThenProbe, WordsAreAnswered}
 use Rattle.dob_cli.specs.Orders.{AnswersOrder, AnswersRight}
 use Rattle.dob_cli.specs.Runs.{Does, LacksMemory, Ran}
-use Rattle.dob_query.specs.Questions.{AnswersQuestion, AnswersQuestionRight, probed}
+use Rattle.dob_query.specs.Program.{value_owed}
+use Rattle.dob_query.specs.Questions.{AnswersQuestionRight, probed, question_owed}
+use Rattle.dob_build.specs.Builds.{build_owed}
 use Rattle.dob_cli.proofs.Orders.{done_build, done_probe, done_value}
 
 -- no fault has the status of what is done
@@ -20,7 +22,7 @@ no_fault_told fault status err told done = grind (arith, not_done)
 
 -- the file of a build that was done is that of a value table
 file_kept : (c : ShelfChange) (profile : Profile) (set : List ℕ) (nodes : Option ℕ) (file : List ℕ) (e : Ending) → IsTrue c.before.tells
-    → AnswersBuild c profile set nodes file e → e.status ≡ 0 → HasValueFile (c.after.has file) profile
+    → AnswersOwed (build_owed profile set nodes file) c e → e.status ≡ 0 → HasValueFile (c.after.has file) profile
 file_kept c profile set nodes file e tells (inl t) done = record {
   table = t.right.0.table;
   bytes = bytes_of t.right.0.table;
@@ -58,18 +60,18 @@ pub words_answered : (before after : ShelfState) → WordsAreAnswered before aft
 words_answered before after words e ran =
     let c : ShelfChange = shelf_change before after in record {
       value = λ rules text asked.
-          order_done c words e _ _ (AnswersValue c (profile_named rules) text e) asked (λ o is answers right. done_value c e rules text o is answers)
+          order_done c words e _ _ (AnswersOwed (value_owed (profile_named rules) text) c e) asked (λ o is answers right. done_value c e rules text o is answers)
           (memory_answered c _ _ e tt) ran;
       build = λ rules set nodes file progress asked.
-          order_done c words e _ _ (AnswersBuild c (profile_named rules) set (option_map number_in nodes) file e) asked
+          order_done c words e _ _ (AnswersOwed (build_owed (profile_named rules) set (option_map number_in nodes) file) c e) asked
           (λ o is answers right. done_build c e rules set nodes file progress o is answers) (λ lacks. memory_answered c _ _ e (tt, lacks.1.0) lacks) ran;
       probe_right = λ file text asked profile.
           order_done c words e _ _ (HasValueFile (c.before.has file) profile → AnswersQuestionRight probed c profile file text e) asked
           (done_probe c e (λ x t. HasValueFile (c.before.has x) profile → AnswersQuestionRight probed c profile x t e) file text (λ f t answers right. right profile))
           (λ lacks _. memory_answered c _ _ e tt lacks) ran;
       probe = λ file text asked.
-          order_done c words e _ _ (AnswersQuestion probed c file text e) asked
-          (done_probe c e (λ x t. AnswersQuestion probed c x t e) file text (λ f t answers right. answers)) (memory_answered c _ _ e tt) ran;
+          order_done c words e _ _ (AnswersOwed (question_owed probed file text) c e) asked
+          (done_probe c e (λ x t. AnswersOwed (question_owed probed x t) c e) file text (λ f t answers right. answers)) (memory_answered c _ _ e tt) ran;
     }
 
 pub build_then_probe : (before built after : ShelfState) → BuildThenProbe before built after

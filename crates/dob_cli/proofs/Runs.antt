@@ -6,7 +6,7 @@ use Rattle.dob_files.specs.declared.fault.Fault.TheVariants.{Io}
 use Rattle.dob_words.specs.declared.command.Reading.TheVariants as reading
 use Rattle.dob_files.specs.Endings.{AnswersHelp, AnswersUsage, AnswersVersion, Tells, TellsMemory, version_line}
 use Rattle.dob_query.specs.QuestionsEach.{AreEachLines, IsEachFault}
-use Rattle.dob_cli.specs.Orders.{AnswersOrder, AreLinesFor, IsFaultFor, KeepsFiles}
+use Rattle.dob_cli.specs.Orders.{AnswersOrder, KeepsFiles, owed_by}
 use Rattle.dob_cli.specs.Runs.{Does, LeavesShelf, Ran, RanAt}
 use Rattle.dob_files.specs.Faults.{fault_line, is_io}
 use Rattle.std.proofs.Math.Bool.{or-false}
@@ -70,7 +70,7 @@ usage_same e (inr told) = memory_same e told
 
 -- what was told of what was read
 read_same : (c : ShelfChange) (r : Reading) (e : Ending) → Does c r e → IsSame e.out × IsSame e.err
-read_same c (reading.Order (Lines o)) e does = over_same c (AreLinesFor c o) (IsFaultFor c o) e does.answers
+read_same c (reading.Order (Lines o)) e does = over_same c ((owed_by o).lines c) ((owed_by o).faults c) e does.answers
 read_same c (reading.Order (EachLine f a)) e does = lines_same c (AreEachLines a.by a.question (c.before.has f.now)) (IsEachFault a.by c f.now) e does.answers
 read_same c (reading.Help _) e does = help_same e does.0
 read_same c reading.Version e does = version_same e does.0

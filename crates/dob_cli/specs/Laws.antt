@@ -2,23 +2,23 @@
 use Rattle.std.specs.Prelude.{◌≡◌, IsTrue, List, Option, option_map}
 use Rattle.dob_words.specs.Words.{Text, build, meaning_of, number_in, probe, profile_named, value}
 use Rattle.dob_files.specs.Endings.{Ending}
-use Rattle.dob_query.specs.Program.{AnswersValue}
+use Rattle.dob_files.specs.Owed.{AnswersOwed, ByValueFile}
+use Rattle.dob_query.specs.Program.{value_owed}
 use Rattle.dob_shelf.specs.Shelves.{ShelfChange, ShelfState, shelf_change}
-use Rattle.dob_query.specs.Questions.{AnswersQuestion, AnswersQuestionRight, probed}
-use Rattle.dob_build.specs.Builds.{AnswersBuild}
-use Rattle.dob_cli.specs.Orders.{ByValueFile}
+use Rattle.dob_query.specs.Questions.{AnswersQuestionRight, probed, question_owed}
+use Rattle.dob_build.specs.Builds.{build_owed}
 use Rattle.dob_cli.specs.Runs.{Ran}
 
 -- Words that ask for a value, a build or a probe get just that, by their own texts.
 pub record AnswersWords (c : ShelfChange) (words : List Text) (e : Ending) : Type 0 where
-  pub value : (rules : Option Text) (position : Text) → meaning_of words ≡ value rules position → AnswersValue c (profile_named rules) position e
+  pub value : (rules : Option Text) (position : Text) → meaning_of words ≡ value rules position → AnswersOwed (value_owed (profile_named rules) position) c e
   pub build : (rules : Option Text) (set : Text) (nodes : Option Text) (file : Text) (progress : Option Text)
       → meaning_of words ≡ build rules set nodes file progress
-      → AnswersBuild c (profile_named rules) set (option_map number_in nodes) file e
+      → AnswersOwed (build_owed (profile_named rules) set (option_map number_in nodes) file) c e
   -- by the file of a value table the value printed is right, by its rules
   pub probe_right : (file position : Text) → meaning_of words ≡ probe file position
       → ByValueFile c file (λ profile. AnswersQuestionRight probed c profile file position e)
-  pub probe : (file position : Text) → meaning_of words ≡ probe file position → AnswersQuestion probed c file position e
+  pub probe : (file position : Text) → meaning_of words ≡ probe file position → AnswersOwed (question_owed probed file position) c e
 
 -- the program does so
 abbrev pub WordsAreAnswered : ShelfState → ShelfState → Type 0

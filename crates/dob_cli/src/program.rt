@@ -5,10 +5,11 @@ ghost use Rattle.std.specs.declared.io.ErrorKind.TheVariants.{OutOfMemory};
 ghost use Rattle.std.specs.Vec.Iter.{into_iter_items};
 ghost use Rattle.dob_device.specs.Sinks.{Says, change};
 ghost use Rattle.dob_cli.specs.Runs.{IsCauseLine, LeavesShelf, MaySayCause, Ran, RanAt, RanOver, TellsNoText, contents};
-ghost use Rattle.dob_cli.specs.Orders.{AnswersOrder, KeepsFiles, KeepsFilesFor, AreLinesFor, IsFaultFor};
+ghost use Rattle.dob_cli.specs.Orders.{AnswersOrder, KeepsFiles, owed_by};
 ghost use Rattle.dob_query.specs.QuestionsEach.{AnswersEach};
 ghost use Rattle.dob_shelf.specs.Shelves.{Changes, Leaving, SameFiles};
-ghost use Rattle.dob_files.specs.Endings.{Tells, TellsFaultAs, TellsMemory, TellsOneFault, ended, GivesLines};
+ghost use Rattle.dob_files.specs.Endings.{Tells, TellsFaultAs, TellsMemory, TellsOneFault, ended};
+ghost use Rattle.dob_files.specs.Owed.{GivesOwed};
 ghost use Rattle.dob_files.specs.Faults.{fault_line};
 ghost use Rattle.dob_files.specs.Telling.{status_of_lines};
 ghost use Rattle.dob_files.specs.declared.fault.Fault.TheVariants.{Io, Memory};
@@ -184,8 +185,7 @@ fn answer<S: Shelf>(
     order: LinesOrder<'_>,
     shelf: &mut S,
 ) -> Lines
-    ensures { Leaving (KeepsFilesFor order.entry) S.state shelf.old shelf.new (λ c.
-        GivesLines c (AreLinesFor c order.entry) (IsFaultFor c order.entry) result) }
+    ensures { GivesOwed (owed_by order.entry) S.state shelf.old shelf.new result }
 {
     match order {
         LinesOrder::Value { profile, position } => answer_value(alloc, profile, position),

@@ -14,4 +14,4 @@ pub use Rattle.dob_shelf.specs.Shelves.{ShelfChange, shelf_change}
 pub use Rattle.dob_lines.specs.Tallies.{count_line}
 pub use Rattle.dob_files.specs.Endings.{AnswersOver, Ending}
 pub use Rattle.dob_files.specs.Tables.{HasValueFile, IsFileOf, IsOpeningFault, IsPositionFault, IsRightFileOf}
-pub use Rattle.dob_counts.specs.Stats.{AnswersStatsRight, AreStatsLines, group_text, longest_of, with_group, with_value}
+pub use Rattle.dob_counts.specs.Stats.{group_text, longest_of, with_group, with_value}

@@ -2,4 +2,3 @@
 mod Common  -- names of other crates and of this one's definitions, for the proofs
 pub mod Levels  -- the lines of distances, one more at a time
 pub mod Statistics  -- the longest win and loss of a table are among its groups
-pub mod Rightly  -- by a value table's file counts and what can be reached are right

@@ -15,10 +15,9 @@ use Rattle.dob_reach.specs.Values.{AreCountedFrom}
 use Rattle.dob_files.specs.declared.fault.Fault.{Fault}
 use Rattle.dob_files.specs.declared.fault.Fault.TheVariants.{Text, Memory}
 use Rattle.dob_words.specs.declared.command.orders.ReachSearch.{ReachSearch}
-use Rattle.dob_files.specs.Endings.{AnswersOver, Ending}
+use Rattle.dob_files.specs.Owed.{Owed, lines_owed, table_owed}
 use Rattle.dob_lines.specs.Tallies.{count_line}
-use Rattle.dob_files.specs.Tables.{IsFileOf, IsPositionFault, IsRightFileOf, IsTextOf}
-use Rattle.dob_shelf.specs.Shelves.{Files, ShelfChange}
+use Rattle.dob_files.specs.Tables.{IsPositionFault, IsTextOf}
 
 -- ---- lines
 
@@ -65,10 +64,8 @@ pub record AreReachLines (search : ReachSearch) (words lines : List ℕ) : Type 
   pub found : AreReachedFrom family (class_number family position) reached
   pub same : lines ≡ reach_lines search.has_levels reached None
 
--- the lines tell it by the rules of such a table, with how many of the classes have which value by it
-pub record AreReachLinesBy (Is : ClassTable → Type 0) (search : ReachSearch) (words lines : List ℕ) : Type 0 where
-  pub table : ClassTable
-  pub is : Is table
+-- the lines tell it by the rules of the table, with how many of the classes have which value by it
+pub record AreReachLinesBy (search : ReachSearch) (words : List ℕ) (table : ClassTable) (lines : List ℕ) : Type 0 where
   pub position : Setup
   pub named : IsTextOf words position
   pub member : IsPositionOf table.family position
@@ -78,11 +75,6 @@ pub record AreReachLinesBy (Is : ClassTable → Type 0) (search : ReachSearch) (
   pub counted : AreCountedFrom table.family (class_number table.family position) table.values counts
   pub same : lines ≡ reach_lines search.has_levels reached (Some counts)
 
--- by the file of that name where one is named
-abbrev pub AreReachLinesFor : Files → ReachSearch → Option (List ℕ) → List ℕ → List ℕ → Type 0
-AreReachLinesFor Has search None words = AreReachLines search words
-AreReachLinesFor Has search (Some file) words = AreReachLinesBy (IsFileOf (Has file)) search words
-
 -- ---- faults
 
 -- the fault is the text's, E26 behind all others; or memory failed
@@ -91,14 +83,9 @@ IsReachFault profile words (Text fault) = HasTextFault profile words fault
 IsReachFault profile words Memory = Unit {0}
 IsReachFault profile words _ = ⊥
 
--- the same, or one of asking the file that is named
-abbrev pub IsReachFaultFor : Files → ReachSearch → Option (List ℕ) → List ℕ → Fault → Type 0
-IsReachFaultFor Has search None words = IsReachFault search.profile words
-IsReachFaultFor Has search (Some file) words = IsPositionFault (Has file) words
+-- ---- what the program owes
 
--- ---- what the program does
-
--- what the program answers by a file whose values are right by the rules of the profile
-abbrev pub AnswersReachRight : ShelfChange → Profile → List ℕ → ReachSearch → List ℕ → Ending → Type 0
-AnswersReachRight c profile file search words =
-    AnswersOver c (AreReachLinesBy (IsRightFileOf (c.before.has file) profile) search words) (IsPositionFault (c.before.has file) words)
+-- by the file of that name where one is named
+abbrev pub reach_owed : ReachSearch → Option (List ℕ) → List ℕ → Owed
+reach_owed search None words = lines_owed (λ c. AreReachLines search words) (λ c. IsReachFault search.profile words)
+reach_owed search (Some file) words = table_owed file (AreReachLinesBy search words) (λ Has. IsPositionFault Has words)

@@ -1,7 +1,6 @@
 -- What the program owes where it is asked for the statistics of a database file.
 use Rattle.std.specs.Prelude.{◌≡◌, ℕ, List, [], ◌∷◌, ◌++◌, Option, None, Some, codes, flat_map, fold}
 use Rattle.std.specs.Fmt.{decimal}
-use Rattle.dob_pieces.specs.declared.profile.Profile.{Profile}
 use Rattle.dob_pieces.specs.declared.setup.Setup.{Setup}
 use Rattle.dob_pieces.specs.Bytes.{line_feed, space}
 use Rattle.dob_text.specs.PositionText.{text_of}
@@ -16,9 +15,8 @@ use Rattle.dob_words.specs.declared.command.orders.StatsForm.{StatsForm}
 use Rattle.dob_words.specs.declared.command.orders.StatsForm.TheVariants as forms
 use Rattle.dob_lines.specs.Objects.{group_object}
 use Rattle.dob_lines.specs.Tallies.{class_lines}
-use Rattle.dob_files.specs.Endings.{AnswersOver, Ending}
-use Rattle.dob_shelf.specs.Shelves.{ShelfChange}
-use Rattle.dob_files.specs.Tables.{IsOpeningFault, IsRightFileOf}
+use Rattle.dob_files.specs.Owed.{Owed, table_owed}
+use Rattle.dob_files.specs.Tables.{IsOpeningFault}
 
 -- a value and how many classes have it, with a text between them, as `win 3,12`
 abbrev pub value_row : List ℕ → Value → ℕ → List ℕ
@@ -88,15 +86,11 @@ AreStatsFor forms.Lines table groups lines = AreStatsOf table groups lines
 AreStatsFor forms.Csv table groups lines = lines ≡ csv_lines groups
 AreStatsFor forms.Objects table groups lines = lines ≡ flat_map group_object groups
 
--- the lines give the numbers of such a table, by the groups of its classes of one value
-pub record AreStatsLines (Is : ClassTable → Type 0) (form : StatsForm) (lines : List ℕ) : Type 0 where
-  pub table : ClassTable
-  pub is : Is table
+-- the lines give the numbers of the table, by the groups of its classes of one value
+pub record AreStatsLines (form : StatsForm) (table : ClassTable) (lines : List ℕ) : Type 0 where
   pub groups : List Group
   pub grouped : AreGroups table.values groups
   pub told : AreStatsFor form table groups lines
 
--- what the program answers where the values that are counted are right by the rules of the profile
-abbrev pub AnswersStatsRight : ShelfChange → Profile → List ℕ → StatsForm → Ending → Type 0
-AnswersStatsRight c profile file form =
-    AnswersOver c (AreStatsLines (IsRightFileOf (c.before.has file) profile) form) (IsOpeningFault (c.before.has file))
+abbrev pub stats_owed : List ℕ → StatsForm → Owed
+stats_owed file form = table_owed file (AreStatsLines form) IsOpeningFault

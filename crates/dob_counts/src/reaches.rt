@@ -3,9 +3,8 @@ ghost use Rattle.std.specs.Prelude.{◌≡◌, ◌<◌, ◌+◌, ◌++◌, IfErr
 ghost use Rattle.dob_pieces.specs.Profiles.{IsAllowed};
 ghost use Rattle.dob_rank.specs.Families.{IsPositionOf, class_number};
 ghost use Rattle.dob_reach.specs.Reached.{AreReachedFrom};
-ghost use Rattle.dob_counts.specs.Reaches.{AreReachLines, AreReachLinesBy, IsReachFault, level_line, level_lines, levels_asked, number_lines, reach_lines, value_lines, value_text, AreReachLinesFor, IsReachFaultFor};
-ghost use Rattle.dob_files.specs.Endings.{GivesLines};
-ghost use Rattle.dob_files.specs.Tables.{IsFileOf, IsPositionFault};
+ghost use Rattle.dob_counts.specs.Reaches.{AreReachLines, IsReachFault, level_line, level_lines, levels_asked, number_lines, reach_lines, reach_owed, value_lines, value_text};
+ghost use Rattle.dob_files.specs.Owed.{GivesOwed};
 ghost use Rattle.dob_words.specs.Readings.{text_given};
 ghost use Rattle.dob_shelf.specs.Shelves.{Leaving, SameFiles};
 
@@ -48,9 +47,7 @@ pub fn answer_reach<S: Shelf>(
     file: Option<&str>,
     text: &str,
 ) -> Lines
-    ensures { Leaving SameFiles S.state shelf.old shelf.new (λ c. GivesLines c
-        (AreReachLinesFor c.before.has search (text_given file.entry) text.now)
-        (IsReachFaultFor c.before.has search (text_given file.entry) text.now) result) }
+    ensures { GivesOwed (reach_owed search (text_given file.entry) text.now) S.state shelf.old shelf.new result }
 {
     match file {
         None => by_rules(rt, alloc, search, text),
@@ -96,8 +93,7 @@ fn by_file<S: Shelf>(
     file: &str,
     text: &str,
 ) -> Lines
-    ensures { Leaving SameFiles S.state shelf.old shelf.new (λ c.
-        GivesLines c (AreReachLinesBy (IsFileOf (c.before.has file.now)) search text.now) (IsPositionFault (c.before.has file.now) text.now) result) }
+    ensures { GivesOwed (reach_owed search (Some file.now) text.now) S.state shelf.old shelf.new result }
 {
     let (table, position) = file_and_position(alloc, shelf, file, text)?;
     check_member(table.family(), &position)?;

@@ -1,10 +1,8 @@
 // How many classes of a database file's table have which value, and examples of the longest win and the longest loss.
 ghost use Rattle.std.specs.Prelude.{◌≡◌, ◌<◌, IfOk, IfSome, flat_map, length, string_bytes};
 ghost use Rattle.dob_probe.specs.Statistics.{AreGroups};
-ghost use Rattle.dob_shelf.specs.Shelves.{Leaving, SameFiles};
-ghost use Rattle.dob_counts.specs.Stats.{AreStatsFor, AreStatsOf, IsLongestLine, csv_lines, distance_line, group_text, longest_of, longest_text, value_row, with_group, AreStatsLines};
-ghost use Rattle.dob_files.specs.Endings.{GivesLines};
-ghost use Rattle.dob_files.specs.Tables.{IsFileOf, IsOpeningFault};
+ghost use Rattle.dob_counts.specs.Stats.{AreStatsFor, AreStatsOf, IsLongestLine, csv_lines, distance_line, group_text, longest_of, longest_text, stats_owed, value_row, with_group};
+ghost use Rattle.dob_files.specs.Owed.{GivesOwed};
 
 use dob_check::statistics;
 use dob_files::{Lines, open};
@@ -34,8 +32,7 @@ pub fn answer_stats<S: Shelf>(
     file: &str,
     form: StatsForm,
 ) -> Lines
-    ensures { Leaving SameFiles S.state shelf.old shelf.new (λ c.
-        GivesLines c (AreStatsLines (IsFileOf (c.before.has file.now)) form) (IsOpeningFault (c.before.has file.now)) result) }
+    ensures { GivesOwed (stats_owed file.now form) S.state shelf.old shelf.new result }
 {
     let table = open(alloc, shelf, file)?;
     let groups = statistics(rt, alloc, &table)?;

@@ -1,4 +1,4 @@
--- The faults of a table are those of the file that it was read from, and by the file of a value table it is that table.
+-- The faults of a table are those of the file that it was read from, and by the file of a value table what is told of it is right.
 use Rattle.dob_files.proofs.Common.{◌≡◌, List, false, ℕ, Profile, Setup, ClassTable, IsValueTable, IsRefusal}
 use Rattle.dob_files.proofs.Common.{FailsWhere, ShelfChange, ShelfFault, Answers, AnswersOver, Ending, fault_of_shelf, is_io}
 use Rattle.dob_files.proofs.Common.{HasValueFile, IsFileOf, IsOpeningFault, IsPositionFault, IsShut, IsTextOf, Fault, Table}
@@ -6,6 +6,7 @@ use Rattle.dob_dbfile.proofs.Written.{same_files}
 use Rattle.dob_probe.specs.declared.fault.Fault as probing
 use Rattle.dob_probe.specs.declared.fault.Fault.TheVariants as table_fault
 use Rattle.dob_shelf.specs.declared.shelf.ShelfFault.TheVariants as shelf_fault
+use Rattle.dob_files.specs.Owed.{AnswersOwed, OfTable, table_owed}
 use Rattle.dob_files.specs.Tables.{IsProbingFault, IsRightFileOf}
 use Rattle.std.proofs.Common.{arith}
 
@@ -53,3 +54,11 @@ pub over_weaker : (c : ShelfChange) (A B : List ℕ → Type 0) (Holds : Fault �
 over_weaker c A B Holds e weaker =
     answers_weaker (λ lines. A lines × FailsWhere c false) (λ lines. B lines × FailsWhere c false) (λ fault. Holds fault × FailsWhere c (is_io fault)) e
     (λ lines told. (weaker lines told.0, told.1))
+
+-- lines that are told of a value table's file are right
+pub table_right : (file : List ℕ) (AreLines : ClassTable → List ℕ → Type 0) (Holds : (List ℕ → Type 0) → Fault → Type 0) (c : ShelfChange) (e : Ending)
+    → AnswersOwed (table_owed file AreLines Holds) c e → (table_owed file AreLines Holds).right c e
+table_right file AreLines Holds c e answers = λ profile right.
+    over_weaker c (OfTable (IsFileOf (c.before.has file)) AreLines) (OfTable (IsRightFileOf (c.before.has file) profile) AreLines) (Holds (c.before.has file)) e
+    (λ lines told. record { table = told.table; is = right_file (c.before.has file) profile right told.table told.is; told = told.told })
+    answers

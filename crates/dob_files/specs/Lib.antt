@@ -1,5 +1,6 @@
 pub mod Faults
 pub mod Endings
 pub mod Tables
+pub mod Owed
 pub mod Telling
 pub mod Keeping

@@ -1,6 +1,6 @@
 -- The faults of the records, of the header and of opening the file are those of asking it, and by the file of a value table the answer is right.
 use Rattle.dob_query.proofs.Common.{◌≡◌, List, inr, subst, sym, ℕ, IfOk, Result, Family, Profile, Setup, ClassTable, HasValue, Value, Stream, whole}
-use Rattle.dob_query.proofs.Common.{CountsClasses, Format, IsRefusal, IsRecorded, ShelfChange, Ending, GivesOver, AnswersQuestion, AnswersQuestionRight}
+use Rattle.dob_query.proofs.Common.{CountsClasses, Format, IsRefusal, IsRecorded, ShelfChange, Ending, GivesOver}
 use Rattle.dob_query.proofs.Common.{AreAnswerLines, AreRightAnswerLines, Asked, By, IsAnswerOf, IsAnswerTo, IsAskFault, IsAskingFault, IsFaultOfAsking, IsFaultTo, IsGapFor}
 use Rattle.dob_query.proofs.Common.{IsFileOf, IsOfNamed, IsOpeningFault, IsPositionOf, IsRecordsFault, IsTableAnswer, IsTableFault}
 use Rattle.dob_query.proofs.Common.{FailsWhere, IfErr, Err, Ok, String, false, is_io, IsToldBy, HasValueFile, IsTextOf, Fault, File, Memory, Table, Question, Moves, OfValue}
@@ -15,6 +15,8 @@ use Rattle.dob_probe.proofs.Best.{lines_are_best}
 use Rattle.dob_probe.proofs.ByValue.{valued_rightly}
 use Rattle.dob_records.proofs.Tabled.{given_by_record, line_by, listed_by, record_of_given}
 use Rattle.dob_files.proofs.TableFaults.{over_weaker, right_table}
+use Rattle.dob_files.specs.Owed.{AnswersOwed}
+use Rattle.dob_query.specs.Questions.{question_owed}
 use Rattle.dob_words.specs.declared.command.orders.By.TheVariants as way
 use Rattle.dob_files.specs.declared.fault.Fault.TheVariants.{Text}
 use Rattle.dob_text.specs.declared.fault.TextFault.{TextFault}
@@ -191,8 +193,9 @@ pub right_of : (by : By) (question : Question) (Has : List ℕ → Type 0) (prof
 right_of by question Has profile file words lines p named told =
     let is = told_right by question Has profile file p lines told in record { position = p; named = named; allowed = is.0; told = is.1 }
 
-pub question_right : (c : ShelfChange) (profile : Profile) (asked : Asked) (name words : List ℕ) (e : Ending) → HasValueFile (c.before.has name) profile
-    → AnswersQuestion asked c name words e → AnswersQuestionRight asked c profile name words e
-question_right c profile asked name words e file =
+pub question_right : (asked : Asked) (name words : List ℕ) (c : ShelfChange) (e : Ending) → AnswersOwed (question_owed asked name words) c e
+    → (question_owed asked name words).right c e
+question_right asked name words c e answers = λ profile file.
     over_weaker c (AreAnswerLines asked (c.before.has name) words) (AreRightAnswerLines asked.question profile words) (IsAskFault asked (c.before.has name) words) e
     (λ lines told. right_of asked.by asked.question (c.before.has name) profile file words lines told.position told.named told.told)
+    answers

@@ -32,8 +32,8 @@ pub use Rattle.dob_words.specs.declared.command.orders.By.{By}
 pub use Rattle.dob_words.specs.declared.command.orders.Question.{Question}
 pub use Rattle.dob_words.specs.declared.command.orders.Question.TheVariants.{Moves, Value as OfValue}
 pub use Rattle.dob_query.specs.Program.{IsFaultOf}
-pub use Rattle.dob_query.specs.Questions.{AnswersQuestion, AnswersQuestionRight, AreAnswerLines, AreRightAnswerLines, GivesWhole, IsAnswerBy, IsAnswerOf}
+pub use Rattle.dob_query.specs.Questions.{AreAnswerLines, AreRightAnswerLines, GivesWhole, IsAnswerBy, IsAnswerOf}
 pub use Rattle.dob_query.specs.Questions.{IsAnswerTo, IsAskFault, IsAskingFault, IsFaultOfAsking, IsFaultTo, IsGapFor, IsOfNamed, IsRecordsFault, IsRecordsGap}
 pub use Rattle.dob_query.specs.Questions.{IsTableAnswer, IsTableFault, IsToldBy}
 pub use Rattle.dob_query.specs.QuestionsEach.{AnswersEach, AnswersEachRight, AreEachLines, IsEachFault}
-pub use Rattle.dob_query.specs.Shows.{AnswersShowRight, AreDrawn, AreRightShowLines, AreShowLines, IsDrawingFault, IsShowFault, drawn_line}
+pub use Rattle.dob_query.specs.Shows.{AreDrawn, AreRightShowLines, AreShowLines, IsDrawingFault, IsShowFault, drawn_line}

@@ -1,9 +1,10 @@
 -- The faults of asking a file and of keeping a picture are those of showing, and by the file of a value table a drawing is right.
-use Rattle.dob_query.proofs.Common.{AnswersOver, AnswersShowRight, AreRightShowLines, AreShowLines, Ending, Fault, Files, HasValueFile}
+use Rattle.dob_query.proofs.Common.{AreRightShowLines, AreShowLines, Ending, Fault, Files, HasValueFile}
 use Rattle.dob_query.proofs.Common.{IsAskingFault, IsDrawingFault, IsShelfFault, IsShowFault, IsTextOf, List, Option, Profile, SameFiles, Setup, ShelfChange, drawn_line}
 use Rattle.dob_query.proofs.Common.{ShelfState, Some, arith, inr, others_kept, refl, ℕ}
 use Rattle.std.specs.Prelude.{None}
-use Rattle.dob_query.specs.Shows.{KeepsButPicture}
+use Rattle.dob_files.specs.Owed.{AnswersOwed}
+use Rattle.dob_query.specs.Shows.{KeepsButPicture, show_owed}
 use Rattle.dob_files.proofs.Kept.{of_shelf_fault, same_chain}
 use Rattle.dob_files.proofs.TableFaults.{over_weaker}
 use Rattle.dob_query.proofs.Asking.{answer_right}
@@ -33,14 +34,15 @@ none_kept (Some name) Old New same = others_kept name Old New same
 
 -- ---- by the file of a value table
 
-module _ (c : ShelfChange) (profile : Profile) (file : List ℕ) (e : Ending) (right : HasValueFile (c.before.has file) profile) where
-  pub show_right : (picture : Option (List ℕ)) (words : List ℕ)
-      → AnswersOver c (AreShowLines c (Some file) picture words) (IsShowFault c (Some file) picture words) e → AnswersShowRight c profile file picture words e
-  show_right picture words =
-      over_weaker c (AreShowLines c (Some file) picture words) (AreRightShowLines c profile picture words) (IsShowFault c (Some file) picture words) e
-      (λ lines told. record {
-        position = told.position;
-        named = told.named;
-        drawn = answer_right (c.before.has file) profile right told.position drawn_line lines told.drawn;
-        kept = told.kept;
-      })
+pub show_right : (file picture : Option (List ℕ)) (words : List ℕ) (c : ShelfChange) (e : Ending) → AnswersOwed (show_owed file picture words) c e
+    → (show_owed file picture words).right c e
+show_right None picture words c e answers = tt
+show_right (Some file) picture words c e answers = λ profile right.
+    over_weaker c (AreShowLines c (Some file) picture words) (AreRightShowLines c profile picture words) (IsShowFault c (Some file) picture words) e
+    (λ lines told. record {
+      position = told.position;
+      named = told.named;
+      drawn = answer_right (c.before.has file) profile right told.position drawn_line lines told.drawn;
+      kept = told.kept;
+    })
+    answers

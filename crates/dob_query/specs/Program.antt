@@ -8,8 +8,7 @@ use Rattle.dob_text.specs.Faults.{HasTextFault}
 use Rattle.dob_value.specs.Rosters.{SomeTooDeep, HasSamePieces}
 use Rattle.dob_files.specs.declared.fault.Fault.{Fault}
 use Rattle.dob_files.specs.declared.fault.Fault.TheVariants.{Text, TooDeep, Memory}
-use Rattle.dob_files.specs.Endings.{AnswersOver, Ending}
-use Rattle.dob_shelf.specs.Shelves.{ShelfChange}
+use Rattle.dob_files.specs.Owed.{Owed, lines_owed}
 use Rattle.dob_query.specs.Questions.{AreRightAnswerLines, plain_value}
 
 -- The fault is given only where it is the text's first one, E26 behind all others, or memory failed.
@@ -20,6 +19,6 @@ IsFaultOf profile text TooDeep =
 IsFaultOf profile text Memory = Unit {0}
 IsFaultOf profile text _ = ⊥
 
--- what the program does where it is asked for the value of the position that a text names, by the rules of a profile
-abbrev pub AnswersValue : ShelfChange → Profile → List ℕ → Ending → Type 0
-AnswersValue c profile text = AnswersOver c (AreRightAnswerLines plain_value profile text) (IsFaultOf profile text)
+-- what is owed for the value of the position that a text names, by the rules of a profile
+abbrev pub value_owed : Profile → List ℕ → Owed
+value_owed profile text = lines_owed (λ c. AreRightAnswerLines plain_value profile text) (λ c. IsFaultOf profile text)

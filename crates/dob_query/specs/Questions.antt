@@ -42,6 +42,7 @@ use Rattle.dob_words.specs.declared.command.orders.ValueForm.{ValueForm}
 use Rattle.dob_words.specs.declared.command.orders.ValueForm.TheVariants as value_form
 use Rattle.dob_files.specs.Endings.{AnswersOver, Ending}
 use Rattle.dob_files.specs.Faults.{is_io}
+use Rattle.dob_files.specs.Owed.{ByValueFile, Owed, file_owed}
 use Rattle.dob_lines.specs.Objects.{line_object, moves_object, value_object}
 use Rattle.dob_lines.specs.Values.{value_line}
 use Rattle.dob_lines.specs.Played.{moves_lines, played_drawing}
@@ -229,12 +230,15 @@ IsAskFault asked Has words (Text fault) = text.HasTextFault A words fault
 IsAskFault asked Has words Memory = Unit {0}
 IsAskFault asked Has words fault = (position : Setup) × IsTextOf words position × IsFaultTo asked.by asked.question Has position fault
 
--- ---- what the program does
+-- ---- what the program owes
 
-abbrev pub AnswersQuestion : Asked → ShelfChange → List ℕ → List ℕ → Ending → Type 0
-AnswersQuestion asked c file words = AnswersOver c (AreAnswerLines asked (c.before.has file) words) (IsAskFault asked (c.before.has file) words)
-
--- the same, where the lines say what is right by definition and the rules of the profile
+-- the program answers what is right by definition and the rules of the profile
 abbrev pub AnswersQuestionRight : Asked → ShelfChange → Profile → List ℕ → List ℕ → Ending → Type 0
 AnswersQuestionRight asked c profile file words =
     AnswersOver c (AreRightAnswerLines asked.question profile words) (IsAskFault asked (c.before.has file) words)
+
+-- it does so by the file of a value table
+abbrev pub question_owed : Asked → List ℕ → List ℕ → Owed
+question_owed asked file words = record (file_owed file (λ Has. AreAnswerLines asked Has words) (λ Has. IsAskFault asked Has words)) {
+  right = λ c e. ByValueFile c file (λ profile. AnswersQuestionRight asked c profile file words e);
+}

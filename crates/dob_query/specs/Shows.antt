@@ -12,6 +12,7 @@ use Rattle.dob_files.specs.declared.fault.Fault.TheVariants.{Text, Memory, Io}
 use Rattle.dob_files.specs.Endings.{AnswersOver, Ending, GivesLines}
 use Rattle.dob_shelf.specs.Shelves.{Files, HasJust, SameFiles, SameOthers, ShelfChange}
 use Rattle.dob_files.specs.Keeping.{IsShelfFault}
+use Rattle.dob_files.specs.Owed.{ByValueFile, Owed}
 use Rattle.dob_files.specs.Tables.{IsTextOf}
 use Rattle.dob_words.specs.declared.command.orders.LineForm.TheVariants.{Drawn}
 use Rattle.dob_words.specs.declared.command.orders.Question.{Question}
@@ -78,13 +79,23 @@ KeepsPicture name position lines result c =
     GivesLines c (λ told. (told ≡ lines) × (IsTrue c.before.tells → HasJust name (picture_of position) c.after.has))
     (λ fault. IsShelfFault fault × SameFiles c.before.has c.after.has) result
 
--- ---- what the program does
+-- ---- what the program owes
 
 -- each file has what it had, but the one of the picture where one is asked for
 abbrev pub KeepsButPicture : Option (List ℕ) → Files → Files → Type 0
 KeepsButPicture None = SameFiles
 KeepsButPicture (Some name) = SameOthers name
 
--- what the program answers by a file whose values are right
-abbrev pub AnswersShowRight : ShelfChange → Profile → List ℕ → Option (List ℕ) → List ℕ → Ending → Type 0
-AnswersShowRight c profile file picture words = AnswersOver c (AreRightShowLines c profile picture words) (IsShowFault c (Some file) picture words)
+-- by the file of a value table, where one is named, it answers what is right
+abbrev pub AnswersShowRight : ShelfChange → Option (List ℕ) → Option (List ℕ) → List ℕ → Ending → Type 0
+AnswersShowRight c None picture words e = Unit {0}
+AnswersShowRight c (Some file) picture words e =
+    ByValueFile c file (λ profile. AnswersOver c (AreRightShowLines c profile picture words) (IsShowFault c (Some file) picture words) e)
+
+abbrev pub show_owed : Option (List ℕ) → Option (List ℕ) → List ℕ → Owed
+show_owed file picture words = record {
+  lines = λ c. AreShowLines c file picture words;
+  faults = λ c. IsShowFault c file picture words;
+  keeps = KeepsButPicture picture;
+  right = λ c. AnswersShowRight c file picture words;
+}

@@ -7,6 +7,7 @@ use Rattle.dob_pieces.specs.Sets.{set_text}
 use Rattle.dob_rank.specs.Families.{HasClasses, HasSize, family_of}
 use Rattle.dob_query.specs.declared.counts.Counts.{Counts}
 use Rattle.dob_lines.specs.Tallies.{count_line}
+use Rattle.dob_files.specs.Owed.{Owed, lines_owed}
 use Rattle.dob_files.specs.declared.fault.Fault.{Fault}
 use Rattle.dob_files.specs.declared.fault.Fault.TheVariants.{SetText, Memory}
 
@@ -32,3 +33,6 @@ abbrev pub IsCountFaultOf : List ℕ → Fault → Type 0
 IsCountFaultOf text SetText = (set : PieceSet) → text ≢ set_text set
 IsCountFaultOf text Memory = Unit {0}
 IsCountFaultOf text _ = ⊥
+
+abbrev pub count_owed : Profile → List ℕ → Owed
+count_owed profile text = lines_owed (λ c. AreCountLinesOf profile text) (λ c. IsCountFaultOf text)

@@ -7,10 +7,11 @@ ghost use Rattle.dob_distance.specs.Codes.{IsEntry};
 ghost use Rattle.dob_probe.specs.Said.{AreSingle, fails as says_failed, is_failing};
 ghost use Rattle.dob_shelf.specs.Shelves.{Leaving, SameFiles};
 ghost use Rattle.dob_files.specs.Endings.{GivesLines};
+ghost use Rattle.dob_files.specs.Owed.{GivesOwed};
 ghost use Rattle.dob_files.specs.Faults.{is_io};
 ghost use Rattle.dob_words.specs.declared.command.orders.By.TheVariants as way;
-ghost use Rattle.dob_query.specs.Questions.{AreAnswerLines, GivesSaid, GivesTold, IsAnswerBy, IsAnswerOf, IsAnswerTo, IsAskFault, IsAskingFault, IsFaultOfAsking, IsFaultTo};
-ghost use Rattle.dob_query.specs.Questions.{IsGapOfValue, IsRecordsFault, IsTableAnswer, IsTableFault, line_told, moves_told, value_told};
+ghost use Rattle.dob_query.specs.Questions.{GivesSaid, GivesTold, IsAnswerBy, IsAnswerOf, IsAnswerTo, IsAskingFault, IsFaultOfAsking, IsFaultTo};
+ghost use Rattle.dob_query.specs.Questions.{IsGapOfValue, IsRecordsFault, IsTableAnswer, IsTableFault, line_told, moves_told, question_owed, value_told};
 
 use dob_classes::Classes;
 use dob_dbfile::{Format, PlacedSource, read_classes};
@@ -37,8 +38,7 @@ pub fn answer_question<S: Shelf>(
     asked: Asked,
     text: &str,
 ) -> Lines
-    ensures { Leaving SameFiles S.state shelf.old shelf.new (λ c.
-        GivesLines c (AreAnswerLines asked (c.before.has file.now) text.now) (IsAskFault asked (c.before.has file.now) text.now) result) }
+    ensures { GivesOwed (question_owed asked file.now text.now) S.state shelf.old shelf.new result }
 {
     let position = position_named(text)?;
     match asked.by {

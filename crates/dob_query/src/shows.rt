@@ -1,9 +1,10 @@
 // A position drawn for a reader who is new to the game, by a database file with its value and its line, and as a picture.
 ghost use Rattle.std.specs.Prelude.{◌≡◌, string_bytes};
-ghost use Rattle.dob_files.specs.Endings.{GivesOver, GivesLines};
+ghost use Rattle.dob_files.specs.Endings.{GivesOver};
+ghost use Rattle.dob_files.specs.Owed.{GivesOwed};
 ghost use Rattle.dob_words.specs.Readings.{text_given};
 ghost use Rattle.dob_shelf.specs.Shelves.{Leaving, SameFiles, SameOthers};
-ghost use Rattle.dob_query.specs.Shows.{AreDrawn, IsDrawingFault, KeepsButPicture, KeepsPicture, AreShowLines, IsShowFault};
+ghost use Rattle.dob_query.specs.Shows.{AreDrawn, IsDrawingFault, KeepsPicture, show_owed};
 
 use crate::questions::answer_of;
 use dob_files::{Lines, fill, keep_filled, position_named};
@@ -22,9 +23,7 @@ pub fn answer_show<S: Shelf>(
     picture: Option<&str>,
     text: &str,
 ) -> Lines
-    ensures { Leaving (KeepsButPicture (text_given picture.entry)) S.state shelf.old shelf.new (λ c. GivesLines c
-        (AreShowLines c (text_given file.entry) (text_given picture.entry) text.now)
-        (IsShowFault c (text_given file.entry) (text_given picture.entry) text.now) result) }
+    ensures { GivesOwed (show_owed (text_given file.entry) (text_given picture.entry) text.now) S.state shelf.old shelf.new result }
 {
     let position = position_named(text)?;
     let lines = drawn_lines(alloc, shelf, file, &position)?;

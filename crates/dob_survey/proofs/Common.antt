@@ -27,5 +27,5 @@ pub use Rattle.dob_files.specs.Tables.{HasValueFile, IsFileOf, IsOpeningFault, I
 pub use Rattle.dob_files.specs.declared.fault.Fault.{Fault}
 pub use Rattle.dob_files.specs.declared.fault.Fault.TheVariants.{Table}
 pub use Rattle.dob_survey.specs.Migrations.{AreMigrateLines, IsMigrateFault}
-pub use Rattle.dob_survey.specs.Puzzles.{AnswersPuzzlesRight, ArePuzzleLines, IsPuzzlesFault, line_of_puzzle, puzzle_lines}
-pub use Rattle.dob_survey.specs.Zugzwangs.{AnswersZugzwangsRight, AreOfTable, AreZugzwangLines, IsOfTable, first_pairs, pair_line, zugzwang_lines}
+pub use Rattle.dob_survey.specs.Puzzles.{line_of_puzzle, puzzle_lines}
+pub use Rattle.dob_survey.specs.Zugzwangs.{AreOfTable, IsOfTable, first_pairs, pair_line, zugzwang_lines}

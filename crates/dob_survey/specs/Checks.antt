@@ -1,5 +1,6 @@
 -- What the program owes where it is asked whether a database file's table is the value table.
 use Rattle.std.specs.Prelude.{◌++◌, ◌∷◌, ◌≡◌, List, [], codes, ℕ}
+use Rattle.dob_files.specs.Owed.{Owed, file_owed}
 use Rattle.dob_files.specs.Tables.{HasFileFault, IsFileOf, IsShut}
 use Rattle.dob_files.specs.declared.fault.Fault.{Fault}
 use Rattle.dob_files.specs.declared.fault.Fault.TheVariants.{File, Io, Memory, Table}
@@ -27,3 +28,6 @@ IsCheckFault Has (Table table_fault.Memory) = Unit {0}
 IsCheckFault Has Memory = Unit {0}
 IsCheckFault Has Io = IsShut Has
 IsCheckFault Has _ = ⊥
+
+abbrev pub check_owed : List ℕ → Owed
+check_owed file = file_owed file IsCheckLine IsCheckFault

@@ -3,9 +3,10 @@ use Rattle.std.specs.Prelude.{◌≡◌, ◌⊎◌, ℕ, IsTrue, List, codes, le
 use Rattle.dob_value.specs.Follows.{ClassTable}
 use Rattle.dob_dbfile.specs.Format.{bytes_of}
 use Rattle.dob_files.specs.declared.fault.Fault.{Fault}
-use Rattle.dob_shelf.specs.Shelves.{HasJust, ShelfChange}
+use Rattle.dob_shelf.specs.Shelves.{HasJust, SameOthers, ShelfChange}
 use Rattle.dob_lines.specs.Tallies.{count_line}
 use Rattle.dob_files.specs.Keeping.{IsFillingFault, LeavesFiles}
+use Rattle.dob_files.specs.Owed.{Owed, lines_owed}
 use Rattle.dob_files.specs.Tables.{IsFileOf, IsOpeningFault}
 
 -- The line says how many classes the table has that the file had before, and under the other name the shelf has just that table's file in
@@ -24,3 +25,6 @@ IsRewritingFault Has fault = (table : ClassTable) × IsFileOf Has table × IsFil
 -- Each file has what it had.
 abbrev pub IsMigrateFault : ShelfChange → List ℕ → Fault → Type 0
 IsMigrateFault c file = LeavesFiles c (λ fault. IsOpeningFault (c.before.has file) fault ⊎ IsRewritingFault (c.before.has file) fault)
+
+abbrev pub migrate_owed : List ℕ → List ℕ → Owed
+migrate_owed file out = record (lines_owed (λ c. AreMigrateLines c file out) (λ c. IsMigrateFault c file)) { keeps = SameOthers out }

@@ -2,7 +2,6 @@
 use Rattle.std.specs.Prelude.{◌≡◌, ◌≤◌, ◌%◌, ℕ, Bool, false, if◌then◌else◌, List, [], ◌∷◌, ◌++◌, codes, flat_map}
 use Rattle.std.specs.Fmt.{decimal}
 use Rattle.dob_pieces.specs.declared.profile.Family.{Family}
-use Rattle.dob_pieces.specs.declared.profile.Profile.{Profile}
 use Rattle.dob_pieces.specs.declared.setup.Setup.{Setup}
 use Rattle.dob_pieces.specs.Bytes.{line_feed}
 use Rattle.dob_moves.specs.declared.game_move.Move.{Move}
@@ -16,9 +15,8 @@ use Rattle.dob_probe.specs.declared.walks.Walk.{Walk}
 use Rattle.dob_words.specs.declared.command.orders.PuzzleSearch.{PuzzleSearch}
 use Rattle.dob_files.specs.declared.fault.Fault.{Fault}
 use Rattle.dob_files.specs.declared.fault.Fault.TheVariants.{PuzzlePlies, Memory}
-use Rattle.dob_files.specs.Endings.{AnswersOver, Ending}
-use Rattle.dob_shelf.specs.Shelves.{ShelfChange}
-use Rattle.dob_files.specs.Tables.{IsOpeningFault, IsRightFileOf}
+use Rattle.dob_files.specs.Owed.{Owed, table_owed}
+use Rattle.dob_files.specs.Tables.{IsOpeningFault}
 
 -- a puzzle is won in so many plies: an odd number, and not at once
 abbrev pub IsPuzzleLength : ℕ → Type 0
@@ -46,11 +44,9 @@ puzzle_lines family is_numbered puzzles = flat_map (line_of_puzzle family is_num
 abbrev pub walk_of : PuzzleSearch → Walk
 walk_of search = record { seed = search.seed; behind = search.from }
 
--- the lines give the first puzzles of the walk over such a table, at most so many
-pub record ArePuzzleLines (Is : ClassTable → Type 0) (search : PuzzleSearch) (lines : List ℕ) : Type 0 where
+-- the lines give the first puzzles of the walk over the table, at most so many
+pub record ArePuzzleLines (search : PuzzleSearch) (table : ClassTable) (lines : List ℕ) : Type 0 where
   pub proper : IsPuzzleLength search.plies
-  pub table : ClassTable
-  pub is : Is table
   pub puzzles : List Puzzle
   pub first : ArePuzzles table (walk_of search) search.plies search.count puzzles
   pub same : lines ≡ puzzle_lines table.family search.is_numbered puzzles
@@ -62,7 +58,5 @@ IsPuzzlesFault Has plies PuzzlePlies = ¬ IsPuzzleLength plies
 IsPuzzlesFault Has plies Memory = Unit {0}
 IsPuzzlesFault Has plies fault = IsPuzzleLength plies × IsOpeningFault Has fault
 
--- what the program answers where the values of the table are right by the rules of the profile
-abbrev pub AnswersPuzzlesRight : ShelfChange → Profile → List ℕ → PuzzleSearch → Ending → Type 0
-AnswersPuzzlesRight c profile file search =
-    AnswersOver c (ArePuzzleLines (IsRightFileOf (c.before.has file) profile) search) (IsPuzzlesFault (c.before.has file) search.plies)
+abbrev pub puzzles_owed : List ℕ → PuzzleSearch → Owed
+puzzles_owed file search = table_owed file (ArePuzzleLines search) (λ Has. IsPuzzlesFault Has search.plies)

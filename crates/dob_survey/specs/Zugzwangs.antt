@@ -2,7 +2,6 @@
 use Rattle.std.specs.Prelude.{◌≡◌, ◌<◌, ℕ, List, [], ◌∷◌, ◌++◌, Option, None, Some, Contains, codes, flat_map, length, take}
 use Rattle.std.specs.Fmt.{decimal}
 use Rattle.dob_pieces.specs.declared.profile.Family.{Family}
-use Rattle.dob_pieces.specs.declared.profile.Profile.{Profile}
 use Rattle.dob_pieces.specs.declared.setup.Setup.{Setup}
 use Rattle.dob_pieces.specs.Bytes.{line_feed}
 use Rattle.dob_text.specs.PositionText.{text_of}
@@ -14,10 +13,9 @@ use Rattle.dob_zugzwang.specs.declared.counts.PairCounts.{PairCounts}
 use Rattle.dob_zugzwang.specs.declared.pairs.Zugzwang.{Zugzwang}
 use Rattle.dob_zugzwang.specs.Counts.{AreCounts}
 use Rattle.dob_zugzwang.specs.Pairs.{ArePairs}
-use Rattle.dob_files.specs.Endings.{AnswersOver, Ending}
+use Rattle.dob_files.specs.Owed.{Owed, table_owed}
 use Rattle.dob_lines.specs.Tallies.{count_line}
-use Rattle.dob_files.specs.Tables.{IsOpeningFault, IsRightFileOf}
-use Rattle.dob_shelf.specs.Shelves.{ShelfChange}
+use Rattle.dob_files.specs.Tables.{IsOpeningFault}
 
 -- ---- lines
 
@@ -54,10 +52,8 @@ abbrev pub zugzwang_lines : Family → PairCounts → Option ℕ → List Zugzwa
 zugzwang_lines family counts listed pairs =
     count_text counts ++ (deepest_line family counts.deepest ++ flat_map (pair_line family) (first_pairs listed pairs))
 
--- the lines tell the pairs of such a table
-pub record AreZugzwangLines (Is : ClassTable → Type 0) (listed : Option ℕ) (lines : List ℕ) : Type 0 where
-  pub table : ClassTable
-  pub is : Is table
+-- the lines tell the pairs of the table
+pub record AreZugzwangLines (listed : Option ℕ) (table : ClassTable) (lines : List ℕ) : Type 0 where
   pub pairs : List Zugzwang
   pub found : ArePairs table pairs
   pub counts : PairCounts
@@ -73,9 +69,7 @@ IsOfTable table pair = pair.class < length table.values
 abbrev pub AreOfTable : ClassTable → List Zugzwang → Type 0
 AreOfTable table pairs = (pair : Zugzwang) → Contains pairs pair → IsOfTable table pair
 
--- ---- what the program does
+-- ---- what the program owes
 
--- what the program answers where the values of the table are right by the rules of the profile
-abbrev pub AnswersZugzwangsRight : ShelfChange → Profile → List ℕ → Option ℕ → Ending → Type 0
-AnswersZugzwangsRight c profile file listed =
-    AnswersOver c (AreZugzwangLines (IsRightFileOf (c.before.has file) profile) listed) (IsOpeningFault (c.before.has file))
+abbrev pub zugzwangs_owed : List ℕ → Option ℕ → Owed
+zugzwangs_owed file listed = table_owed file (AreZugzwangLines listed) IsOpeningFault

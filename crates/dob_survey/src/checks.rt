@@ -2,9 +2,8 @@
 ghost use Rattle.std.specs.Prelude.{◌≡◌, IfOk, IfErr, string_bytes};
 ghost use Rattle.dob_value.specs.Follows.{IsConsistent, IsValueTable};
 ghost use Rattle.dob_probe.specs.Faults.{IsFaultOfCheck};
-ghost use Rattle.dob_shelf.specs.Shelves.{Leaving, SameFiles};
-ghost use Rattle.dob_survey.specs.Checks.{consistent_line, IsCheckFault, IsCheckLine};
-ghost use Rattle.dob_files.specs.Endings.{GivesLines};
+ghost use Rattle.dob_survey.specs.Checks.{check_owed, consistent_line};
+ghost use Rattle.dob_files.specs.Owed.{GivesOwed};
 
 use dob_check::check_watched;
 use dob_files::{Lines, open};
@@ -24,8 +23,7 @@ pub fn answer_check<S: Shelf>(
     file: &str,
     is_watched: bool,
 ) -> Lines
-    ensures { Leaving SameFiles S.state shelf.old shelf.new (λ c.
-        GivesLines c (IsCheckLine (c.before.has file.now)) (IsCheckFault (c.before.has file.now)) result) }
+    ensures { GivesOwed (check_owed file.now) S.state shelf.old shelf.new result }
 {
     let table = open(alloc, shelf, file)?;
     check_table(rt, alloc, &table, is_watched)?;

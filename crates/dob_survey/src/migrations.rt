@@ -2,11 +2,10 @@
 ghost use Rattle.std.specs.Prelude.{◌≡◌, IfOk, codes, false, length, string_bytes};
 ghost use Rattle.dob_dbfile.specs.Format.{bytes_of};
 ghost use Rattle.dob_device.specs.Sinks.{change};
-ghost use Rattle.dob_shelf.specs.Shelves.{Leaving, SameOthers};
 ghost use Rattle.dob_files.specs.Keeping.{AreThese, FillsSink, IsFillingFault};
-ghost use Rattle.dob_survey.specs.Migrations.{AreMigrateLines, IsMigrateFault};
+ghost use Rattle.dob_survey.specs.Migrations.{migrate_owed};
 ghost use Rattle.dob_lines.specs.Tallies.{count_line};
-ghost use Rattle.dob_files.specs.Endings.{GivesLines};
+ghost use Rattle.dob_files.specs.Owed.{GivesOwed};
 
 use dob_dbfile::{Sink, write_table};
 use dob_files::{Lines, keep_filled, open};
@@ -18,8 +17,7 @@ use std::alloc::Global;
 /// Keeps the table of the file under the other name, in the second format, and gives the line that says how many classes it
 /// has. The second file is made when the first one is read whole, and each file has what it had until it is kept, so both may have one name.
 pub fn answer_migrate<S: Shelf>(alloc: Global, shelf: &mut S, file: &str, out: &str) -> Lines
-    ensures { Leaving (SameOthers out.now) S.state shelf.old shelf.new (λ c.
-        GivesLines c (AreMigrateLines c file.now out.now) (IsMigrateFault c file.now) result) }
+    ensures { GivesOwed (migrate_owed file.now out.now) S.state shelf.old shelf.new result }
 {
     let table = open(alloc, shelf, file)?;
     let mut sink = shelf.make(out)?;

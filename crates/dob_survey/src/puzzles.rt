@@ -2,10 +2,8 @@
 ghost use Rattle.std.specs.Prelude.{◌≡◌, ◌++◌, ◌∷◌, ◌<◌, ◌↔◌, [], Contains, IfOk, IsTrue, OnOk, codes, flat_map, length, string_bytes};
 ghost use Rattle.std.specs.Fmt.{decimal};
 ghost use Rattle.dob_pieces.specs.Bytes.{line_feed};
-ghost use Rattle.dob_survey.specs.Puzzles.{IsPuzzleLength, line_of_puzzle, puzzle_line, puzzle_lines, puzzle_text, ArePuzzleLines, IsPuzzlesFault};
-ghost use Rattle.dob_shelf.specs.Shelves.{Leaving, SameFiles};
-ghost use Rattle.dob_files.specs.Endings.{GivesLines};
-ghost use Rattle.dob_files.specs.Tables.{IsFileOf};
+ghost use Rattle.dob_survey.specs.Puzzles.{IsPuzzleLength, line_of_puzzle, puzzle_line, puzzle_lines, puzzle_text, puzzles_owed};
+ghost use Rattle.dob_files.specs.Owed.{GivesOwed};
 
 use dob_files::{Fault, Lines, open};
 use dob_moves::Move;
@@ -24,8 +22,7 @@ pub fn answer_puzzles<S: Shelf>(
     file: &str,
     search: PuzzleSearch,
 ) -> Lines
-    ensures { Leaving SameFiles S.state shelf.old shelf.new (λ c. GivesLines c
-        (ArePuzzleLines (IsFileOf (c.before.has file.now)) search) (IsPuzzlesFault (c.before.has file.now) search.plies) result) }
+    ensures { GivesOwed (puzzles_owed file.now search) S.state shelf.old shelf.new result }
 {
     if !is_puzzle_length(search.plies) {
         return Err(Fault::PuzzlePlies);

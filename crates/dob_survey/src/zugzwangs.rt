@@ -3,10 +3,8 @@ ghost use Rattle.std.specs.Prelude.{◌≡◌, ◌++◌, ◌∷◌, [], IfOk, If
 ghost use Rattle.dob_pieces.specs.Bytes.{line_feed};
 ghost use Rattle.dob_zugzwang.specs.Counts.{AreCounts};
 ghost use Rattle.dob_zugzwang.specs.Pairs.{ArePairs};
-ghost use Rattle.dob_survey.specs.Zugzwangs.{AreOfTable, IsOfTable, count_text, deepest_line, first_pairs, pair_line, pair_text, value_words, zugzwang_lines, AreZugzwangLines};
-ghost use Rattle.dob_shelf.specs.Shelves.{Leaving, SameFiles};
-ghost use Rattle.dob_files.specs.Endings.{GivesLines};
-ghost use Rattle.dob_files.specs.Tables.{IsFileOf, IsOpeningFault};
+ghost use Rattle.dob_survey.specs.Zugzwangs.{AreOfTable, IsOfTable, count_text, deepest_line, first_pairs, pair_line, pair_text, value_words, zugzwang_lines, zugzwangs_owed};
+ghost use Rattle.dob_files.specs.Owed.{GivesOwed};
 
 use dob_files::{Lines, open};
 use dob_lines::joined;
@@ -27,8 +25,7 @@ pub fn answer_zugzwangs<S: Shelf>(
     file: &str,
     listed: Option<u64>,
 ) -> Lines
-    ensures { Leaving SameFiles S.state shelf.old shelf.new (λ c.
-        GivesLines c (AreZugzwangLines (IsFileOf (c.before.has file.now)) listed) (IsOpeningFault (c.before.has file.now)) result) }
+    ensures { GivesOwed (zugzwangs_owed file.now listed) S.state shelf.old shelf.new result }
 {
     let table = open(alloc, shelf, file)?;
     let pairs = zugzwangs(rt, alloc, &table)?;

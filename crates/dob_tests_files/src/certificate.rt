@@ -5,6 +5,7 @@ use dob_certificate::{
     Certificate, Claim, EVER, Entries, Entry, ListKind, Refusal, is_lost_within, is_won_within,
     verify,
 };
+use dob_check::{Unwatched, verify_watched};
 use dob_classes::Classes;
 use dob_pieces::Profile;
 use dob_value::{Table, Value, sweep_table};
@@ -67,7 +68,17 @@ fn answers(
     let position = classes.class_at(class);
     let alloc = rt.alloc();
     assert!(rt; verify(alloc, classes, certificate, &position, claim) == wanted);
-    assert!(rt; dob_check::verify(rt, alloc, classes, certificate, &position, claim) == wanted);
+    assert!(rt;
+        verify_watched(
+            rt,
+            alloc,
+            classes,
+            certificate,
+            &position,
+            claim,
+            &Unwatched
+        ) == wanted
+    );
 }
 
 // The claim of the class is proved where it is true, and else each entry is passed and the claim isn't.

@@ -28,8 +28,9 @@ use Rattle.dob_files.specs.declared.certificate_fault.CertificateFault.TheVarian
 use Rattle.dob_files.specs.declared.fault.Fault.{Fault}
 use Rattle.dob_files.specs.declared.fault.Fault.TheVariants.{Text, File, Table, Certificate, Memory, Io}
 use Rattle.dob_lines.specs.Tallies.{count_line}
+use Rattle.dob_files.specs.Owed.{Owed, file_owed, lines_owed}
 use Rattle.dob_files.specs.Tables.{HasFileFault, IsFileOf, IsShut, IsTextOf}
-use Rattle.dob_shelf.specs.Shelves.{HasJust, SameFiles, ShelfChange}
+use Rattle.dob_shelf.specs.Shelves.{HasJust, SameFiles, SameOthers, ShelfChange}
 
 -- a fault of making a certificate, as the program's
 abbrev pub fault_of_making : making.Fault → Fault
@@ -192,3 +193,12 @@ IsCertifyFault c file is_exact most words Io = (position : Setup) × IsTextOf wo
     × (IsShut (c.before.has file) ⊎ ((table : ClassTable) × IsFileOf (c.before.has file) table)) × SameFiles c.before.has c.after.has
 IsCertifyFault c file is_exact most words fault = (position : Setup) × IsTextOf words position
     × IsMakingFault (c.before.has file) is_exact most position fault × SameFiles c.before.has c.after.has
+
+-- ---- what the program owes
+
+abbrev pub verify_owed : List ℕ → Owed
+verify_owed file = file_owed file IsVerifyLine IsVerifyFault
+
+abbrev pub certify_owed : List ℕ → List ℕ → Bool → ℕ → List ℕ → Owed
+certify_owed file out is_exact most words =
+    record (lines_owed (λ c. AreCertifyLines c file out is_exact most words) (λ c. IsCertifyFault c file is_exact most words)) { keeps = SameOthers out }

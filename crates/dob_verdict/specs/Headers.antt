@@ -22,6 +22,7 @@ use Rattle.dob_certfile.specs.Reading.{FrontContent, front_at}
 use Rattle.dob_files.specs.declared.certificate_fault.CertificateFault.TheVariants.{Defect}
 use Rattle.dob_files.specs.declared.fault.Fault.{Fault}
 use Rattle.dob_files.specs.declared.fault.Fault.TheVariants.{File, Certificate, Memory, Io}
+use Rattle.dob_files.specs.Owed.{Owed, file_owed}
 use Rattle.dob_files.specs.Tables.{IsShut}
 use Rattle.dob_verdict.specs.Certificates.{claim_text}
 
@@ -112,7 +113,10 @@ IsInfoFault Has Memory = Unit {0}
 IsInfoFault Has Io = IsShut Has
 IsInfoFault Has _ = ⊥
 
--- the same by the bytes before the entries that were read of it
+abbrev pub info_owed : List ℕ → Bool → Owed
+info_owed file is_object = file_owed file (λ Has. AreInfoLines Has is_object) IsInfoFault
+
+-- a fault of the bytes before the entries that were read of it
 abbrev pub IsDefectOf : List ℕ → Fault → Type 0
 IsDefectOf front (Certificate (Defect defect)) = front_at front ≡ Err defect
 IsDefectOf front _ = ⊥

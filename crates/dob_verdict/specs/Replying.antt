@@ -21,6 +21,7 @@ use Rattle.dob_files.specs.declared.certificate_fault.CertificateFault.TheVarian
 use Rattle.dob_files.specs.declared.fault.Fault.{Fault}
 use Rattle.dob_files.specs.declared.fault.Fault.TheVariants.{Text, Table, Certificate, Memory}
 use Rattle.dob_verdict.specs.Certificates.{IsCertificateFile, IsReadingFault}
+use Rattle.dob_files.specs.Owed.{Owed, file_owed}
 use Rattle.dob_files.specs.Tables.{IsTextOf}
 
 -- ---- lines
@@ -77,3 +78,6 @@ abbrev pub IsReplyFaultOf : (List ℕ → Type 0) → List ℕ → Fault → Typ
 IsReplyFaultOf Has words (Text fault) = HasTextFault A words fault
 IsReplyFaultOf Has words fault = (position : Setup) × IsTextOf words position
     × (IsReadingFault Has fault ⊎ ((said : Content) × IsCertificateFile Has said × IsReplyFault said position fault))
+
+abbrev pub reply_owed : List ℕ → List ℕ → Owed
+reply_owed file words = file_owed file (λ Has. IsReplyLine Has words) (λ Has. IsReplyFaultOf Has words)

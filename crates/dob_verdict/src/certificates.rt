@@ -6,8 +6,9 @@ ghost use Rattle.dob_certificate.specs.Claims.{Holds, Prove};
 ghost use Rattle.dob_certificate.specs.Refusals.{IsRefusal};
 ghost use Rattle.dob_certfile.specs.Format.{Fits, content};
 ghost use Rattle.dob_shelf.specs.Shelves.{Leaving, SameFiles};
-ghost use Rattle.dob_files.specs.Endings.{GivesOver, GivesLines};
-ghost use Rattle.dob_verdict.specs.Certificates.{AreBytes, IsBytesFault, IsCertificateFile, IsReadingFault, IsVerdict, IsVerdictFault, claim_line, claim_text, rules_said, IsVerifyFault, IsVerifyLine};
+ghost use Rattle.dob_files.specs.Endings.{GivesOver};
+ghost use Rattle.dob_files.specs.Owed.{GivesOwed};
+ghost use Rattle.dob_verdict.specs.Certificates.{AreBytes, IsBytesFault, IsCertificateFile, IsReadingFault, IsVerdict, IsVerdictFault, claim_line, claim_text, rules_said, verify_owed};
 
 use dob_certfile::{CertificateFile, read_certificate};
 use dob_certificate::{Claim, Refusal};
@@ -30,8 +31,7 @@ pub fn answer_verify<S: Shelf>(
     file: &str,
     is_watched: bool,
 ) -> Lines
-    ensures { Leaving SameFiles S.state shelf.old shelf.new (λ c.
-        GivesLines c (IsVerifyLine (c.before.has file.now)) (IsVerifyFault (c.before.has file.now)) result) }
+    ensures { GivesOwed (verify_owed file.now) S.state shelf.old shelf.new result }
 {
     let certificate = open_certificate(alloc, shelf, file)?;
     verdict(rt, alloc, &certificate, is_watched)

@@ -5,12 +5,11 @@ ghost use Rattle.dob_certificate.specs.Claims.{Holds};
 ghost use Rattle.dob_certfile.specs.Format.{bytes_of, content};
 ghost use Rattle.dob_certify.specs.Made.{IsMade};
 ghost use Rattle.dob_certify.specs.Faults.{IsFault};
-ghost use Rattle.dob_shelf.specs.Shelves.{Leaving, SameOthers};
 ghost use Rattle.dob_device.specs.Sinks.{change};
-ghost use Rattle.dob_verdict.specs.Certificates.{AreMade, IsSaidOf, IsTableMakingFault, IsUnfit, fault_of_making, made_lines, most_entries, AreCertifyLines, IsCertifyFault};
+ghost use Rattle.dob_verdict.specs.Certificates.{AreMade, IsSaidOf, IsTableMakingFault, IsUnfit, certify_owed, fault_of_making, made_lines, most_entries};
 ghost use Rattle.dob_files.specs.Keeping.{FillsSink};
 ghost use Rattle.dob_lines.specs.Tallies.{count_line};
-ghost use Rattle.dob_files.specs.Endings.{GivesLines};
+ghost use Rattle.dob_files.specs.Owed.{GivesOwed};
 
 use crate::certificates::claim_line;
 use dob_certfile::{CertificateFile, WriteFault, certificate_bytes};
@@ -36,9 +35,8 @@ pub fn answer_certify<S: Shelf>(
     shelf: &mut S,
     order: CertifyOrder<'_>,
 ) -> Lines
-    ensures { Leaving (SameOthers order.entry.out.now) S.state shelf.old shelf.new (λ c. GivesLines c
-        (AreCertifyLines c order.entry.file.now order.entry.out.now order.entry.is_exact (most_entries order.entry.most) order.entry.position.now)
-        (IsCertifyFault c order.entry.file.now order.entry.is_exact (most_entries order.entry.most) order.entry.position.now) result) }
+    ensures { GivesOwed (certify_owed order.entry.file.now order.entry.out.now order.entry.is_exact (most_entries order.entry.most) order.entry.position.now)
+        S.state shelf.old shelf.new result }
 {
     let position = position_named(order.position)?;
     let table = open(alloc, shelf, order.file)?;

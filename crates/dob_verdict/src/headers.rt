@@ -6,10 +6,9 @@ ghost use Rattle.dob_certfile.specs.Fronts.{front_content};
 ghost use Rattle.dob_certfile.specs.Reading.{front_at};
 ghost use Rattle.dob_dbfile.specs.Faults.{fails};
 ghost use Rattle.dob_device.specs.Devices.{whole};
-ghost use Rattle.dob_shelf.specs.Shelves.{Leaving, SameFiles};
-ghost use Rattle.dob_files.specs.Endings.{GivesLines};
+ghost use Rattle.dob_files.specs.Owed.{GivesOwed};
 ghost use Rattle.dob_files.specs.Faults.{is_io};
-ghost use Rattle.dob_verdict.specs.Headers.{AreInfoLines, Begins, GivesAll, IsDefectOf, IsFrontFault, IsInfoFault, certificate_told, format_number, header_told, is_certificate, of_certificate, of_table, rules_name};
+ghost use Rattle.dob_verdict.specs.Headers.{AreInfoLines, Begins, GivesAll, IsDefectOf, IsFrontFault, IsInfoFault, certificate_told, format_number, header_told, info_owed, is_certificate, of_certificate, of_table, rules_name};
 ghost use Rattle.dob_verdict.specs.Certificates.{claim_text};
 
 use crate::certificates::claim_text;
@@ -28,8 +27,7 @@ const TITLE_LEN: usize = 8;
 /// The lines that say what the header of the file says, of a certificate where it begins as one and else of a table; as a JSON object if that is asked for. No
 /// more than the header is read.
 pub fn answer_info<S: Shelf>(alloc: Global, shelf: &mut S, file: &str, is_object: bool) -> Lines
-    ensures { Leaving SameFiles S.state shelf.old shelf.new (λ c.
-        GivesLines c (AreInfoLines (c.before.has file.now) is_object) (IsInfoFault (c.before.has file.now)) result) }
+    ensures { GivesOwed (info_owed file.now is_object) S.state shelf.old shelf.new result }
 {
     let mut source = shelf.find(file)?;
     let answer = info_lines(alloc, &mut source, is_object);

@@ -3,9 +3,8 @@ ghost use Rattle.std.specs.Prelude.{◌≡◌, [], ◌∷◌, ◌++◌, IfOk, If
 ghost use Rattle.std.specs.Fmt.{decimal};
 ghost use Rattle.dob_pieces.specs.Bytes.{line_feed};
 ghost use Rattle.dob_certfile.specs.Format.{content};
-ghost use Rattle.dob_shelf.specs.Shelves.{Leaving, SameFiles};
-ghost use Rattle.dob_verdict.specs.Replying.{IsReplyFault, IsReplyOf, IsToldReply, loss_line, win_line, IsReplyFaultOf, IsReplyLine};
-ghost use Rattle.dob_files.specs.Endings.{GivesLines};
+ghost use Rattle.dob_verdict.specs.Replying.{IsReplyFault, IsReplyOf, IsToldReply, loss_line, reply_owed, win_line};
+ghost use Rattle.dob_files.specs.Owed.{GivesOwed};
 
 use crate::certificates::open_certificate;
 use dob_certfile::CertificateFile;
@@ -23,8 +22,7 @@ use std::alloc::Global;
 /// The line that gives what the certificate of the file says of the position that the text names: a winning move, or that the position is lost. Its
 /// lost list is checked first.
 pub fn answer_reply<S: Shelf>(alloc: Global, shelf: &mut S, file: &str, text: &str) -> Lines
-    ensures { Leaving SameFiles S.state shelf.old shelf.new (λ c.
-        GivesLines c (IsReplyLine (c.before.has file.now) text.now) (IsReplyFaultOf (c.before.has file.now) text.now) result) }
+    ensures { GivesOwed (reply_owed file.now text.now) S.state shelf.old shelf.new result }
 {
     let position = position_named(text)?;
     let certificate = open_certificate(alloc, shelf, file)?;

@@ -21,7 +21,7 @@ pub use Rattle.clap.specs.Takes.{is_given}
 pub use Rattle.clap.specs.Words.{App, Rule, app_of, first_of, subcommand_rows_of}
 pub use Rattle.clap.specs.declared.error.kind.ErrorKind.{ErrorKind}
 pub use Rattle.dob_words.specs.Readings.{IsReadFor, IsReadingOf}
-pub use Rattle.dob_words.specs.Shapes.{AreFit, AreProfiles, Finds, HasCommandShape, HasFit, IsFit, IsMet, IsMetBySome, IsNamed, ProfileNames, ReadRow, bare_app}
+pub use Rattle.dob_words.specs.Shapes.{AreFit, AreProfiles, Finds, HasCommandShape, HasFit, IsFit, IsMet, IsMetBySome, IsNamed, ProfileNames, bare_app}
 pub use Rattle.dob_words.specs.Shapes.{choice_rule, choice_said, dobutsu_app, flag_rule, flag_said, form_app, is_stream_for, is_stream_in, no_names, place_rule}
 pub use Rattle.dob_words.specs.Shapes.{place_said, row_said, text_rule, texts_in, with_rows, with_rules}
 pub use Rattle.dob_words.specs.Words.{Given, Meaning, Stand, Text, after_dashes, after_part, after_word, asked, asks, at_end, behind, between, call}

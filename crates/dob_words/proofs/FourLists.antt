@@ -3,7 +3,6 @@ use Rattle.dob_words.proofs.Common.{◌++◌, ◌≡◌, Bool, List, None, Optio
 use Rattle.dob_words.proofs.Common.{bare_app, dobutsu_app, with_rows}
 use Rattle.dob_words.specs.Shapes.{first_app}
 use Rattle.std.specs.Option.{option_or}
-use Rattle.std.specs.Prelude.{IfSome}
 use Rattle.std.proofs.lemmas.List.Folds.{list_any-append}
 use Rattle.clap.specs.declared.builder.Command.{Command}
 use Rattle.dob_words.specs.Forms.{Row, rows}
@@ -22,19 +21,6 @@ found_in_four p ws xs ys zs a b c d first second third fourth =
     let two = found_in_either p ws xs a b first second in
     let three = found_in_either p (ws ++ xs) ys (option_or a b) c two third in
     found_in_either p ((ws ++ xs) ++ ys) zs (option_or (option_or a b) c) d three fourth
-
--- what holds of each of two results holds of the first of them that there is
-holds_of_either : {X : Type 0} (P : X → Type 0) (a b : Option X) → IfSome a P → IfSome b P → IfSome (option_or a b) P
-holds_of_either P (Some x) b first second = first
-holds_of_either P None b first second = second
-
--- so it is with four
-pub holds_of_four : {X : Type 0} (P : X → Type 0) (a b c d : Option X) → IfSome a P → IfSome b P → IfSome c P → IfSome d P
-    → IfSome (option_or (option_or (option_or a b) c) d) P
-holds_of_four P a b c d first second third fourth =
-    let two = holds_of_either P a b first second in
-    let three = holds_of_either P (option_or a b) c two third in
-    holds_of_either P (option_or (option_or a b) c) d three fourth
 
 -- the program's command has the subcommands of all rows
 pub program_of : (profiles : ProfileNames) (ys zs : List Row) (c : Command) → ys ≡ take 3 (drop 12 rows) → zs ≡ drop 15 rows

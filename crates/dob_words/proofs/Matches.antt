@@ -1,10 +1,9 @@
 -- The texts of a subcommand, from its own matches, which form's matches they are, and the row of its name.
 use Rattle.dob_words.proofs.Common.{◌∙◌, ◌∷◌, ◌≡◌, List, None, Option, Some, [], ap, ap₂, arith, codes, false, inl, inr, length, map, refl, rules, subst, suc}
 use Rattle.dob_words.proofs.Common.{sym, true, true≢false, ℕ, Ok-from_Ok_iff, bytes_eq-Decides, Bor, list_any, option_map, unwrap_or, bytes_eq}
-use Rattle.dob_words.proofs.Common.{first_value-rows, first_of, subcommand_rows_of, IsReadFor, Finds, HasFit, IsMet, IsMetBySome, IsNamed, ReadRow, is_stream_in, texts_in}
+use Rattle.dob_words.proofs.Common.{first_value-rows, first_of, subcommand_rows_of, IsReadFor, Finds, HasFit, IsMet, IsMetBySome, IsNamed, is_stream_in, texts_in}
 use Rattle.dob_words.proofs.Common.{asks, cleared, is_number, number_in, settled, Order}
-use Rattle.std.proofs.Common.{◌<◌, zero}
-use Rattle.std.specs.Prelude.{Err, get_or, is_err, Result}
+use Rattle.std.specs.Prelude.{Err, is_err, Result}
 use Rattle.std.specs.Str.Parse.{ParsesUnsigned}
 use Rattle.clap.specs.Words.{Row, first_value, found_of, rows_of, subcommand_name_of}
 use Rattle.clap.specs.declared.parser.ArgMatches.{ArgMatches}
@@ -12,7 +11,7 @@ use Rattle.clap.specs.declared.builder.value_parser.ValueParser.TheVariants.{Uns
 use Rattle.clap.proofs.ValueTestLemmas.{accepts-Accepts}
 use Rattle.dob_words.specs.Forms.{Form, Text, form_named, forms, labels, rows}
 use Rattle.dob_words.specs.Lines.{IsAmong}
-use Rattle.dob_words.specs.Readings.{AreNamed, IsFlaggedBy, IsOneOf, form_for, name_of, subcommand_asked, texts_asked}
+use Rattle.dob_words.specs.Readings.{IsFlaggedBy, IsOneOf, name_asked, texts_asked}
 use Rattle.dob_words.specs.declared.command.orders.Asked.{Asked}
 use Rattle.dob_words.specs.declared.command.orders.Order.TheVariants as order
 use Rattle.dob_words.proofs.Texts.{Each, taken_number}
@@ -95,18 +94,7 @@ module _ (m inner : ArgMatches) (name : Text) (named : Some name ≡ subcommand_
   pub reads : (o : Option Order) → IsReadFor (settled (asks name (texts_in (form_named name) inner))) o → IsReadFor (settled (asks form.name texts)) o
   reads o is = rw name_is (rw (form_is, texts_are) at is)
 
--- ---- the row of a name
-
--- each row is of the subcommand that it names
-pub named_at : (rows : List ReadRow) (i : ℕ) (d : ReadRow) → i < length rows → AreNamed rows → name_of (get_or rows i d).0 ≡ (get_or rows i d).1.now
-named_at [] i d below named = absurd (omega (arith, below))
-named_at (r ∷ rs) zero d below named = named.0
-named_at (r ∷ rs) (suc i) d below named = named_at rs i d (omega (arith, below)) named.1
-
--- a form of this name is found by it
-pub any_named : (name : Text) (fs : List Form) → IsNamed name fs → list_any (λ n. bytes_eq n name) (map (λ f. f.name) fs) ≡ true
-any_named name [] none = absurd none
-any_named name (f ∷ fs) named = grind (arith, any_named name fs, bytes_eq-Decides f.name name)
+-- ---- the subcommand of a name
 
 -- where no file is to be written to a stream, it is enough that it is clear
 pub settled_clear : (name : Text) (inner : ArgMatches) (o : Option Order) → IsNamed name forms → list_any (is_stream_in name inner) rows ≡ false
@@ -117,22 +105,22 @@ settled_clear name inner o named none is = search rules
 
 -- the texts of what is asked are those of its form
 asked_texts : (a : Asked) (m : ArgMatches)
-    → texts_asked (subcommand_asked a) (first_value (found_of m) (codes "FILE")) (first_value (found_of m) (codes "numbered")) (first_value (found_of m) (codes "records"))
+    → texts_asked a.question (first_value (found_of m) (codes "FILE")) (first_value (found_of m) (codes "numbered")) (first_value (found_of m) (codes "records"))
     (first_value (found_of m) (codes "each")) (first_value (found_of m) (codes "json")) (first_value (found_of m) (codes "POSITION"))
-    ≡ texts_in (form_for (subcommand_asked a)) m
+    ≡ texts_in (form_named (name_asked a)) m
 asked_texts a m = grind arith
 
 -- by `--each` alone it is clear
 each_clear : (a : Asked) (x n r y j z : Option Text) (file : Bor Text) (flag : Text) → x ≡ Some file.now → y ≡ Some flag → z ≡ None
     → IsFlaggedBy a.by a.question n r y j
-    → IsReadFor (cleared (asks (name_of (subcommand_asked a)) (texts_asked (subcommand_asked a) x n r y j z))) (Some (order.EachLine file a))
+    → IsReadFor (cleared (asks (name_asked a) (texts_asked a.question x n r y j z))) (Some (order.EachLine file a))
 each_clear a x n r y j z file flag f e p is = grind arith
 
 pub each_read : (a : Asked) (m : ArgMatches) (file : Bor Text) → first_value (found_of m) (codes "FILE") ≡ Some file.now
     → IsOneOf (first_value (found_of m) (codes "each")) (first_value (found_of m) (codes "POSITION")) (Some None)
     → IsFlaggedBy a.by a.question (first_value (found_of m) (codes "numbered")) (first_value (found_of m) (codes "records")) (first_value (found_of m) (codes "each"))
     (first_value (found_of m) (codes "json"))
-    → IsReadFor (cleared (asks (name_of (subcommand_asked a)) (texts_in (form_for (subcommand_asked a)) m))) (Some (order.EachLine file a))
+    → IsReadFor (cleared (asks (name_asked a) (texts_in (form_named (name_asked a)) m))) (Some (order.EachLine file a))
 each_read a m file f one is =
-    subst (λ (texts : List (Option Text)). IsReadFor (cleared (asks (name_of (subcommand_asked a)) texts)) (Some (order.EachLine file a))) (asked_texts a m)
+    subst (λ (texts : List (Option Text)). IsReadFor (cleared (asks (name_asked a) texts)) (Some (order.EachLine file a))) (asked_texts a m)
     (each_clear a _ _ _ _ _ _ file one.0 f one.1 one.2 is)

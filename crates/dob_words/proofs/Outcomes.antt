@@ -1,7 +1,7 @@
 -- What the matches and the errors of the program's command come to.
 use Rattle.dob_words.proofs.Common.{◌∙◌, ◌∷◌, ◌≡◌, Bool, List, Option, [], ap, false, inl, inr, refl, subst, sym, true, true≢false, not-true, both}
-use Rattle.dob_words.proofs.Common.{false_from_ne_true, app_of, subcommand_rows_of, IsReadFor, IsReadingOf, Finds, IsMet, dobutsu_app, Meaning, asks, help}
-use Rattle.dob_words.proofs.Common.{is_topic, is_version, meaning_of, meaning_of_command, settled, usage, version, Reading, Order}
+use Rattle.dob_words.proofs.Common.{false_from_ne_true, app_of, subcommand_rows_of, IsReadingOf, Finds, IsMet, dobutsu_app, Meaning, asks, help}
+use Rattle.dob_words.proofs.Common.{is_topic, is_version, meaning_of, meaning_of_command, settled, usage, version, Reading}
 use Rattle.std.proofs.Common.{◌⊎◌, not, arith}
 use Rattle.clap.specs.Words.{HasKind, IsAmong, Kinds, Row, fault_of, is_simple, is_simple_and_free, kind_of, subcommand_of}
 use Rattle.clap.specs.declared.Error.{Error}
@@ -38,18 +38,17 @@ asked_for words m met plain e fits = absurd (grind arith)
 command_meaning : (words : List Text) → is_version words ≡ false → is_topic words ≡ false → settled (meaning_of_command words) ≡ meaning_of words
 command_meaning words v t = rw (v, t) refl
 
--- what is read of the matches of the form that was met is what the words ask for
-pub order_is_meant : (words : List Text) (met : Option (Text × List Row)) (o : Option Order) → IsAsked words met → is_version words ≡ false
-    → ((form : Form) (texts : List (Option Text)) → IsAmongForms form forms → Finds form texts met → IsReadFor (settled (asks form.name texts)) o)
-    → IsReadFor (meaning_of words) o
-order_is_meant words met o is v each =
-    subst (λ (m : Meaning). IsReadFor m o) (ap settled (sym is.meant) ∙ command_meaning words v is.plain) (go forms each is.found)
+-- what holds of what the form that was met asks for holds of what the words ask for
+pub order_is_meant : (P : Meaning → Type 0) (words : List Text) (met : Option (Text × List Row)) → IsAsked words met → is_version words ≡ false
+    → ((form : Form) (texts : List (Option Text)) → IsAmongForms form forms → Finds form texts met → P (settled (asks form.name texts)))
+    → P (meaning_of words)
+order_is_meant P words met is v each = subst P (ap settled (sym is.meant) ∙ command_meaning words v is.plain) (go forms each is.found)
   where
     go : (fs : List Form)
-        → ((form : Form) (texts : List (Option Text)) → IsAmongForms form fs → Finds form texts met → IsReadFor (settled (asks form.name texts)) o)
-        → IsMet fs is.name is.texts met → IsReadFor (settled (asks is.name is.texts)) o
+        → ((form : Form) (texts : List (Option Text)) → IsAmongForms form fs → Finds form texts met → P (settled (asks form.name texts)))
+        → IsMet fs is.name is.texts met → P (settled (asks is.name is.texts))
     go [] each found = absurd found
-    go (f ∷ fs) each (inl h) = subst (λ (n : Text). IsReadFor (settled (asks n is.texts)) o) h.0 (each f is.texts (inl refl) h.1)
+    go (f ∷ fs) each (inl h) = subst (λ (n : Text). P (settled (asks n is.texts))) h.0 (each f is.texts (inl refl) h.1)
     go (f ∷ fs) each (inr h) = go fs (λ form texts among. each form texts (inr among)) h
 
 -- ---- clap's errors

@@ -56,7 +56,7 @@ Row = Text × List Choice × List Text × List Place
 -- those of src/rows.rt
 abbrev pub rows : List Row
 rows = map (λ r. (
-  r.1.now,
+  r.0.now,
   map (λ c. (c.0.now, (c.1.0.now, c.1.1, c.1.2))) r.3.now,
   map (λ f. f.0.now) r.4.now,
   map (λ p. (p.0.now, p.1, p.2)) r.5.now,

@@ -3,10 +3,11 @@ use Rattle.std.specs.Prelude.{◌≡◌, ◌||◌, IfSome, true, List, [], ◌�
 use Rattle.std.specs.Borrow.{Bor}
 use Rattle.clap.specs.declared.error.kind.ErrorKind.{ErrorKind}
 use Rattle.clap.specs.declared.error.kind.ErrorKind.TheVariants as kind
+use Rattle.clap.specs.declared.parser.ArgMatches.{ArgMatches}
 use Rattle.dob_words.specs.Forms.{Form, Text, form_named, forms}
 use Rattle.dob_words.specs.Lines.{IsAmong, IsCommandLine}
 use Rattle.dob_words.specs.Words.{Meaning, asks, help, is_number, number_in, profile_named, usage, version}
-use Rattle.dob_words.specs.Shapes.{ReadRow}
+use Rattle.dob_words.specs.Shapes.{texts_in}
 use Rattle.dob_words.specs.declared.command.orders.Asked.{Asked}
 use Rattle.dob_words.specs.declared.command.orders.By.{By}
 use Rattle.dob_words.specs.declared.command.orders.By.TheVariants as way
@@ -24,72 +25,39 @@ use Rattle.dob_words.specs.declared.command.orders.StatsForm.TheVariants as stat
 use Rattle.dob_words.specs.declared.command.orders.ValueForm.TheVariants as value
 use Rattle.dob_words.specs.declared.command.Reading.{Reading}
 use Rattle.dob_words.specs.declared.command.Reading.TheVariants as reading
-use Rattle.dob_words.specs.declared.rows.Subcommand.{Subcommand}
-use Rattle.dob_words.specs.declared.rows.Subcommand.TheVariants as subcommand
 
--- the name of a subcommand
-abbrev pub name_of : Subcommand → Text
-name_of subcommand.Value = codes "value"
-name_of subcommand.Count = codes "count"
-name_of subcommand.Reach = codes "reach"
-name_of subcommand.Build = codes "build"
-name_of subcommand.Probe = codes "probe"
-name_of subcommand.Line = codes "line"
-name_of subcommand.Check = codes "check"
-name_of subcommand.Look = codes "look"
-name_of subcommand.Show = codes "show"
-name_of subcommand.Moves = codes "moves"
-name_of subcommand.Best = codes "best"
-name_of subcommand.Stats = codes "stats"
-name_of subcommand.Zugzwangs = codes "zugzwangs"
-name_of subcommand.Puzzles = codes "puzzles"
-name_of subcommand.Migrate = codes "migrate"
-name_of subcommand.Certify = codes "certify"
-name_of subcommand.Verify = codes "verify"
-name_of subcommand.Reply = codes "reply"
-name_of subcommand.Info = codes "info"
+-- the name of the subcommand that asks this question by that of a file
+abbrev pub name_by : By → Question → Text
+name_by way.Table (question.Value _) = codes "probe"
+name_by way.Records (question.Value _) = codes "look"
+name_by _ (question.Moves moves.Best) = codes "best"
+name_by _ (question.Moves _) = codes "moves"
+name_by _ (question.Line _) = codes "line"
 
--- each row is of the subcommand that it names
-abbrev pub AreNamed : List ReadRow → Type 0
-AreNamed [] = Unit {0}
-AreNamed (row ∷ more) = (name_of row.0 ≡ row.1.now) × AreNamed more
+abbrev pub name_asked : Asked → Text
+name_asked asked = name_by asked.by asked.question
 
--- what the subcommand takes
-abbrev pub form_for : Subcommand → Form
-form_for s = form_named (name_of s)
-
--- the subcommand that asks this question by that of a file
-abbrev pub subcommand_by : By → Question → Subcommand
-subcommand_by way.Table (question.Value _) = subcommand.Probe
-subcommand_by way.Records (question.Value _) = subcommand.Look
-subcommand_by _ (question.Moves moves.Best) = subcommand.Best
-subcommand_by _ (question.Moves _) = subcommand.Moves
-subcommand_by _ (question.Line _) = subcommand.Line
-
-abbrev pub subcommand_asked : Asked → Subcommand
-subcommand_asked asked = subcommand_by asked.by asked.question
-
--- the subcommand that the order is for
-abbrev pub subcommand_of : LinesOrder → Subcommand
-subcommand_of (lines.Value _ _) = subcommand.Value
-subcommand_of (lines.Count _ _) = subcommand.Count
-subcommand_of (lines.Reach _ _ _) = subcommand.Reach
-subcommand_of (lines.Build _) = subcommand.Build
-subcommand_of (lines.Ask _ asked _) = subcommand_asked asked
-subcommand_of (lines.Check _ _) = subcommand.Check
-subcommand_of (lines.Show _ _ _) = subcommand.Show
-subcommand_of (lines.Stats _ _) = subcommand.Stats
-subcommand_of (lines.Zugzwangs _ _) = subcommand.Zugzwangs
-subcommand_of (lines.Puzzles _ _) = subcommand.Puzzles
-subcommand_of (lines.Migrate _ _) = subcommand.Migrate
-subcommand_of (lines.Certify _) = subcommand.Certify
-subcommand_of (lines.Verify _ _) = subcommand.Verify
-subcommand_of (lines.Reply _ _) = subcommand.Reply
-subcommand_of (lines.Info _ _) = subcommand.Info
+-- the name of the subcommand that the order is for
+abbrev pub name_of : LinesOrder → Text
+name_of (lines.Value _ _) = codes "value"
+name_of (lines.Count _ _) = codes "count"
+name_of (lines.Reach _ _ _) = codes "reach"
+name_of (lines.Build _) = codes "build"
+name_of (lines.Ask _ asked _) = name_asked asked
+name_of (lines.Check _ _) = codes "check"
+name_of (lines.Show _ _ _) = codes "show"
+name_of (lines.Stats _ _) = codes "stats"
+name_of (lines.Zugzwangs _ _) = codes "zugzwangs"
+name_of (lines.Puzzles _ _) = codes "puzzles"
+name_of (lines.Migrate _ _) = codes "migrate"
+name_of (lines.Certify _) = codes "certify"
+name_of (lines.Verify _ _) = codes "verify"
+name_of (lines.Reply _ _) = codes "reply"
+name_of (lines.Info _ _) = codes "info"
 
 abbrev pub name_of_order : Order → Text
-name_of_order (order.Lines o) = name_of (subcommand_of o)
-name_of_order (order.EachLine file asked) = name_of (subcommand_asked asked)
+name_of_order (order.Lines o) = name_of o
+name_of_order (order.EachLine file asked) = name_asked asked
 
 -- how a line is told, by the texts of `--numbered` and `--json`: as JSON, also where its moves are to be numbered
 abbrev pub line_form : Option Text → Option Text → LineForm
@@ -116,10 +84,10 @@ IsFlaggedBy way.Table (question.Line form) numbered records each json = (records
 IsFlaggedBy way.Records (question.Line form) numbered records each json =
     ((is_some records || is_some each) ≡ true) × (form ≡ line_form numbered json)
 
--- the texts that the subcommand asks by, by those of FILE, `--numbered`, `--records`, `--each`, `--json` and POSITION
-abbrev pub texts_asked : Subcommand → Option Text → Option Text → Option Text → Option Text → Option Text → Option Text → List (Option Text)
-texts_asked subcommand.Best file numbered records each json position = file ∷ each ∷ position ∷ []
-texts_asked subcommand.Line file numbered records each json position = file ∷ numbered ∷ records ∷ each ∷ json ∷ position ∷ []
+-- the texts by which the question is asked, by those of FILE, `--numbered`, `--records`, `--each`, `--json` and POSITION
+abbrev pub texts_asked : Question → Option Text → Option Text → Option Text → Option Text → Option Text → Option Text → List (Option Text)
+texts_asked (question.Moves moves.Best) file numbered records each json position = file ∷ each ∷ position ∷ []
+texts_asked (question.Line _) file numbered records each json position = file ∷ numbered ∷ records ∷ each ∷ json ∷ position ∷ []
 texts_asked _ file numbered records each json position = file ∷ each ∷ json ∷ position ∷ []
 
 -- the text that may be left out
@@ -139,7 +107,7 @@ HasLinesTexts texts (lines.Build build) =
     (n rules flag : Option Text) × (Some build.set.now ∷ n ∷ Some build.file.now ∷ rules ∷ flag ∷ [] ≡ texts) × IfSome n (λ t. is_number t ≡ true)
     × (build.nodes ≡ option_map number_in n) × (build.profile ≡ profile_named rules) × (build.is_watched ≡ is_some flag)
 HasLinesTexts texts (lines.Ask file asked position) =
-    (numbered records json : Option Text) × (texts_asked (subcommand_asked asked) (Some file.now) numbered records None json (Some position.now) ≡ texts)
+    (numbered records json : Option Text) × (texts_asked asked.question (Some file.now) numbered records None json (Some position.now) ≡ texts)
     × IsFlaggedBy asked.by asked.question numbered records None json
 HasLinesTexts texts (lines.Check file is_watched) = (flag : Option Text) × (Some file.now ∷ flag ∷ [] ≡ texts) × (is_watched ≡ is_some flag)
 HasLinesTexts texts (lines.Show file picture position) = text_given file ∷ text_given picture ∷ Some position.now ∷ [] ≡ texts
@@ -161,16 +129,16 @@ HasLinesTexts texts (lines.Info file is_object) = (json : Option Text) × (json 
 abbrev pub HasTexts : List (Option Text) → Order → Type 0
 HasTexts texts (order.Lines o) = HasLinesTexts texts o
 HasTexts texts (order.EachLine file asked) =
-    (numbered records json : Option Text) × (each : Text) × (texts_asked (subcommand_asked asked) (Some file.now) numbered records (Some each) json None ≡ texts)
+    (numbered records json : Option Text) × (each : Text) × (texts_asked asked.question (Some file.now) numbered records (Some each) json None ≡ texts)
     × IsFlaggedBy asked.by asked.question numbered records (Some each) json
 
 -- the order is for this subcommand and these texts
 abbrev pub IsOrder : Text → List (Option Text) → Order → Type 0
 IsOrder name texts o = (name_of_order o ≡ name) × HasTexts texts o
 
--- the same of an order that lines answer
-abbrev pub IsLinesOrder : Subcommand → List (Option Text) → LinesOrder → Type 0
-IsLinesOrder s texts o = IsOrder (name_of s) texts (order.Lines o)
+-- what lines answer is for the subcommand of this name and the texts of its matches
+abbrev pub IsLinesOrder : Text → ArgMatches → LinesOrder → Type 0
+IsLinesOrder name matches o = IsOrder name (texts_in (form_named name) matches) (order.Lines o)
 
 -- what was read is what the words ask for
 abbrev pub IsReadingOf : Meaning → Reading → Type 0

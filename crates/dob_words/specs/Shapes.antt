@@ -11,7 +11,6 @@ use Rattle.clap.specs.Words.{App, Row as FoundRow, Rule, app_of, first_of, first
 use Rattle.clap.specs.declared.builder.action.ArgAction.TheVariants.{Set}
 use Rattle.clap.specs.declared.builder.value_parser.ValueParser.{ValueParser}
 use Rattle.clap.specs.declared.builder.value_parser.ValueParser.TheVariants.{Names, Unsigned}
-use Rattle.dob_words.specs.declared.rows.Subcommand.{Subcommand}
 use Rattle.dob_words.specs.declared.table.Need.{Need}
 use Rattle.dob_words.specs.declared.table.Kind.{Kind}
 use Rattle.dob_words.specs.declared.table.Kind.TheVariants as kind
@@ -108,11 +107,11 @@ flag_said f = f.0.now
 -- a row, as the code reads it
 abbrev pub ReadRow : Type 0
 ReadRow =
-    Subcommand × Bor Text × Bor Text × Bor (List (Bor Text × (Bor Text × Kind × Need × Bor Text))) × Bor (List (Bor Text × Bor Text))
+    Bor Text × Bor Text × Bor Text × Bor (List (Bor Text × (Bor Text × Kind × Need × Bor Text))) × Bor (List (Bor Text × Bor Text))
     × Bor (List (Bor Text × Kind × Need × Bor Text))
 
 abbrev pub row_said : ReadRow → Row
-row_said r = (r.1.now, map choice_said r.3.now, map flag_said r.4.now, map place_said r.5.now)
+row_said r = (r.0.now, map choice_said r.3.now, map flag_said r.4.now, map place_said r.5.now)
 
 -- the program without its subcommands
 abbrev pub bare_app : App

@@ -1,13 +1,12 @@
 // What the words of the program `dobutsu` ask for, read by `clap`.
 //
 // A further subcommand, as `stats --db FILE`, has
-// - here a variant of `Subcommand`, a row, a text for its help and an arm of `help_of` in rows.rt; a variant of `LinesOrder` and an arm of `order_for` in
-//   command/orders.rt; and its name, its order and its texts in specs/Readings.antt;
-// - in dob_query (a position), dob_survey (a table) or dob_verdict (a certificate) what it owes in a file of specs/, and its answer in a file of src/, each
-//   named in the Lib.antt or lib.rt there; and what the answer's proof needs in proofs/FILE/answer_NAME/Answers.antt;
-// - in dob_cli a case in the definitions of specs/Orders.antt and an arm of `answer` in program.rt, with a line in its Answers.antt where the prover doesn't
-//   find what the arm owes, as it finds that of `verify`; where the answer speaks of values and a value table's file makes it right, that in
-//   `AnswersLinesRight` and `rightly` of proofs/Orders.antt.
+// - here a row with its help in rows.rt; a variant of `LinesOrder` and an arm of `order_for` in command/orders.rt; and its name and its texts in
+//   specs/Readings.antt;
+// - in dob_query (a position), dob_survey (a table) or dob_verdict (a certificate) what it owes in a file of specs/, as `stats_owed`, and its answer in a file of
+//   src/, each named in the Lib.antt or lib.rt there; and what the answer's proof needs in proofs/FILE/answer_NAME/Answers.antt;
+// - in dob_cli an arm of `owed_by` in specs/Orders.antt and one of `answer` in program.rt, with a line in its Answers.antt; and where a value table's file makes
+//   its answer right, an arm of `rightly` in proofs/Orders.antt.
 // What is asked of a position by a file, as `best --db FILE POSITION`, is a form of a `Question` instead, and asked by `--each` too.
 ghost use Rattle.std.specs.Prelude.{◌≡◌, [], IfOk, IfSome, List, Option, drop, false, is_some, map, take, true};
 ghost use Rattle.std.specs.List.{list_any};
@@ -17,12 +16,12 @@ ghost use Rattle.dob_words.specs.Forms.{Form, Text, form_named, forms, rows};
 ghost use Rattle.dob_words.specs.Lines.{IsAmong, IsCommandLine};
 ghost use Rattle.dob_words.specs.Words.{Meaning, asks, has_topic, is_topic, is_version, meaning_of, meaning_of_topic, names_subcommand, settled};
 ghost use Rattle.dob_words.specs.Shapes.{AreProfiles, Finds, HasCommandShape, HasFit, IsMetBySome, IsNamed, IsProgram, IsRead, bare_app, choice_rule, choice_said, app_without_places, first_app, flag_rule, flag_said, is_stream_in, place_rule, place_said, row_app, row_said, texts_in, with_rows, with_rules};
-ghost use Rattle.dob_words.specs.Readings.{AreNamed, ComesFromLine, IsReadFor, IsReadingOf, IsReadingOfKind, name_of};
+ghost use Rattle.dob_words.specs.Readings.{ComesFromLine, IsReadFor, IsReadingOf, IsReadingOfKind};
 
 mod misplaced;
 mod orders;
 
-use crate::rows::{FIRST_ROWS, LAST_ROWS, LATER_ROWS, MIDDLE_ROWS, PROGRAM, Subcommand, help_of};
+use crate::rows::{FIRST_ROWS, LAST_ROWS, LATER_ROWS, MIDDLE_ROWS, PROGRAM};
 use crate::table::{Choice, Flag, Kind, Need, PROFILES, Place, Row};
 use clap::error::ErrorKind;
 use clap::{Arg, ArgAction, ArgMatches, Command, Error, value_parser};
@@ -70,7 +69,7 @@ fn read_meant<'a>(alloc: Global, words: &'a [&'a str]) -> Result<Reading<'a>, Al
         return Ok(Reading::Version);
     }
     match dobutsu_command(alloc)?.try_get_matches_from(words) {
-        Ok(matches) => read_order(alloc, order_of(&matches), &matches, first_word(words)),
+        Ok(matches) => read_matches(alloc, &matches),
         Err(error) => {
             if asks_topic(words) {
                 read_topic(alloc, words, &error)
@@ -127,30 +126,27 @@ fn has_topic(words: &[&str]) -> bool
 fn names_subcommand(name: &str) -> bool
     ensures { result ≡ names_subcommand name.now }
 {
-    name == "help" || subcommand_named(name).is_some()
+    name == "help" || row_named(name).is_some()
 }
 
-// The subcommand of that name, if there is one.
-fn subcommand_named(name: &str) -> Option<Subcommand>
-    ensures named { IfSome result (λ s. name_of s ≡ name.now) }
-    ensures known { is_some result ≡ list_any (λ n. bytes_eq n name.now) (map (λ r. r.0) rows) }
+// The row of that name, if there is one.
+fn row_named<'a>(name: &str) -> Option<&'a Row>
+    ensures { is_some result ≡ list_any (λ n. bytes_eq n name.now) (map (λ r. r.0) rows) }
 {
-    subcommand_among(first_rows(), name)
-        .or(subcommand_among(middle_rows(), name))
-        .or(subcommand_among(later_rows(), name))
-        .or(subcommand_among(last_rows(), name))
+    row_among(first_rows(), name)
+        .or(row_among(middle_rows(), name))
+        .or(row_among(later_rows(), name))
+        .or(row_among(last_rows(), name))
 }
 
-// The subcommand of that name, if one of these rows is its.
-fn subcommand_among(rows: &[Row], name: &str) -> Option<Subcommand>
-    requires { AreNamed rows.now }
-    ensures named { IfSome result (λ s. name_of s ≡ name.now) }
-    ensures known { is_some result ≡ list_any (λ n. bytes_eq n name.now) (map (λ r. r.0) (map row_said rows.now)) }
+// The row of that name, if it is one of these.
+fn row_among<'a>(rows: &'a [Row], name: &str) -> Option<&'a Row>
+    ensures { is_some result ≡ list_any (λ n. bytes_eq n name.now) (map (λ r. r.0) (map row_said rows.now)) }
 {
     for row in rows {
-        let (subcommand, own, ..) = *row;
+        let (own, ..) = *row;
         if own == name {
-            return Some(subcommand);
+            return Some(row);
         }
     }
     None
@@ -185,32 +181,28 @@ fn first_command<'a>(alloc: Global, profiles: Profiles<'a>) -> Result<Command<'a
 
 // The first six subcommands.
 fn first_rows<'a>() -> &'a [Row]
-    ensures said { map row_said result.now ≡ take 6 rows }
-    ensures named { AreNamed result.now }
+    ensures { map row_said result.now ≡ take 6 rows }
 {
     FIRST_ROWS
 }
 
 // The six behind them.
 fn middle_rows<'a>() -> &'a [Row]
-    ensures said { map row_said result.now ≡ take 6 (drop 6 rows) }
-    ensures named { AreNamed result.now }
+    ensures { map row_said result.now ≡ take 6 (drop 6 rows) }
 {
     MIDDLE_ROWS
 }
 
 // The three behind those.
 fn later_rows<'a>() -> &'a [Row]
-    ensures said { map row_said result.now ≡ take 3 (drop 12 rows) }
-    ensures named { AreNamed result.now }
+    ensures { map row_said result.now ≡ take 3 (drop 12 rows) }
 {
     LATER_ROWS
 }
 
 // The others.
 fn last_rows<'a>() -> &'a [Row]
-    ensures said { map row_said result.now ≡ drop 15 rows }
-    ensures named { AreNamed result.now }
+    ensures { map row_said result.now ≡ drop 15 rows }
 {
     LAST_ROWS
 }
@@ -251,24 +243,17 @@ fn command_without_places<'a>(
 ) -> Result<Command<'a>, AllocError>
     ensures { IfOk result (HasCommandShape (app_without_places profiles.entry.names (row_said row.now))) }
 {
-    let (subcommand, name, about, options, flags, _) = *row;
-    let command = named_command(alloc, subcommand, name, about);
+    let (name, about, help, options, flags, _) = *row;
+    let command = named_command(alloc, name, about, help);
     let command = add_options(alloc, command, profiles, options)?;
     add_flags(alloc, command, flags)
 }
 
 // A subcommand without its arguments.
-fn named_command<'a>(
-    alloc: Global,
-    subcommand: Subcommand,
-    name: &'a str,
-    about: &'a str,
-) -> Command<'a>
+fn named_command<'a>(alloc: Global, name: &'a str, about: &'a str, help: &'a str) -> Command<'a>
     ensures { HasCommandShape (new_app name.now) result }
 {
-    Command::new(alloc, name)
-        .about(about)
-        .after_help(help_of(subcommand))
+    Command::new(alloc, name).about(about).after_help(help)
 }
 
 // The command with these options.
@@ -375,14 +360,16 @@ fn place_argument<'a>(alloc: Global, profiles: Profiles<'a>, place: &Place) -> A
     }
 }
 
-// What the matches of the program's command ask for, if it is clear and can be.
-fn order_of<'a>(matches: &ArgMatches<'a>) -> Option<Order<'a>>
+// What the words come to that have these matches of the program's command.
+fn read_matches<'a>(alloc: Global, matches: &ArgMatches<'a>) -> Result<Reading<'a>, AllocError>
     requires { IsMetBySome (subcommand_rows_of matches.now) }
     ensures { (form : Form) (texts : List (Option Text)) → IsAmong form forms → Finds form texts (subcommand_rows_of matches.now)
-        → IsReadFor (settled (asks form.name texts)) result }
+        → IfOk result (IsReadingOf (settled (asks form.name texts))) }
 {
-    let (name, inner) = matches.subcommand()?;
-    order_by(name, inner)
+    match matches.subcommand() {
+        Some((name, inner)) => read_order(alloc, order_by(name, inner), name, inner),
+        None => unreachable!(),
+    }
 }
 
 // What the matches of the subcommand of that name ask for, if it is clear and can be.
@@ -393,48 +380,31 @@ fn order_by<'a>(name: &str, inner: &ArgMatches<'a>) -> Option<Order<'a>>
 {
     match misplaced_in(name, inner) {
         Some(_) => None,
-        None => {
-            let subcommand = subcommand_named(name)?;
-            orders::order_for(subcommand, inner)
-        }
+        None => orders::order_for(name, inner),
     }
 }
 
-// The first word, if there is one.
-fn first_word<'a>(words: &[&'a str]) -> &'a str {
-    match words {
-        [] => "",
-        [word, ..] => word,
-    }
-}
-
-// What the words come to where these matches, of the subcommand of that name, were read so, and what is said of them if they ask for nothing.
+// What the words come to where these matches of the subcommand of that name were read so, and what is said of them if they ask for nothing.
 fn read_order<'a>(
     alloc: Global,
     order: Option<Order<'a>>,
-    matches: &ArgMatches<'a>,
     name: &str,
+    inner: &ArgMatches<'a>,
 ) -> Result<Reading<'a>, AllocError>
     ensures { (meant : Meaning) → IsReadFor meant order.entry → IfOk result (IsReadingOf meant) }
 {
     match order {
         Some(order) => Ok(Reading::Order(order)),
-        None => Ok(Reading::Usage(refusal_text(alloc, matches, name)?)),
+        None => Ok(Reading::Usage(refusal_text(alloc, name, inner)?)),
     }
 }
 
 // What is said where the matches of the subcommand of that name ask for nothing.
-fn refusal_text(alloc: Global, matches: &ArgMatches<'_>, name: &str) -> Result<String, AllocError> {
-    match stream_given(matches) {
+fn refusal_text(alloc: Global, name: &str, inner: &ArgMatches<'_>) -> Result<String, AllocError> {
+    match misplaced_in(name, inner) {
         Some(stream) => stream.text(alloc),
         None => unclear_text(alloc, name),
     }
-}
-
-// The stream that is given where a file is written, if one is.
-fn stream_given<'a>(matches: &ArgMatches<'a>) -> Option<Misplaced<'a>> {
-    let (name, inner) = matches.subcommand()?;
-    misplaced_in(name, inner)
 }
 
 // The option of the subcommand of that name for which its matches have a stream where a file is written, if there is one.

@@ -4,52 +4,28 @@ use crate::table::{
     CERT, DB, EACH, JSON, Kind, LONE_POSITION, Need, POSITION, PROGRESS, RULES, Row, SET,
 };
 
-/// A subcommand.
-#[derive(Clone, Copy)]
-pub enum Subcommand {
-    Value,
-    Count,
-    Reach,
-    Build,
-    Probe,
-    Line,
-    Check,
-    Look,
-    Show,
-    Moves,
-    Best,
-    Stats,
-    Zugzwangs,
-    Puzzles,
-    Migrate,
-    Certify,
-    Verify,
-    Reply,
-    Info,
-}
-
 /// The first six subcommands, in the order of the help. A constant of all rows takes far longer to prove than four.
 pub const FIRST_ROWS: &[Row] = &[
     (
-        Subcommand::Value,
         "value",
         "Prints the value of a position",
+        VALUE,
         &[RULES],
         &[],
         &[POSITION],
     ),
     (
-        Subcommand::Count,
         "count",
         "Prints how many positions and classes a piece set has, as `count --set 100`",
+        COUNT,
         &[SET, RULES],
         &[],
         &[],
     ),
     (
-        Subcommand::Reach,
         "reach",
         "Prints how many classes a game from a position can reach, and how far they lie",
+        REACH,
         &[
             (
                 "db",
@@ -72,9 +48,9 @@ pub const FIRST_ROWS: &[Row] = &[
         &[POSITION],
     ),
     (
-        Subcommand::Build,
         "build",
         "Builds the database file of a piece set, as `build --set 100 --out 100.db`",
+        BUILD,
         &[
             SET,
             (
@@ -101,17 +77,17 @@ pub const FIRST_ROWS: &[Row] = &[
         &[],
     ),
     (
-        Subcommand::Probe,
         "probe",
         "Prints the value of a position by a database file",
+        PROBE,
         &[DB],
         &[EACH, JSON],
         &[LONE_POSITION],
     ),
     (
-        Subcommand::Line,
         "line",
         "Prints the best play from a position by a database file",
+        LINE,
         &[DB],
         &[
             ("numbered", "Each move on a line, with its number"),
@@ -129,25 +105,25 @@ pub const FIRST_ROWS: &[Row] = &[
 /// The six behind them.
 pub const MIDDLE_ROWS: &[Row] = &[
     (
-        Subcommand::Check,
         "check",
         "Checks that a database file is right, whoever made it",
+        CHECK,
         &[DB],
         &[PROGRESS],
         &[],
     ),
     (
-        Subcommand::Look,
         "look",
         "Prints a position's value, reading only its record; the rest of the file is not checked",
+        LOOK,
         &[DB],
         &[EACH, JSON],
         &[LONE_POSITION],
     ),
     (
-        Subcommand::Show,
         "show",
         "Draws the board of a position, with its squares' names and both hands",
+        SHOW,
         &[
             (
                 "db",
@@ -172,25 +148,25 @@ pub const MIDDLE_ROWS: &[Row] = &[
         &[POSITION],
     ),
     (
-        Subcommand::Moves,
         "moves",
         "Prints each move of a position with its value by a database file, best first",
+        MOVES,
         &[DB],
         &[EACH, JSON],
         &[LONE_POSITION],
     ),
     (
-        Subcommand::Best,
         "best",
         "Prints the first move of the best play from a position by a database file, with its value",
+        BEST,
         &[DB],
         &[EACH],
         &[LONE_POSITION],
     ),
     (
-        Subcommand::Stats,
         "stats",
         "Prints how many classes of a database file have which value, and the longest ones",
+        STATS,
         &[DB],
         &[
             (
@@ -206,9 +182,9 @@ pub const MIDDLE_ROWS: &[Row] = &[
 /// The three behind those.
 pub const LATER_ROWS: &[Row] = &[
     (
-        Subcommand::Zugzwangs,
         "zugzwangs",
         "Prints how many positions there are in which neither side wants to move, and the deepest",
+        ZUGZWANGS,
         &[
             DB,
             (
@@ -225,9 +201,9 @@ pub const LATER_ROWS: &[Row] = &[
         &[],
     ),
     (
-        Subcommand::Puzzles,
         "puzzles",
         "Prints positions of a database file with exactly one fastest winning move",
+        PUZZLES,
         &[
             DB,
             (
@@ -269,9 +245,9 @@ pub const LATER_ROWS: &[Row] = &[
         &[],
     ),
     (
-        Subcommand::Migrate,
         "migrate",
         "Converts a database file to the current format (2)",
+        MIGRATE,
         &[
             DB,
             (
@@ -292,9 +268,9 @@ pub const LATER_ROWS: &[Row] = &[
 /// The others.
 pub const LAST_ROWS: &[Row] = &[
     (
-        Subcommand::Certify,
         "certify",
         "Makes a certificate of a position's value by a database file",
+        CERTIFY,
         &[
             DB,
             (
@@ -326,25 +302,25 @@ pub const LAST_ROWS: &[Row] = &[
         &[POSITION],
     ),
     (
-        Subcommand::Verify,
         "verify",
         "Checks that a certificate proves what it claims, and prints that",
+        VERIFY,
         &[CERT],
         &[PROGRESS],
         &[],
     ),
     (
-        Subcommand::Reply,
         "reply",
         "Prints the winning move that a certificate gives",
+        REPLY,
         &[CERT],
         &[],
         &[POSITION],
     ),
     (
-        Subcommand::Info,
         "info",
         "Prints what the header of a database file or of a certificate says",
+        INFO,
         &[],
         &[JSON],
         &[(
@@ -355,31 +331,6 @@ pub const LAST_ROWS: &[Row] = &[
         )],
     ),
 ];
-
-/// What the subcommand says of itself.
-pub(crate) fn help_of(subcommand: Subcommand) -> &'static str {
-    match subcommand {
-        Subcommand::Value => VALUE,
-        Subcommand::Count => COUNT,
-        Subcommand::Reach => REACH,
-        Subcommand::Build => BUILD,
-        Subcommand::Probe => PROBE,
-        Subcommand::Line => LINE,
-        Subcommand::Check => CHECK,
-        Subcommand::Look => LOOK,
-        Subcommand::Show => SHOW,
-        Subcommand::Moves => MOVES,
-        Subcommand::Best => BEST,
-        Subcommand::Stats => STATS,
-        Subcommand::Zugzwangs => ZUGZWANGS,
-        Subcommand::Puzzles => PUZZLES,
-        Subcommand::Migrate => MIGRATE,
-        Subcommand::Certify => CERTIFY,
-        Subcommand::Verify => VERIFY,
-        Subcommand::Reply => REPLY,
-        Subcommand::Info => INFO,
-    }
-}
 
 // ---- what they say of themselves
 

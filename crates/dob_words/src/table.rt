@@ -1,7 +1,6 @@
 // What a row of the table of subcommands is made of, and what rows share.
 //
 // A row is made of tuples, since a constant of structs that hold texts has no name in specs/.
-use crate::rows::Subcommand;
 
 /// What a text has to be.
 #[derive(Clone, Copy)]
@@ -32,10 +31,10 @@ pub type Choice = (&'static str, Place);
 /// A flag: the name behind `--`, by which it is called too, and what the help says of it.
 pub type Flag = (&'static str, &'static str);
 
-/// A row: its subcommand and the name of that, what it does, its options, its flags, and the texts that come with no option, in the order of
-/// their places.
+/// A row: a subcommand's name, what it does, what it says of itself where its help is asked for, its options, its flags, and the texts that come with no
+/// option, in the order of their places.
 pub type Row = (
-    Subcommand,
+    &'static str,
     &'static str,
     &'static str,
     &'static [Choice],

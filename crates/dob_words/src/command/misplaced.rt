@@ -52,7 +52,7 @@ pub(super) fn stream_of<'a>(
 fn stream_in<'a>(row: Row, name: &str, inner: &ArgMatches<'a>) -> Option<Misplaced<'a>>
     ensures { is_some result ≡ is_stream_in name.now inner.now (row_said row.entry) }
 {
-    let (_, own, _, options, _, _) = row;
+    let (own, _, _, options, _, _) = row;
     if own == name {
         first_stream(options, inner)
     } else {

@@ -1,15 +1,13 @@
 // What the program is asked to do, and how the matches of a subcommand say it.
 ghost use Rattle.std.specs.Prelude.{◌≡◌, IfSome, Option, Some, codes, is_some, option_map, true};
 ghost use Rattle.clap.specs.Words.{first_value, found_of};
-ghost use Rattle.dob_words.specs.Forms.{Text};
-ghost use Rattle.dob_words.specs.Shapes.{HasFit, texts_in};
-ghost use Rattle.dob_words.specs.Readings.{IsLinesOrder, IsFlaggedBy, IsOneOf, IsReadFor, form_for, line_form, name_of, stats_form, subcommand_asked, subcommand_by, text_given};
+ghost use Rattle.dob_words.specs.Forms.{Text, form_named, forms};
+ghost use Rattle.dob_words.specs.Shapes.{HasFit, IsNamed, texts_in};
+ghost use Rattle.dob_words.specs.Readings.{IsFlaggedBy, IsLinesOrder, IsOneOf, IsReadFor, line_form, name_asked, name_by, stats_form, text_given};
 ghost use Rattle.dob_words.specs.Words.{asks, cleared, is_number, number_in, profile_named};
 ghost use Rattle.dob_words.specs.declared.command.orders.Question.TheVariants as ask;
 ghost use Rattle.dob_words.specs.declared.command.orders.ValueForm.TheVariants as value;
-ghost use Rattle.dob_words.specs.declared.rows.Subcommand.TheVariants.{Build, Certify, Line, Moves, Puzzles, Reach, Zugzwangs};
 
-use crate::rows::Subcommand;
 use clap::ArgMatches;
 use dob_pieces::Profile;
 
@@ -219,23 +217,24 @@ pub struct CertifyOrder<'a> {
     pub position: &'a str,
 }
 
-// What the matches of the subcommand ask for; nothing if that isn't clear, as of `probe` with both a position and `--each`.
-pub(super) fn order_for<'a>(subcommand: Subcommand, inner: &ArgMatches<'a>) -> Option<Order<'a>>
-    requires { HasFit (form_for subcommand) inner.now }
-    ensures { IsReadFor (cleared (asks (name_of subcommand) (texts_in (form_for subcommand) inner.now))) result }
+// What the matches of the subcommand of that name ask for; nothing if that isn't clear, as of `probe` with both a position and `--each`.
+pub(super) fn order_for<'a>(name: &str, inner: &ArgMatches<'a>) -> Option<Order<'a>>
+    requires named { IsNamed name.now forms }
+    requires fit { HasFit (form_named name.now) inner.now }
+    ensures { IsReadFor (cleared (asks name.now (texts_in (form_named name.now) inner.now))) result }
 {
-    match subcommand {
-        Subcommand::Probe => asked_order(inner, value_asked(By::Table, inner.get_str("json"))),
-        Subcommand::Look => asked_order(inner, value_asked(By::Records, inner.get_str("json"))),
-        Subcommand::Moves => asked_order(inner, moves_asked(inner.get_str("json"))),
-        Subcommand::Best => asked_order(
+    match name {
+        "probe" => asked_order(inner, value_asked(By::Table, inner.get_str("json"))),
+        "look" => asked_order(inner, value_asked(By::Records, inner.get_str("json"))),
+        "moves" => asked_order(inner, moves_asked(inner.get_str("json"))),
+        "best" => asked_order(
             inner,
             Asked {
                 question: Question::Moves(MovesForm::Best),
                 by: By::Records,
             },
         ),
-        Subcommand::Line => asked_order(
+        "line" => asked_order(
             inner,
             line_asked(
                 inner.get_str("numbered"),
@@ -244,55 +243,56 @@ pub(super) fn order_for<'a>(subcommand: Subcommand, inner: &ArgMatches<'a>) -> O
                 inner.get_str("json"),
             ),
         ),
-        Subcommand::Value => Some(Order::Lines(LinesOrder::Value {
+        "value" => Some(Order::Lines(LinesOrder::Value {
             profile: profile_named(inner.get_str("PROFILE")),
             position: text(inner, "POSITION"),
         })),
-        Subcommand::Count => Some(Order::Lines(LinesOrder::Count {
+        "count" => Some(Order::Lines(LinesOrder::Count {
             profile: profile_named(inner.get_str("PROFILE")),
             set: text(inner, "CEG"),
         })),
-        Subcommand::Reach => Some(Order::Lines(reach_order(inner))),
-        Subcommand::Build => Some(Order::Lines(build_order(inner))),
-        Subcommand::Check => Some(Order::Lines(LinesOrder::Check {
+        "reach" => Some(Order::Lines(reach_order(inner))),
+        "build" => Some(Order::Lines(build_order(inner))),
+        "check" => Some(Order::Lines(LinesOrder::Check {
             file: text(inner, "FILE"),
             is_watched: inner.get_str("progress").is_some(),
         })),
-        Subcommand::Show => Some(Order::Lines(LinesOrder::Show {
+        "show" => Some(Order::Lines(LinesOrder::Show {
             file: inner.get_str("FILE"),
             picture: inner.get_str("OUT"),
             position: text(inner, "POSITION"),
         })),
-        Subcommand::Stats => Some(Order::Lines(LinesOrder::Stats {
+        "stats" => Some(Order::Lines(LinesOrder::Stats {
             file: text(inner, "FILE"),
             form: stats_form(inner.get_str("csv"), inner.get_str("json")),
         })),
-        Subcommand::Zugzwangs => Some(Order::Lines(zugzwangs_order(inner))),
-        Subcommand::Puzzles => Some(Order::Lines(puzzles_order(inner))),
-        Subcommand::Migrate => Some(Order::Lines(LinesOrder::Migrate {
+        "zugzwangs" => Some(Order::Lines(zugzwangs_order(inner))),
+        "puzzles" => Some(Order::Lines(puzzles_order(inner))),
+        "migrate" => Some(Order::Lines(LinesOrder::Migrate {
             file: text(inner, "FILE"),
             out: text(inner, "OUT"),
         })),
-        Subcommand::Certify => Some(Order::Lines(certify_order(inner))),
-        Subcommand::Verify => Some(Order::Lines(LinesOrder::Verify {
+        "certify" => Some(Order::Lines(certify_order(inner))),
+        "verify" => Some(Order::Lines(LinesOrder::Verify {
             file: text(inner, "CERT"),
             is_watched: inner.get_str("progress").is_some(),
         })),
-        Subcommand::Reply => Some(Order::Lines(LinesOrder::Reply {
+        "reply" => Some(Order::Lines(LinesOrder::Reply {
             file: text(inner, "CERT"),
             position: text(inner, "POSITION"),
         })),
-        Subcommand::Info => Some(Order::Lines(LinesOrder::Info {
+        "info" => Some(Order::Lines(LinesOrder::Info {
             file: text(inner, "FILE"),
             is_object: inner.get_str("json").is_some(),
         })),
+        _ => None,
     }
 }
 
 // What the matches of `reach` ask for.
 fn reach_order<'a>(inner: &ArgMatches<'a>) -> LinesOrder<'a>
-    requires { HasFit (form_for Reach) inner.now }
-    ensures { IsLinesOrder Reach (texts_in (form_for Reach) inner.now) result }
+    requires { HasFit (form_named (codes "reach")) inner.now }
+    ensures { IsLinesOrder (codes "reach") inner.now result }
 {
     let search = ReachSearch {
         profile: profile_named(inner.get_str("PROFILE")),
@@ -308,8 +308,8 @@ fn reach_order<'a>(inner: &ArgMatches<'a>) -> LinesOrder<'a>
 
 // What the matches of `build` ask for.
 fn build_order<'a>(inner: &ArgMatches<'a>) -> LinesOrder<'a>
-    requires { HasFit (form_for Build) inner.now }
-    ensures { IsLinesOrder Build (texts_in (form_for Build) inner.now) result }
+    requires { HasFit (form_named (codes "build")) inner.now }
+    ensures { IsLinesOrder (codes "build") inner.now result }
 {
     LinesOrder::Build(BuildOrder {
         profile: profile_named(inner.get_str("PROFILE")),
@@ -322,8 +322,8 @@ fn build_order<'a>(inner: &ArgMatches<'a>) -> LinesOrder<'a>
 
 // What the matches of `zugzwangs` ask for.
 fn zugzwangs_order<'a>(inner: &ArgMatches<'a>) -> LinesOrder<'a>
-    requires { HasFit (form_for Zugzwangs) inner.now }
-    ensures { IsLinesOrder Zugzwangs (texts_in (form_for Zugzwangs) inner.now) result }
+    requires { HasFit (form_named (codes "zugzwangs")) inner.now }
+    ensures { IsLinesOrder (codes "zugzwangs") inner.now result }
 {
     LinesOrder::Zugzwangs {
         file: text(inner, "FILE"),
@@ -333,8 +333,8 @@ fn zugzwangs_order<'a>(inner: &ArgMatches<'a>) -> LinesOrder<'a>
 
 // What the matches of `puzzles` ask for.
 fn puzzles_order<'a>(inner: &ArgMatches<'a>) -> LinesOrder<'a>
-    requires { HasFit (form_for Puzzles) inner.now }
-    ensures { IsLinesOrder Puzzles (texts_in (form_for Puzzles) inner.now) result }
+    requires { HasFit (form_named (codes "puzzles")) inner.now }
+    ensures { IsLinesOrder (codes "puzzles") inner.now result }
 {
     let search = PuzzleSearch {
         plies: number(text(inner, "D")),
@@ -351,8 +351,8 @@ fn puzzles_order<'a>(inner: &ArgMatches<'a>) -> LinesOrder<'a>
 
 // What the matches of `certify` ask for.
 fn certify_order<'a>(inner: &ArgMatches<'a>) -> LinesOrder<'a>
-    requires { HasFit (form_for Certify) inner.now }
-    ensures { IsLinesOrder Certify (texts_in (form_for Certify) inner.now) result }
+    requires { HasFit (form_named (codes "certify")) inner.now }
+    ensures { IsLinesOrder (codes "certify") inner.now result }
 {
     LinesOrder::Certify(CertifyOrder {
         file: text(inner, "FILE"),
@@ -366,7 +366,7 @@ fn certify_order<'a>(inner: &ArgMatches<'a>) -> LinesOrder<'a>
 
 // What `probe` and `look` ask by their flag.
 fn value_asked(by: By, json: Option<&str>) -> Asked
-    ensures subcommand { subcommand_asked result ≡ subcommand_by by (ask.Value value.Plain) }
+    ensures name { name_asked result ≡ name_by by (ask.Value value.Plain) }
     ensures flagged { (numbered records each : Option Text) → IsFlaggedBy result.by result.question numbered records each (text_given json.entry) }
 {
     let form = match json {
@@ -381,7 +381,7 @@ fn value_asked(by: By, json: Option<&str>) -> Asked
 
 // What `moves` asks by its flag.
 fn moves_asked(json: Option<&str>) -> Asked
-    ensures subcommand { subcommand_asked result ≡ Moves }
+    ensures name { name_asked result ≡ codes "moves" }
     ensures flagged { (numbered records each : Option Text) → IsFlaggedBy result.by result.question numbered records each (text_given json.entry) }
 {
     let form = match json {
@@ -401,7 +401,7 @@ fn line_asked(
     each: Option<&str>,
     json: Option<&str>,
 ) -> Asked
-    ensures subcommand { subcommand_asked result ≡ Line }
+    ensures name { name_asked result ≡ codes "line" }
     ensures flagged { IsFlaggedBy result.by result.question (text_given numbered.entry) (text_given records.entry) (text_given each.entry) (text_given json.entry) }
 {
     let by = match (records, each) {
@@ -438,10 +438,10 @@ fn stats_form(csv: Option<&str>, json: Option<&str>) -> StatsForm
 
 // What the matches ask for by one position or by `--each`, if it is clear.
 fn asked_order<'a>(inner: &ArgMatches<'a>, asked: Asked) -> Option<Order<'a>>
-    requires fit { HasFit (form_for (subcommand_asked asked)) inner.now }
+    requires fit { HasFit (form_named (name_asked asked)) inner.now }
     requires flagged { IsFlaggedBy asked.by asked.question (first_value (found_of inner.now) (codes "numbered")) (first_value (found_of inner.now) (codes "records"))
         (first_value (found_of inner.now) (codes "each")) (first_value (found_of inner.now) (codes "json")) }
-    ensures { IsReadFor (cleared (asks (name_of (subcommand_asked asked)) (texts_in (form_for (subcommand_asked asked)) inner.now))) result }
+    ensures { IsReadFor (cleared (asks (name_asked asked) (texts_in (form_named (name_asked asked)) inner.now))) result }
 {
     let file = text(inner, "FILE");
     match asked_of(inner)? {

@@ -42,14 +42,16 @@ returns g c =
         record {
           table = c.in_ok-table.table;
           is = asked.0.0.0;
-          position = setup;
-          named = asked.0.0.1;
-          member = member g (goal.at.returns g c).In_ok-check_member;
-          reached = c.in_ok-reached.reached;
-          found = found;
-          counts = c.by_value-counts.result;
-          counted = c.by_value-counts.ensures (class_number family setup) found;
-          same = c.in_ok-reach_lines.ensures;
+          told = record {
+            position = setup;
+            named = asked.0.0.1;
+            member = member g (goal.at.returns g c).In_ok-check_member;
+            reached = c.in_ok-reached.reached;
+            found = found;
+            counts = c.by_value-counts.result;
+            counted = c.by_value-counts.ensures (class_number family setup) found;
+            same = c.in_ok-reach_lines.ensures;
+          };
         },
         asked.0.1,
       ),

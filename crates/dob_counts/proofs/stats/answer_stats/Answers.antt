@@ -8,9 +8,11 @@ returns g c =
         record {
           table = c.in_ok-table.table;
           is = opened.0.0;
-          groups = c.in_ok-groups.groups.items;
-          grouped = c.in_ok-groups.ensures;
-          told = rw c.deref.ensures.value at c.in_ok-told_lines.ensures;
+          told = record {
+            groups = c.in_ok-groups.groups.items;
+            grouped = c.in_ok-groups.ensures;
+            told = rw c.deref.ensures.value at c.in_ok-told_lines.ensures;
+          };
         },
         opened.0.1,
       ),

@@ -14,12 +14,14 @@ returns g c =
     let opened = c.in_ok-table.ensures.opened in (
       (
         record {
-          proper = c.is_puzzle_length.ensures.0 c.if-not-is_puzzle_length.false;
           table = c.in_ok-table.table;
           is = opened.0.0;
-          puzzles = c.in_ok-puzzles.puzzles.items;
-          first = c.in_ok-puzzles.ensures;
-          same = c.in_ok-puzzle_lines.ensures ∙ ap (puzzle_lines c.in_ok-table.table.family c.args.search.is_numbered) c.deref.ensures.value;
+          told = record {
+            proper = c.is_puzzle_length.ensures.0 c.if-not-is_puzzle_length.false;
+            puzzles = c.in_ok-puzzles.puzzles.items;
+            first = c.in_ok-puzzles.ensures;
+            same = c.in_ok-puzzle_lines.ensures ∙ ap (puzzle_lines c.in_ok-table.table.family c.args.search.is_numbered) c.deref.ensures.value;
+          };
         },
         opened.0.1,
       ),

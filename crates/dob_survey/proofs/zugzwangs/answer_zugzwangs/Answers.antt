@@ -13,11 +13,13 @@ returns g c =
         record {
           table = c.in_ok-table.table;
           is = opened.0.0;
-          pairs = c.in_ok-pairs.pairs.items;
-          found = c.in_ok-pairs.ensures;
-          counts = told.0;
-          counted = subst (λ (pairs : List Zugzwang). AreCounts pairs told.0) c.deref.ensures.value told.1;
-          same = told.2 ∙ ap (zugzwang_lines c.in_ok-table.table.family told.0 c.args.listed) c.deref.ensures.value;
+          told = record {
+            pairs = c.in_ok-pairs.pairs.items;
+            found = c.in_ok-pairs.ensures;
+            counts = told.0;
+            counted = subst (λ (pairs : List Zugzwang). AreCounts pairs told.0) c.deref.ensures.value told.1;
+            same = told.2 ∙ ap (zugzwang_lines c.in_ok-table.table.family told.0 c.args.listed) c.deref.ensures.value;
+          };
         },
         opened.0.1,
       ),

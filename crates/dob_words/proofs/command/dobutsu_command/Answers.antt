@@ -10,5 +10,5 @@ returns c =
     let first : App = first_app p in
     let later : App = with_rows p first (map row_said c.later_rows.result.now) in
     IfOk-weaker c.add_subcommands-2.result _ _
-    (λ r shape. (p, c.profile_names.ensures, program_of p _ _ r c.later_rows.ensures.said c.last_rows.ensures.said shape))
+    (λ r shape. (p, c.profile_names.ensures, program_of p _ _ r c.later_rows.ensures c.last_rows.ensures shape))
     (c.add_subcommands-2.ensures later (c.in_ok-command-2.ensures first c.in_ok-command.ensures))

@@ -10,5 +10,5 @@ returns c =
     let among : List Row → Bool = list_any is in
     rw (c.or-3.ensures, c.or-2.ensures, c.or.ensures)
     (found_in_four is (take 6 rows) (take 6 (drop 6 rows)) (take 3 (drop 12 rows)) (drop 15 rows) c.stream_of.result c.stream_of-2.result c.stream_of-3.result
-    c.stream_of-4.result (c.stream_of.ensures ∙ ap among c.first_rows.ensures.said) (c.stream_of-2.ensures ∙ ap among c.middle_rows.ensures.said)
-    (c.stream_of-3.ensures ∙ ap among c.later_rows.ensures.said) (c.stream_of-4.ensures ∙ ap among c.last_rows.ensures.said))
+    c.stream_of-4.result (c.stream_of.ensures ∙ ap among c.first_rows.ensures) (c.stream_of-2.ensures ∙ ap among c.middle_rows.ensures)
+    (c.stream_of-3.ensures ∙ ap among c.later_rows.ensures) (c.stream_of-4.ensures ∙ ap among c.last_rows.ensures))
