@@ -29,7 +29,7 @@ def files(version, library):
             yield f"dobutsu/{path.name}", path.read_bytes()
     if library:
         yield "dobutsu/libdobutsu.so", pathlib.Path(library).read_bytes()
-    about = ABOUT.format(version, (PACKAGE.parent / "README.md").read_text())
+    about = ABOUT.format(version, (PACKAGE.parent / "README.md").read_text(encoding="utf-8"))
     yield f"dobutsu-{version}.dist-info/METADATA", about.encode()
     yield f"dobutsu-{version}.dist-info/WHEEL", KIND.format(str(not library).lower(), tag(library)).encode()
 
@@ -41,7 +41,7 @@ def record(name, content):
 
 def made(folder, library=None):
     """Makes the wheel in the folder, with that shared library where one is given, the same bytes each time; its path."""
-    version = re.search(r'__version__ = "(.*)"', (PACKAGE / "__init__.py").read_text())[1]
+    version = re.search(r'__version__ = "(.*)"', (PACKAGE / "__init__.py").read_text(encoding="utf-8"))[1]
     held = list(files(version, library))
     list_name = f"dobutsu-{version}.dist-info/RECORD"
     held.append((list_name, ("".join(record(*each) for each in held) + f"{list_name},,\n").encode()))

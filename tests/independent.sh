@@ -45,6 +45,10 @@ second_alone() {
         if [ "$("$second" verify --cert "testdata/222_$name.cert" 2>&1)" = "gle/.c./.C./ELG - - loss within 78$by" ]; then good=yes; fi
         note "the second program verifies testdata/222_$name.cert" "$good"
     done
+    good=no
+    printf '%s\n' 'position gle/.c./.C./ELG - -' 'claim loss within 78' 'rules B' 'entries 148657' >"$work/wanted"
+    if "$second" info testdata/222_B.cert 2>&1 | cmp "$work/wanted" - >"$work/out" 2>&1; then good=yes; fi
+    note "the second program says what the header of testdata/222_B.cert says: $(tail -1 "$work/out")" "$good"
 }
 
 # ---- what asks both
@@ -69,6 +73,7 @@ same_table() {
         "$second" build --set "$set" --rules "$rules" --out "$file.second.db" && cmp "$file.db" "$file.second.db" &&
         python3 tests/independent.py published "$set" "$rules" "$file.db" &&
         [ "$("$program" check --db "$file.second.db")" = consistent ] && [ "$("$second" check --db "$file.db")" = consistent ] &&
+        [ "$("$program" info "$file.db")" = "$("$second" info "$file.db")" ] &&
         [ "$("$program" stats --db "$file.db")" = "$("$second" stats --db "$file.db")" ]
 }
 
@@ -102,7 +107,8 @@ same_certificates() {
             good=no
             if "$program" certify --db "$work/$words.db" --out "$file" $([ $((count % 2)) = 0 ] || echo --exact) "${text//_/ }" >"$work/out" 2>&1 &&
                 "$program" verify --cert "$file" >"$work/first.txt" 2>&1 && "$second" verify --cert "$file" >"$work/second.txt" 2>&1 &&
-                cmp "$work/first.txt" "$work/second.txt" >"$work/out"; then good=yes; fi
+                cmp "$work/first.txt" "$work/second.txt" >"$work/out" &&
+                [ "$("$program" info "$file")" = "$("$second" info "$file")" ]; then good=yes; fi
             note "both verify a certificate of ${text//_/ } by $words: $(tail -1 "$work/out")" "$good"
             count=$((count + 1))
         done

@@ -22,9 +22,12 @@ kitless ./dobutsu --unproved value "$position"
 kitless tools/prove dobutsu
 kitless tools/prove dobutsu_c
 kitless tools/page
+kitless tools/page --with nowhere
 kitless tools/library "$work"
 kitless tools/release "$work"
+kitless tools/release nowhere
 kitless ./test
+kitless ./test usage kitless
 
 # README's page, and plain Python's answer, leave the clone as it was.
 good=no

@@ -6,18 +6,30 @@ use crate::rules::*;
 use crate::text;
 use crate::threads::first;
 
+/// How a certificate begins, and how long its header is.
+pub(crate) const TITLE: &[u8; 8] = b"DOBUCERT";
+pub(crate) const HEADER: usize = 28;
+
 /// So many plies stand for *ever*.
 const EVER: u16 = 65535;
 
 /// Classes, ascending, each with its plies.
 type List = Vec<(u32, u16)>;
 
-/// A certificate that was read: what it claims of its root, and its entries. Nothing of it is checked before [`Certificate::verify`].
-pub struct Certificate {
-    family: Family,
+/// What a certificate's header says. Nothing of it is checked before [`Certificate::verify`].
+pub struct Header {
+    /// The piece set and the rules.
+    pub family: Family,
     root: u32,
     kind: u8,
     plies: u16,
+    lost: u32,
+    held: u32,
+}
+
+/// A certificate that was read: its header and its entries.
+pub struct Certificate {
+    header: Header,
     lost: List,
     held: List,
 }
@@ -61,35 +73,64 @@ fn list(bytes: &mut &[u8], count: u32, classes: u32, is_lost: bool) -> Result<Li
     Ok(list)
 }
 
-/// A certificate of a file's bytes; the fault is the first that holds in the order of docs/FORMAT.md.
-pub fn read(file: &[u8]) -> Result<Certificate, String> {
-    take::<28>(&mut &file[..])?;
-    let mut bytes = file;
-    if take(&mut bytes)? != *b"DOBUCERT" {
+/// Takes the header off a file's bytes; the fault is the first that holds in the order of docs/FORMAT.md.
+pub(crate) fn header(bytes: &mut &[u8]) -> Result<Header, String> {
+    take::<HEADER>(&mut &bytes[..])?;
+    if take(bytes)? != *TITLE {
         return Err("E16 Magic: the file doesn't begin as certificates do".into());
     }
-    if take(&mut bytes)? != [1] {
+    if take(bytes)? != [1] {
         return Err("E32 Version: the certificate is of another version".into());
     }
-    let set = set_of(take(&mut bytes)?)?;
-    let [rules] = take(&mut bytes)?;
+    let set = set_of(take(bytes)?)?;
+    let [rules] = take(bytes)?;
     let family = Family::new(set, rules_of(rules)?);
-    let root = u32::from_le_bytes(take(&mut bytes)?);
+    let root = u32::from_le_bytes(take(bytes)?);
     if root >= family.classes {
         return Err("E33 RootClass: the family has no class of the root's number".into());
     }
-    let [kind, plies] = take(&mut bytes)?;
+    let [kind, plies] = take(bytes)?;
     if kind > 4 || plies == 255 || kind == 0 && plies != 0 {
         return Err("E34 ClaimByte: what is claimed is no claim".into());
     }
-    let [lost, held] = [take(&mut bytes)?, take(&mut bytes)?].map(u32::from_le_bytes);
+    let [lost, held] = [take(bytes)?, take(bytes)?].map(u32::from_le_bytes);
     if lost.max(held) > family.classes {
         return Err("E35 EntryCount: a list counts more entries than the family has classes".into());
     }
-    let lost = list(&mut bytes, lost, family.classes, true)?;
-    let held = list(&mut bytes, held, family.classes, false)?;
+    Ok(Header { family, root, kind, plies: plies as u16, lost, held })
+}
+
+/// A certificate of a file's bytes; the fault is the first that holds in the order of docs/FORMAT.md.
+pub fn read(file: &[u8]) -> Result<Certificate, String> {
+    let mut bytes = file;
+    let header = header(&mut bytes)?;
+    let lost = list(&mut bytes, header.lost, header.family.classes, true)?;
+    let held = list(&mut bytes, header.held, header.family.classes, false)?;
     end(file, bytes)?;
-    Ok(Certificate { family, root, kind, plies: plies as u16, lost, held })
+    Ok(Certificate { header, lost, held })
+}
+
+impl Header {
+    /// The position of which something is claimed.
+    pub fn root(&self) -> Position {
+        self.family.representative(self.root)
+    }
+
+    /// What is claimed of it, as `loss within 78`.
+    pub fn claim(&self) -> String {
+        match (self.kind, self.plies) {
+            (0, _) => "draw".to_string(),
+            (1, n) => format!("win {n}"),
+            (2, n) => format!("loss {n}"),
+            (3, n) => format!("win within {n}"),
+            (_, n) => format!("loss within {n}"),
+        }
+    }
+
+    /// How many entries both lists have.
+    pub fn entries(&self) -> u64 {
+        u64::from(self.lost) + u64::from(self.held)
+    }
 }
 
 impl Certificate {
@@ -98,28 +139,27 @@ impl Certificate {
         let unsupported = |list: &List, supports: fn(&Self, &Position, u16) -> bool| {
             first(threads, list.len(), |n| {
                 let (class, plies) = list[n];
-                (!supports(self, &self.family.representative(class), plies)).then_some(class)
+                (!supports(self, &self.header.family.representative(class), plies)).then_some(class)
             })
         };
         let fault = unsupported(&self.lost, Self::supports_lost);
         if let Some(class) = fault.or_else(|| unsupported(&self.held, Self::supports_held)) {
-            let position = text::position(&self.family.representative(class));
+            let position = text::position(&self.header.family.representative(class));
             return Err(format!("E30 Unsupported class {class}: its entry isn't shown by its moves: {position}"));
         }
-        let root = self.family.representative(self.root);
-        let n = self.plies;
+        let (root, n) = (self.header.root(), self.header.plies);
         let loss = || self.lost(&root, n);
         let win = || n > 0 && self.answered(&root, n - 1);
-        let (shown, claim) = match self.kind {
-            0 => (self.holds_out(&root, EVER) && self.safe(&root, EVER), "draw".to_string()),
-            1 => (win() && (n < 2 || self.safe(&root, n - 2)), format!("win {n}")),
-            2 => (loss() && (n == 0 || self.holds_out(&root, n - 1)), format!("loss {n}")),
-            3 => (win(), format!("win within {n}")),
-            _ => (loss(), format!("loss within {n}")),
+        let shown = match self.header.kind {
+            0 => self.holds_out(&root, EVER) && self.safe(&root, EVER),
+            1 => win() && (n < 2 || self.safe(&root, n - 2)),
+            2 => loss() && (n == 0 || self.holds_out(&root, n - 1)),
+            3 => win(),
+            _ => loss(),
         };
-        let position = text::position(&root);
+        let (position, claim) = (text::position(&root), self.header.claim());
         if shown {
-            let by = if self.family.rules == Rules::B { " by rules B" } else { "" };
+            let by = if self.header.family.rules == Rules::B { " by rules B" } else { "" };
             Ok(format!("{position} {claim}{by}"))
         } else {
             Err(format!("E31 Claim: the entries don't show `{position} {claim}`"))
@@ -127,13 +167,13 @@ impl Certificate {
     }
 
     fn plies(&self, list: &List, p: &Position) -> Option<u16> {
-        let class = self.family.class(p);
+        let class = self.header.family.class(p);
         list.binary_search_by_key(&class, |entry| entry.0).ok().map(|n| list[n].1)
     }
 
     /// The position has lost; or it is open, and `open` holds of its moves.
     fn lost_or(&self, p: &Position, open: impl Fn(&[Move]) -> bool) -> bool {
-        match p.status(self.family.rules) {
+        match p.status(self.header.family.rules) {
             Status::Caught => false,
             Status::Tried | Status::Stuck => true,
             Status::Open(moves) => open(&moves),
@@ -142,7 +182,7 @@ impl Certificate {
 
     /// The mover can catch the lion; or the position is open, and `open` holds of its moves.
     fn won_or(&self, p: &Position, open: impl Fn(&[Move]) -> bool) -> bool {
-        match p.status(self.family.rules) {
+        match p.status(self.header.family.rules) {
             Status::Caught => true,
             Status::Tried | Status::Stuck => false,
             Status::Open(moves) => open(&moves),

@@ -21,11 +21,12 @@ const USAGE: &str = "usage: independent COMMAND
   stats --db FILE                how many classes have which value
   verify --cert FILE [--threads N]
                                  checks what a certificate claims, and prints it
+  info FILE                      what a table's or a certificate's header says: the rules, and so on
 CEG are the numbers of chicks, elephants and giraffes, each 0 to 2. A POSITION is as
 \"gle/.c./.C./ELG - -\": rows from row 4 down, then both hands. Where probe and moves get - in its
 place, each line of standard input is one. They test a file's header and read the records that
-they need; check, stats and verify read the whole file, and test its digest. The status is 0 if
-done, 1 if refused, 2 for a wrong command line.
+they need, info the header alone; check, stats and verify read the whole file, and test its
+digest. The status is 0 if done, 1 if refused, 2 for a wrong command line.
 ";
 
 const NO_MEMORY: &str = "E23 Memory: no memory is left";
@@ -67,10 +68,13 @@ impl Words {
                 return usage(format!("{name} is there twice"));
             }
         }
-        if read.others.len() != known.contains(&"POSITION") as usize {
-            return usage("a POSITION is one word, in quotes, and only where it is asked for");
+        match known.iter().find(|name| !name.starts_with("--")) {
+            Some(name) if read.others.len() != 1 => usage(format!("one {name} is needed, a word in quotes")),
+            None if !read.others.is_empty() => {
+                usage(format!("there is no word {} here", read.others[0].to_string_lossy()))
+            }
+            _ => Ok(read),
         }
-        Ok(read)
     }
 
     fn path(&self, name: &str) -> Result<&Path, Fault> {
@@ -115,6 +119,7 @@ fn run(mut words: impl Iterator<Item = OsString>) -> Result<String, Fault> {
         "check" => &["--db", "--threads"],
         "stats" => &["--db"],
         "verify" => &["--cert", "--threads"],
+        "info" => &["FILE"],
         "help" | "--help" | "-h" => return Ok(USAGE.into()),
         _ => return usage("a COMMAND is needed"),
     };
@@ -122,6 +127,7 @@ fn run(mut words: impl Iterator<Item = OsString>) -> Result<String, Fault> {
     let (rules, threads) = (words.rules()?, words.threads()?);
     match command {
         "build" => build(&words, rules, threads),
+        "info" => Ok(file::info(Path::new(&words.others[0]))?),
         "verify" => {
             let bytes = file::bytes(words.path("--cert")?)?;
             Ok(certificate::read(&bytes)?.verify(threads)? + "\n")

@@ -380,12 +380,56 @@ const ONE_CHICK: &str = "444f425543455254010100000200ae0200000208080000000900000
 const DRAW: &str = "444f425543455254010000000200230000000000000000000c00000007ff02ff01ff05ff02ff01ff08ff\
     01ff02ff07ff06ff05ffa74e36b4d366796ce87c24a8758d816a5d27a958f9f274b0a7a04e72555731fb";
 
+fn bytes(hex: &str) -> Vec<u8> {
+    let digits: Vec<u8> = hex.bytes().map(|digit| (digit as char).to_digit(16).unwrap() as u8).collect();
+    digits.chunks(2).map(|two| two[0] << 4 | two[1]).collect()
+}
+
+/// What `info` says of a file with these bytes.
+fn info(bytes: &[u8], name: &str) -> Result<String, String> {
+    let path = std::env::temp_dir().join(format!("independent-{}-{name}", std::process::id()));
+    std::fs::write(&path, bytes).unwrap();
+    let said = file::info(&path);
+    std::fs::remove_file(&path).unwrap();
+    said
+}
+
+#[test]
+fn what_headers_say() {
+    let lions = format_1();
+    assert_eq!(info(&lions[..20], "first"), Ok("set 000\nrules A\nformat 1\nclasses 54\n".into()));
+    let chick = built([1, 0, 0], Rules::B);
+    assert_eq!(info(&chick[..21], "second"), Ok("set 100\nrules B\nformat 2\nclasses 1864\n".into()));
+    let shown = bytes(ONE_CHICK);
+    let said = "position .c./l../.../.L. - -\nclaim loss 8\nrules A\nentries 17\n";
+    assert_eq!(info(&shown[..28], "third"), Ok(said.into()));
+    for (file, length) in [(&lions, 20), (&chick, 21), (&shown, 28)] {
+        for cut in 8..length {
+            assert!(info(&file[..cut], "cut").unwrap_err().starts_with("E15"), "{cut} bytes");
+        }
+    }
+    for (file, at, byte, fault) in [
+        (&chick, 0, b'd', "E16"),
+        (&chick, 8, 3, "E17"),
+        (&chick, 12, 2, "E27"),
+        (&chick, 13, 1, "E18"),
+        (&shown, 0, b'd', "E16"),
+        (&shown, 8, 2, "E32"),
+        (&shown, 9, 3, "E17"),
+        (&shown, 13, 2, "E27"),
+        (&shown, 15, 9, "E33"),
+        (&shown, 18, 5, "E34"),
+        (&shown, 22, 1, "E35"),
+    ] {
+        let mut wrong = file.clone();
+        wrong[at] = byte;
+        assert!(info(&wrong, "wrong").unwrap_err().starts_with(fault), "byte {at}");
+    }
+    assert!(file::info("/".as_ref()).unwrap_err().starts_with("E24"));
+}
+
 #[test]
 fn certificates() {
-    let bytes = |hex: &str| -> Vec<u8> {
-        let digits: Vec<u8> = hex.bytes().map(|digit| (digit as char).to_digit(16).unwrap() as u8).collect();
-        digits.chunks(2).map(|two| two[0] << 4 | two[1]).collect()
-    };
     let verify = |bytes: &[u8]| certificate::read(bytes).and_then(|read| read.verify(2));
     assert_eq!(verify(&bytes(DRAW)).unwrap(), ".l./.../.L./... - - draw");
     let whole = bytes(ONE_CHICK);
