@@ -1,30 +1,22 @@
 -- The names that the proofs here use most, from other crates and the definitions of this one.
-pub use Rattle.std.proofs.Common.{◌%◌, ◌&&◌, ◌*◌, ◌++◌, ◌+◌, ◌-◌, ◌/◌, ◌<◌, ◌==◌, ◌^◌, ◌||◌, ◌↔◌, ◌∙◌, ◌∷◌, ◌≡◌, ◌≢◌, ◌≤◌, ◌⊎◌, Bool, List, None}
-pub use Rattle.std.proofs.Common.{Some, [], ap, arith, bit_and, bit_or, cond, drop, eqb, false, get_or, inl, inr, leb, length, map, min, nat_le, nat_lt, not}
-pub use Rattle.std.proofs.Common.{refl, replicate, rules, set, slice_index, slice_index_or, slice_set, subst, suc, sym, take, true, vec_len, w16, zero, ℕ}
-pub use Rattle.std.proofs.Math.Nat.{div-le_self, mul-le-mul}
-pub use Rattle.std.proofs.Math.Nat.{mul-le-mul_right, mul-pos, mul_comm}
+pub use Rattle.std.proofs.Common.{◌%◌, ◌&&◌, ◌*◌, ◌++◌, ◌+◌, ◌-◌, ◌/◌, ◌<◌, ◌^◌, ◌↔◌, ◌∙◌, ◌∷◌, ◌≡◌, ◌≢◌, ◌≤◌, ◌⊎◌, Bool, List, None}
+pub use Rattle.std.proofs.Common.{[], ap, arith, bit_or, cond, drop, eqb, false, get_or, inl, inr, leb, length, map, min}
+pub use Rattle.std.proofs.Common.{refl, replicate, rules, set, slice_index, slice_index_or, slice_set, subst, suc, sym, take, true, vec_len, zero, ℕ}
+pub use Rattle.std.proofs.Math.Nat.{div-le_self, mul-le-mul, mul-le-mul_right, mul-pos, mul_comm}
 pub use Rattle.std.proofs.lemmas.Bool.{both_ways, cases_Bool, cases_eq, cases_lt, eq-eqb, le-leb, lt-leb, ne_eqb}
 pub use Rattle.std.proofs.lemmas.List.{get_or-set_other, get_or-set_same, get_or_append_left, get_or_push, length-append, length-map, length-set, length-take}
 pub use Rattle.std.proofs.lemmas.List.{length_push, take-append-drop}
-pub use Rattle.std.proofs.lemmas.Nat.{and_le_l, div-add-mod', div-mul-add, div_below, le-div, mod-mul-add, mod_below, or_lt, same_from_place}
-pub use Rattle.std.proofs.lemmas.Nat.Bits.{bit_at-suc, bit_at-zero, bit_at_above, bit_at_cat_high, bit_at_cat_low, bit_at_clear_other, bit_at_clear_same}
-pub use Rattle.std.proofs.lemmas.Nat.Bits.{bit_at_set_other, bit_at_set_same}
-pub use Rattle.std.specs.Int.{bit_at, bit_not}
+pub use Rattle.std.proofs.lemmas.Nat.{div-add-mod', div-mul-add, div_below, le-div, mod-mul-add, mod_below, same_from_place}
 pub use Rattle.std.specs.List.{All, remove}
 pub use Rattle.dob_pieces.proofs.Allowed.{IsAllowed-mirrored}
-pub use Rattle.dob_pieces.proofs.Boards.{all_below, all_below-at, at-mirrored, at-turned, length-turned}
-pub use Rattle.dob_pieces.proofs.MaskBits.{IsMask-and, IsMask-or, IsMask-same}
+pub use Rattle.dob_pieces.proofs.Boards.{at-turned}
 pub use Rattle.dob_pieces.proofs.Symmetries.{mirrored-mirrored}
 pub use Rattle.dob_pieces.specs.Lists.{one_if}
-pub use Rattle.dob_pieces.specs.Masks.{AreSquares, IsMask, entry_of, is_empty, is_end, is_own, is_piece}
 pub use Rattle.dob_pieces.specs.Profiles.{IsAllowed}
-pub use Rattle.dob_pieces.specs.Setups.{Cell, IsLegal, at, board_by, piece_of, setup_of, turned_cell}
+pub use Rattle.dob_pieces.specs.Setups.{Cell, IsLegal, at, board_by, setup_of, turned_cell}
 unfoldable pub use Rattle.dob_pieces.specs.Setups.{mirrored, turned}
-pub use Rattle.dob_pieces.specs.Squares.{column, mirrored_square}
+pub use Rattle.dob_pieces.specs.Squares.{mirrored_square}
 pub use Rattle.dob_pieces.specs.declared.hand.Hands.{Hands}
-pub use Rattle.dob_pieces.specs.declared.kind.Kind.{Kind}
-pub use Rattle.dob_pieces.specs.declared.kind.Kind.TheVariants.{Chick, Elephant, Giraffe, Hen, Lion}
 pub use Rattle.dob_pieces.specs.declared.kind.Side.{Side}
 pub use Rattle.dob_pieces.specs.declared.kind.Side.TheVariants.{Enemy, Mover}
 pub use Rattle.dob_pieces.specs.declared.piece_set.PieceSet.{PieceSet}
@@ -32,7 +24,7 @@ pub use Rattle.dob_pieces.specs.declared.profile.Family.{Family}
 pub use Rattle.dob_pieces.specs.declared.profile.Profile.{Profile}
 pub use Rattle.dob_pieces.specs.declared.profile.Profile.TheVariants.{A, B}
 pub use Rattle.dob_pieces.specs.declared.setup.Setup.{Setup}
-pub use Rattle.dob_rank.proofs.Boards.Choices.{count_other, count_same}
+pub use Rattle.dob_rank.proofs.Boards.Choices.{count_other}
 pub use Rattle.dob_rank.proofs.InRuns.DigitParts.{AreFewOnBoard-digits, parts_are}
 pub use Rattle.dob_rank.proofs.InRuns.RunMarks.{lions_run, marks_agree, marks_from, run_start_end, run_start_first, run_start_next, start_small}
 pub use Rattle.dob_rank.proofs.InRuns.RunPlaces.{local_digits, run_size-small, spot_there}
@@ -69,13 +61,12 @@ pub use Rattle.dob_pieces.specs.Boards.{IsBoardOf, is_chick, is_elephant, is_ene
 pub use Rattle.dob_pieces.specs.Changes.{IsWith}
 pub use Rattle.dob_pieces.specs.declared.board.Board.{Board}
 pub use Rattle.dob_rank.specs.BoardDigits.{IsShownOfSet}
-pub use Rattle.dob_classes.specs.Shown.{IsShown}
 pub use Rattle.dob_classes.specs.BlockRows.{IsRow}
 pub use Rattle.dob_classes.specs.FamilyRuns.{IsInRunOf, IsNumbered, classes_before, is_there, local_marks_in, place_of_number, run_size_in}
 pub use Rattle.dob_classes.specs.RunIndex.{AreEntries, IsAtMost}
 pub use Rattle.dob_classes.specs.RunTables.{AreRuns, HasTable, IsRun}
 pub use Rattle.dob_classes.specs.Stretches.{AreStretches, EndsWith, IsStretch, IsWidth, local_marks}
-pub use Rattle.dob_classes.specs.Views.{seen_by, seen_hands, seen_owner, seen_square}
+pub use Rattle.dob_classes.specs.Views.{IsShown, seen_by, seen_hands, seen_owner, seen_square}
 pub use Rattle.dob_classes.specs.Walks.{IsStretchIn, IsWalk, marks_before}
 pub use Rattle.dob_classes.specs.declared.block_classes.BlockClasses.{BlockClasses}
 pub use Rattle.dob_classes.specs.declared.runs.Run.{Run}

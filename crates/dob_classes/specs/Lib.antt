@@ -1,4 +1,3 @@
-pub mod Shown
 pub mod Views
 pub mod Laws
 pub mod Stretches

@@ -2,5 +2,3 @@
 
 pub(crate) mod bit_placing;
 pub(crate) mod image_places;
-pub(crate) mod shown;
-pub(crate) mod shown_spots;

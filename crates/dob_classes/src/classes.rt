@@ -1,17 +1,14 @@
 // The classes of a family, block by block.
 ghost use Rattle.std.specs.Prelude.{◌≡◌, ◌<◌, ◌≤◌, ◌+◌, ◌^◌, IfOk, IfSome, MatchOption, vec_len};
 ghost use Rattle.dob_rank.specs.Order.{IsFirstOfTwo};
-ghost use Rattle.dob_rank.specs.Families.{IsPositionOf, IsRepresentative, HasClasses, HasClass, IsInClass, is_marked, classes_of, class_number};
+ghost use Rattle.dob_rank.specs.Families.{IsPositionOf, IsRepresentative, HasClasses, HasClass, IsInClass, is_marked, classes_of, class_number, class_setup};
 ghost use Rattle.dob_rank.specs.Numbers.{product, block_bases, start_of, rank_of_set};
 ghost use Rattle.dob_rank.specs.Marks.{marks_below};
 ghost use Rattle.dob_classes.specs.BlockTables.{AreBlocks};
 ghost use Rattle.dob_pieces.specs.declared.setup.Setup.{Setup};
 ghost use Rattle.dob_pieces.specs.Boards.{IsBoardOf};
-ghost use Rattle.dob_classes.specs.Shown.{IsShown};
-ghost use Rattle.dob_classes.specs.Views.{seen_by};
+ghost use Rattle.dob_classes.specs.Views.{seen_by, IsShown};
 
-use crate::bits::shown::Shown;
-use crate::bits::shown_spots::shown_by;
 use crate::block_classes::BlockClasses;
 use crate::spots::spot_in;
 use dob_pieces::{Board, Family, Memory, Position, Side};
@@ -129,6 +126,7 @@ impl Classes {
         ensures representative { IsRepresentative self.now.family result.setup }
         ensures class { HasClass self.now.family result.setup class }
         ensures number { class_number self.now.family result.setup ≡ class }
+        ensures setup { result.setup ≡ class_setup self.now.family class }
     {
         let block = self.block_of(class);
         position_by(
@@ -139,27 +137,13 @@ impl Classes {
         )
     }
 
-    /// A class's representative with the board that the side sees of it: the mover that of the setup, the enemy that of the turned one. It is found without
-    /// the setup's cells, which aren't made where they aren't read.
+    /// The board that the side sees of the representative of the class of that number: the mover as it stands, the enemy turned. No list of cells is made.
     #[inline(always)]
-    pub fn shown_at(&self, class: u64, side: Side) -> Shown
+    pub fn board_at(&self, class: u64, side: Side) -> Board
         requires { class < classes_of self.now.family }
-        ensures representative { IsRepresentative self.now.family result.position.setup }
-        ensures class { HasClass self.now.family result.position.setup class }
-        ensures number { class_number self.now.family result.position.setup ≡ class }
-        ensures board { IsBoardOf (seen_by side result.position.setup) result.board }
+        ensures { IsBoardOf (seen_by side (class_setup self.now.family class)) result }
     {
-        let block = self.block_of(class);
-        let spot = block.spot_at(class);
-        shown_by(
-            self.family.set,
-            &block.on_board,
-            &block.choices,
-            &block.places,
-            block.digits_of(spot.run),
-            spot,
-            side,
-        )
+        self.block_of(class).board_at(class, side)
     }
 
     // The block in which the representative of that class stands.

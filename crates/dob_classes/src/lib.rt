@@ -11,7 +11,7 @@
 // - `count_classes` makes the same walk without its list, over the runs of one hand and then times the hands, with no memory.
 // - What a count without tables, a row or an index says of a run is a `Row`, and `Row::before_run` alone makes a class's number of it: for each hand as many,
 //   and those of the lions before. Its sums wrap, since a row may come from a caller.
-// - A class's representative comes with the board that a side sees of it (`Shown`): who reads this alone makes no list of cells.
+// - A class's representative comes as a position or as the board that a side sees of it (`board_at`), which is made with no list of cells.
 #![tactic(auto)]
 
 mod any_rows;
@@ -35,7 +35,6 @@ mod stretch_tables;
 mod stretches;
 
 pub use any_rows::class_number_by_any;
-pub use bits::shown::Shown;
 pub use class_counts::count_classes;
 pub use class_numbers::{class_number, classes_in_run};
 pub use class_rows::{block_number, count_blocks, write_row};

@@ -3,7 +3,7 @@
 ghost use Rattle.std.specs.Prelude.{◌≡◌, ◌<◌, ◌≤◌};
 ghost use Rattle.dob_pieces.specs.declared.profile.Profile.TheVariants.{B};
 ghost use Rattle.dob_pieces.specs.declared.setup.Setup.{Setup};
-ghost use Rattle.dob_classes.specs.Shown.{IsShown};
+ghost use Rattle.dob_classes.specs.Views.{IsShown};
 ghost use Rattle.dob_rank.specs.Families.{family_of};
 ghost use Rattle.dob_classes.specs.FamilyRuns.{is_there};
 ghost use Rattle.dob_rank.specs.Marks.{marks_below};

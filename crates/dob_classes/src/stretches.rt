@@ -13,7 +13,6 @@ use crate::bits::image_places::image_place;
 use crate::run_shapes::RunShape;
 use dob_pieces::{Memory, PieceSet};
 use dob_rank::runs::Spot;
-use std::alloc::Global;
 
 /// A stretch of places of a run: where it begins, how many marked places of the run are before it, and whether its own are.
 #[derive(Clone, Copy)]

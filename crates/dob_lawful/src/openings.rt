@@ -17,8 +17,7 @@ pub fn opening_in(classes: &Classes, class: u64) -> Opening
     requires { class < classes_of classes.now.family }
     ensures { IsOpening classes.now.family.profile (class_setup classes.now.family class) result }
 {
-    // The board is taken out, so that nothing reads the cells and they aren't made.
-    let board = classes.shown_at(class, Side::Mover).board;
+    let board = classes.board_at(class, Side::Mover);
     let (status, moves) = status_and_count_by(classes.family.profile, &board);
     Opening { status, moves }
 }

@@ -4,33 +4,28 @@ pub use Rattle.std.proofs.Common.{IfErr, IfOk, List, MatchResult, None, Ok, Opti
 pub use Rattle.std.proofs.Common.{false, get_or, inl, inr, insert, length, max, min, option_to_list, refl, rules, set, slice_get, subst, suc, sym, take}
 pub use Rattle.std.proofs.Common.{true, true≢false, zero, ℕ}
 pub use Rattle.std.proofs.lemmas.Bool.{and_parts, cases_Bool, cases_eq, cases_lt, cases_order}
-pub use Rattle.std.proofs.lemmas.List.{get_or-set_other, get_or-set_same, get_or_default, length-set}
+pub use Rattle.std.proofs.lemmas.List.{get_or-set_other, get_or-set_same, get_or_default}
 pub use Rattle.std.proofs.lemmas.List.Elements.{Contains-append_left, Contains-append_right, Contains-get_or, Contains-push, Contains-push_cases}
 pub use Rattle.std.proofs.lemmas.List.Quantifiers.{all_pairs_push}
 pub use Rattle.std.proofs.lemmas.Option.{get_or_from_slice_get, same_Some, slice_get_read, slice_get_within}
 pub use Rattle.std.specs.List.{list_any}
-pub use Rattle.dob_pieces.proofs.Boards.{at-turned, length-turned, one_lion}
+pub use Rattle.dob_pieces.proofs.Boards.{one_lion}
 pub use Rattle.dob_pieces.proofs.Elements.{before_or_here, get_front, standing}
-pub use Rattle.dob_pieces.specs.Setups.{HasLions, IsLegal, at, held, mirrored, piece_of, turned_cell, with_one_less}
-unfoldable pub use Rattle.dob_pieces.specs.Setups.{turned}
-pub use Rattle.dob_pieces.specs.declared.kind.Kind.{Kind}
+pub use Rattle.dob_pieces.specs.Setups.{HasLions, at}
 pub use Rattle.dob_pieces.specs.declared.kind.Side.TheVariants.{Enemy, Mover}
 pub use Rattle.dob_pieces.specs.declared.profile.Family.{Family}
 pub use Rattle.dob_pieces.specs.declared.profile.Profile.{Profile}
 pub use Rattle.dob_pieces.specs.declared.setup.Setup.{Setup}
 pub use Rattle.dob_moves.proofs.ByProfile.{can_go, goes}
-pub use Rattle.dob_moves.proofs.Outcomes.{HasOutcome-is}
 pub use Rattle.dob_moves.proofs.ProfileMoves.{Goes-is}
 pub use Rattle.dob_moves.specs.Moves.{CanGo, Goes, place}
-unfoldable pub use Rattle.dob_moves.specs.Outcomes.{dropped, stepped}
 pub use Rattle.dob_moves.specs.Statuses.{AreMoves, CanCatch, HasStatus, IsFirstCatch}
 pub use Rattle.dob_moves.specs.declared.game_move.Move.{Move}
 pub use Rattle.dob_moves.specs.declared.position_status.Status.{Status}
 pub use Rattle.dob_moves.specs.declared.position_status.Status.TheVariants.{Open}
 pub use Rattle.dob_rank.specs.Families.{IsInClass, IsPositionOf, class_number, class_setup, classes_of}
-pub use Rattle.dob_classes.proofs.OfFamilies.FamilyNumbers.{IsInClass-class_number, IsPositionOf-mirrored, class_number-below, class_number-mirrored}
-pub use Rattle.dob_pieces.proofs.BoardChanges.{piece_added, with_cell, with_hands, with_one}
-pub use Rattle.dob_classes.specs.Shown.{IsShown}
+pub use Rattle.dob_classes.proofs.OfFamilies.FamilyNumbers.{IsInClass-class_number, class_number-below}
+pub use Rattle.dob_classes.specs.Views.{IsShown}
 pub use Rattle.dob_value.proofs.ClassNumbers.{one_entry, one_of_class}
 pub use Rattle.dob_value.proofs.Consistency.{consistent_is_right}
 pub use Rattle.dob_value.proofs.Successors.{AreSuccessorsBelow, move_goes, moves_keep_the_family}

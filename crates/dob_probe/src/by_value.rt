@@ -1,6 +1,5 @@
 // The moves of a position with their values, best first, by a table and by whatever says values.
 ghost use Rattle.std.specs.Prelude.{◌≡◌, ◌⊎◌, [], ◌∷◌, ◌↔◌, ◌<◌, ◌≤◌, ◌||◌, ℕ, length, get_or, Contains, AllPairs, IsTrue, IfOk, IfErr, OnOk, Err};
-ghost use Rattle.dob_pieces.specs.declared.setup.Setup.{Setup};
 ghost use Rattle.dob_pieces.specs.Profiles.{IsAllowed};
 ghost use Rattle.dob_moves.specs.Moves.{place};
 ghost use Rattle.dob_moves.specs.Statuses.{AreMoves, CanCatch};

@@ -1,9 +1,9 @@
 // How many of some classes of a table have which value, and which class is the first to have it: counted part by part, and added up.
-ghost use Rattle.std.specs.Prelude.{◌≡◌, ◌+◌, ◌-◌, ◌<◌, ◌≤◌, ◌^◌, ℕ, None, List, length, slice_get, Some, get_or, [], ◌∷◌, ◌++◌, IfOk, OnOk, vec_len, All, option_to_list};
+ghost use Rattle.std.specs.Prelude.{◌≡◌, ◌+◌, ◌-◌, ◌<◌, ◌≤◌, ◌^◌, ℕ, None, List, length, Some, get_or, [], ◌∷◌, ◌++◌, IfOk, OnOk, vec_len, All, option_to_list};
 ghost use Rattle.dob_distance.specs.declared.value.Value.{Value as Valued};
 ghost use Rattle.dob_distance.specs.Codes.{code_of_value, IsEntry};
 ghost use Rattle.dob_probe.specs.Statistics.{AreGroups};
-ghost use Rattle.dob_probe.specs.Slots.{HasSlot, AreSlots, both_slots, part_of, with_class, HasRoom};
+ghost use Rattle.dob_probe.specs.Slots.{AreSlots, both_slots, part_of, with_class, HasRoom};
 
 use dob_pieces::Memory;
 use dob_value::{Table, Value, code_of_value};

@@ -1,7 +1,7 @@
 // What positions have in common that are alike: how many pieces of each kind stand on the board, and where the lions stand.
 ghost use Rattle.std.specs.Prelude.{◌≡◌, count_by};
 ghost use Rattle.std.specs.List.{list_any};
-ghost use Rattle.dob_pieces.specs.Setups.{held, holds_kind, total};
+ghost use Rattle.dob_pieces.specs.Setups.{holds_kind, total};
 ghost use Rattle.dob_probe.specs.Outlines.{IsOutline, same_outline};
 
 use dob_pieces::{Board, HandKind, Position};

@@ -1,11 +1,10 @@
 // Puzzles of a table: classes with exactly one fastest winning move.
-ghost use Rattle.std.specs.Prelude.{◌≡◌, ◌<◌, ◌≤◌, ◌&&◌, length, IfOk, OnOk};
+ghost use Rattle.std.specs.Prelude.{◌≡◌, ◌<◌, ◌&&◌, length, IfOk, OnOk};
 ghost use Rattle.std.specs.List.{list_any};
 ghost use Rattle.dob_moves.specs.declared.game_move.Move.{Move as Moved};
 ghost use Rattle.dob_probe.specs.Outlines.{AreOutlines, IsOutlineOf, same_outline};
 ghost use Rattle.dob_moves.specs.Statuses.{AreMoves};
 ghost use Rattle.dob_rank.specs.Families.{IsPositionOf};
-ghost use Rattle.dob_value.specs.Follows.{IsTable};
 ghost use Rattle.dob_distance.specs.declared.value.Value.TheVariants.{Loss};
 ghost use Rattle.dob_probe.specs.Lines.{GivenBy};
 ghost use Rattle.dob_probe.specs.Puzzles.{ArePuzzles, IsListedNext, puzzle_of};

@@ -17,7 +17,7 @@ ghost use Rattle.dob_probe.specs.Sums.{AreSummed, HasNext, value_after};
 
 use dob_moves::{Move, Status, board_after, moves_into};
 use dob_pieces::{Board, Memory, Position};
-use dob_value::{Table, Value, outcome_of};
+use dob_value::{Table, Value};
 
 /// What is kept of the successors' values.
 #[derive(Clone, Copy)]
@@ -139,14 +139,14 @@ fn successors_of(table: &Table, position: &Position, legal: &[Move]) -> Successo
     let seen = Board::turned(&position.setup);
     let mut kept = Successors::none();
     for played in legal {
-        let value = value_shown(table, position, &seen, *played);
+        let value = successor_value(table, position, &seen, *played);
         kept = kept.with(value);
     }
     kept
 }
 
 // The value of the position to which the move leads, by the board that the enemy sees before it.
-fn value_shown(table: &Table, position: &Position, seen: &Board, played: Move) -> Value
+fn successor_value(table: &Table, position: &Position, seen: &Board, played: Move) -> Value
     requires member { IsPositionOf table.now.family position.now.setup }
     requires played { HasStatus table.now.family.profile position.now.setup Status.Open × CanGo table.now.family.profile position.now.setup played }
     requires seen { IsBoardOf (turned position.now.setup) seen.now }
@@ -163,5 +163,5 @@ pub(crate) fn value_to(table: &Table, position: &Position, played: Move) -> Valu
     requires played { HasStatus table.now.family.profile position.now.setup Status.Open × CanGo table.now.family.profile position.now.setup played }
     ensures { (q : Setup) → Goes table.now.family.profile position.now.setup played q → GivenBy table.now q result }
 {
-    table.value_of(&outcome_of(table.family(), position, played))
+    successor_value(table, position, &Board::turned(&position.setup), played)
 }

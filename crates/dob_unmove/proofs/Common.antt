@@ -1,6 +1,6 @@
 -- The names that the proofs here use most, from other crates and the definitions of this one.
-pub use Rattle.std.proofs.Common.{if◌then◌else◌, ◌%◌, ◌&&◌, ◌*◌, ◌++◌, ◌+◌, ◌-◌, ◌<◌, ◌==◌, ◌^◌, ◌||◌, ◌↔◌, ◌∙◌, ◌∷◌, ◌≡◌, ◌≢◌, ◌≤◌, ◌⊎◌, All, AllPairs, Bool}
-pub use Rattle.std.proofs.Common.{Contains, IsTrue, List, None, Option, Some, [], add-one, ap, append-nil, arith, bit_and, bit_or, cond, false, get_or, inl}
+pub use Rattle.std.proofs.Common.{if◌then◌else◌, ◌%◌, ◌&&◌, ◌*◌, ◌++◌, ◌+◌, ◌-◌, ◌<◌, ◌==◌, ◌^◌, ◌||◌, ◌∙◌, ◌∷◌, ◌≡◌, ◌≢◌, ◌≤◌, ◌⊎◌, All, AllPairs, Bool}
+pub use Rattle.std.proofs.Common.{Contains, List, None, Option, Some, [], add-one, ap, append-nil, arith, bit_and, bit_or, cond, false, get_or, inl}
 pub use Rattle.std.proofs.Common.{inr, length, length-append, nat_lt, not, option_to_list, refl, rules, set, subst, suc, sym, true, true≢false, zero, ℕ}
 pub use Rattle.std.proofs.lemmas.Bool.{and_parts, cases_Bool, cases_eq, cases_lt, cases_order, eq-eqb, eqb-true, lt-ltb, ltb-true, ne_eqb, not-true}
 pub use Rattle.std.proofs.lemmas.List.{get_or-set_other, get_or-set_same, get_or_past, length-set, set-get_or, set-set, set_comm}
@@ -14,7 +14,7 @@ pub use Rattle.std.specs.Int.{trailing_zeros, w16}
 pub use Rattle.std.specs.List.{count_by, filter}
 pub use Rattle.std.specs.Option.{MatchOption, is_some}
 pub use Rattle.dob_pieces.proofs.Attacks.{attacks_piece, cell_lion, is_that_lion, lion_at, own_attacks}
-pub use Rattle.dob_pieces.proofs.Boards.{HasFewPieces-turned, HasLions-turned, IsLegal-mirrored, all_below, all_below-at, at-mirrored, at-turned, leads-apart}
+pub use Rattle.dob_pieces.proofs.Boards.{HasFewPieces-turned, HasLions-turned, all_below, all_below-at, at-mirrored, at-turned, leads-apart}
 pub use Rattle.dob_pieces.proofs.Boards.{leads-to_board, length-mirrored, length-turned, one_lion, own_lion, total-mirrored, within-from_piece}
 pub use Rattle.dob_pieces.proofs.Lists.{cond_sound, cons_cases, each_sound, head_in, none_in_empty}
 pub use Rattle.dob_pieces.proofs.MaskBits.{IsLeft, IsMask-and, IsMask-or, IsMask-same, IsMask-without, all_left, next_left, none_left, none_passes, without}
@@ -56,13 +56,14 @@ pub use Rattle.dob_rank.specs.Order.{IsEither, IsFirstOfTwo, Precedes, each_kind
 unfoldable pub use Rattle.dob_rank.specs.Order.{Before, key}
 pub use Rattle.dob_classes.proofs.OfFamilies.Counted.{no_longer, pairs-head, pairs-tail}
 pub use Rattle.dob_classes.proofs.OfFamilies.FamilyNumbers.{IsPositionOf-mirrored}
-pub use Rattle.dob_pieces.proofs.BoardChanges.{nothing_added, piece_added, with_cell, with_cells, with_hands, with_one, without_piece}
+pub use Rattle.dob_pieces.proofs.BoardChanges.{nothing_added, with_cell, with_cells, with_hands, with_one}
 pub use Rattle.dob_pieces.specs.Boards.{IsBoardOf}
-pub use Rattle.dob_classes.specs.Shown.{IsShown}
+pub use Rattle.dob_classes.specs.Views.{IsShown}
 pub use Rattle.dob_pieces.specs.Changes.{IsWith}
 pub use Rattle.dob_pieces.specs.declared.board.Board.{Board}
 pub use Rattle.dob_unmove.specs.Classes.{IsSeenTurned, RepresentsClass}
 pub use Rattle.dob_unmove.specs.Ends.{CanWalk}
+unfoldable pub use Rattle.dob_unmove.specs.Ends.{setup_after}
 pub use Rattle.dob_unmove.specs.Gathers.{Adds, Finds, Gathers, IsOpenRepresentative}
 pub use Rattle.dob_unmove.specs.Threats.{AreAttackers, IsThreat, elsewhere, stood_before}
 pub use Rattle.dob_unmove.specs.Undoes.{CanGiveBack, CanUndo, CanUnstep, arrives_at, choice, enemy_cell, may_give_back, without_caught}

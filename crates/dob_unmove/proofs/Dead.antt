@@ -5,7 +5,7 @@ use Rattle.dob_unmove.proofs.Common.{inl, inr, not, cases_eq, one_lion, side_of,
 use Rattle.dob_unmove.proofs.Common.{sym, true, true≢false, ℕ, and_parts, cases_Bool, not-true, trailing_zeros, w16, lion_at, is_empty, is_own, is_piece}
 use Rattle.dob_unmove.proofs.Common.{kind_of, leads, Cell, IsLegal, at, piece_of, Kind, Chick, Elephant, Giraffe, Hen, Lion, Enemy, Mover, Family, Setup}
 use Rattle.dob_unmove.proofs.Common.{IsSeenTurned, CanWalk, Gathers, elsewhere, stood_before, CanUndo, CanUnstep, arrives_at, earlier, stands, uncatch}
-use Rattle.dob_unmove.proofs.Common.{undoes_at, unsteps_between, unsteps_from, comes_home, is_home, may_come, may_have_ended, Threat, Undo, Unput, Unstep}
+use Rattle.dob_unmove.proofs.Common.{undoes_at, unsteps_between, unsteps_from, comes_home, is_home, may_come, may_have_ended, Threat, Undo, Unput, Unstep, setup_after}
 use Rattle.std.proofs.lemmas.Bool.{and_cases, not-false, or_cases, or_parts}
 use Rattle.dob_rank.specs.Families.{RepresentsClass}
 use Rattle.dob_unmove.specs.declared.predecessors.Walk.{Walk}
@@ -55,7 +55,7 @@ module _ (walk : Walk) (w : CanWalk walk) where
   family = walk.classes.now.family
 
   abbrev after : Setup
-  after = walk.after.value
+  after = setup_after walk
 
   abbrev threat : Threat
   threat = walk.ways.now.threat

@@ -3,7 +3,7 @@ use Rattle.dob_unmove.proofs.Common.{rules, ◌<◌, ◌∙◌, ◌∷◌, ◌�
 use Rattle.dob_unmove.proofs.Common.{cases_lt, eq-eqb, eqb-true, All-contains, All-filter, filter_passes, AllPairs-filter, length-filter, count_by, filter}
 use Rattle.dob_unmove.proofs.Common.{cons_cases, head_in, none_in_empty, turned, Family, Profile, A, Setup, CanGo, IsAllowed-Goes, Goes, place, AreMoves}
 use Rattle.dob_unmove.proofs.Common.{HasStatus, Move, Open, HasClass-marked, HasClasses-classes_of, IsPositionOf, classes_of, IsEither, no_longer}
-use Rattle.dob_unmove.proofs.Common.{IsPositionOf-mirrored, ArePredecessors, CountEdges, HasEdges, LeadsInto}
+use Rattle.dob_unmove.proofs.Common.{IsPositionOf-mirrored, ArePredecessors, CountEdges, HasEdges, LeadsInto, IsSeenTurned, refl}
 use Rattle.std.proofs.lemmas.Bool.{cond_both}
 use Rattle.std.proofs.lemmas.List.Elements.{Contains-get_or}
 use Rattle.dob_pieces.proofs.Lists.{rest_in}
@@ -26,6 +26,10 @@ use Rattle.dob_unmove.proofs.Ascending.{times, ascending_same, each-below, each-
 
 pub RepresentsClass-class_setup : (family : Family) (class : ℕ) → class < classes_of family → RepresentsClass family (class_setup family class) class
 RepresentsClass-class_setup family class below = class_setup_is family class (classes_of family) (HasClasses-classes_of family) below
+
+-- as the side sees it whose move led there
+abbrev pub class_seen : (family : Family) (class : ℕ) → class < classes_of family → IsSeenTurned (IsPositionOf family) (turned (class_setup family class))
+class_seen family class below = (class_setup family class, (RepresentsClass-class_setup family class below).0.0, refl)
 
 -- the representative's number is that of its class
 number_of_representative : (family : Family) (q : Setup) (class : ℕ) → RepresentsClass family q class → class_number family q ≡ class

@@ -6,6 +6,7 @@ use Rattle.dob_unmove.proofs.Common.{mirrored_square, Hands, HandKind, Lion, Sid
 use Rattle.dob_unmove.proofs.Common.{forms, key, squares, squares_from, IsPositionOf-mirrored, is_home}
 use Rattle.std.proofs.lemmas.Bool.Decides.{nat_tests}
 use Rattle.std.proofs.lemmas.List.Sums.{get_or-le-sum_by}
+use Rattle.dob_pieces.proofs.ImageMasks.{hands-mirrored}
 use Rattle.dob_pieces.specs.declared.kind.HandKind.TheVariants as hand
 use Rattle.dob_rank.specs.Families.{RepresentsClass}
 
@@ -44,10 +45,6 @@ lion_square side family p s is there =
     (ap (holds_lion side) there ∙ own_lion side) ∙ ap (λ (n : ℕ). n ∷ []) same
 
 -- ---- the order with the mirror image
-
-hands-mirrored : (p : Setup) → (mirrored p).hands ≡ p.hands
-unfolding mirrored
-hands-mirrored p = refl
 
 counts-mirrored : (kind : HandKind) (p : Setup) → length p.board ≡ 12 → count_by (holds_kind kind) (mirrored p).board ≡ count_by (holds_kind kind) p.board
 unfolding total

@@ -1,7 +1,7 @@
 -- Taking a move back keeps the lions and the other pieces, and the profile allows what stood before just where the piece that was caught may stand again.
 use Rattle.dob_unmove.proofs.Common.{if◌then◌else◌, ◌<◌, ◌∙◌, ◌≡◌, Bool, Some, ap, arith, false, inl, inr, length, not, refl, subst, sym, true, true≢false, ℕ}
 use Rattle.dob_unmove.proofs.Common.{cases_eq, all_below, all_below-at, leads-to_board, within-from_piece, leads, is_far, may_stand, piece_of, row, Kind}
-use Rattle.dob_unmove.proofs.Common.{Chick, Mover, Profile, A, B, none_stands, enemy_cell, Unput, Unstep, IsLegal-mirrored, turned-mirrored, IsAllowed}
+use Rattle.dob_unmove.proofs.Common.{Chick, Mover, Profile, A, B, none_stands, enemy_cell, Unput, Unstep, turned-mirrored, IsAllowed}
 use Rattle.dob_unmove.proofs.Common.{HasLionOffFarRow, IsLegal, mirrored, total, turned, Family, Setup, IsPositionOf, IsPositionOf-mirrored, IsBoardOf}
 use Rattle.dob_unmove.proofs.Common.{IsShown, Board, IsSeenTurned, CanUndo, earlier, may_give_back, Undo}
 use Rattle.dob_pieces.proofs.Allowed.{stands-from_allowed, allowed-from_stands, IsAllowed-turned}
@@ -92,8 +92,5 @@ pub position_mirrored : (family : Family) (q image : Setup) → IsPositionOf fam
 position_mirrored family q image is e = subst (IsPositionOf family) (sym e) (IsPositionOf-mirrored family q is)
 
 -- the mirror image of a turned position is a turned one
-pub turned_legal : (q t : Setup) → IsLegal q → t ≡ mirrored (turned q) → IsSeenTurned IsLegal t
-turned_legal q t legal e = (mirrored q, IsLegal-mirrored q legal, e ∙ sym (turned-mirrored q))
-
-pub turned_position : (family : Family) (q t : Setup) → IsPositionOf family q → t ≡ mirrored (turned q) → IsSeenTurned (IsPositionOf family) t
-turned_position family q t is e = (mirrored q, IsPositionOf-mirrored family q is, e ∙ sym (turned-mirrored q))
+pub turned_image : (family : Family) (q : Setup) → IsPositionOf family q → IsSeenTurned (IsPositionOf family) (mirrored (turned q))
+turned_image family q is = (mirrored q, IsPositionOf-mirrored family q is, sym (turned-mirrored q))

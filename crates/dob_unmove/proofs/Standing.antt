@@ -1,11 +1,8 @@
 -- What the piece that stands on a square says of the ways that end there: only lists of its own kind have some.
 use Rattle.dob_unmove.proofs.Common.{◌++◌, ◌==◌, ◌∷◌, ◌≡◌, Bool, Some, [], ap, append-nil, cond, false, refl, true, ℕ, is_kind, kind_on_board, at, piece_of}
-use Rattle.dob_unmove.proofs.Common.{row, HandKind, Kind, Chick, Elephant, Giraffe, Hen, Lion, Mover, Setup, arrives_at, if_so, stands, undoes_at, unputs}
-use Rattle.dob_unmove.proofs.Common.{unsteps, Unput, None}
+use Rattle.dob_unmove.proofs.Common.{row, HandKind, Kind, Chick, Elephant, Giraffe, Hen, Lion, Mover, Setup, if_so, undoes_at, unputs, unsteps, Unput}
 use Rattle.dob_pieces.specs.declared.kind.HandKind.TheVariants as hand
-use Rattle.std.proofs.lemmas.Bool.{false_from_ne_true}
-use Rattle.dob_pieces.specs.Masks.{own_kind}
-use Rattle.dob_unmove.proofs.Listed.{stands-from, stands-true}
+use Rattle.dob_unmove.proofs.Listed.{stands-from}
 
 -- no chick becomes one of the others
 chick_apart : (own : Kind) (grows : Bool) → is_kind own Chick ≡ false → is_kind own Hen ≡ false → is_kind own (cond grows Hen Chick) ≡ false

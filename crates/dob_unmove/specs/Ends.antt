@@ -1,8 +1,9 @@
 -- What is known of a walk over the ways to take a move back and of a square on which that move may have ended, and what is gathered.
-use Rattle.std.specs.Prelude.{◌≡◌, ℕ, List, true, false}
+use Rattle.std.specs.Prelude.{◌≡◌, ℕ, List, true, false, cond}
 use Rattle.dob_pieces.specs.Masks.{is_own}
-use Rattle.dob_pieces.specs.Setups.{at}
-use Rattle.dob_rank.specs.Families.{IsPositionOf, RepresentsClass}
+use Rattle.dob_pieces.specs.declared.setup.Setup.{Setup}
+use Rattle.dob_pieces.specs.Setups.{at, mirrored, turned}
+use Rattle.dob_rank.specs.Families.{IsPositionOf, RepresentsClass, class_setup}
 use Rattle.dob_unmove.specs.declared.predecessors.End.{End}
 use Rattle.dob_unmove.specs.declared.predecessors.Walk.{Walk}
 use Rattle.dob_unmove.specs.declared.undo.Undo.{Undo}
@@ -11,18 +12,24 @@ use Rattle.dob_unmove.specs.Gathers.{Gathers}
 use Rattle.dob_unmove.specs.Threats.{elsewhere}
 use Rattle.dob_unmove.specs.Ways.{HasLionHome, AreWays}
 
+-- the setup that the moves left: the representative of the class as the side sees it that made them, or the mirror image of that
+unfoldable pub setup_after : Walk → Setup
+setup_after walk =
+    let after = turned (class_setup walk.classes.now.family walk.class) in
+    cond walk.is_image (mirrored after) after
+
 -- the setup stands after a move of positions of the family, and the ways are those that lead to it
 pub record CanWalk (walk : Walk) : Type 0 where
-  pub of_set : IsSeenTurned (IsPositionOf walk.classes.now.family) walk.after.value
-  pub ways_are : AreWays walk.after.value walk.ways.now
+  pub of_set : IsSeenTurned (IsPositionOf walk.classes.now.family) (setup_after walk)
+  pub ways_are : AreWays (setup_after walk) walk.ways.now
 
 -- a piece of the mover stands there, none on another square attacks the enemy lion, and the mover's lion came there or stands at home
 pub record CanEnd (end : End) : Type 0 where
   pub walk : CanWalk end.walk.now
-  pub own : is_own (at end.walk.now.after.value end.to) ≡ true
+  pub own : is_own (at (setup_after end.walk.now) end.to) ≡ true
   pub calm : elsewhere end.walk.now.ways.now.threat.attackers end.to ≡ false
-  pub home : HasLionHome end.walk.now.after.value end.walk.now.ways.now.threat.lion end.to
+  pub home : HasLionHome (setup_after end.walk.now) end.walk.now.ways.now.threat.lion end.to
 
 -- what the ways, one after the other, add to the classes that the walk has found
 abbrev pub Collects : Walk → List Undo → List ℕ → List ℕ → Type 0
-Collects walk undoes old new = Gathers (RepresentsClass walk.classes.now.family) walk.after.value undoes old new
+Collects walk undoes old new = Gathers (RepresentsClass walk.classes.now.family) (setup_after walk) undoes old new

@@ -5,7 +5,7 @@
 // - The walk by masks skips a way if no open representative can have stood before it: a piece attacked the enemy lion, the mover's lion stood on row 4, or
 //   the lions' columns say that the mirror image is the earlier one. The plain walk, which looks at every way back (`dob_plain`), has the same promise and
 //   the same order, so one list of ways serves both proofs; what the two share of a way is public (`Undo`, `Threat`, `may_give_back` and the like).
-// - Contracts speak of setups that the code doesn't read (it reads boards), and the compiler leaves their cells out.
+// - Contracts speak of setups by the numbers of their classes; the code reads boards, and makes no cells.
 #![tactic(auto)]
 
 mod attackers;

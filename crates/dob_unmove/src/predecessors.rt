@@ -1,14 +1,12 @@
 // The classes from which a class is reached: the walk over the ways back that the board leaves.
-ghost use Rattle.std.specs.Prelude.{◌≡◌, ◌↔◌, true, false, ◌<◌, ℕ, ◌∷◌, [], Some, IsTrue, IfOk, OnOk, MatchOption};
+ghost use Rattle.std.specs.Prelude.{◌≡◌, ◌↔◌, true, false, ◌<◌, ◌∷◌, [], Some, IsTrue, IfOk, OnOk};
 ghost use Rattle.dob_pieces.specs.declared.profile.Profile.TheVariants.{A};
 ghost use Rattle.dob_pieces.specs.declared.setup.Setup.{Setup};
 ghost use Rattle.dob_pieces.specs.Pieces.{kind_on_board};
 ghost use Rattle.dob_pieces.specs.Setups.{at, piece_of, turned, mirrored, HasLionOffFarRow};
 ghost use Rattle.dob_pieces.specs.declared.kind.Kind.{Kind};
 ghost use Rattle.dob_pieces.specs.declared.kind.Side.TheVariants.{Mover};
-ghost use Rattle.dob_pieces.specs.Boards.{IsBoardOf};
-ghost use Rattle.dob_classes.specs.Shown.{IsShown};
-ghost use Rattle.dob_rank.specs.Families.{classes_of};
+ghost use Rattle.dob_rank.specs.Families.{classes_of, class_setup};
 ghost use Rattle.dob_unmove.specs.declared.undo.Undo.{Undo};
 ghost use Rattle.dob_unmove.specs.Undoes.{arrives_at as arrival, CanUndo, earlier};
 ghost use Rattle.dob_unmove.specs.Unmoves.{CountEdges, ArePredecessors};
@@ -18,25 +16,23 @@ ghost use Rattle.dob_unmove.specs.Gathers.{Finds};
 ghost use Rattle.dob_unmove.specs.Threats.{stood_before};
 ghost use Rattle.dob_unmove.specs.Walks.{stands, uncatch, unsteps_from, unsteps, unputs, undoes_at, undoes};
 ghost use Rattle.dob_unmove.specs.Ways.{may_come, AreWays};
-ghost use Rattle.dob_unmove.specs.Ends.{CanWalk, CanEnd, Collects};
+ghost use Rattle.dob_unmove.specs.Ends.{CanWalk, CanEnd, Collects, setup_after};
 
 use crate::bits_before::bits_before;
 use crate::earlier::may_give_back;
 use crate::undo::Undo;
 use crate::ways::Ways;
-use dob_classes::{Classes, Shown};
-use dob_pieces::{
-    Board, HandKind, Kind, Memory, Setup, Side, Square, lowest_square, without_square,
-};
+use dob_classes::Classes;
+use dob_pieces::{HandKind, Kind, Memory, Side, Square, lowest_square, without_square};
 use std::alloc::Global;
-use std::snapshot::Snapshot;
 
-// A walk over the ways to take the move back that left a setup, in which the side that made it is the mover. The sets of
-// squares show all that a walk asks of the setup, which is known of and not made.
+// A walk over the ways to take back the moves that led to the representative of the class, or to its mirror image. The side
+// that made them is the mover in the ways, whose board shows all that a walk asks of the setup.
 #[derive(Drop)]
 struct Walk<'a> {
     classes: &'a Classes,
-    after: Snapshot<Setup>,
+    class: u64,
+    is_image: bool,
     ways: &'a Ways,
 }
 
@@ -51,7 +47,7 @@ impl Walk<'_> {
     // Appends the classes of the open representatives that stood before the setup.
     fn gather_all(&self, found: &mut Vec<u64>) -> Result<(), Memory>
         requires { CanWalk self.now }
-        ensures { OnOk result (Collects self.now (undoes self.now.after.value) found.old.items found.new.items) }
+        ensures { OnOk result (Collects self.now (undoes (setup_after self.now)) found.old.items found.new.items) }
     {
         let mut left = self.ways.ends;
         while left != 0 {
@@ -66,9 +62,9 @@ impl Walk<'_> {
     // The one from which the move was made in that way, if it was the earlier one of its class.
     fn gather_one(&self, undo: Undo, found: &mut Vec<u64>) -> Result<(), Memory>
         requires walk { CanWalk self.now }
-        requires can { CanUndo self.now.after.value undo }
+        requires can { CanUndo (setup_after self.now) undo }
         requires calm { stood_before self.now.ways.now.threat undo ≡ false }
-        requires home { HasLionOffFarRow (earlier self.now.after.value undo) }
+        requires home { HasLionOffFarRow (earlier (setup_after self.now) undo) }
         ensures { OnOk result (Collects self.now (undo ∷ []) found.old.items found.new.items) }
     {
         if let Some(class) = self.class_before(undo) {
@@ -81,13 +77,14 @@ impl Walk<'_> {
     // profile B no chick is given back on row 1, where none stood.
     fn class_before(&self, undo: Undo) -> Option<u64>
         requires walk { CanWalk self.now }
-        requires can { CanUndo self.now.after.value undo }
+        requires can { CanUndo (setup_after self.now) undo }
         requires calm { stood_before self.now.ways.now.threat undo ≡ false }
-        requires home { HasLionOffFarRow (earlier self.now.after.value undo) }
-        ensures { Finds (RepresentsClass self.now.classes.now.family) (earlier self.now.after.value undo) result }
+        requires home { HasLionOffFarRow (earlier (setup_after self.now) undo) }
+        ensures { Finds (RepresentsClass self.now.classes.now.family) (earlier (setup_after self.now) undo) result }
     {
         if may_give_back(self.classes.family.profile, &undo) {
-            class_if_representative(self.classes, &bits_before(self.ways.board, undo))
+            let before = bits_before(self.ways.board, undo);
+            self.classes.class_if_representative(&before)
         } else {
             None
         }
@@ -98,7 +95,7 @@ impl End<'_> {
     // Appends the classes of those from which the move ended on the square.
     fn gather_all(&self, found: &mut Vec<u64>) -> Result<(), Memory>
         requires { CanEnd self.now }
-        ensures { OnOk result (Collects self.now.walk.now (undoes_at self.now.walk.now.after.value self.now.to) found.old.items found.new.items) }
+        ensures { OnOk result (Collects self.now.walk.now (undoes_at (setup_after self.now.walk.now) self.now.to) found.old.items found.new.items) }
     {
         self.gather_kind(self.walk.ways.board.own_kind(self.to), found)
     }
@@ -106,8 +103,8 @@ impl End<'_> {
     // Those from which the mover's piece of that kind came to the square, on which it stands.
     fn gather_kind(&self, kind: Kind, found: &mut Vec<u64>) -> Result<(), Memory>
         requires end { CanEnd self.now }
-        requires stands { at self.now.walk.now.after.value self.now.to ≡ Some (piece_of Mover kind) }
-        ensures { OnOk result (Collects self.now.walk.now (undoes_at self.now.walk.now.after.value self.now.to) found.old.items found.new.items) }
+        requires stands { at (setup_after self.now.walk.now) self.now.to ≡ Some (piece_of Mover kind) }
+        ensures { OnOk result (Collects self.now.walk.now (undoes_at (setup_after self.now.walk.now) self.now.to) found.old.items found.new.items) }
     {
         match kind {
             Kind::Lion => self.gather_steps(Kind::Lion, found),
@@ -128,8 +125,8 @@ impl End<'_> {
     // have made it a hen.
     fn gather_chick(&self, found: &mut Vec<u64>) -> Result<(), Memory>
         requires end { CanEnd self.now }
-        requires stands { at self.now.walk.now.after.value self.now.to ≡ Some (piece_of Mover Kind.Chick) }
-        ensures { OnOk result (Collects self.now.walk.now (undoes_at self.now.walk.now.after.value self.now.to) found.old.items found.new.items) }
+        requires stands { at (setup_after self.now.walk.now) self.now.to ≡ Some (piece_of Mover Kind.Chick) }
+        ensures { OnOk result (Collects self.now.walk.now (undoes_at (setup_after self.now.walk.now) self.now.to) found.old.items found.new.items) }
     {
         if self.to.row() != 3 {
             self.gather_steps(Kind::Chick, found)?;
@@ -140,8 +137,8 @@ impl End<'_> {
     // Those from which the hen came that stands on the square: on its far row as a chick too.
     fn gather_hen(&self, found: &mut Vec<u64>) -> Result<(), Memory>
         requires end { CanEnd self.now }
-        requires stands { at self.now.walk.now.after.value self.now.to ≡ Some (piece_of Mover Kind.Hen) }
-        ensures { OnOk result (Collects self.now.walk.now (undoes_at self.now.walk.now.after.value self.now.to) found.old.items found.new.items) }
+        requires stands { at (setup_after self.now.walk.now) self.now.to ≡ Some (piece_of Mover Kind.Hen) }
+        ensures { OnOk result (Collects self.now.walk.now (undoes_at (setup_after self.now.walk.now) self.now.to) found.old.items found.new.items) }
     {
         if self.to.row() == 3 {
             self.gather_steps(Kind::Chick, found)?;
@@ -152,8 +149,8 @@ impl End<'_> {
     // Those from which a piece of that kind stepped to the square, on which it stands as what it became.
     fn gather_steps(&self, kind: Kind, found: &mut Vec<u64>) -> Result<(), Memory>
         requires end { CanEnd self.now }
-        requires stands { stands (at self.now.walk.now.after.value self.now.to) (arrival kind self.now.to) ≡ true }
-        ensures { OnOk result (Collects self.now.walk.now (unsteps self.now.walk.now.after.value kind self.now.to) found.old.items found.new.items) }
+        requires stands { stands (at (setup_after self.now.walk.now) self.now.to) (arrival kind self.now.to) ≡ true }
+        ensures { OnOk result (Collects self.now.walk.now (unsteps (setup_after self.now.walk.now) kind self.now.to) found.old.items found.new.items) }
     {
         let mut left = self.walk.ways.sources(kind, self.to);
         while left != 0 {
@@ -173,9 +170,9 @@ impl End<'_> {
         found: &mut Vec<u64>,
     ) -> Result<(), Memory>
         requires end { CanEnd self.now }
-        requires stands { stands (at self.now.walk.now.after.value self.now.to) (arrival kind self.now.to) ≡ true }
-        requires comes { may_come self.now.walk.now.after.value self.now.walk.now.ways.now.threat.lion kind self.now.to from ≡ true }
-        ensures { OnOk result (Collects self.now.walk.now (unsteps_from self.now.walk.now.after.value kind self.now.to from) found.old.items found.new.items) }
+        requires stands { stands (at (setup_after self.now.walk.now) self.now.to) (arrival kind self.now.to) ≡ true }
+        requires comes { may_come (setup_after self.now.walk.now) self.now.walk.now.ways.now.threat.lion kind self.now.to from ≡ true }
+        ensures { OnOk result (Collects self.now.walk.now (unsteps_from (setup_after self.now.walk.now) kind self.now.to from) found.old.items found.new.items) }
     {
         let undo = Undo::Unstep {
             kind,
@@ -200,9 +197,9 @@ impl End<'_> {
         found: &mut Vec<u64>,
     ) -> Result<(), Memory>
         requires end { CanEnd self.now }
-        requires step { CanUndo self.now.walk.now.after.value (Undo.Unstep kind from self.now.to None) }
-        requires comes { may_come self.now.walk.now.after.value self.now.walk.now.ways.now.threat.lion kind self.now.to from ≡ true }
-        ensures { OnOk result (Collects self.now.walk.now (uncatch self.now.walk.now.after.value kind from self.now.to caught) found.old.items found.new.items) }
+        requires stands { stands (at (setup_after self.now.walk.now) self.now.to) (arrival kind self.now.to) ≡ true }
+        requires comes { may_come (setup_after self.now.walk.now) self.now.walk.now.ways.now.threat.lion kind self.now.to from ≡ true }
+        ensures { OnOk result (Collects self.now.walk.now (uncatch (setup_after self.now.walk.now) kind from self.now.to caught) found.old.items found.new.items) }
     {
         if !self.walk.ways.holds_caught(caught) {
             return Ok(());
@@ -219,64 +216,52 @@ impl End<'_> {
     // The one from which the piece of that kind that stands on the square was dropped there.
     fn gather_put(&self, kind: HandKind, found: &mut Vec<u64>) -> Result<(), Memory>
         requires end { CanEnd self.now }
-        requires stands { at self.now.walk.now.after.value self.now.to ≡ Some (piece_of Mover (kind_on_board kind)) }
-        ensures { OnOk result (Collects self.now.walk.now (unputs self.now.walk.now.after.value kind self.now.to) found.old.items found.new.items) }
+        requires stands { at (setup_after self.now.walk.now) self.now.to ≡ Some (piece_of Mover (kind_on_board kind)) }
+        ensures { OnOk result (Collects self.now.walk.now (unputs (setup_after self.now.walk.now) kind self.now.to) found.old.items found.new.items) }
     {
         self.walk
             .gather_one(Undo::Unput { kind, to: self.to }, found)
     }
 }
 
-// The class whose representative is the position of the family that the sets show; `None` if it is none.
-fn class_if_representative(classes: &Classes, board: &Board) -> Option<u64>
-    requires { (setup : Setup) × IsShown classes.now.family setup board.now }
-    ensures { (setup : Setup) → IsShown classes.now.family setup board.now
-        → MatchOption result (¬ ((class : ℕ) × RepresentsClass classes.now.family setup class)) (RepresentsClass classes.now.family setup) }
-{
-    classes.class_if_representative(board)
-}
-
 // Whether the representative of the class is its own mirror image. What is known of the turned setup says mostly that it isn't.
 fn is_own_image(classes: &Classes, class: u64, ways: &Ways) -> bool
-    requires { class < classes_of classes.now.family }
-    ensures { (setup : Setup) → RepresentsClass classes.now.family setup class → AreWays (turned setup) ways.now
-        → (IsTrue result ↔ (mirrored setup ≡ setup)) }
+    requires class { class < classes_of classes.now.family }
+    requires ways { AreWays (turned (class_setup classes.now.family class)) ways.now }
+    ensures { IsTrue result ↔ (mirrored (class_setup classes.now.family class) ≡ class_setup classes.now.family class) }
 {
     if ways.has_lions_on_b() {
-        let shown = classes.shown_at(class, Side::Mover);
-        return class_if_representative(classes, &shown.board.mirrored()).is_some();
+        let image = classes.board_at(class, Side::Mover).mirrored();
+        return classes.class_if_representative(&image).is_some();
     }
     false
 }
 
 // The classes from which moves lead to the representative of the class or to its mirror image, in the order of the walk, in
-// the room of that list. What the walks need of the setups are the sets of squares that the enemy sees of the representative; its
-// board, and those of the turned setup and of its image, only say of what the sets are, and are not made when the program runs.
+// the room of that list. What the walks need is the board that the enemy sees of the representative.
 #[inline(always)]
-fn gather(room: Vec<u64>, classes: &Classes, class: u64, shown: &Shown) -> Result<Vec<u64>, Memory>
-    requires class { class < classes_of classes.now.family }
-    requires representative { RepresentsClass classes.now.family shown.now.position.setup class }
-    requires board { IsBoardOf (turned shown.now.position.setup) shown.now.board }
-    ensures { IfOk result (λ list. CountEdges A (RepresentsClass classes.now.family) shown.now.position.setup list.items) }
+fn gather(room: Vec<u64>, classes: &Classes, class: u64) -> Result<Vec<u64>, Memory>
+    requires { class < classes_of classes.now.family }
+    ensures { IfOk result (λ list. CountEdges A (RepresentsClass classes.now.family) (class_setup classes.now.family class) list.items) }
 {
     let mut found = room;
     found.clear();
-    let after = shown.position.turned();
-    let ways = Ways::of(shown.board);
+    let ways = Ways::of(classes.board_at(class, Side::Enemy));
     let walk = Walk {
         classes,
-        after: Snapshot::of(&after),
+        class,
+        is_image: false,
         ways: &ways,
     };
     walk.gather_all(&mut found)?;
     if is_own_image(classes, class, &ways) {
         return Ok(found);
     }
-    let image = after.mirrored();
     let image_ways = Ways::of(ways.board.mirrored());
     let image_walk = Walk {
         classes,
-        after: Snapshot::of(&image),
+        class,
+        is_image: true,
         ways: &image_ways,
     };
     image_walk.gather_all(&mut found)?;
@@ -300,7 +285,7 @@ pub fn back_into(room: Vec<u64>, classes: &Classes, class: u64) -> Result<Vec<u6
     ensures counts { IfOk result (λ list. (q : Setup) → RepresentsClass classes.now.family q class → ArePredecessors classes.now.family.profile (RepresentsClass classes.now.family) q list.items) }
     ensures list { IfOk result (λ list. list.items ≡ predecessors classes.now.family class) }
 {
-    let mut numbers = gather(room, classes, class, &classes.shown_at(class, Side::Enemy))?;
+    let mut numbers = gather(room, classes, class)?;
     numbers.sort_unstable();
     Ok(numbers)
 }

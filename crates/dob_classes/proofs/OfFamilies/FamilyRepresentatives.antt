@@ -10,8 +10,8 @@ use Rattle.dob_rank.proofs.OfFamilies.FamilyOrder.{rank_of-rises}
 use Rattle.dob_rank.proofs.Positions.Sets.{set_of, IsPositionOfSet-set_of}
 use Rattle.dob_classes.proofs.OfFamilies.Counted.{fewer, one_count}
 use Rattle.dob_rank.proofs.Marked.Representatives.{not_before_itself, has_representative_of_set, one_of_either_of_set, same_representative_of_set, IsPlaceOf}
-use Rattle.dob_classes.proofs.OfFamilies.FamilyNumbers.{IsInClass-class_number, IsPositionOf-mirrored, below_by_marks, class_number-mirrored, earlier_is}
-use Rattle.dob_classes.proofs.OfFamilies.FamilyNumbers.{marks_below-rises}
+use Rattle.dob_classes.proofs.OfFamilies.FamilyNumbers.{IsAtClass, IsInClass-class_number, IsPositionOf-mirrored, below_by_marks, class_number-mirrored}
+use Rattle.dob_classes.proofs.OfFamilies.FamilyNumbers.{earlier_is, marks_below-rises, number_told}
 
 -- ---- a position and its mirror image
 
@@ -119,6 +119,11 @@ pub class_setup_only : (family : Family) (representative : Setup) (class classes
 class_setup_only family representative class classes all below is number =
     let there = class_setup_is family class classes all below in
     one_of_class family representative (class_setup family class) class is there.0 number there.1
+
+pub setup_at_class : (family : Family) (s : Setup) (class : ℕ) → IsAtClass family s class → s ≡ class_setup family class
+setup_at_class family s class at =
+    let below = (number_told family s class at.representative.0 (sym at.number_is)).1 in
+    class_setup_only family s class (classes_of family) (HasClasses-classes_of family) below at.representative at.before
 
 -- ---- the class that a position is in
 

@@ -1,18 +1,17 @@
--- The position of a class is the one that stands for it.
-use Rattle.dob_lawful.proofs.Common.{HasClasses-classes_of, class_setup_only, classes_of}
+-- The board shows the position that stands for the class.
+use Rattle.dob_lawful.proofs.Common.{class_setup}
+use Rattle.dob_lawful.proofs.Opens.{legal_class}
 use Rattle.dob_lawful.proofs.openings.opening_in.Goals as goal
 
 pub status_and_count_by-status-requires : goal.status_and_count_by-status-requires
-status_and_count_by-status-requires c = (c.shown_at.result.position.setup, c.shown_at.result.position.legal, c.shown_at.ensures.board)
+status_and_count_by-status-requires c =
+    let family = c.args.classes.now.family in
+    (class_setup family c.args.class, legal_class family c.args.class c.requires, c.board_at-board.ensures)
 
 pub returns : goal.returns
 returns c =
     let family = c.args.classes.now.family in
-    let p = c.shown_at.result.position in
+    let p = class_setup family c.args.class in
+    let legal = legal_class family c.args.class c.requires in
     let told = c.status_and_count_by-status.ensures in
-    let same = class_setup_only family p.setup c.args.class (classes_of family) (HasClasses-classes_of family) c.requires
-    c.shown_at.ensures.representative c.shown_at.ensures.class in
-    record {
-      status = rw same at (told.status p.setup p.legal c.shown_at.ensures.board);
-      moves = rw same at (told.count p.setup p.legal c.shown_at.ensures.board);
-    }
+    record { status = told.status p legal c.board_at-board.ensures; moves = told.count p legal c.board_at-board.ensures }

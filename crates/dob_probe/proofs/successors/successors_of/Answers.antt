@@ -7,8 +7,8 @@ pub loop-played-init : goal.loop-played-init
 loop-played-init c =
     ([], successors_none c.args.table.now.family.profile (λ (v : Value) q. GivenBy c.args.table.now q v) c.args.position.now.setup _, c.none-kept.ensures)
 
-pub value_shown-value-requires-clause-played : goal.value_shown-value-requires-clause-played
-value_shown-value-requires-clause-played c =
+pub successor_value-value-requires-clause-played : goal.successor_value-value-requires-clause-played
+successor_value-value-requires-clause-played c =
     move_goes c.args.table.now.family.profile c.args.position.now.setup c.args.legal.now c.loop-played.played-index c.played-item.result
     c.requires.legal c.loop-played-test.true c.played-item.is
 
@@ -19,13 +19,13 @@ loop-played-preserved c =
     let legal = c.args.legal.now in
     let index = c.loop-played.played-index in
     let played = c.played-item.result in
-    let value = c.value_shown-value.result in
+    let value = c.successor_value-value.result in
     let values : List Value = c.loop-played.invariant.0 in
     let here = slice_get_read legal _ index played refl c.loop-played-test.true c.played-item.is in
     let goes = move_goes c.args.table.now.family.profile setup legal index played c.requires.legal
     c.loop-played-test.true c.played-item.is in (
       values ++ value ∷ [],
-      successors_more c.args.table.now.family.profile Gives setup legal index values played value here goes.1 c.value_shown-value.ensures c.loop-played.invariant.1,
+      successors_more c.args.table.now.family.profile Gives setup legal index values played value here goes.1 c.successor_value-value.ensures c.loop-played.invariant.1,
       c.with-kept.ensures values c.loop-played.invariant.2,
     )
 

@@ -1,73 +1,83 @@
--- The walks over the position and over its mirror image count the edges.
-use Rattle.dob_unmove.proofs.Common.{◌↔◌, ◌∙◌, ◌≡◌, IsTrue, ap, refl, subst, sym, true≢false, mirrored, turned, Setup, IsBoardOf, IsLegal, IsSeenTurned}
-use Rattle.dob_unmove.proofs.Common.{RepresentsClass, AreWays}
+-- The walks over the representative and over its mirror image count the edges.
+use Rattle.dob_unmove.proofs.Common.{◌<◌, ◌∙◌, refl, sym, true≢false, ℕ, classes_of, mirrored, turned, Family, IsBoardOf, IsPositionOf, IsSeenTurned}
+use Rattle.dob_unmove.proofs.Common.{RepresentsClass, AreWays, setup_after}
+use Rattle.dob_rank.specs.Families.{class_setup}
 use Rattle.dob_unmove.proofs.Classes.{IsNumbering-classes}
+use Rattle.dob_unmove.proofs.Edges.{class_seen}
 use Rattle.dob_unmove.proofs.Gathering.{alone_found, both_found}
-use Rattle.dob_unmove.proofs.Kept.{turned_legal, turned_position}
+use Rattle.dob_unmove.proofs.Kept.{legal_turned, turned_image}
 use Rattle.dob_unmove.proofs.predecessors.gather.Goals as goal
-use Rattle.dob_unmove.proofs.predecessors.gather.Goals.{After-is_own_image, After-mirrored, After-of-ways}
+use Rattle.dob_unmove.proofs.predecessors.gather.Goals.{After-mirrored, After-of-ways}
 
--- the ways into the class's representative
-ways_are : (c : After-of-ways) → AreWays (turned c.args.shown.now.position.setup) c.of-ways.result
+image_seen : (family : Family) (class : ℕ) → class < classes_of family → IsSeenTurned (IsPositionOf family) (mirrored (turned (class_setup family class)))
+image_seen family class below = turned_image family (class_setup family class) (class_seen family class below).1
+
+-- the ways into the representative
+ways_are : (c : After-of-ways) → AreWays (turned (class_setup c.args.classes.now.family c.args.class)) c.of-ways.result
 ways_are c =
-    let p = c.args.shown.now.position.setup in
-    c.of-ways.ensures (turned p) (p, c.args.shown.now.position.legal, refl) c.requires.board
+    let family = c.args.classes.now.family in
+    let after = turned (class_setup family c.args.class) in
+    c.of-ways.ensures after (legal_turned family after (class_seen family c.args.class c.requires)) c.board_at.ensures
 
 pub of-ways-requires : goal.of-ways-requires
 of-ways-requires c =
-    let p = c.args.shown.now.position.setup in
-    (turned p, (p, c.args.shown.now.position.legal, refl), c.requires.board)
+    let family = c.args.classes.now.family in
+    let after = turned (class_setup family c.args.class) in
+    (after, legal_turned family after (class_seen family c.args.class c.requires), c.board_at.ensures)
 
 pub gather_all-requires : goal.gather_all-requires
-gather_all-requires c =
-    let seen = c.of.ensures ∙ c.turned-after.ensures in
-    record {
-      of_set = (c.args.shown.now.position.setup, c.requires.representative.0.0, seen);
-      ways_are = subst (λ (s : Setup). AreWays s c.of-ways.result) (sym seen) (ways_are (goal.at.gather_all-requires c).After-of-ways);
-    }
+unfolding setup_after
+gather_all-requires c = record {
+  of_set = class_seen c.args.classes.now.family c.args.class c.requires;
+  ways_are = ways_are (goal.at.gather_all-requires c).After-of-ways;
+}
+
+pub is_own_image-requires-clause-ways : goal.is_own_image-requires-clause-ways
+is_own_image-requires-clause-ways c = ways_are (goal.at.is_own_image-requires-clause-ways c).After-of-ways
 
 -- the board of its image
-image_is : (c : After-mirrored) → IsBoardOf (mirrored (turned c.args.shown.now.position.setup)) c.mirrored.result
+image_is : (c : After-mirrored) → IsBoardOf (mirrored (turned (class_setup c.args.classes.now.family c.args.class))) c.mirrored.result
 image_is c =
-    let p = c.args.shown.now.position.setup in
-    c.mirrored.ensures (turned p) (c.of-ways.ensures (turned p) (p, c.args.shown.now.position.legal, refl) c.requires.board).board_is
-
-image_seen : (p : Setup) → IsLegal p → IsSeenTurned IsLegal (mirrored (turned p))
-image_seen p legal = turned_legal p (mirrored (turned p)) legal refl
+    let family = c.args.classes.now.family in
+    let after = turned (class_setup family c.args.class) in
+    let ways = c.of-ways.ensures after (legal_turned family after (class_seen family c.args.class c.requires)) c.board_at.ensures in
+    c.mirrored.ensures after ways.board_is
 
 pub of-image_ways-requires : goal.of-image_ways-requires
 of-image_ways-requires c =
-    let p = c.args.shown.now.position.setup in
-    (mirrored (turned p), image_seen p c.args.shown.now.position.legal, image_is (goal.at.of-image_ways-requires c).After-mirrored)
+    let family = c.args.classes.now.family in
+    let image = mirrored (turned (class_setup family c.args.class)) in (
+      image,
+      legal_turned family image (image_seen family c.args.class c.requires),
+      image_is (goal.at.of-image_ways-requires c).After-mirrored,
+    )
 
 pub gather_all-requires-2 : goal.gather_all-requires-2
+unfolding setup_after
 gather_all-requires-2 c =
-    let p = c.args.shown.now.position.setup in
-    let seen = c.of-2.ensures ∙ c.mirrored-image.ensures ∙ ap mirrored c.turned-after.ensures in
+    let family = c.args.classes.now.family in
+    let image = mirrored (turned (class_setup family c.args.class)) in
+    let seen = image_seen family c.args.class c.requires in
     record {
-      of_set = turned_position c.args.classes.now.family p c.of-2.result.value c.requires.representative.0.0 seen;
-      ways_are = subst (λ (s : Setup). AreWays s c.of-image_ways.result) (sym seen)
-          (c.of-image_ways.ensures (mirrored (turned p)) (image_seen p c.args.shown.now.position.legal)
-          (image_is (goal.at.gather_all-requires-2 c).After-mirrored));
+      of_set = seen;
+      ways_are = c.of-image_ways.ensures image (legal_turned family image seen) (image_is (goal.at.gather_all-requires-2 c).After-mirrored);
     }
 
--- whether the representative is its own image
-is_image : (c : After-is_own_image) → IsTrue c.is_own_image.result ↔ (mirrored c.args.shown.now.position.setup ≡ c.args.shown.now.position.setup)
-is_image c =
-    let p = c.args.shown.now.position.setup in
-    c.is_own_image.ensures p c.requires.representative (c.of-ways.ensures (turned p) (p, c.args.shown.now.position.legal, refl) c.requires.board)
-
 pub returns-then-is_own_image : goal.returns-then-is_own_image
+unfolding setup_after
 returns-then-is_own_image c =
-    alone_found (RepresentsClass c.args.classes.now.family) (IsNumbering-classes c.args.classes.now.family) c.args.shown.now.position.setup
-    c.of.result.value _ c.gather_all.new.found.items c.args.shown.now.position.legal
-    ((is_image (goal.at.returns-then-is_own_image c).After-is_own_image).0 c.if-is_own_image.true) (c.of.ensures ∙ c.turned-after.ensures)
+    let family = c.args.classes.now.family in
+    let p = class_setup family c.args.class in
+    alone_found (RepresentsClass family) (IsNumbering-classes family) p (turned p) _ c.gather_all.new.found.items
+    (class_seen family c.args.class c.requires).1.of_set.legal (c.is_own_image.ensures.0 c.if-is_own_image.true) refl
     c.clear.ensures.items c.in_ok-gather_all.ensures
 
 pub returns : goal.returns
+unfolding setup_after
 returns c =
-    both_found (RepresentsClass c.args.classes.now.family) (IsNumbering-classes c.args.classes.now.family) c.args.shown.now.position.setup
-    c.of.result.value c.of-2.result.value _ c.gather_all.new.found.items c.gather_all-2.new.found.items c.args.shown.now.position.legal
-    (λ own. true≢false (sym ((is_image (goal.at.returns c).After-is_own_image).1 own) ∙ c.if-is_own_image.false))
-    (c.of.ensures ∙ c.turned-after.ensures) (c.of-2.ensures ∙ c.mirrored-image.ensures ∙ ap mirrored c.turned-after.ensures)
+    let family = c.args.classes.now.family in
+    let p = class_setup family c.args.class in
+    both_found (RepresentsClass family) (IsNumbering-classes family) p (turned p) (mirrored (turned p)) _ c.gather_all.new.found.items
+    c.gather_all-2.new.found.items (class_seen family c.args.class c.requires).1.of_set.legal
+    (λ own. true≢false (sym (c.is_own_image.ensures.1 own) ∙ c.if-is_own_image.false)) refl refl
     c.clear.ensures.items c.in_ok-gather_all.ensures c.in_ok-gather_all-2.ensures

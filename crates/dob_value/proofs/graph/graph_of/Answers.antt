@@ -1,8 +1,7 @@
 -- Each class's status and successors go to the ends of the lists.
-use Rattle.dob_value.proofs.Common.{◌<◌, ◌∙◌, ◌≡◌, arith, subst, HasClasses-classes_of, classes_of, class_setup, AreNodes, ClassStandsFor, IsNode}
+use Rattle.dob_value.proofs.Common.{◌∙◌, ◌≡◌, arith, subst, classes_of, class_setup, AreNodes, ClassStandsFor, IsNode}
 use Rattle.std.proofs.lemmas.Result.{err_from_is_err_and}
 use Rattle.dob_value.proofs.Nodes.{nodes_grown}
-use Rattle.dob_value.proofs.Rows.{class_setup_only}
 use Rattle.dob_value.proofs.graph.graph_of.Goals as goal
 
 pub loop-number-preserved : goal.loop-number-preserved
@@ -10,13 +9,9 @@ loop-number-preserved c =
     let family = c.args.classes.now.family in
     let number = c.loop-number.number in
     let found = c.in_ok-status.ensures in
-    let within : number < classes_of family = omega (arith, c.class_count-number-end.ensures.number) in
-    let is : c.class_at-position.result.setup ≡ class_setup family number =
-    class_setup_only family c.class_at-position.result.setup number (classes_of family) (HasClasses-classes_of family) within
-    c.class_at-position.ensures.representative c.class_at-position.ensures.class in
     let status = c.in_ok-status.status in
     let known : IsNode family.profile (ClassStandsFor family) (class_setup family number) status found.0 =
-    subst (λ p. IsNode c.args.classes.now.family.profile (ClassStandsFor family) p status found.0) is found.2 in
+    subst (λ p. IsNode c.args.classes.now.family.profile (ClassStandsFor family) p status found.0) c.class_at-position.ensures.setup found.2 in
     nodes_grown family number c.loop-number.statuses.items c.loop-number.starts.items c.loop-number.successors.items status found.0
     _ _ _ _ c.loop-number.invariant known c.in_ok-push-2.ensures.items c.in_ok-push-3.ensures.items
     (c.len.ensures ∙ c.push_successors.new.successors.ok.0) found.1

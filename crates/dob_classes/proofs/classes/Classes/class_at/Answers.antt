@@ -1,4 +1,5 @@
 -- The position at the class's spot is its representative.
+use Rattle.dob_classes.proofs.OfFamilies.FamilyRepresentatives.{setup_at_class}
 use Rattle.dob_classes.proofs.Tables.FamilyBlocks.{spot_in_block, at_spot_in}
 use Rattle.dob_classes.proofs.classes.Classes.class_at.Goals as goal
 
@@ -12,4 +13,9 @@ pub returns : goal.returns
 returns c =
     let at = at_spot_in c.args.self.now.family c.spot_at.result.run c.spot_at.result.local c.args.class c.block_of-block.result.now c.position_by.result.setup
     c.block_of-block.ensures.family c.spot_at.ensures.mark c.spot_at.ensures.class c.position_by.ensures in
-    record { representative = at.representative; class = at.before; number = at.number_is }
+    record {
+      representative = at.representative;
+      class = at.before;
+      number = at.number_is;
+      setup = setup_at_class c.args.self.now.family c.position_by.result.setup c.args.class at;
+    }

@@ -1,5 +1,5 @@
 -- the drop alone
-use Rattle.dob_unmove.proofs.Common.{Unput}
+use Rattle.dob_unmove.proofs.Common.{Unput, setup_after}
 use Rattle.dob_unmove.proofs.Dead.{home_before}
 use Rattle.dob_unmove.proofs.Standing.{way_of_drop}
 use Rattle.dob_unmove.proofs.predecessors.End.gather_put.Goals as goal
@@ -11,4 +11,4 @@ gather_one-requires-clause-home c =
 pub returns : goal.returns
 returns c =
     let end = c.args.self.now in
-    rw (way_of_drop end.walk.now.after.value end.to c.args.kind c.requires.stands) c.gather_one.ensures
+    rw (way_of_drop (setup_after end.walk.now) end.to c.args.kind c.requires.stands) c.gather_one.ensures

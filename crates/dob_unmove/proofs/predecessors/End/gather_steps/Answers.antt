@@ -1,5 +1,5 @@
 -- The squares of the mask are gone over from the lowest on, and the steps from the others are dead.
-use Rattle.dob_unmove.proofs.Common.{arith, RepresentsClass, unsteps, unsteps_from, may_come}
+use Rattle.dob_unmove.proofs.Common.{arith, RepresentsClass, unsteps, unsteps_from, may_come, setup_after}
 use Rattle.dob_unmove.proofs.Gathered.{gathered_start, gathered_less, passes_lowest, gathered_next, gathered_end}
 use Rattle.dob_unmove.proofs.Dead.{comes_dead}
 use Rattle.dob_unmove.proofs.predecessors.End.gather_steps.Goals as goal
@@ -7,7 +7,7 @@ use Rattle.dob_unmove.proofs.predecessors.End.gather_steps.Goals as goal
 pub loop-left-init : goal.loop-left-init
 loop-left-init c =
     let end = c.args.self.now in
-    let after = end.walk.now.after.value in
+    let after = setup_after end.walk.now in
     gathered_start (RepresentsClass end.walk.now.classes.now.family) after (may_come after end.walk.now.ways.now.threat.lion c.args.kind end.to)
     (unsteps_from after c.args.kind end.to) c.sources-left.result c.args.found.now.items (c.sources-left.ensures after c.requires.end.walk.ways_are)
 

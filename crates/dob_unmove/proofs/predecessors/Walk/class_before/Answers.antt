@@ -1,40 +1,42 @@
 -- The sets show the position before the move, which was open, where the piece that was caught may stand again.
-use Rattle.dob_unmove.proofs.Common.{◌∙◌, refl, sym, IsShown, RepresentsClass, earlier}
+use Rattle.dob_unmove.proofs.Common.{◌∙◌, refl, sym, IsShown, RepresentsClass, earlier, setup_after}
+use Rattle.dob_unmove.proofs.Classes.{first_of_two}
 use Rattle.dob_unmove.proofs.Gathering.{finds_from}
 use Rattle.dob_unmove.proofs.Kept.{barred, legal_turned, shown_before}
 use Rattle.dob_unmove.proofs.Threats.{was_open}
 use Rattle.dob_unmove.proofs.Undone.{turned_squares, few_turned}
 use Rattle.dob_unmove.proofs.predecessors.Walk.class_before.Goals as goal
-use Rattle.dob_unmove.proofs.predecessors.Walk.class_before.Goals.{After-bits_before}
+use Rattle.dob_unmove.proofs.predecessors.Walk.class_before.Goals.{After-bits_before-before}
 
-pub bits_before-requires : goal.bits_before-requires
-bits_before-requires c =
-    let after = c.args.self.now.after.value in
+pub bits_before-before-requires : goal.bits_before-before-requires
+bits_before-before-requires c =
+    let after = setup_after c.args.self.now in
     let legal = legal_turned c.args.self.now.classes.now.family after c.requires.walk.of_set in
     (after, c.requires.can, turned_squares after legal, few_turned after legal, c.requires.walk.ways_are.board_is)
 
 -- what the sets show
-shown : (c : After-bits_before) → IsShown c.args.self.now.classes.now.family (earlier c.args.self.now.after.value c.args.undo) c.bits_before.result
+shown : (c : After-bits_before-before) → IsShown c.args.self.now.classes.now.family (earlier (setup_after c.args.self.now) c.args.undo) c.bits_before-before.result
 shown c =
     let walk = c.args.self.now in
     let w = c.requires.walk in
-    shown_before walk.classes.now.family walk.after.value c.args.undo c.requires.can w.of_set _ _ (sym c.may_give_back.ensures ∙ c.if-may_give_back.true)
-    c.requires.home w.ways_are.board_is c.bits_before.ensures
+    shown_before walk.classes.now.family (setup_after walk) c.args.undo c.requires.can w.of_set _ _ (sym c.may_give_back.ensures ∙ c.if-may_give_back.true)
+    c.requires.home w.ways_are.board_is c.bits_before-before.ensures
 
 pub class_if_representative-requires : goal.class_if_representative-requires
-class_if_representative-requires c = (earlier c.args.self.now.after.value c.args.undo, shown (goal.at.class_if_representative-requires c).After-bits_before)
+class_if_representative-requires c = (earlier (setup_after c.args.self.now) c.args.undo, shown (goal.at.class_if_representative-requires c).After-bits_before-before)
 
 pub returns-then-may_give_back : goal.returns-then-may_give_back
 returns-then-may_give_back c =
     let walk = c.args.self.now in
     let w = c.requires.walk in
-    let before = earlier walk.after.value c.args.undo in
-    let open_there = was_open walk.after.value walk.ways.now.threat (legal_turned walk.classes.now.family walk.after.value w.of_set)
+    let before = earlier (setup_after walk) c.args.undo in
+    let open_there = was_open (setup_after walk) walk.ways.now.threat (legal_turned walk.classes.now.family (setup_after walk) w.of_set)
     w.ways_are.threat_is c.args.undo c.requires.can c.requires.calm in
+    let is = shown (goal.at.returns-then-may_give_back c).After-bits_before-before in
     finds_from (RepresentsClass walk.classes.now.family) before before c.class_if_representative.result refl open_there
-    (c.class_if_representative.ensures before (shown (goal.at.returns-then-may_give_back c).After-bits_before))
+    (first_of_two walk.classes.now.family before _ is.position (c.class_if_representative.ensures.class before is))
 
 pub returns-else-may_give_back : goal.returns-else-may_give_back
 returns-else-may_give_back c = λ w.
-    barred c.args.self.now.classes.now.family c.args.self.now.after.value c.args.undo c.requires.can c.requires.walk.of_set
+    barred c.args.self.now.classes.now.family (setup_after c.args.self.now) c.args.undo c.requires.can c.requires.walk.of_set
     (sym c.may_give_back.ensures ∙ c.if-may_give_back.false) w.1.0.0.0

@@ -1,5 +1,5 @@
 -- The squares of the mask are gone over from the lowest on, and the ways of the others are dead.
-use Rattle.dob_unmove.proofs.Common.{arith, RepresentsClass, undoes, undoes_at, may_have_ended}
+use Rattle.dob_unmove.proofs.Common.{arith, RepresentsClass, undoes, undoes_at, may_have_ended, setup_after}
 use Rattle.dob_unmove.proofs.Gathered.{gathered_start, gathered_less, passes_lowest, gathered_next, gathered_end}
 use Rattle.dob_unmove.proofs.Dead.{ends_dead, calm_end, end_home, own_end}
 use Rattle.dob_unmove.proofs.Kept.{legal_turned}
@@ -9,7 +9,7 @@ use Rattle.dob_unmove.proofs.predecessors.Walk.gather_all.Goals as goal
 pub loop-left-init : goal.loop-left-init
 loop-left-init c = λ w.
     let walk = c.args.self.now in
-    let after = walk.after.value in
+    let after = setup_after walk in
     gathered_start (RepresentsClass walk.classes.now.family) after (may_have_ended after walk.ways.now.threat w.ways_are.stays) (undoes_at after)
     walk.ways.now.ends c.args.found.now.items w.ways_are.ends_are
 
@@ -19,7 +19,7 @@ loop-left-smaller c = gathered_less (c.loop-left.invariant c.requires) (omega ar
 pub gather_all-requires : goal.gather_all-requires
 gather_all-requires c =
     let walk = c.args.self.now in
-    let after = walk.after.value in
+    let after = setup_after walk in
     let w = c.requires in
     let stays = w.ways_are.stays in
     let to = c.lowest_square-to.result in

@@ -1,7 +1,7 @@
 -- The position that a move of an open position leads to is of the table's family, and the sets show it.
 use Rattle.dob_probe.proofs.Common.{◌≡◌, Setup, can_go, goes, Goes, class_number, IsInClass-class_number, class_number-below, IsShown, moves_keep_the_family}
-use Rattle.dob_probe.proofs.successors.value_shown.Goals as goal
-use Rattle.dob_probe.proofs.successors.value_shown.Goals.{After-board_after-board, After-class_by-class}
+use Rattle.dob_probe.proofs.successors.successor_value.Goals as goal
+use Rattle.dob_probe.proofs.successors.successor_value.Goals.{After-board_after-board, After-class_by-class}
 
 -- what the move leads to is shown
 shown : (c : After-board_after-board) (q : Setup) → Goes c.args.table.now.family.profile c.args.position.now.setup c.args.played q →
