@@ -553,7 +553,7 @@
     chosen = null;
     try {
       const wrong = Game.readAddress(hash);
-      if (wrong) told = text("badMove", wrong.word, wrong.number, wrong.why);
+      if (wrong) told = text("badMove", wrong.word, wrong.number, wrong.why());
     } catch (fault) {
       told = text("badAddress", Texts.wrong(fault));
       if (hash === location.hash) Game.load(Game.START);

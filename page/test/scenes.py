@@ -145,8 +145,8 @@ class Stage:
 
     def paper(self, words="on paper"):
         """What the browser would print, and on how many sheets."""
-        if self.is_firefox:
-            return
+        if self.is_firefox:  # which prints nothing here, and tells its page that it has
+            return self.js("void dispatchEvent(new Event('afterprint'))")
         self.browser.call("Emulation.setEmulatedMedia", media="print")
         self.point()
         lines = self.js("Scene.paper()")
