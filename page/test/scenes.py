@@ -36,7 +36,10 @@ from screen import Screen
 
 GOLDEN = HERE / "scenes"
 # The scenes that are played in the other browser and by the other engine too: a quarter of them.
-ELSEWHERE = ("start", "table", "values", "ends", "chosen", "drops", "line", "texts", "rules", "file_names", "refused", "refused_certificates", "claims", "practice", "exercise", "game", "pasted_kifu")
+ELSEWHERE = (
+    "start", "table", "values", "ends", "chosen", "drops", "line", "texts", "link", "rules", "file_names", "refused", "refused_certificates", "claims", "practice", "exercise", "game", "pasted_kifu",
+    "lesson", "settings", "kept",
+)
 # What the page says of the engine: as the proved one, and as the plain one, by which the files are written.
 ENGINES = [
     ("✓ proved engine", "plain engine"), ("✓ 証明済みエンジン", "普通のエンジン"), ("✓ しょうめいずみ エンジン", "ふつうの エンジン"), ("checked by proved code", "checked by plain JavaScript"),
