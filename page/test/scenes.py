@@ -96,14 +96,14 @@ class Stage:
     # ---- what is told
 
     def write(self, words, found, is_looked_up=True):
-        lines = found["lines"]
+        lines = self.by_any_engine(found["lines"])
         if self.last is None and self.base:
             self.out += [f"== {words}; beside the scene table", *changes(self.base, lines)]
         else:
             self.out += [f"== {words}", *(lines if self.last is None else changes(self.last, lines))]
         self.out += self.logged()
         if self.is_shared:
-            self.states.append([words, lines if self.is_firefox else self.js("Scene.write({ isPlainly: true })")])
+            self.states.append([words, lines if self.is_firefox else self.by_any_engine(self.js("Scene.write({ isPlainly: true })"))])
         self.last = lines
         if found["facts"] and is_looked_up:
             self.wrong += [f"{words}: {it}" for it in wrong_values(found["facts"], self.files)]
@@ -115,6 +115,14 @@ class Stage:
         for place, line in enumerate(self.out):
             if place + 1 >= len(self.wanted) or line != self.wanted[place + 1]:
                 raise Differs(f"{line}, where {self.wanted[place + 1] if place + 1 < len(self.wanted) else 'nothing more'} has to be")
+
+    def by_any_engine(self, lines):
+        """Lines as they are where the plain engine is at work."""
+        if self.js("Game.engine().isProved !== true"):
+            return lines
+        for proved, plain in ENGINES:
+            lines = [line.replace(proved, plain) for line in lines]
+        return lines
 
     def options(self):
         return f"{{ withColours: {str(self.colours).lower()}, isPlainly: {str(self.is_firefox).lower()} }}"
@@ -139,6 +147,7 @@ class Stage:
         """What is told of the position in the other languages, then in English again: the texts that weren't told before."""
         names = languages or ("ja", "kana")
         for name, told in zip(names, self.js(f"Scene.saidIn({list(names)})")):
+            told = self.by_any_engine(told)
             lines = [line for line in dict.fromkeys(told) if line not in self.said]
             self.said.update(lines)
             self.out += [f"== in {name}", *lines]
@@ -152,7 +161,7 @@ class Stage:
             return self.js("void dispatchEvent(new Event('afterprint'))")
         self.browser.call("Emulation.setEmulatedMedia", media="print")
         self.point()
-        lines = self.js("Scene.paper()")
+        lines = self.by_any_engine(self.js("Scene.paper()"))
         self.browser.call("Emulation.setEmulatedMedia", media="")
         self.out += [f"== {words}, {self.screen.pages()} sheets", *lines]
         self.point()
@@ -349,18 +358,9 @@ class Played:
         stage.clear()
         try:
             story(stage)
-            shown = as_plain if stage.js("Game.engine().isProved === true") else lambda line: line
         finally:
             stage.close()
-        self.lines = [shown(line) for line in (f"scene {self.name}: {' '.join(story.__doc__.split())}", *stage.out)]
-        self.wrong, self.states = stage.wrong, [[words, [shown(line) for line in told]] for words, told in stage.states]
-
-
-def as_plain(line):
-    """A line as it is where the plain engine is at work."""
-    for proved, plain in ENGINES:
-        line = line.replace(proved, plain)
-    return line
+        self.lines, self.wrong, self.states = [f"scene {self.name}: {' '.join(story.__doc__.split())}", *stage.out], stage.wrong, stage.states
 
 
 def golden(name):
