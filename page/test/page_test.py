@@ -18,6 +18,7 @@ import time
 
 sys.dont_write_bytecode = True
 sys.path.insert(0, str(pathlib.Path(__file__).resolve().parent))
+import board
 import certificates
 import classroom
 import glance
@@ -37,7 +38,7 @@ from program import Program
 from screen import Screen
 
 TOPICS = {
-    "told": told, "opening": opening, "links": links, "certificates": certificates, "classroom": classroom, "glance": glance, "handling": handling,
+    "told": told, "opening": opening, "board": board, "links": links, "certificates": certificates, "classroom": classroom, "glance": glance, "handling": handling,
     "lasting": lasting, "layout": layout, "lesson": lesson, "looks": looks, "mistakes": mistakes,
 }
 
