@@ -1,4 +1,5 @@
 """What a teacher uses: exercises as they are drawn, and the worksheet."""
+import collections
 import time
 
 from program import read_db
@@ -107,15 +108,17 @@ def evenly(checks, screen, program):
         classes = sorted({screen.seen("classNumber", "A", text) for text in program.puzzles(path, plies)})
         for limits in ({"small": 1 << 20}, {"small": 100, "window": 300, "kept": 10, "passes": 50}):
             screen.js(f"Object.assign(Answers.limits, {limits})".replace("'", ""))
-            drawn = screen.js(f"""(async () => {{
-              const met = {{}}, all = {40 * len(classes)};
-              for (let i = 0; i < all; i++) {{
-                const {{ position }} = await Answers.drawExercise(Files.last(), Game.engine(), {plies}, () => false), number = DobutsuCore.classNumber("A", position);
-                met[number] = (met[number] || 0) + 1;
-              }}
-              return met;
-            }})()""")
-            checks.expect(f"{plies} plies: all that there are are drawn", sorted(map(int, drawn)), classes)
+            drawn = collections.Counter()
+            for _ in range(40):  # calls of which each has an answer soon
+                drawn.update(screen.js(f"""(async () => {{
+                  const met = [];
+                  while (met.length < {len(classes)}) {{
+                    const {{ position }} = await Answers.drawExercise(Files.last(), Game.engine(), {plies}, () => false);
+                    met.push(DobutsuCore.classNumber("A", position));
+                  }}
+                  return met;
+                }})()"""))
+            checks.expect(f"{plies} plies: all that there are are drawn", sorted(drawn), classes)
             square = sum((count - 40) ** 2 / 40 for count in drawn.values())
             most = len(classes) + 5 * (2 * len(classes)) ** 0.5  # five deviations above the mean of chi square
             checks.expect(f"{plies} plies: as often as each other, {limits}, chi square {square:.0f} of at most {most:.0f}", square < most)

@@ -7,7 +7,7 @@ aren't named: `told/short`, which is `told/values` with few positions, `certific
 is Firefox, by default with the parts that need no call of Chromium's own. N browsers work side by side, by default one for each processor; the next part goes to
 the next one that is free. With `--until-failure` the parts that are named come first, then all others, up to the first one that counts a failure, in one browser.
 `--seconds` tells how long each part took. Prints a line for each failure, the engine that the page uses, and last `N passed, M failed`; the status is 0 where none
-failed. DOBUTSU_FILES may name a folder in which built files are kept, DOBUTSU_WAIT the seconds until a test gives up waiting (60).
+failed. DOBUTSU_FILES may name a folder in which built files are kept, DOBUTSU_WAIT the seconds until a test gives up waiting (180).
 """
 import argparse
 import os
