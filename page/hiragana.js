@@ -129,7 +129,7 @@
     gamePartly: (number) => `ひょうかが わからない て：${number}て。`, gameBounds: "≤ は しょうめいしょで わかる いちばん おおい かずです。",
     stripHelp: (sides) => `ぼうが うえなら ${sides[0]}の かち、したなら ${sides[1]}の かちで、ながいほど はやく おわります。`,
     strip: "ひとつの てごとの ひょうか", stripPly: (number, move) => `${number}てめ ${move}`, stripUnknown: "わかりません",
-    stripWins: (side, length) => `${side}が ${length}で かち`, stripWon: (side) => `${side}の かち`,
+    stripWins: (side, length) => `${side}が ${length} かち`, stripWon: (side) => `${side}の かち`,
     gameMissed: (sides, numbers) => `ライオンを とらなかった かず：${sides[0]} ${numbers[0]}かい、${sides[1]} ${numbers[1]}かい。`,
     missed: "ライオンを とれた て", missedTold: (text, value) => `${text}：ライオンを とれました${value ? `（${value}）` : ""}。`,
     gaveWin: "かちを のがした て", gaveDraw: "ひきわけを のがした て", gaveAll: "かちから まけに なった て",

@@ -123,7 +123,7 @@
     gamePartly: (number) => `評価がわからない手：${number}手。`, gameBounds: "≤ は証明書による上限です。",
     stripHelp: (sides) => `棒が上なら${sides[0]}の勝ち、下なら${sides[1]}の勝ちで、長いほど早く終わります。`,
     strip: "一手ごとの評価", stripPly: (number, move) => `${number}手目 ${move}`, stripUnknown: "わかりません",
-    stripWins: (side, length) => `${side}が${length}で勝ち`, stripWon: (side) => `${side}の勝ち`,
+    stripWins: (side, length) => `${side}が${length}勝ち`, stripWon: (side) => `${side}の勝ち`,
     gameMissed: (sides, numbers) => `ライオンを取らなかった回数：${sides[0]} ${numbers[0]}回、${sides[1]} ${numbers[1]}回。`,
     missed: "ライオンを取れた手", missedTold: (text, value) => `${text}：ライオンを取れました${value ? `（${value}）` : ""}。`,
     gaveWin: "勝ちを逃した手", gaveDraw: "引き分けを逃した手", gaveAll: "勝ちから負けになった手",

@@ -12,6 +12,7 @@ const Mistakes = (() => {
   const SHOWN = 4; // plies of a line that was left
   const element = (id) => document.getElementById(id);
   let calls = null; // of the page: goTo(cursor, line) and restart(load)
+  let unread = null; // says what is wrong with the text that was pasted
 
   // ---- what is known of a game
 
@@ -99,6 +100,11 @@ const Mistakes = (() => {
     element("branches-head").hidden = !lines.length;
     element("branches").replaceChildren(...[...lines].sort((a, b) => alike(a, plies) - alike(b, plies)).map(branch));
     for (const name of ["copy-game", "print-game"]) element(name).hidden = !plies.length;
+    drawFault();
+  }
+  function drawFault() {
+    const words = unread ? unread() : "";
+    if (element("game-fault").textContent !== words) element("game-fault").textContent = words; // heard where it changes
   }
 
   // ---- as a text: what stands before the game in brackets, then the moves, each left line in parentheses behind the ply that it isn't
@@ -173,25 +179,28 @@ const Mistakes = (() => {
   // Puts the game of the text on the board; says what is wrong with it, and leaves the board as it is where no move was played.
   async function takeGame() {
     const kept = { ...Game.state }, restore = () => Object.assign(Game.state, kept);
-    let fault = "";
     await calls.restart(() => {
+      unread = null;
       try {
         const wrong = load(element("game-text").value);
-        if (wrong) fault = text("gameWrong", wrong.word, wrong.number, wrong.why);
+        if (wrong) unread = () => text("gameWrong", wrong.word, wrong.number, wrong.why());
         if (wrong && !Game.state.plies.length) restore();
-      } catch (why) {
+      } catch (fault) {
         restore();
-        fault = why.fault === "empty" ? text("gameEmpty") : Texts.wrong(why);
+        unread = () => (fault.fault === "empty" ? text("gameEmpty") : Texts.wrong(fault));
       }
     });
-    element("game-fault").textContent = fault;
-    if (!fault) showPaste(false);
+    if (!unread) showPaste(false);
   }
   function showPaste(isShown) {
     element("paste-box").hidden = !isShown;
     element("paste-game").setAttribute("aria-expanded", isShown);
     if (isShown) element("game-text").focus();
-    else element("game-text").value = element("game-fault").textContent = "";
+    else {
+      unread = null;
+      element("game-text").value = "";
+      drawFault();
+    }
   }
 
   // ---- on paper

@@ -89,11 +89,11 @@ const Notation = (() => {
     if (it.takes !== undefined && it.takes !== (squares[to] !== ".")) return it.takes ? none.empty(at) : none.taken(at);
     return none.several();
   }
-  // The move of a word at the position on the board: { move }, or { why } where it is none there.
+  // The move of a word at the position on the board: { move }, or where it is none there { why }, a call that says why in the language of its time.
   function read(word) {
     const now = Game.now(), moves = Game.legal(), exact = moves.find((move) => Game.textOf(move) === word), it = said(word);
     const found = exact ? [exact] : it && (it.side ?? now.side) === now.side ? meant(it, now, moves) : [];
-    return found.length === 1 ? { move: found[0] } : { why: why(it, now, moves) };
+    return found.length === 1 ? { move: found[0] } : { why: () => why(it, now, moves) };
   }
   const isEnd = (word) => /^(投了|中断)/.test(word);
 

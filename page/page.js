@@ -18,6 +18,7 @@
   let isPeeked = false; // whether values are shown before an exercise or practice has ended
   let wasHidden = false; // whether values were hidden when the files were drawn
   let written = ""; // the address as it was written last
+  let given = window.DobutsuFile ? window.DobutsuFile.name : ""; // the file that stands in the page itself, until it is open
 
   const say = (words) => { element("live").textContent = words; };
   const announce = (what) => document.dispatchEvent(new Event(what)); // to cards that stand on their own
@@ -198,12 +199,12 @@
   const drawMoves = Fence.around("movesWait", (list) => View.drawMoves(list, Game.now(), ofThisTurn(Fence.around("movesWait", tryMove))));
 
   const overWords = ({ side, winner }) => text(winner === side ? "overHome" : "over", text("sides")[winner]);
-  // Why there is no value: no open file has the position, or a certificate of its set is checked still.
+  // Why there is no value: no open file has the position, or a certificate of its set is checked still, or the page's own file isn't open yet.
   function tellMissing() {
     const { profile } = Game.state, set = Core.setOf(Game.now().position).join(""), work = Files.work(), isChecked = !!work && work.set === set;
     const open = Files.all().map((it) => `${it.name} (${it.set}, ${it.profile})`);
     element("value").setAttribute("aria-busy", isChecked); // not each percent is read out
-    tellNothing(isChecked ? text("checkingValue", View.percentOf(work)) : open.length ? text("otherSet", set, profile, open) : text("openSet", set));
+    tellNothing(isChecked ? text("checkingValue", View.percentOf(work)) : given ? text("opening", given) : open.length ? text("otherSet", set, profile, open) : text("openSet", set));
   }
   // Looks the position up and shows what was found, or why nothing is; what comes too late is dropped.
   async function tell(isLate) {
@@ -420,7 +421,7 @@
       Fence.keep("exercise", () => Exercise.draw());
     };
     const clock = setInterval(() => { if (Files.work()) tellWork(Files.work()); }, SLOW * 5);
-    const last = await Files.openAll(files, Game.engine(), tellWork).finally(() => clearInterval(clock));
+    const last = await Files.openAll(files, Game.engine(), tellWork).finally(() => { clearInterval(clock); given = ""; });
     const isUntouched = Game.state.start === Game.START && !Game.state.plies.length && !Setup.isOn();
     if (last) {
       Answers.forget();
@@ -553,7 +554,7 @@
     chosen = null;
     try {
       const wrong = Game.readAddress(hash);
-      if (wrong) told = text("badMove", wrong.word, wrong.number, wrong.why);
+      if (wrong) told = text("badMove", wrong.word, wrong.number, wrong.why());
     } catch (fault) {
       told = text("badAddress", Texts.wrong(fault));
       if (hash === location.hash) Game.load(Game.START);

@@ -1,5 +1,5 @@
 // What is known of the whole game by each of the rules, from docs/distances/222_A.csv and 222_B.csv, docs/results.csv, docs/results_first_moves.csv and
-// docs/RESULTS.md, which a test compares: how many classes have which record (0 of a draw, else the plies and 1), the first classes of the longest win and
+// docs/results_zugzwangs.csv, which a test compares: how many classes have which record (0 of a draw, else the plies and 1), the first classes of the longest win and
 // loss, zugzwangs with the deepest one, and the first moves behind which one answer alone wins.
 const Results = (() => {
   "use strict";

@@ -51,22 +51,30 @@ else
     leave_out 1 'the engine in plain JavaScript against tools/read_db.py, since Node is not there'
 fi
 
-# The page with the proved engine, of which `tools/page` makes the module, and with the plain one.
+# The page in browsers, with the plain engine and with the proved one, whose page is made beside the scenes. All scenes in Chromium with the plain engine; a
+# quarter of them in Firefox too, and in both with the proved one.
 if needs chromium wasm-opt; then
     mkdir "$work/files"
     export DOBUTSU_FILES="$work/files"
-    add_counts python3 page/test/scenes.py --page "$work/dobutsu.html"
+    tools/page "$work/proved.html" >"$work/made" 2>&1 &
+    maker=$!
+    add_counts python3 page/test/scenes.py --page "$work/dobutsu.html" --states "$work/states"
     add_counts python3 page/test/page_test.py "$work/dobutsu.html" "$program"
+    add_counts python3 page/test/planted.py "$program"
+    good=yes
+    wait "$maker" || good=no
+    grep -q '^window.DobutsuWasm = ' "$work/proved.html" || good=no
+    note "tools/page makes the page with the proved engine: $(tail -1 "$work/made")" "$good"
+    add_counts python3 page/test/scenes.py --page "$work/proved.html" elsewhere
+    add_counts python3 page/test/page_test.py "$work/proved.html" "$program" told opening certificates certificates/whole_B
     if command -v firefox-esr firefox >/dev/null; then
         add_counts python3 page/test/page_test.py "$work/dobutsu.html" "$program" --firefox
+        for page in dobutsu proved; do
+            add_counts python3 page/test/scenes.py --page "$work/$page.html" --firefox --states "$work/states"
+        done
     else
-        leave_out 2 'the page in Firefox with either engine, since it is not there (apt-get install firefox-esr)'
+        leave_out 3 'the page in Firefox with either engine, since it is not there (apt-get install firefox-esr)'
     fi
-    add_counts python3 page/test/planted.py "$program"
-    good=no
-    if tools/page "$work/proved.html" >"$work/out" 2>&1 && grep -q '^window.DobutsuWasm = ' "$work/proved.html"; then good=yes; fi
-    note "tools/page makes the page with the proved engine: $(tail -1 "$work/out")" "$good"
-    add_counts python3 page/test/page_test.py "$work/proved.html" "$program" told opening certificates certificates/whole_B
     if command -v node >/dev/null; then
         if node page/test/wasm.test.js page/out/dobutsu_web.wasm 500 >"$work/out" 2>&1; then good=yes; else good=no; fi
         note "page/test/wasm.test.js: $(tail -1 "$work/out")" "$good"
@@ -76,4 +84,4 @@ if needs chromium wasm-opt; then
         leave_out 2 'the proved engine against the plain one, and against the program on 2,000 positions of 111 by each of the rules, since Node is not there'
     fi
 fi
-if [ "$left_out" -gt 0 ]; then echo "page: $left_out of 10 tests left out"; fi
+if [ "$left_out" -gt 0 ]; then echo "page: $left_out of 15 tests left out"; fi

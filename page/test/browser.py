@@ -21,7 +21,7 @@ FLAGS = [
     "--disable-ipc-flooding-protection",
 ]
 KEYS = {"Enter": 13, "Escape": 27, "Delete": 46, "ArrowLeft": 37, "ArrowUp": 38, "ArrowRight": 39, "ArrowDown": 40}
-WAIT_SECONDS = float(os.environ.get("DOBUTSU_WAIT", 60))
+WAIT_SECONDS = float(os.environ.get("DOBUTSU_WAIT", 180))  # what is waited for comes in a second, but on a machine that is busy
 ANSWER_SECONDS = 2 * WAIT_SECONDS
 
 

@@ -1,10 +1,13 @@
-"""What a teacher uses: exercises and their score, what a move was worth, practice, the worksheet, in both languages."""
+"""What a teacher uses: exercises as they are drawn, and the worksheet."""
+import collections
 import time
 
 from program import read_db
 from dobutsu import puzzles  # which program's reader makes findable
 
 PLAIN = ".l./.../.C./.L. - -"
+
+
 def exercise(screen, start, move, plies):
     """Puts that exercise on the board, whatever would be drawn."""
     screen.js(f"Answers.drawExercise = async () => ({{ position: DobutsuCore.readPosition({start!r}), move: {{ letter: {move[0]!r}, "
@@ -35,51 +38,6 @@ def quick(checks, screen, program):
     time.sleep(1)
     screen.settle("Exercise.isAsked()")
     checks.expect("the exercise on the board", [screen.position(), screen.text("task") != ""], [PLAIN, True])
-
-
-def clocks(checks, screen, program):
-    """A line that is played out ends practice, so that one clock runs; while the page thinks no move is taken for its side."""
-    screen.give(program.build("100", "A"))
-    screen.choose("speed", "slow")
-    screen.enter(PLAIN)
-    screen.press("practise")
-    screen.press("hide")
-    screen.press("play")
-    checks.expect("playing out ends practice", [screen.js("Practice.isOn()"), screen.text("play")], [False, "Stop"])
-    time.sleep(1.6)  # the page's answer in practice would come after 1.2 s
-    checks.expect("one move in the time of one", len(screen.record()) - 1, 1)
-    screen.press("play")
-    screen.enter(PLAIN)
-    screen.choose("speed", "normal")
-    screen.press("play")
-    screen.press("language")
-    screen.press("language")
-    time.sleep(1.8)  # the second move comes after 1.2 s
-    checks.expect("and in another language meanwhile", [len(screen.record()) - 1, screen.text("play")], [2, "Stop"])
-    screen.press("play")
-    screen.give(program.build("100", "B"))
-    screen.choose("rules", "A")
-    screen.enter(PLAIN)
-    screen.press("practise")
-    checks.expect("practice by rules A", screen.js("Practice.isOn()"))
-    screen.choose("rules", "B")
-    checks.expect("other rules end practice", [screen.js("Practice.isOn()"), screen.text("practise")], [False, "Practise"])
-    screen.choose("rules", "A")
-    screen.choose("speed", "slow")
-    screen.enter(PLAIN)
-    screen.press("practise")
-    screen.play("Lb1-a2")
-    checks.expect("the page thinks", screen.record(), ["start", "Lb1-a2"])
-    screen.js("document.querySelector('#moves button').click()")
-    screen.browser.click("[data-square='10']")
-    checks.expect("no piece of its side is chosen", screen.js("document.querySelectorAll('.square.chosen').length"), 0)
-    screen.drag("[data-square='10']", "[data-square='9']")
-    screen.press("hide")
-    screen.js("document.querySelectorAll('#line .move')[0].click()")
-    screen.key("n")
-    checks.expect("nor any other way", screen.record(), ["start", "Lb1-a2"])
-    screen.settle("Game.state.cursor === 2")
-    checks.expect("its own answer comes", screen.record(), ["start", "Lb1-a2", "lb4-c4"])
 
 
 def worksheet(checks, screen, program):
@@ -150,31 +108,20 @@ def evenly(checks, screen, program):
         classes = sorted({screen.seen("classNumber", "A", text) for text in program.puzzles(path, plies)})
         for limits in ({"small": 1 << 20}, {"small": 100, "window": 300, "kept": 10, "passes": 50}):
             screen.js(f"Object.assign(Answers.limits, {limits})".replace("'", ""))
-            drawn = screen.js(f"""(async () => {{
-              const met = {{}}, all = {40 * len(classes)};
-              for (let i = 0; i < all; i++) {{
-                const {{ position }} = await Answers.drawExercise(Files.last(), Game.engine(), {plies}, () => false), number = DobutsuCore.classNumber("A", position);
-                met[number] = (met[number] || 0) + 1;
-              }}
-              return met;
-            }})()""")
-            checks.expect(f"{plies} plies: all that there are are drawn", sorted(map(int, drawn)), classes)
+            drawn = collections.Counter()
+            for _ in range(40):  # calls of which each has an answer soon
+                drawn.update(screen.js(f"""(async () => {{
+                  const met = [];
+                  while (met.length < {len(classes)}) {{
+                    const {{ position }} = await Answers.drawExercise(Files.last(), Game.engine(), {plies}, () => false);
+                    met.push(DobutsuCore.classNumber("A", position));
+                  }}
+                  return met;
+                }})()"""))
+            checks.expect(f"{plies} plies: all that there are are drawn", sorted(drawn), classes)
             square = sum((count - 40) ** 2 / 40 for count in drawn.values())
             most = len(classes) + 5 * (2 * len(classes)) ** 0.5  # five deviations above the mean of chi square
             checks.expect(f"{plies} plies: as often as each other, {limits}, chi square {square:.0f} of at most {most:.0f}", square < most)
 
 
-def pace(checks, screen, program):
-    """The speed of a line that is played out."""
-    screen.give(program.build("100", "A"))
-    for name, most in [("fast", 3), ("slow", 1)]:
-        screen.choose("speed", name)
-        screen.enter("..l/.../.../L.. C -")
-        screen.press("play")
-        time.sleep(1.3)
-        made = len(screen.record()) - 1
-        screen.press("play")
-        checks.expect(f"plies in 1.3 seconds, {name}", 2 <= made <= 4 if name == "fast" else made == 1)
-
-
-PARTS = {"quick": quick, "clocks": clocks, "worksheet": worksheet, "seeded": seeded, "stuck": stuck, "evenly": evenly, "pace": pace}
+PARTS = {"quick": quick, "worksheet": worksheet, "seeded": seeded, "stuck": stuck, "evenly": evenly}

@@ -12,7 +12,7 @@ import time
 from browser import WAIT_SECONDS
 
 PREFERENCES = {
-    "browser.shell.checkDefaultBrowser": False, "datareporting.policy.dataSubmissionEnabled": False, "app.update.disabledForTesting": True,
+    "marionette.port": 0, "browser.shell.checkDefaultBrowser": False, "datareporting.policy.dataSubmissionEnabled": False, "app.update.disabledForTesting": True,
     "browser.startup.homepage_override.mstone": "ignore", "intl.accept_languages": "en-US", "network.captive-portal-service.enabled": False,
     "network.connectivity-service.enabled": False, "dom.disable_open_during_load": False, "toolkit.telemetry.reportingpolicy.firstRun": False,
 }
@@ -30,36 +30,40 @@ class Firefox:
 
     def __init__(self):
         self.home, self.events, self.number, self.rest = tempfile.mkdtemp(prefix="firefox-"), [], 0, b""
-        with socket.socket() as free:
-            free.bind(("127.0.0.1", 0))
-            port = free.getsockname()[1]
-        lines = [f"user_pref({json.dumps(name)}, {json.dumps(value)});" for name, value in {**PREFERENCES, "marionette.port": port}.items()]
+        lines = [f"user_pref({json.dumps(name)}, {json.dumps(value)});" for name, value in PREFERENCES.items()]
         pathlib.Path(self.home, "user.js").write_text("\n".join(lines))
         self.child = subprocess.Popen([program(), "--headless", "--marionette", "--no-remote", "--profile", self.home, "about:blank"], stdin=subprocess.DEVNULL,
                                       stdout=subprocess.DEVNULL, stderr=subprocess.DEVNULL, env={**os.environ, "HOME": self.home, "MOZ_HEADLESS": "1"})
-        self.line = self.connected(port)
+        self.line = self.connected()
         self.read()
         self.send("WebDriver:NewSession", capabilities={"alwaysMatch": {"acceptInsecureCerts": False}})
         self.send("WebDriver:SetTimeouts", script=120000, pageLoad=60000)
 
-    def connected(self, port):
-        end = time.time() + 60
+    def connected(self):
+        """A connection to the port that the browser has chosen, which stands in its profile then."""
+        end, port = time.time() + WAIT_SECONDS, pathlib.Path(self.home, "MarionetteActivePort")
         while True:
             try:
-                return socket.create_connection(("127.0.0.1", port), 150)
-            except OSError:
+                return socket.create_connection(("127.0.0.1", int(port.read_text())), 150)
+            except (OSError, ValueError):  # it isn't written yet, or not whole
                 if time.time() > end:
                     raise
-                time.sleep(0.2)
+                time.sleep(0.1)
 
     # ---- calls: a number, a colon, and so many bytes of JSON
 
+    def more(self):
+        got = self.line.recv(1 << 20)
+        if not got:
+            raise EOFError("the browser has ended")
+        return got
+
     def read(self):
         while b":" not in self.rest:
-            self.rest += self.line.recv(1 << 16)
+            self.rest += self.more()
         length, _, self.rest = self.rest.partition(b":")
         while len(self.rest) < int(length):
-            self.rest += self.line.recv(1 << 20)
+            self.rest += self.more()
         message, self.rest = self.rest[: int(length)], self.rest[int(length):]
         return json.loads(message)
 
@@ -157,7 +161,7 @@ class Firefox:
         try:
             self.send("Marionette:Quit", flags=["eForceQuit"])
             self.child.wait(10)
-        except (OSError, RuntimeError, ValueError, subprocess.TimeoutExpired):
+        except (OSError, EOFError, RuntimeError, ValueError, subprocess.TimeoutExpired):
             self.child.kill()
             self.child.wait()
         shutil.rmtree(self.home, ignore_errors=True)

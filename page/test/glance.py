@@ -45,6 +45,10 @@ def links(screen):
     return screen.seen("texts", "#glance-links button")
 
 
+def zugzwangs_told(both, half):
+    return f"Zugzwangs, in which nobody wants to move: {int(both):,} lost by whoever has to, {int(half):,} lost by one side where the other one draws."
+
+
 def press(screen, words):
     screen.js(f"[...document.querySelectorAll('#glance-links button')].find(it => it.textContent.startsWith({words!r})).click()")
     screen.settle(COUNTED)
@@ -75,8 +79,7 @@ def files(checks, screen, program):
         begin(screen)
         of_docs(checks, screen, pieces, rules)
         counts = dict(line.rsplit(" ", 1) for line in program.run("zugzwangs", "--db", path).split("\n")[:2])
-        said = f"Zugzwangs, in which nobody wants to move: {counts['lost by both']} lost by whoever has to, {counts['loss and draw']} lost by one side where the other one draws."
-        checks.expect(f"zugzwangs of {pieces}", screen.text("glance-zugzwangs"), said)
+        checks.expect(f"zugzwangs of {pieces}", screen.text("glance-zugzwangs"), zugzwangs_told(counts["lost by both"], counts["loss and draw"]))
         deepest = re.search(r"^deepest (.+)  loss (\d+)  loss (\d+)$", program.run("zugzwangs", "--db", path), re.MULTILINE)
         checks.expect("whether there is a deepest one", any(it.startswith("The deepest") for it in links(screen)), deepest is not None)
         if deepest:
@@ -107,19 +110,18 @@ def whole(checks, screen, program):
     for rules in "AB":
         screen.choose("glance-set", rules)
         of_docs(checks, screen, "222", rules)
-        page = (DOCS / "RESULTS.md").read_text()
-        numbers = [re.search(rf"^\| {name} .*\| ([\d,]+) \|$", page, re.MULTILINE)[1] for name in ("lost by both", "loss and draw")]
-        said = f"Zugzwangs, in which nobody wants to move: {numbers[0]} lost by whoever has to, {numbers[1]} lost by one side where the other one draws."
-        checks.expect(f"zugzwangs by rules {rules}", screen.text("glance-zugzwangs"), said if rules == "A" else "")
+        zugzwangs = next((row for row in rows("results_zugzwangs.csv") if (row["set"], row["rules"]) == ("222", rules)), None)
+        checks.expect(f"zugzwangs by rules {rules}", screen.text("glance-zugzwangs"), zugzwangs_told(zugzwangs["lost_by_both"], zugzwangs["loss_and_draw"]) if zugzwangs else "")
+        deepest = [f"The deepest zugzwang: loss {zugzwangs['loss']}, for the other side loss {zugzwangs['turn_loss']}"] if zugzwangs else []
+        checks.expect(f"the deepest one by rules {rules}", [it for it in links(screen) if it.startswith("The deepest")], deepest)
+        if zugzwangs:
+            press(screen, deepest[0])
+            checks.expect("it is on the board", screen.position(), zugzwangs["deepest"])
         alone = [row["move"] for row in rows("results_first_moves.csv") if row["rules"] == rules and row["winning_replies"] == "1"]
         checks.expect("first moves behind which one answer alone wins", [it for it in links(screen) if it.startswith("After")], [f"After {move} one answer alone wins" for move in alone])
         press(screen, f"After {alone[0]}")
         checks.expect("the first is on the board", [screen.record(), screen.js("Game.state.start")], [["start", alone[0]], "gle/.c./.C./ELG - -"])
         checks.expect("no position of a value without a file", screen.seen("visible", "glance-show"), [])
-    screen.choose("glance-set", "A")
-    deepest = re.search(r"`(\S+ \S+ \S+)` of\s+`222` \(loss (\d+), its turn loss (\d+)\)", page)
-    press(screen, f"The deepest zugzwang: loss {deepest[2]}, for the other side loss {deepest[3]}")
-    checks.expect("the deepest zugzwang", screen.position(), deepest[1])
 
 
 def sizes(checks, screen, program):

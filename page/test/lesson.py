@@ -1,5 +1,5 @@
 """Class mode at nine sizes: the board fills the window, with the sentence below."""
-from handling import PLAIN, square
+from handling import PLAIN
 
 SIZES = ((320, 568), (360, 740), (480, 900), (768, 1024), (1024, 768), (1280, 720), (1366, 768), (1600, 900), (1920, 1080))
 
@@ -30,14 +30,6 @@ def sizes(checks, screen, program):
             overlaps = screen.seen("overlaps", "#board, #lesson-say, .side, .controls, #lesson-tools")
             checks.expect(f"{about}: what lies on something else", overlaps, [])
         checks.expect(f"{language}: texts that are too pale", screen.seen("tooPale"), [])
-
-
-def stroke(screen, start, end, button):
-    """A stroke of the mouse with that button, from the middle of a square to that of another one."""
-    for kind, name, held in (("mousePressed", start, 1), ("mouseMoved", end, 1), ("mouseReleased", end, 0)):
-        x, y = screen.middle(square(name))
-        screen.browser.call("Input.dispatchMouseEvent", type=kind, x=x, y=y, button=button, buttons=held * (2 if button == "right" else 1), clickCount=1)
-    screen.settle()
 
 
 PARTS = {"sizes": sizes}

@@ -1,17 +1,15 @@
 #!/usr/bin/env python3
 """Tests the page in headless Chromium, offline: page/test/page_test.py PAGE PROGRAM [--firefox] [--jobs N] [--until-failure] [--seconds] [TOPIC[/PART]..]
 
-Scenes say what is seen and heard, and scenes.py plays them; the topics here test what a scene can't say. Their values come from the program `dobutsu`, of small files that it
-builds. A topic is a module here with a dictionary PARTS; `--list` in place of the page prints topics and parts. Some parts are left out where they aren't
-named: `told/short`, which is `told/values` with few positions, `certificates/whole_B`, and `lasting/acts_4` and further seeds; `scenes/elsewhere` names a
-quarter of the scenes. With `--firefox` the browser is Firefox, by default with the parts that need no call of Chromium's
-own. N browsers work side by side, by default one for each processor; the next part goes to the next one that is free. With `--until-failure` the parts that
-are named come first, then all others, up to the first one that counts a failure, in one browser; with `--no-scenes` scenes aren't played. `--seconds` tells how long each part took. Prints a line for
-each failure, the engine that the page uses, and last `N passed, M failed`; the status is 0 where none failed. DOBUTSU_FILES may name a folder in which built
-files are kept, DOBUTSU_WAIT the seconds until a test gives up waiting (60), DOBUTSU_SCENES a folder in which Chromium leaves what Firefox has to show too.
+Scenes say what is seen and heard, and scenes.py plays them; the topics here test what a scene can't say. Their values come from the program `dobutsu`, of small
+files that it builds. A topic is a module here with a dictionary PARTS; `--list` in place of the page prints topics and parts. Some parts are left out where they
+aren't named: `told/short`, which is `told/values` with few positions, `certificates/whole_B`, and `lasting/acts_4` and further seeds. With `--firefox` the browser
+is Firefox, by default with the parts that need no call of Chromium's own. N browsers work side by side, by default one for each processor; the next part goes to
+the next one that is free. With `--until-failure` the parts that are named come first, then all others, up to the first one that counts a failure, in one browser.
+`--seconds` tells how long each part took. Prints a line for each failure, the engine that the page uses, and last `N passed, M failed`; the status is 0 where none
+failed. DOBUTSU_FILES may name a folder in which built files are kept, DOBUTSU_WAIT the seconds until a test gives up waiting (180).
 """
 import argparse
-import multiprocessing
 import os
 import pathlib
 import sys
@@ -32,36 +30,29 @@ import links
 import looks
 import mistakes
 import opening
-import scenes
+import side_by_side
 import told
 from browser import Browser
-from checks import Checks
 from firefox import Firefox
 from program import Program
 from screen import Screen
 
 TOPICS = {
-    "scenes": scenes, "told": told, "opening": opening, "board": board, "links": links, "certificates": certificates, "classroom": classroom,
-    "glance": glance, "handling": handling, "lasting": lasting, "layout": layout, "lesson": lesson, "looks": looks,
-    "mistakes": mistakes,
+    "told": told, "opening": opening, "board": board, "links": links, "certificates": certificates, "classroom": classroom, "glance": glance, "handling": handling,
+    "lasting": lasting, "layout": layout, "lesson": lesson, "looks": looks, "mistakes": mistakes,
 }
 
-# The parts that Firefox runs where none is named: the others ask Chromium's own calls for fingers, paper, contrasts and the log. Its scenes are compared with
-# what Chromium showed, where DOBUTSU_SCENES names the folder that has it.
-IN_FIREFOX = [*(f"scenes/{it}" for it in scenes.ELSEWHERE if scenes.ELSEWHERE_AT), "told/short", "certificates/beside", "certificates/whole_B", "handling/twelve", "handling/edges",
-              "lasting/acts_2", "lasting/outlived", "layout/filled"]
+# The parts that Firefox runs where none is named: the others ask Chromium's own calls for fingers, paper, contrasts and the log.
+IN_FIREFOX = ["told/short", "certificates/beside", "certificates/whole_B", "handling/twelve", "handling/edges", "lasting/acts_2", "lasting/outlived", "layout/filled"]
 
-# The parts that take longest, which come first, so that no browser works on alone at the end; then scenes, before any part that has fingers.
+# The parts that take longest, which come first, so that no browser works on alone at the end.
 LONG = [("certificates", "whole_A"), ("lasting", "acts_1"), ("lasting", "acts_2"), ("lasting", "acts_3"), ("told", "values"), ("lasting", "same"),
         ("classroom", "evenly"), ("certificates", "mutated"), ("opening", "large")]
 
 
 def parts_of(names):
     """The (topic, part) pairs that the words name: of a topic all parts but those that have to be named, of no word all topics."""
-    for name in names or [it for it in TOPICS if it != "scenes"]:  # which scenes.py plays, one after the other
-        if name == "scenes/elsewhere":
-            yield from [("scenes", it) for it in scenes.ELSEWHERE]
-            continue
+    for name in names or TOPICS:
         topic, _, part = name.partition("/")
         if topic not in TOPICS or (part and part not in TOPICS[topic].PARTS):
             raise SystemExit(__doc__)
@@ -75,56 +66,39 @@ class Run:
     def __init__(self, given):
         self.page, self.name, self.is_firefox = pathlib.Path(given.page).resolve(), given.program, given.firefox
         self.stops, self.tells_seconds = given.until_failure, given.seconds
-        self.parts, self.counts = multiprocessing.Queue(), multiprocessing.Queue()
 
     def test(self, chosen, files, jobs):
         """How many checks passed and failed."""
-        for it in [*chosen, *jobs * [None]]:
-            self.parts.put(it)
-        workers = [multiprocessing.Process(target=self.work, args=(number, files)) for number in range(jobs)]
-        for worker in workers:
-            worker.start()
-        for worker in workers:
-            worker.join()
-        self.parts.cancel_join_thread()  # what is left of them is tested no more
-        told = [self.counts.get() for worker in workers if worker.exitcode == 0]
-        passed, failed, done = map(sum, zip((0, 0, 0), *told))
-        if done < len(chosen) and not (self.stops and failed):
-            failed += 1
-            print(f"FAILED: page: {len(chosen) - done} of {len(chosen)} parts weren't tested")
-        return passed, failed
+        return side_by_side.counts(chosen, jobs, lambda parts, checks, is_first: self.work(parts, checks, is_first, files), self.stops)
 
-    def work(self, number, files):
+    def work(self, parts, checks, is_first, files):
         """Tests parts in one browser until none is left."""
-        checks, done = Checks(), []
         with tempfile.TemporaryDirectory() as folder:
-            checks.topic("the browser", lambda: self.use(Firefox() if self.is_firefox else Browser(), Program(self.name, files, folder), checks, done, number == 0))
-        self.counts.put((checks.passed, checks.failed, len(done)))
+            browser = Firefox() if self.is_firefox else Browser()
+            try:
+                self.use(browser, parts, checks, Program(self.name, files, folder), is_first)
+            finally:
+                browser.close()
 
-    def use(self, browser, program, checks, done, tells):
-        try:
-            screen = Screen(browser, self.page)
-            for topic, part in iter(self.parts.get, None):
-                since = time.monotonic()
-                if topic != "scenes":  # which have a page of their own
-                    screen.afresh()
-                checks.topic(f"{topic}/{part}", lambda: TOPICS[topic].PARTS[part](checks, screen, program))
-                done.append(part)
-                if self.tells_seconds:
-                    print(f"{topic}/{part}: {time.monotonic() - since:.1f} s", flush=True)
-                if self.stops and checks.failed:
-                    return
-            if tells:
-                print("engine:", "proved" if browser.js("Game.engine().isProved") else "plain JavaScript", flush=True)
-            if not self.is_firefox:
-                looks.asked(checks, screen)
-        finally:
-            browser.close()
+    def use(self, browser, parts, checks, program, is_first):
+        screen = Screen(browser, self.page)
+        for topic, part in parts:
+            since = time.monotonic()
+            screen.afresh()
+            checks.topic(f"{topic}/{part}", lambda: TOPICS[topic].PARTS[part](checks, screen, program))
+            if self.tells_seconds:
+                print(f"{topic}/{part}: {time.monotonic() - since:.1f} s", flush=True)
+            if self.stops and checks.failed:
+                return
+        if is_first:
+            print("engine:", "proved" if browser.js("Game.engine().isProved") else "plain JavaScript", flush=True)
+        if not self.is_firefox:
+            looks.asked(checks, screen)
 
 
 def main():
     words = argparse.ArgumentParser(description=__doc__, formatter_class=argparse.RawDescriptionHelpFormatter)
-    for option in ("--list", "--firefox", "--until-failure", "--seconds", "--no-scenes"):
+    for option in ("--list", "--firefox", "--until-failure", "--seconds"):
         words.add_argument(option, action="store_true")
     words.add_argument("--jobs", type=int, default=len(os.sched_getaffinity(0)))
     words.add_argument("page", nargs="?")
@@ -138,9 +112,8 @@ def main():
         words.error("the page and the program are needed")
     stops, names = given.until_failure, given.parts or (IN_FIREFOX if given.firefox else [])
     chosen = list(dict.fromkeys([*(parts_of(names) if names or not stops else ()), *(parts_of(()) if stops else ())]))
-    chosen = [it for it in chosen if not (given.no_scenes and it[0] == "scenes")]
     if not stops:
-        chosen.sort(key=lambda it: (it not in LONG, it[0] != "scenes"))
+        chosen.sort(key=lambda it: it not in LONG)
     with tempfile.TemporaryDirectory() as folder:
         passed, failed = Run(given).test(chosen, os.environ.get("DOBUTSU_FILES", folder), 1 if stops else given.jobs)
     print(f"{passed} passed, {failed} failed")

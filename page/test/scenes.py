@@ -1,13 +1,16 @@
 #!/usr/bin/env python3
 """Scenes: named states of the page, each compared with a text of all that a person sees and hears there.
 
-page/test/scenes.py [--renew] [--page PAGE] [--seconds] [--until-failure] [--list] [NAME..]
+page/test/scenes.py [--page PAGE] [--firefox] [--states FOLDER] [--jobs N] [--renew] [--until-failure] [--seconds] [--list] [NAME..]
 
 A scene of stories.py is played in headless Chromium on the page that the sources make, or on PAGE. Its first state is told whole (scene.js), or by what differs
-from that of the scene `table`; and behind each further act what it changes. The text has to be that of page/test/scenes/NAME.txt; where it isn't, the lines that differ are printed. With `--renew` the files
-are written instead: look at `git diff page/test/scenes` then. Where a table is open all values that are shown are compared with plain Python's besides. NAMEs
-choose scenes, all without. Time stands still in a scene, but where its story lets it go on. The last line is `N passed, M failed`. page_test.py plays the
-scenes too, beside each other, and those that Firefox and the proved engine have to show.
+from that of the scene `table`; and behind each further act what it changes. The text has to be that of page/test/scenes/NAME.txt; where it isn't, the lines that
+differ are printed. With `--renew` the files are written instead: look at `git diff page/test/scenes` then. Where a table is open all values that are shown are
+compared with plain Python's besides. NAMEs choose scenes, all without; the name `elsewhere` is a quarter of them. N browsers work side by side, by default one for
+each processor, each with a profile of its own, and each scene begins with an empty store. Time stands still in a scene, but where its story lets it go on.
+
+With `--firefox` a scene is played in Firefox, by default the quarter. There things stand a little elsewhere, so it is told without looks and places, and compared
+with what Chromium shows of them: FOLDER keeps that, and what it lacks Chromium plays first. The last line is `N passed, M failed`.
 """
 import argparse
 import contextlib
@@ -23,17 +26,20 @@ import time
 sys.dont_write_bytecode = True
 HERE = pathlib.Path(__file__).resolve().parent
 sys.path[:0] = [str(HERE), str(HERE.parent)]
+import side_by_side
 import stories
 from browser import WAIT_SECONDS, Browser
-from checks import Checks
+from firefox import Firefox
 from scene_files import Files
 from scene_values import wrong_values
 from screen import Screen
 
 GOLDEN = HERE / "scenes"
 # The scenes that are played in the other browser and by the other engine too: a quarter of them.
-ELSEWHERE = ("start", "table", "values", "ends", "chosen", "drops", "line", "texts", "rules", "file_names", "refused", "refused_certificates", "claims", "practice", "exercise", "game", "pasted_kifu")
-ELSEWHERE_AT = os.environ.get("DOBUTSU_SCENES")  # a folder that has what Chromium shows, where that is to be compared with what Firefox shows
+ELSEWHERE = (
+    "start", "table", "values", "ends", "chosen", "drops", "line", "texts", "link", "rules", "file_names", "refused", "refused_certificates", "claims", "practice", "exercise", "game", "pasted_kifu",
+    "lesson", "settings", "kept",
+)
 # What the page says of the engine: as the proved one, and as the plain one, by which the files are written.
 ENGINES = [
     ("✓ proved engine", "plain engine"), ("✓ 証明済みエンジン", "普通のエンジン"), ("✓ しょうめいずみ エンジン", "ふつうの エンジン"), ("checked by proved code", "checked by plain JavaScript"),
@@ -82,22 +88,22 @@ class Stage:
         self.base = base  # the lines that the first state is told beside, or none where it is told whole
         self.screen, self.browser, self.files, self.js = screen, screen.browser, files, screen.js
         self.out, self.states, self.said, self.last, self.wrong, self.colours = [], [], set(), None, [], False
-        self.is_firefox = not hasattr(self.browser, "other_page")
+        self.is_firefox = isinstance(self.browser, Firefox)
         self.pointed = None  # where the mouse is in the window, and its buttons that are held
         self.heard = len(self.browser.events)
-        self.is_shared = False  # whether it is told besides as every browser has to show it
+        self.is_shared = False  # whether it is told besides as each browser has to show it
 
     # ---- what is told
 
     def write(self, words, found, is_looked_up=True):
-        lines = found["lines"]
+        lines = self.by_any_engine(found["lines"])
         if self.last is None and self.base:
             self.out += [f"== {words}; beside the scene table", *changes(self.base, lines)]
         else:
             self.out += [f"== {words}", *(lines if self.last is None else changes(self.last, lines))]
         self.out += self.logged()
         if self.is_shared:
-            self.states.append([words, lines if self.is_firefox else self.js("Scene.write({ isPlainly: true })")])
+            self.states.append([words, lines if self.is_firefox else self.by_any_engine(self.js("Scene.write({ isPlainly: true })"))])
         self.last = lines
         if found["facts"] and is_looked_up:
             self.wrong += [f"{words}: {it}" for it in wrong_values(found["facts"], self.files)]
@@ -109,6 +115,14 @@ class Stage:
         for place, line in enumerate(self.out):
             if place + 1 >= len(self.wanted) or line != self.wanted[place + 1]:
                 raise Differs(f"{line}, where {self.wanted[place + 1] if place + 1 < len(self.wanted) else 'nothing more'} has to be")
+
+    def by_any_engine(self, lines):
+        """Lines as they are where the plain engine is at work."""
+        if self.js("Game.engine().isProved !== true"):
+            return lines
+        for proved, plain in ENGINES:
+            lines = [line.replace(proved, plain) for line in lines]
+        return lines
 
     def options(self):
         return f"{{ withColours: {str(self.colours).lower()}, isPlainly: {str(self.is_firefox).lower()} }}"
@@ -133,6 +147,7 @@ class Stage:
         """What is told of the position in the other languages, then in English again: the texts that weren't told before."""
         names = languages or ("ja", "kana")
         for name, told in zip(names, self.js(f"Scene.saidIn({list(names)})")):
+            told = self.by_any_engine(told)
             lines = [line for line in dict.fromkeys(told) if line not in self.said]
             self.said.update(lines)
             self.out += [f"== in {name}", *lines]
@@ -142,11 +157,11 @@ class Stage:
 
     def paper(self, words="on paper"):
         """What the browser would print, and on how many sheets."""
-        if self.is_firefox:
-            return
+        if self.is_firefox:  # which prints nothing here, and tells its page that it has
+            return self.js("void dispatchEvent(new Event('afterprint'))")
         self.browser.call("Emulation.setEmulatedMedia", media="print")
         self.point()
-        lines = self.js("Scene.paper()")
+        lines = self.by_any_engine(self.js("Scene.paper()"))
         self.browser.call("Emulation.setEmulatedMedia", media="")
         self.out += [f"== {words}, {self.screen.pages()} sheets", *lines]
         self.point()
@@ -184,6 +199,11 @@ class Stage:
         """The page with a table open, and that position."""
         self.open(before=before, **about)
         self.act(f"await Scene.give([{self.file(name)}]);" + (f"Scene.enter({position!r})" if position else ""), tell, tell)
+
+    def clear(self):
+        """What an earlier visit left in the browser goes."""
+        self.load("")
+        self.js("localStorage.clear()")
 
     def close(self):
         self.observe(self.browser)
@@ -313,41 +333,34 @@ class Stage:
         return name
 
 
-def played(name, screen, files, is_left_early=False):
-    """The lines of a scene, and the values in it that aren't plain Python's. One that has fingers is played on a page of its own, since a page that once had
-    them knows no mouse that hovers any more."""
-    browser = screen.browser
-    if not hasattr(browser, "other_page"):
-        return played_here(name, screen, files, is_left_early)
-    told = len(browser.events)
-    try:
-        with browser.other_page() if name in TOUCHED else contextlib.nullcontext():
-            return played_here(name, screen, files, is_left_early)
-    finally:
-        browser.events[told:] = [it for it in browser.events[told:] if it["method"].startswith("Network.")]
+class Played:
+    """A scene that was played: its lines, the values in it that aren't plain Python's, and each state as any browser has to show it, where that is asked for. One
+    that has fingers is played on a page of its own, since a page that once had them knows no mouse that hovers any more."""
 
+    def __init__(self, name, screen, files, is_left_early=False, is_shared=False):
+        self.name, browser = name, screen.browser
+        if isinstance(browser, Firefox):
+            return self.play(screen, files, is_left_early, True)
+        told = len(browser.events)
+        try:
+            with browser.other_page() if name in TOUCHED else contextlib.nullcontext():
+                self.play(screen, files, is_left_early, is_shared)
+        finally:
+            browser.events[told:] = [it for it in browser.events[told:] if it["method"].startswith("Network.")]
 
-def played_here(name, screen, files, is_left_early):
-    screen.browser.size(*SIZE)
-    if hasattr(screen.browser, "other_page") and name not in TOUCHED:
-        screen.browser.call("Input.dispatchMouseEvent", type="mouseMoved", x=0, y=0)
-    stage, story = Stage(screen, files, None if name in WHOLE else first_state(golden("table")), golden(name) if is_left_early else None), stories.STORIES[name]
-    stage.colours = name in ("start", "dark", "flipped") and not stage.is_firefox
-    stage.is_shared = bool(ELSEWHERE_AT) and name in ELSEWHERE
-    try:
-        story(stage)
-        is_proved = stage.js("Game.engine().isProved === true")
-    finally:
-        stage.close()
-    lines = [f"scene {name}: {' '.join(story.__doc__.split())}", *stage.out]
-    return [as_plain(line) for line in lines] if is_proved else lines, stage.wrong, [[words, [as_plain(line) for line in told]] for words, told in stage.states]
-
-
-def as_plain(line):
-    """A line as it is where the plain engine is at work."""
-    for proved, plain in ENGINES:
-        line = line.replace(proved, plain)
-    return line
+    def play(self, screen, files, is_left_early, is_shared):
+        screen.browser.size(*SIZE)
+        if not isinstance(screen.browser, Firefox) and self.name not in TOUCHED:
+            screen.browser.call("Input.dispatchMouseEvent", type="mouseMoved", x=0, y=0)
+        stage, story = Stage(screen, files, None if self.name in WHOLE else first_state(golden("table")), golden(self.name) if is_left_early else None), stories.STORIES[self.name]
+        stage.colours = self.name in ("start", "dark", "flipped") and not stage.is_firefox
+        stage.is_shared = is_shared
+        stage.clear()
+        try:
+            story(stage)
+        finally:
+            stage.close()
+        self.lines, self.wrong, self.states = [f"scene {self.name}: {' '.join(story.__doc__.split())}", *stage.out], stage.wrong, stage.states
 
 
 def golden(name):
@@ -366,77 +379,97 @@ def write(name, lines):
     (GOLDEN / f"{name}.txt").write_text("".join(line + "\n" for line in lines), encoding="utf-8")
 
 
-def part(name):
-    """The scene as a part of page_test.py. In Chromium it is compared with its file; in Firefox, where things stand a little elsewhere, with what Chromium
-    showed before."""
-    def run(checks, screen, program):
-        lines, wrong, states = played(name, screen, Files.at(program.folder))
-        if hasattr(screen.browser, "other_page"):
-            if states:
-                elsewhere(name).write_text(json.dumps(states))
-            return compare(checks, name, lines, wrong)
-        checks.expect(f"values of scene {name} by plain Python", wrong, [])
-        for (words, told), (_, wanted) in zip(states, json.loads(elsewhere(name).read_text()), strict=True):
-            checks.expect(f"scene {name}, {words}", [it for it in told if it not in wanted], [it for it in wanted if it not in told])
-    return run
-
-
-def elsewhere(name):
-    """The file of what each browser has to show in a scene, state by state."""
-    return pathlib.Path(ELSEWHERE_AT, f"{name}.json")
-
-
 def differences(name, lines):
     """The lines by which a scene isn't as its file says."""
     return [it for it in list(difflib.unified_diff(golden(name), lines, n=0, lineterm=""))[2:] if not it.startswith("@@")]
 
 
-def compare(checks, name, lines, wrong):
-    checks.expect(f"values of scene {name} by plain Python", wrong, [])
-    checks.expect(f"scene {name}", differences(name, lines), [])
+class Run:
+    """Scenes that are played side by side, each in the next browser that is free."""
 
+    def __init__(self, given, page, states):
+        self.page, self.states, self.renews, self.stops, self.tells_seconds = page, states, given.renew, given.until_failure, given.seconds
 
-PARTS = {name: part(name) for name in stories.STORIES}
+    def play(self, names, jobs, is_firefox):
+        """How many checks passed and failed."""
+        in_order = sorted(names, key=lambda it: -len(golden(it)))  # the longest first, so that no browser works on alone at the end
+        return side_by_side.counts(in_order, jobs, lambda taken, checks, _: self.work(taken, checks, is_firefox), self.stops)
+
+    def work(self, names, checks, is_firefox):
+        """Plays scenes in one browser."""
+        with tempfile.TemporaryDirectory() as folder:
+            browser, files = Firefox() if is_firefox else Browser(), Files.at(folder)
+            try:
+                screen = Screen(browser, self.page)
+                for name in names:
+                    since = time.monotonic()
+                    checks.topic(f"scene {name}", lambda: (self.beside if is_firefox else self.compare)(checks, name, screen, files))
+                    if self.tells_seconds:
+                        print(f"{name}: {time.monotonic() - since:.1f} s", flush=True)
+                    if self.stops and checks.failed:
+                        return
+            finally:
+                browser.close()
+
+    def compare(self, checks, name, screen, files):
+        """A scene in Chromium against its file."""
+        is_shared = self.states is not None and name in ELSEWHERE
+        scene = Played(name, screen, files, is_shared=is_shared)
+        if self.renews:
+            write(name, scene.lines)
+        if is_shared:
+            self.file(name).write_text(json.dumps(scene.states))
+        for line in differences(name, scene.lines):
+            print(f"{name}: {line}", flush=True)
+        checks.expect(f"values of scene {name} by plain Python", scene.wrong, [])
+        checks.expect(f"scene {name}", differences(name, scene.lines), [])
+
+    def beside(self, checks, name, screen, files):
+        """A scene in Firefox against what Chromium showed, state by state."""
+        scene, shown = Played(name, screen, files), json.loads(self.file(name).read_text())
+        checks.expect(f"values of scene {name} by plain Python", scene.wrong, [])
+        checks.expect(f"the states of scene {name}", [words for words, _ in scene.states], [words for words, _ in shown])
+        for (words, told), (_, wanted) in zip(scene.states, shown):
+            checks.expect(f"scene {name}, {words}", [it for it in told if it not in wanted], [it for it in wanted if it not in told])
+
+    def file(self, name):
+        """The file of what each browser has to show in a scene."""
+        return self.states / f"{name}.json"
 
 
 def main():
     words = argparse.ArgumentParser(description=__doc__, formatter_class=argparse.RawDescriptionHelpFormatter)
-    for option in ("--renew", "--seconds", "--until-failure", "--list"):
+    for option in ("--firefox", "--renew", "--seconds", "--until-failure", "--list"):
         words.add_argument(option, action="store_true")
-    words.add_argument("--page", type=pathlib.Path)
+    for option in ("--page", "--states"):
+        words.add_argument(option, type=pathlib.Path)
+    words.add_argument("--jobs", type=int, default=len(os.sched_getaffinity(0)))
     words.add_argument("names", nargs="*")
     given = words.parse_args()
     if given.list:
         print(*stories.STORIES, sep="\n")
         return 0
-    checks = Checks()
+    named = [it for name in given.names or (["elsewhere"] if given.firefox else stories.STORIES) for it in (ELSEWHERE if name == "elsewhere" else [name])]
+    if unknown := [it for it in named if it not in (ELSEWHERE if given.firefox else stories.STORIES)]:
+        words.error(f"no such scene{' in Firefox' if given.firefox else ''}: {' '.join(unknown)}")
     with tempfile.TemporaryDirectory() as folder:
         page = given.page or pathlib.Path(folder, "dobutsu.html")
         if not given.page:
             subprocess.run([sys.executable, HERE.parent / "build.py", "-", page], check=True, stdout=subprocess.DEVNULL)
-        browser, files = Browser(), Files.at(folder)
-        try:
-            screen = Screen(browser, page.resolve())
-            for name in sorted(given.names or stories.STORIES, key=lambda it: it != "table"):
-                since = time.monotonic()
-                checks.topic(f"scene {name}", lambda: one(checks, name, screen, files, given.renew))
-                if given.seconds:
-                    print(f"{name}: {time.monotonic() - since:.1f} s", flush=True)
-                if given.until_failure and checks.failed:
-                    break
-        finally:
-            browser.close()
-    print(f"{checks.passed} passed, {checks.failed} failed")
-    return checks.failed > 0
-
-
-def one(checks, name, screen, files, renews):
-    lines, wrong, _ = played(name, screen, files)
-    if renews:
-        write(name, lines)
-    else:
-        print(*[f"{name}: {line}" for line in differences(name, lines)], sep="\n", end="\n" if differences(name, lines) else "")
-    compare(checks, name, lines, wrong)
+        states = given.states or (pathlib.Path(folder, "states") if given.firefox else None)
+        if states:
+            states.mkdir(exist_ok=True)
+        run, counts = Run(given, page.resolve(), states), []
+        first = [it for it in named if given.firefox and not run.file(it).exists()]
+        if given.renew and "table" in named:  # beside whose first state others are told
+            first, named = ["table"], [it for it in named if it != "table"]
+        jobs = 1 if given.until_failure else given.jobs
+        for names, is_firefox in ((first, False), (named, given.firefox)):
+            if names and not (given.until_failure and any(failed for _, failed in counts)):
+                counts.append(run.play(names, min(jobs, len(names)), is_firefox))
+    passed, failed = map(sum, zip((0, 0), *counts))
+    print(f"{passed} passed, {failed} failed")
+    return failed > 0
 
 
 if __name__ == "__main__":
