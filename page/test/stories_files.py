@@ -67,7 +67,7 @@ def refused(at):
 def refused_certificates(at):
     """Spoilt certificates, each with its fault."""
     at.table(PLAIN, tell=False)
-    names = [f"{name}.cert" for name in ("version", "set", "columns", "rules", "root", "claim", "claim_255", "count", "held", "told_exact", "shorter", "entry", "short", "half", "longer", "digest", "number", "order", "plies")]
+    names = [f"{name}.cert" for name in ("version", "set", "columns", "rules", "root", "claim", "claim_255", "count", "held", "told_exact", "shorter", "win_sooner", "win_later", "draw_won", "draw_lost", "entry", "short", "half", "longer", "digest", "number", "order", "plies")]
     at.give(*names, tell="certificates that are refused")
     at.says()
 
@@ -149,8 +149,15 @@ def opening(at):
     """A file is opened: what is told meanwhile, without a digest where the browser has none, and dropped on the page."""
     at.open(tell=False, before="0")
     at.js("window.held = []; Blob.prototype.arrayBuffer = ((real) => async function () { await new Promise((done) => window.held.push(done)); return real.call(this); })(Blob.prototype.arrayBuffer)")
-    at.browser.give_files("#file", at.files["100A"])
-    at.browser.wait("!!document.querySelector('#files .work')")
+    read = at.js(f"""(async () => {{
+      const data = new DataTransfer(), {{ name, base64 }} = {at.file("100A")};
+      data.items.add(new File([Uint8Array.from(atob(base64), (sign) => sign.charCodeAt(0))], name));
+      document.getElementById('file').files = data.files;
+      document.getElementById('file').dispatchEvent(new Event('change'));
+      for (let i = 0; i < 99; i++) await null;
+      return window.held.length;
+    }})()""")
+    at.out.append(f"== of a file {read} parts are read before its line can be seen")
     at.tell("it is opened")
     at.says()
     at.js("setInterval(() => window.held.splice(0).forEach((done) => done()), 5)")

@@ -123,6 +123,7 @@ def ended(at):
     at.enter(PLAIN, tell=False)
     at.press("practise", tell=False)
     at.press("play", tell="playing out in practice")
+    at.run("[...document.querySelectorAll('#files .close')].pop().click()", until="document.querySelectorAll('#files b').length === 1", tell="another file is closed while a line is played out")
 
 
 def practice_try(at):
