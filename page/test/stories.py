@@ -294,7 +294,7 @@ def texts(at):
         at.enter("dobutsu.html#nonsense")
     at.language("en", tell=False)
     at.enter("C.l/.../.../L.. - -")
-    at.enter("  .l./.../.C./.L.   -\n- ", tell="blanks are no matter")
+    at.enter("  .l./.../.C./.L.   -  - ", tell="blanks are no matter")
     at.enter("file:///home/somebody/dobutsu.html#~.l./.../.C./.L._-_-:lb4-c3", tell="a link with a game")
     at.enter("https://example.com/page.html#.l./.../.C./.L.%5F-%5F-", tell="an encoded link")
     at.enter("#B;.l./.../.C./.L._-_-:Lb1-a2", tell="a link by rules B")
