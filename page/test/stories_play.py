@@ -123,6 +123,8 @@ def ended(at):
     at.enter(PLAIN, tell=False)
     at.press("practise", tell=False)
     at.press("play", tell="playing out in practice")
+    at.enter(PLAIN, tell=False)
+    at.press("play", tell=False)
     at.run("[...document.querySelectorAll('#files .close')].pop().click()", until="document.querySelectorAll('#files b').length === 1", tell="another file is closed while a line is played out")
 
 
@@ -274,6 +276,9 @@ def worksheet(at):
     at.choose("sheet-number", "7", tell=False)
     at.press("worksheet", until="Scene.told.printed.length === 5", tell=False)
     at.paper("with hands, fewer than were asked for, in kana")
+    at.language("en", tell=False)
+    at.press("worksheet", until="Scene.told.printed.length === 6", tell=False)
+    at.press("print", tell="the page is printed, where no browser said that the worksheet was")
 
 
 def game(at):
