@@ -399,6 +399,8 @@ def pasted_kifu(at):
     take("▲22ヒヨコ △同ぞう ▲12らいおん △33ひよこ打", "a game")
     at.press("copy-game", tell="copied")
     at.language("en", tell="in en")
+    take('[Position "..l/.../G.G/.L. - -"] ▲23きりん右', "of two giraffes the right one")
+    take("▲13きりん行 △32きりん入 ▲22ひよこ直 △同らいおん上 ▲14らいおん寄 △21らいおん引", "a game that says which way each piece goes")
     wrong = ["Lb1-a4", "La1-a2", "Cb2-a3", "Cb2xb3 Cb2xb3", "Cb2xb3 eb4xb3 Lb1-a2 la4-b4", "Cb2-b3", "C*c2", "L*a2", "Hb2-b3", "Gc1-b1", "Cb2xb3+", "Gc1xc2", "c2", "xyz", "▲13きりん", "△12らいおん", "22ひ 22ぞ 23ひ打",
              '[Position ".../.l./.L./.C. - -"] Lb2xb3 lb3-b4', '[Position "..l/.../H.H/.L. - -"] Hb2', '[Position "..l/.../.../L.. C -"] C*a1', '[Rules "B"] [Position "..l/.../.../L.. C -"] C*a4', ""]
     for name in ("en", "ja", "kana"):
