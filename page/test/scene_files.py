@@ -166,6 +166,9 @@ class Files:
             return (TOP / "testdata/lions_alone.db").read_bytes()
         if name == "222_A.cert":
             return (TOP / "testdata/222_A.cert").read_bytes()
+        if name == "giraffes.db":  # a set with two of a kind, all draws
+            count = read_db.class_count("A", (0, 0, 2))
+            return sealed(b"DOBUTSU2" + bytes([0, 0, 2, 2, 0]) + struct.pack("<Q", count) + bytes(2 * count))
         if name == "100B":
             data = table("B", (1, 0, 0))
             self.tables["100B.db"] = read_db.Db(data)

@@ -48,6 +48,8 @@ def starts(at):
     at.give("000A", tell="a table's first position")
     at.press("start")
     at.open(tell=False)
+    at.give("giraffes.db", tell="that of a set with two of a kind")
+    at.open(tell=False)
     at.give("loss.cert", tell="a certificate's position")
     at.enter(PLAIN, tell=False)
     at.press("start", tell="Start goes to it")
