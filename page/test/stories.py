@@ -210,7 +210,7 @@ def hidden(at):
 
 def set_up(at):
     """A position is set up by clicks, dragging and keys."""
-    at.table("..l/H.h/.../L.. CE g", tell=False)
+    at.table("..l/H.h/.../L.. E g", tell=False)
     at.press("edit", tell="setting up begins")
     at.click("tool c")
     at.click("b2")
