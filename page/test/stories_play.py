@@ -195,6 +195,7 @@ def exercise(at):
     at.press("draw", until=ASKED, tell=False)
     at.press("hide", tell="values are shown")
     at.play("La2-b1", tell="a wrong answer then")
+    at.press("draw", until=ASKED, tell="another exercise hides them")
     at.press("practise", tell="practice of the exercise")
     at.press("practise", tell=False)
     at.enter(PLAIN, tell="another position")
