@@ -54,6 +54,8 @@ def starts(at):
     at.enter(PLAIN, tell=False)
     at.press("start", tell="Start goes to it")
     at.give("100B", tell="another file leaves the board")
+    at.open(tell=False)
+    at.give("stuck.cert", tell="a certificate of the game's set, and not of its beginning")
 
 
 def refused(at):
