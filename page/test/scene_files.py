@@ -166,6 +166,9 @@ class Files:
             return (TOP / "testdata/lions_alone.db").read_bytes()
         if name == "222_A.cert":
             return (TOP / "testdata/222_A.cert").read_bytes()
+        if name == "giraffes.db":  # a set with two of a kind, all draws
+            count = read_db.class_count("A", (0, 0, 2))
+            return sealed(b"DOBUTSU2" + bytes([0, 0, 2, 2, 0]) + struct.pack("<Q", count) + bytes(2 * count))
         if name == "100B":
             data = table("B", (1, 0, 0))
             self.tables["100B.db"] = read_db.Db(data)
@@ -200,7 +203,8 @@ class Files:
             "version.cert": lambda: cert(LOSS, "loss", 6, spoil(8, 2)), "set.cert": lambda: cert(LOSS, "loss", 6, spoil(9, 3)), "columns.cert": lambda: cert(LOSS, "loss", 6, spoil(12, 3)),
             "rules.cert": lambda: cert(LOSS, "loss", 6, spoil(13, 2)), "root.cert": lambda: cert(LOSS, "loss", 6, spoil(17, 1)), "claim.cert": lambda: cert(LOSS, "loss", 6, spoil(18, 5)),
             "claim_255.cert": lambda: cert(LOSS, "loss", 6, spoil(19, 255)), "held.cert": lambda: cert(LOSS, "loss", 6, longer), "told_exact.cert": lambda: cert(LOSS, "loss", 8),
-            "shorter.cert": lambda: cert(LOSS, "loss", 4), "entry.cert": lambda: cert(LOSS, "loss", 6, shorter), "short.cert": lambda: good()[:20], "half.cert": lambda: sealed(good()[:900]),
+            "shorter.cert": lambda: cert(LOSS, "loss", 4), "win_sooner.cert": lambda: cert(WON, "win", 3), "win_later.cert": lambda: cert(WON, "win", 7),
+            "draw_won.cert": lambda: cert(WON, "draw", 0), "draw_lost.cert": lambda: cert(LOSS, "draw", 0), "entry.cert": lambda: cert(LOSS, "loss", 6, shorter), "short.cert": lambda: good()[:20], "half.cert": lambda: sealed(good()[:900]),
             "longer.cert": lambda: good() + b"x", "digest.cert": lambda: good()[:-1] + bytes([good()[-1] ^ 1]), "count.cert": lambda: sealed(good()[:20] + b"\xff\xff\xff\0" + good()[24:-32]),
             "number.cert": lambda: sealed(good()[:28] + b"\x80\0" + good()[30:-32]), "order.cert": lambda: sealed(good()[:28] + b"\1\2\0\2" + good()[32:-32]),
             "plies.cert": lambda: sealed(good()[:28] + b"\1\xff" + good()[30:-32]),

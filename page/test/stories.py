@@ -210,7 +210,7 @@ def hidden(at):
 
 def set_up(at):
     """A position is set up by clicks, dragging and keys."""
-    at.table("..l/H.h/.../L.. CE g", tell=False)
+    at.table("..l/H.h/.../L.. E g", tell=False)
     at.press("edit", tell="setting up begins")
     at.click("tool c")
     at.click("b2")
@@ -294,7 +294,7 @@ def texts(at):
         at.enter("dobutsu.html#nonsense")
     at.language("en", tell=False)
     at.enter("C.l/.../.../L.. - -")
-    at.enter("  .l./.../.C./.L.   -\n- ", tell="blanks are no matter")
+    at.enter("  .l./.../.C./.L.   -  - ", tell="blanks are no matter")
     at.enter("file:///home/somebody/dobutsu.html#~.l./.../.C./.L._-_-:lb4-c3", tell="a link with a game")
     at.enter("https://example.com/page.html#.l./.../.C./.L.%5F-%5F-", tell="an encoded link")
     at.enter("#B;.l./.../.C./.L._-_-:Lb1-a2", tell="a link by rules B")
@@ -350,6 +350,9 @@ def keys(at):
     at.key("e", tell=False)
     at.key("ArrowLeft")
     at.key("ArrowRight")
+    at.focus("#moves li:first-child button", tell=False)
+    at.key("Enter", tell="the first move is made, and the focus is on the first one then")
+    at.press("undo", tell=False)
     at.focus("b1")
     at.key("ArrowUp")
     at.key("ArrowUp", "ArrowUp", "ArrowUp")

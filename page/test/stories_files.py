@@ -48,10 +48,14 @@ def starts(at):
     at.give("000A", tell="a table's first position")
     at.press("start")
     at.open(tell=False)
+    at.give("giraffes.db", tell="that of a set with two of a kind")
+    at.open(tell=False)
     at.give("loss.cert", tell="a certificate's position")
     at.enter(PLAIN, tell=False)
     at.press("start", tell="Start goes to it")
     at.give("100B", tell="another file leaves the board")
+    at.open(tell=False)
+    at.give("stuck.cert", tell="a certificate of the game's set, and not of its beginning")
 
 
 def refused(at):
@@ -67,7 +71,7 @@ def refused(at):
 def refused_certificates(at):
     """Spoilt certificates, each with its fault."""
     at.table(PLAIN, tell=False)
-    names = [f"{name}.cert" for name in ("version", "set", "columns", "rules", "root", "claim", "claim_255", "count", "held", "told_exact", "shorter", "entry", "short", "half", "longer", "digest", "number", "order", "plies")]
+    names = [f"{name}.cert" for name in ("version", "set", "columns", "rules", "root", "claim", "claim_255", "count", "held", "told_exact", "shorter", "win_sooner", "win_later", "draw_won", "draw_lost", "entry", "short", "half", "longer", "digest", "number", "order", "plies")]
     at.give(*names, tell="certificates that are refused")
     at.says()
 
@@ -149,8 +153,15 @@ def opening(at):
     """A file is opened: what is told meanwhile, without a digest where the browser has none, and dropped on the page."""
     at.open(tell=False, before="0")
     at.js("window.held = []; Blob.prototype.arrayBuffer = ((real) => async function () { await new Promise((done) => window.held.push(done)); return real.call(this); })(Blob.prototype.arrayBuffer)")
-    at.browser.give_files("#file", at.files["100A"])
-    at.browser.wait("!!document.querySelector('#files .work')")
+    read = at.js(f"""(async () => {{
+      const data = new DataTransfer(), {{ name, base64 }} = {at.file("100A")};
+      data.items.add(new File([Uint8Array.from(atob(base64), (sign) => sign.charCodeAt(0))], name));
+      document.getElementById('file').files = data.files;
+      document.getElementById('file').dispatchEvent(new Event('change'));
+      for (let i = 0; i < 99; i++) await null;
+      return window.held.length;
+    }})()""")
+    at.out.append(f"== of a file {read} parts are read before its line can be seen")
     at.tell("it is opened")
     at.says()
     at.js("setInterval(() => window.held.splice(0).forEach((done) => done()), 5)")
@@ -183,12 +194,19 @@ def checking(at):
     at.tell("a third is checked")
     at.play("Lb1-a2", tell="the page goes on")
     at.says()
+    at.js("window.works[0].say(0.31, 1)")
+    at.wait("/97/.test(document.getElementById('files').textContent)", tell="the rest takes longer than was thought")
     at.focus("#files .work button")
     at.js("document.querySelector('#files .work button').click()")
     at.wait('Scene.filesTold()', tell=False)
     at.tell("it is stopped")
     at.js("window.isGiven = true; document.getElementById('files').textContent = ''")
     at.give("loss.cert", tell="once more, to its end")
+    broken = "window.Worker = class { constructor() { setTimeout(() => { %s this.onerror(new ErrorEvent('error', { message: 'as planted', cancelable: true })); }); } postMessage() {} terminate() {} }"
+    at.js(broken % "this.onmessage({ data: { part: 0.5 } });")
+    at.give("win_within.cert", tell="a worker breaks off")
+    at.js(broken % "")
+    at.give("win_within.cert", tell="where a worker can't begin the page checks")
     at.js("window.Worker = function () { throw new Error('there is none'); }")
     at.give("win.cert", tell="where there is no worker the page checks")
     at.js("Certificates.limits.here = 10")

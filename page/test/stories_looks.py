@@ -73,11 +73,14 @@ def dark(at):
 
 def system_dark(at):
     """A system that is dark, and goes over to light."""
-    at.browser.call("Emulation.setEmulatedMedia", features=[{"name": "prefers-color-scheme", "value": "dark"}])
-    at.table(PLAIN, tell="the page is dark")
-    at.browser.call("Emulation.setEmulatedMedia", features=[{"name": "prefers-color-scheme", "value": "light"}])
-    at.tell("the system goes over")
-    at.browser.call("Emulation.setEmulatedMedia", features=[{"name": "prefers-color-scheme", "value": ""}])
+    prefers = lambda value: at.browser.call("Emulation.setEmulatedMedia", features=[{"name": "prefers-color-scheme", "value": value}])
+    prefers("dark")
+    try:
+        at.table(PLAIN, tell="the page is dark")
+        prefers("light")
+        at.tell("the system goes over")
+    finally:  # a scene that is left at a difference leaves no dark system to the next one
+        prefers("")
 
 
 def japanese(at):
@@ -151,7 +154,7 @@ def settings(at):
 
 def kept(at):
     """What was chosen at an earlier visit is there."""
-    at.table(PLAIN, stored={"language": "kana", "theme": "dark", "measure": "moves", "speed": "slow", "arrow": "off", "letters": "off", "sheet-number": "9", "sheet-answers": "apart"}, tell="another visit")
+    at.table(PLAIN, stored={"language": "kana", "theme": "dark", "measure": "moves", "speed": "slow", "arrow": "off", "letters": "off", "sheet-number": "12", "sheet-answers": "apart"}, tell="another visit")
     at.run("document.getElementById('settings-card').firstElementChild.open = true", tell="its settings")
 
 
@@ -200,6 +203,11 @@ def fences(at):
     at.language("en", tell=False)
     at.js("Board.flip = acts")
     at.press("flip", tell="and goes again")
+    at.click("b1", tell=False)
+    at.js("window.kept = Notation.shown; Notation.shown = () => { throw new Error('as planted'); }")
+    at.click("a2", tell="a move on the board fails")
+    at.js("Notation.shown = window.kept")
+    at.key("Escape", tell="and its piece is let go")
     at.js("setTimeout(() => { throw new Error('outside of all fences'); }, 0); new Promise((done) => setTimeout(done, 20))")
     at.tell("what no fence stands around")
     at.js("Promise.reject(new Error('later')); new Promise((done) => setTimeout(done, 20))")

@@ -123,6 +123,9 @@ def ended(at):
     at.enter(PLAIN, tell=False)
     at.press("practise", tell=False)
     at.press("play", tell="playing out in practice")
+    at.enter(PLAIN, tell=False)
+    at.press("play", tell=False)
+    at.run("[...document.querySelectorAll('#files .close')].pop().click()", until="document.querySelectorAll('#files b').length === 1", tell="another file is closed while a line is played out")
 
 
 def practice_try(at):
@@ -192,6 +195,7 @@ def exercise(at):
     at.press("draw", until=ASKED, tell=False)
     at.press("hide", tell="values are shown")
     at.play("La2-b1", tell="a wrong answer then")
+    at.press("draw", until=ASKED, tell="another exercise hides them")
     at.press("practise", tell="practice of the exercise")
     at.press("practise", tell=False)
     at.enter(PLAIN, tell="another position")
@@ -273,6 +277,9 @@ def worksheet(at):
     at.choose("sheet-number", "7", tell=False)
     at.press("worksheet", until="Scene.told.printed.length === 5", tell=False)
     at.paper("with hands, fewer than were asked for, in kana")
+    at.language("en", tell=False)
+    at.press("worksheet", until="Scene.told.printed.length === 6", tell=False)
+    at.press("print", tell="the page is printed, where no browser said that the worksheet was")
 
 
 def game(at):
@@ -342,10 +349,11 @@ def pasted(at):
     take("", "nothing")
     take("1. Lb1-a2 lb4-c4 2. La2-b2?? Xz9 La2-a3", "a move that is none")
     take("Xz9", "none at all")
+    take("Lb1-a2 lb4-c3", "a game of the position that the board began with")
     take('[Rules "A"] [First "Forest"] [Position ".l./.../.../L.. C -"]\n\n1. C*c1? {draw} lb4-a4 (2. lb4-c4 3. La1-a2) 3. Cc1-c2 la4-a3', "a game with tags, words and a line")
     at.press("copy-game")
     at.says()
-    take("b2b3, lb4c4", "squares alone, from the position that the board began with")
+    take("b2b3, lb4c4", "squares alone, from the starting layout")
     take("1... lb4-c3 Lb1-a1", "Sky begins")
     take('[Rules "B"] [First "Sky"] [Position ".l./.../.C./.L. - -"] lb4-c3', "rules B, Sky first")
     take("PAGE#.l./.../.C./.L._-_-:Lb1-a2,lb4-c4", "a link")
@@ -393,6 +401,8 @@ def pasted_kifu(at):
     take("▲22ヒヨコ △同ぞう ▲12らいおん △33ひよこ打", "a game")
     at.press("copy-game", tell="copied")
     at.language("en", tell="in en")
+    take('[Position "..l/.../G.G/.L. - -"] ▲23きりん右', "of two giraffes the right one")
+    take("▲13きりん行 △32きりん入 ▲22ひよこ直 △同らいおん上 ▲14らいおん寄 △21らいおん引", "a game that says which way each piece goes")
     wrong = ["Lb1-a4", "La1-a2", "Cb2-a3", "Cb2xb3 Cb2xb3", "Cb2xb3 eb4xb3 Lb1-a2 la4-b4", "Cb2-b3", "C*c2", "L*a2", "Hb2-b3", "Gc1-b1", "Cb2xb3+", "Gc1xc2", "c2", "xyz", "▲13きりん", "△12らいおん", "22ひ 22ぞ 23ひ打",
              '[Position ".../.l./.L./.C. - -"] Lb2xb3 lb3-b4', '[Position "..l/.../H.H/.L. - -"] Hb2', '[Position "..l/.../.../L.. C -"] C*a1', '[Rules "B"] [Position "..l/.../.../L.. C -"] C*a4', ""]
     for name in ("en", "ja", "kana"):
