@@ -1,7 +1,7 @@
 -- The lemmas, in the order in which they are read.
 mod Common  -- names of other crates and of this one's definitions, for the proofs
 pub mod Orders  -- entries by ascending class
-pub mod Walked  -- moves gone through by their numbers
+pub mod Walked  -- moves gone through one by one
 pub mod Representatives  -- what holds of a class's representative
 pub mod Firsts  -- the first entry that is not supported
 pub mod Bounds  -- what supported lists say of positions is so

@@ -1,5 +1,5 @@
 -- What a list of either kind is asked of a position: whether it takes it for lost or won.
-use Rattle.std.specs.Prelude.{◌≡◌, ◌-◌, Bool, true, false, List, ℕ, MatchBool}
+use Rattle.std.specs.Prelude.{◌-◌, Bool, List, ℕ, MatchBool}
 use Rattle.dob_pieces.specs.declared.profile.Family.{Family}
 use Rattle.dob_pieces.specs.declared.setup.Setup.{Setup}
 use Rattle.dob_certificate.specs.declared.entry.Entry.{Entry}

@@ -1,21 +1,20 @@
 // What a list of either kind is asked of a position: whether it takes it for lost, by what it says; for won, by a reply; for lost, whatever is played.
-ghost use Rattle.std.specs.Prelude.{◌≡◌, ◌≤◌, ◌<◌, ◌↔◌, true, false, length, IfOk, OnErr, IsTrue, MatchBool};
+ghost use Rattle.std.specs.Prelude.{◌≡◌, ◌≤◌, ◌<◌, ◌↔◌, true, false, length, IsTrue, MatchBool};
 ghost use Rattle.dob_moves.specs.declared.position_status.Status.{Status};
-ghost use Rattle.dob_moves.specs.Statuses.{HasStatus};
+ghost use Rattle.dob_moves.specs.Statuses.{AreMoves, HasStatus};
 ghost use Rattle.dob_rank.specs.Families.{IsPositionOf};
 ghost use Rattle.dob_certificate.specs.Ascending.{listed_entry};
 ghost use Rattle.dob_certificate.specs.Asked.{FindsLost, FindsWon, TakesForLost, plies_later};
 ghost use Rattle.dob_certificate.specs.Held.{IsListedBeyond, IsSafe, IsSaidHeld};
 ghost use Rattle.dob_certificate.specs.Lists.{Supports};
 ghost use Rattle.dob_certificate.specs.Lost.{IsSaidLost, SaysLost};
-ghost use Rattle.dob_certificate.specs.Walks.{AllLead, AreNumbered, GivenLead, SomeLeads};
+ghost use Rattle.dob_certificate.specs.Walks.{AllLead, SomeLeads};
 
 use crate::entry::EVER;
 use crate::list_kind::ListKind;
 use crate::lookup::Lookup;
-use crate::moves::Moves;
-use dob_moves::{Status, status};
-use dob_pieces::{Family, Memory, Position};
+use dob_moves::{Move, MoveList, Status, legal_moves, moves_into, status};
+use dob_pieces::{Family, Position};
 use dob_value::outcome_of;
 
 /// Whether a list of that kind shows a position to be lost within `plies`: by a lost list it is lost, by a held list it isn't shown not to be.
@@ -102,139 +101,76 @@ fn takes_for_lost<L: Lookup>(
     }
 }
 
-// Whether the move of that number leads to what is taken for lost.
-fn is_reply_at<L: Lookup, M: Moves>(
-    moves: &M,
-    family: Family,
-    list: &L,
-    question: LossQuestion,
-    position: &Position,
-    index: usize,
-) -> bool
-    requires given { AreNumbered family.profile position.now.setup (M.count_of moves.now) (M.gives moves.now family.profile position.now.setup) }
-    requires within { index < M.count_of moves.now }
-    requires list { L.stands list.now family }
-    requires member { IsPositionOf family position.now.setup }
-    ensures { MatchBool result
-        (SomeLeads family.profile position.now.setup (TakesForLost question.kind family (L.entries_of list.now) question.plies true))
-        (GivenLead family.profile position.now.setup (M.gives moves.now family.profile position.now.setup index)
-        (TakesForLost question.kind family (L.entries_of list.now) question.plies false)) }
-{
-    match moves.at(family.profile, position, index) {
-        Some(reply) => {
-            takes_for_lost(family, list, question, &outcome_of(family, position, reply))
-        }
-        None => false,
-    }
-}
-
 // Whether some move of an open position leads to what is taken for lost.
-fn has_reply<L: Lookup, M: Moves>(
-    moves: &M,
+fn has_reply<L: Lookup>(
     family: Family,
     list: &L,
     question: LossQuestion,
     position: &Position,
+    replies: &[Move],
 ) -> bool
-    requires given { AreNumbered family.profile position.now.setup (M.count_of moves.now) (M.gives moves.now family.profile position.now.setup) }
     requires list { L.stands list.now family }
     requires member { IsPositionOf family position.now.setup }
     requires goes_on { HasStatus family.profile position.now.setup Status.Open }
+    requires replies { AreMoves family.profile position.now.setup replies.now }
     ensures { MatchBool result
         (SomeLeads family.profile position.now.setup (TakesForLost question.kind family (L.entries_of list.now) question.plies true))
         (AllLead family.profile position.now.setup (TakesForLost question.kind family (L.entries_of list.now) question.plies false)) }
 {
-    for index in 0..moves.count() {
-        if is_reply_at(moves, family, list, question, position, index) {
+    for reply in replies {
+        let outcome = outcome_of(family, position, *reply);
+        if takes_for_lost(family, list, question, &outcome) {
             return true;
         }
     }
     false
 }
 
-/// Whether the list shows the position to be won: the side to move catches the lion, or some move leads to what it takes for lost. The replies are those
-/// of any position before, and of this one behind.
-///
-/// # Errors
-///
-/// `Memory`.
-pub(crate) fn finds_won<L: Lookup, M: Moves>(
-    replies: &mut M,
+/// Whether the list shows the position to be won: the side to move catches the lion, or some move leads to what it takes for lost. The replies are
+/// those of any position before, and of this one behind.
+pub(crate) fn finds_won<L: Lookup>(
+    replies: &mut MoveList,
     family: Family,
     list: &L,
     question: LossQuestion,
     position: &Position,
-) -> Result<bool, Memory>
+) -> bool
     requires list { L.stands list.now family }
     requires member { IsPositionOf family position.now.setup }
-    ensures found { IfOk result (λ yes. FindsWon question.kind family (L.entries_of list.now) question.plies yes position.now.setup) }
-    ensures failed { OnErr result M.may_fail }
+    ensures { FindsWon question.kind family (L.entries_of list.now) question.plies result position.now.setup }
 {
-    match replies.visit(family.profile, position)? {
-        Status::Caught => Ok(true),
-        Status::Tried | Status::Stuck => Ok(false),
-        Status::Open => Ok(has_reply(replies, family, list, question, position)),
-    }
-}
-
-// Whether the move of that number, if there is one, leads to what is found to be won.
-//
-// Error: `Memory`.
-fn is_answered_at<L: Lookup, M: Moves>(
-    moves: &M,
-    replies: &mut M,
-    family: Family,
-    list: &L,
-    question: LossQuestion,
-    position: &Position,
-    index: usize,
-) -> Result<bool, Memory>
-    requires given { AreNumbered family.profile position.now.setup (M.count_of moves.now) (M.gives moves.now family.profile position.now.setup) }
-    requires within { index < M.count_of moves.now }
-    requires list { L.stands list.now family }
-    requires member { IsPositionOf family position.now.setup }
-    ensures found { IfOk result (λ yes. MatchBool yes
-        (GivenLead family.profile position.now.setup (M.gives moves.now family.profile position.now.setup index)
-        (FindsWon question.kind family (L.entries_of list.now) question.plies true))
-        (SomeLeads family.profile position.now.setup (FindsWon question.kind family (L.entries_of list.now) question.plies false))) }
-    ensures failed { OnErr result M.may_fail }
-{
-    match moves.at(family.profile, position, index) {
-        Some(played) => {
-            let outcome = outcome_of(family, position, played);
-            finds_won(replies, family, list, question, &outcome)
-        }
-        None => Ok(true),
+    let status = moves_into(family.profile, replies, position);
+    match status {
+        Status::Caught => true,
+        Status::Tried | Status::Stuck => false,
+        Status::Open => has_reply(family, list, question, position, replies.as_slice()),
     }
 }
 
 // Whether each move of an open position leads to what is found to be won.
-//
-// Error: `Memory`.
-fn are_all_answered<L: Lookup, M: Moves>(
-    moves: &M,
-    replies: &mut M,
+fn are_all_answered<L: Lookup>(
     family: Family,
     list: &L,
     question: LossQuestion,
     position: &Position,
-) -> Result<bool, Memory>
-    requires given { AreNumbered family.profile position.now.setup (M.count_of moves.now) (M.gives moves.now family.profile position.now.setup) }
+    moves: &[Move],
+) -> bool
     requires list { L.stands list.now family }
     requires member { IsPositionOf family position.now.setup }
     requires goes_on { HasStatus family.profile position.now.setup Status.Open }
-    ensures found { IfOk result (λ yes. MatchBool yes
+    requires moves { AreMoves family.profile position.now.setup moves.now }
+    ensures { MatchBool result
         (AllLead family.profile position.now.setup (FindsWon question.kind family (L.entries_of list.now) question.plies true))
-        (SomeLeads family.profile position.now.setup (FindsWon question.kind family (L.entries_of list.now) question.plies false))) }
-    ensures failed { OnErr result M.may_fail }
+        (SomeLeads family.profile position.now.setup (FindsWon question.kind family (L.entries_of list.now) question.plies false)) }
 {
-    for index in 0..moves.count() {
-        let answered = is_answered_at(moves, replies, family, list, question, position, index)?;
-        if !answered {
-            return Ok(false);
+    let mut replies = MoveList::new();
+    for played in moves {
+        let outcome = outcome_of(family, position, *played);
+        if !finds_won(&mut replies, family, list, question, &outcome) {
+            return false;
         }
     }
-    Ok(true)
+    true
 }
 
 // What is asked of the positions two plies later: by a held list ever where ever is asked.
@@ -254,30 +190,26 @@ fn two_plies_later(question: LossQuestion) -> LossQuestion
 }
 
 // Whether the list shows the position to be lost: it has lost, or each move leads to what is found to be won two plies earlier.
-//
-// Error: `Memory`.
-fn finds_lost<L: Lookup, M: Moves>(
-    moves: &mut M,
-    replies: &mut M,
+fn finds_lost<L: Lookup>(
     family: Family,
     list: &L,
     question: LossQuestion,
     position: &Position,
-) -> Result<bool, Memory>
+) -> bool
     requires list { L.stands list.now family }
     requires member { IsPositionOf family position.now.setup }
-    ensures found { IfOk result (λ yes. FindsLost question.kind family (L.entries_of list.now) question.plies yes position.now.setup) }
-    ensures failed { OnErr result M.may_fail }
+    ensures { FindsLost question.kind family (L.entries_of list.now) question.plies result position.now.setup }
 {
-    match moves.visit(family.profile, position)? {
-        Status::Caught => Ok(false),
-        Status::Tried | Status::Stuck => Ok(true),
+    let (status, moves) = legal_moves(family.profile, position);
+    match status {
+        Status::Caught => false,
+        Status::Tried | Status::Stuck => true,
         Status::Open => {
             if question.plies < 2 {
-                Ok(false)
+                false
             } else {
                 let later = two_plies_later(question);
-                are_all_answered(moves, replies, family, list, later, position)
+                are_all_answered(family, list, later, position, moves.as_slice())
             }
         }
     }
@@ -285,57 +217,33 @@ fn finds_lost<L: Lookup, M: Moves>(
 
 /// Whether a list of that kind supports the entry at that place: its class is one of the family's, whose representative a lost list finds lost and a held one
 /// doesn't.
-///
-/// # Errors
-///
-/// `Memory`.
-pub(crate) fn supports_at<L: Lookup, M: Moves>(
-    moves: &mut M,
-    replies: &mut M,
-    family: Family,
-    list: &L,
-    kind: ListKind,
-    place: usize,
-) -> Result<bool, Memory>
+pub(crate) fn supports_at<L: Lookup>(family: Family, list: &L, kind: ListKind, place: usize) -> bool
     requires list { L.stands list.now family }
     requires within { place < length (L.entries_of list.now) }
-    ensures supported { IfOk result (λ yes. IsTrue yes ↔ Supports kind family (L.entries_of list.now) (listed_entry (L.entries_of list.now) place)) }
-    ensures failed { OnErr result M.may_fail }
+    ensures { IsTrue result ↔ Supports kind family (L.entries_of list.now) (listed_entry (L.entries_of list.now) place) }
 {
     match list.entry_at(family, place) {
         Some((position, plies)) => {
             let question = LossQuestion { kind, plies };
-            let lost = finds_lost(moves, replies, family, list, question, &position)?;
+            let lost = finds_lost(family, list, question, &position);
             match kind {
-                ListKind::Lost => Ok(lost),
-                ListKind::Held => Ok(!lost),
+                ListKind::Lost => lost,
+                ListKind::Held => !lost,
             }
         }
-        None => Ok(false),
+        None => false,
     }
 }
 
 /// Whether the lion can't be caught, and each move leads to a position that is said not to be lost within `plies`.
-///
-/// # Errors
-///
-/// `Memory`.
-pub(crate) fn is_safe<L: Lookup, M: Moves>(
-    replies: &mut M,
-    family: Family,
-    held: &L,
-    plies: u16,
-    position: &Position,
-) -> Result<bool, Memory>
+pub(crate) fn is_safe<L: Lookup>(family: Family, held: &L, plies: u16, position: &Position) -> bool
     requires list { L.stands held.now family }
     requires member { IsPositionOf family position.now.setup }
-    ensures safe { IfOk result (λ yes. IsTrue yes ↔ IsSafe family (L.entries_of held.now) plies position.now.setup) }
-    ensures failed { OnErr result M.may_fail }
+    ensures { IsTrue result ↔ IsSafe family (L.entries_of held.now) plies position.now.setup }
 {
     let question = LossQuestion {
         kind: ListKind::Held,
         plies,
     };
-    let won = finds_won(replies, family, held, question, position)?;
-    Ok(!won)
+    !finds_won(&mut MoveList::new(), family, held, question, position)
 }

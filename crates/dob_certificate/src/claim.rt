@@ -1,5 +1,5 @@
 // What a certificate claims of a position, and whether its lists show it.
-ghost use Rattle.std.specs.Prelude.{◌≡◌, ◌↔◌, IfOk, IsTrue, OnErr};
+ghost use Rattle.std.specs.Prelude.{◌≡◌, ◌↔◌, IsTrue};
 ghost use Rattle.dob_rank.specs.Families.{IsPositionOf};
 ghost use Rattle.dob_certificate.specs.Claims.{ShowsWon, ShowsLoss, ShowsWin, ShowsDraw, ShowsValue, Show};
 
@@ -7,8 +7,8 @@ use crate::asking::{LossQuestion, finds_won, is_safe, is_said_held, is_said_lost
 use crate::entry::EVER;
 use crate::list_kind::ListKind;
 use crate::lookup::Lookup;
-use crate::moves::Moves;
-use dob_pieces::{Family, Memory, Position};
+use dob_moves::MoveList;
+use dob_pieces::{Family, Position};
 use dob_value::Value;
 
 /// What is claimed of a position: its value, or that the side to move is lost, or has won, within N plies.
@@ -20,28 +20,24 @@ pub enum Claim {
 }
 
 // Whether the list shows that the position is won within `plies`.
-//
-// Error: `Memory`.
-pub(crate) fn shows_won<L: Lookup, M: Moves>(
-    replies: &mut M,
+pub(crate) fn shows_won<L: Lookup>(
     family: Family,
     lost: &L,
     position: &Position,
     plies: u16,
-) -> Result<bool, Memory>
+) -> bool
     requires lost { L.stands lost.now family }
     requires member { IsPositionOf family position.now.setup }
-    ensures shown { IfOk result (λ yes. IsTrue yes ↔ ShowsWon family (L.entries_of lost.now) position.now.setup plies) }
-    ensures failed { OnErr result M.may_fail }
+    ensures { IsTrue result ↔ ShowsWon family (L.entries_of lost.now) position.now.setup plies }
 {
     if plies == 0 {
-        return Ok(false);
+        return false;
     }
     let question = LossQuestion {
         kind: ListKind::Lost,
         plies: plies - 1,
     };
-    finds_won(replies, family, lost, question, position)
+    finds_won(&mut MoveList::new(), family, lost, question, position)
 }
 
 // Whether the lists show that the position is a loss in `plies` plies.
@@ -62,101 +58,63 @@ fn shows_loss<L: Lookup>(
 }
 
 // Whether the lists show that the position is a win in `plies` plies.
-//
-// Error: `Memory`.
-fn shows_win<L: Lookup, M: Moves>(
-    replies: &mut M,
-    family: Family,
-    lost: &L,
-    held: &L,
-    position: &Position,
-    plies: u16,
-) -> Result<bool, Memory>
+fn shows_win<L: Lookup>(family: Family, lost: &L, held: &L, position: &Position, plies: u16) -> bool
     requires lost { L.stands lost.now family }
     requires held { L.stands held.now family }
     requires member { IsPositionOf family position.now.setup }
-    ensures shown { IfOk result (λ yes. IsTrue yes ↔ ShowsWin family (L.entries_of lost.now) (L.entries_of held.now) position.now.setup plies) }
-    ensures failed { OnErr result M.may_fail }
+    ensures { IsTrue result ↔ ShowsWin family (L.entries_of lost.now) (L.entries_of held.now) position.now.setup plies }
 {
     if plies < 2 {
-        return shows_won(replies, family, lost, position, plies);
+        return shows_won(family, lost, position, plies);
     }
-    let won = shows_won(replies, family, lost, position, plies)?;
-    if won {
-        is_safe(replies, family, held, plies - 2, position)
-    } else {
-        Ok(false)
-    }
+    shows_won(family, lost, position, plies) && is_safe(family, held, plies - 2, position)
 }
 
 // Whether the list shows that the position is a draw.
-//
-// Error: `Memory`.
-fn shows_draw<L: Lookup, M: Moves>(
-    replies: &mut M,
-    family: Family,
-    held: &L,
-    position: &Position,
-) -> Result<bool, Memory>
+fn shows_draw<L: Lookup>(family: Family, held: &L, position: &Position) -> bool
     requires held { L.stands held.now family }
     requires member { IsPositionOf family position.now.setup }
-    ensures shown { IfOk result (λ yes. IsTrue yes ↔ ShowsDraw family (L.entries_of held.now) position.now.setup) }
-    ensures failed { OnErr result M.may_fail }
+    ensures { IsTrue result ↔ ShowsDraw family (L.entries_of held.now) position.now.setup }
 {
-    if is_said_held(family, held, EVER, position) {
-        is_safe(replies, family, held, EVER, position)
-    } else {
-        Ok(false)
-    }
+    is_said_held(family, held, EVER, position) && is_safe(family, held, EVER, position)
 }
 
 // Whether the lists show that value of the position.
-//
-// Error: `Memory`.
-fn shows_value<L: Lookup, M: Moves>(
-    replies: &mut M,
+fn shows_value<L: Lookup>(
     family: Family,
     lost: &L,
     held: &L,
     position: &Position,
     value: Value,
-) -> Result<bool, Memory>
+) -> bool
     requires lost { L.stands lost.now family }
     requires held { L.stands held.now family }
     requires member { IsPositionOf family position.now.setup }
-    ensures shown { IfOk result (λ yes. IsTrue yes ↔ ShowsValue family (L.entries_of lost.now) (L.entries_of held.now) position.now.setup value) }
-    ensures failed { OnErr result M.may_fail }
+    ensures { IsTrue result ↔ ShowsValue family (L.entries_of lost.now) (L.entries_of held.now) position.now.setup value }
 {
     match value {
-        Value::Loss(plies) => Ok(shows_loss(family, lost, held, position, plies)),
-        Value::Win(plies) => shows_win(replies, family, lost, held, position, plies),
-        Value::Draw => shows_draw(replies, family, held, position),
+        Value::Loss(plies) => shows_loss(family, lost, held, position, plies),
+        Value::Win(plies) => shows_win(family, lost, held, position, plies),
+        Value::Draw => shows_draw(family, held, position),
     }
 }
 
-/// Whether the two lists of a certificate show the claim of the position. That proves it only if each list supports its entries. The
-/// replies are those of any position before, and after.
-///
-/// # Errors
-///
-/// `Memory`.
-pub fn is_shown<L: Lookup, M: Moves>(
-    replies: &mut M,
+/// Whether the two lists of a certificate show the claim of the position. That proves it only if each list supports its entries.
+pub fn is_shown<L: Lookup>(
     family: Family,
     lost: &L,
     held: &L,
     position: &Position,
     claim: Claim,
-) -> Result<bool, Memory>
+) -> bool
     requires lost { L.stands lost.now family }
     requires held { L.stands held.now family }
     requires member { IsPositionOf family position.now.setup }
-    ensures shown { IfOk result (λ yes. IsTrue yes ↔ Show family (L.entries_of lost.now) (L.entries_of held.now) position.now.setup claim) }
-    ensures failed { OnErr result M.may_fail }
+    ensures { IsTrue result ↔ Show family (L.entries_of lost.now) (L.entries_of held.now) position.now.setup claim }
 {
     match claim {
-        Claim::Exactly(value) => shows_value(replies, family, lost, held, position, value),
-        Claim::LostWithin(plies) => Ok(is_said_lost(family, lost, plies, position)),
-        Claim::WonWithin(plies) => shows_won(replies, family, lost, position, plies),
+        Claim::Exactly(value) => shows_value(family, lost, held, position, value),
+        Claim::LostWithin(plies) => is_said_lost(family, lost, plies, position),
+        Claim::WonWithin(plies) => shows_won(family, lost, position, plies),
     }
 }

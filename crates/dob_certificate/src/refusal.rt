@@ -1,16 +1,12 @@
 // Why a certificate is refused.
-ghost use Rattle.std.specs.Prelude.{◌≡◌, Some};
-ghost use Rattle.dob_certificate.specs.declared.refusal.Refusal.TheVariants as refusal;
+ghost use Rattle.std.specs.Prelude.{Some};
 
-use dob_pieces::Memory;
 use std::error::Error;
 use std::fmt;
 
 /// Why a certificate doesn't prove what is claimed.
 #[derive(Clone, Copy, Debug, PartialEq, Eq)]
 pub enum Refusal {
-    /// E23: a growth was refused, since no memory was left for it.
-    Memory,
     /// E30: the entry of this class is the first, in the order of the lost list and then of the held one, that its list doesn't support.
     Unsupported(u32),
     /// E31: each entry is supported, and the lists don't show what is claimed.
@@ -24,7 +20,6 @@ impl fmt::Display for Refusal {
 
     fn fmt<W: fmt::Write>(&self, f: &mut fmt::Formatter<W>) -> fmt::Result {
         match self {
-            Refusal::Memory => write!(f, "{Memory}"),
             Refusal::Unsupported(class) => write!(f, "E30 Unsupported class {class}"),
             Refusal::Claim => write!(f, "E31 Claim"),
         }
@@ -32,11 +27,3 @@ impl fmt::Display for Refusal {
 }
 
 impl Error for Refusal {}
-
-impl From<Memory> for Refusal {
-    ghost from_gives = { λ _ given. given ≡ refusal.Memory };
-
-    fn from(_lower: Memory) -> Refusal {
-        Refusal::Memory
-    }
-}

@@ -1,5 +1,5 @@
 // Whether a certificate proves what is claimed of a position.
-ghost use Rattle.std.specs.Prelude.{◌≡◌, ◌≢◌, ◌↔◌, false, IfOk, IfErr, IsTrue};
+ghost use Rattle.std.specs.Prelude.{◌↔◌, IfOk, IfErr, IsTrue};
 ghost use Rattle.dob_rank.specs.Families.{IsPositionOf};
 ghost use Rattle.dob_distance.specs.Values.{Lost, Won};
 ghost use Rattle.dob_certificate.specs.Lost.{IsSaidLost, SupportsAllLost};
@@ -15,19 +15,16 @@ use crate::list_kind::ListKind;
 use crate::lists::check_list;
 use crate::lookup::ByClass;
 use crate::refusal::Refusal;
-use crate::room::Room;
 use dob_classes::Classes;
-use dob_pieces::{Memory, Position};
-use std::alloc::Global;
+use dob_pieces::Position;
 
 /// Passes the certificate exactly if its lists prove the claim, so only if the claim holds. It reads no table.
 ///
 /// # Errors
 ///
 /// `Unsupported` with the class of the first entry, of the lost list and then of the held one, that its list doesn't support; `Claim`
-/// where all are supported, and the lists don't show the claim; `Memory`.
+/// where all are supported, and the lists don't show the claim.
 pub fn verify(
-    alloc: Global,
     classes: &Classes,
     certificate: &Certificate,
     position: &Position,
@@ -38,10 +35,9 @@ pub fn verify(
     ensures proof { IfOk result (λ _. Prove classes.now.family certificate.now.lost certificate.now.held position.now.setup claim) }
     ensures refusal { IfErr result (IsRefusal classes.now.family certificate.now.lost certificate.now.held position.now.setup claim) }
 {
-    let mut room = Room::new(alloc);
-    check_list(&mut room, classes, ListKind::Lost, &certificate.lost)?;
-    check_list(&mut room, classes, ListKind::Held, &certificate.held)?;
-    check_claim(&mut room, classes, certificate, position, claim)
+    check_list(classes, ListKind::Lost, &certificate.lost)?;
+    check_list(classes, ListKind::Held, &certificate.held)?;
+    check_claim(classes, certificate, position, claim)
 }
 
 /// Passes the claim exactly if the lists show it, once each is known to support its entries: what is left of [`verify`] for who has
@@ -49,9 +45,8 @@ pub fn verify(
 ///
 /// # Errors
 ///
-/// `Claim` if the lists don't show the claim; `Memory`.
+/// `Claim` if the lists don't show the claim.
 pub fn check_claim(
-    room: &mut Room,
     classes: &Classes,
     certificate: &Certificate,
     position: &Position,
@@ -72,97 +67,58 @@ pub fn check_claim(
         classes,
         entries: &certificate.held,
     };
-    let shown = is_shown(
-        &mut room.replies,
-        classes.family,
-        &lost,
-        &held,
-        position,
-        claim,
-    )?;
-    if shown { Ok(()) } else { Err(Refusal::Claim) }
+    if is_shown(classes.family, &lost, &held, position, claim) {
+        Ok(())
+    } else {
+        Err(Refusal::Claim)
+    }
 }
 
 /// Whether the certificate proves that the side to move can't avoid a loss within `plies`: its lost list supports its
 /// entries, and says so. It reads that list alone.
-///
-/// # Errors
-///
-/// `Memory`.
 pub fn is_lost_within(
-    alloc: Global,
     classes: &Classes,
     certificate: &Certificate,
     position: &Position,
     plies: u16,
-) -> Result<bool, Memory>
+) -> bool
     requires { IsPositionOf classes.now.family position.now.setup }
-    ensures lost { IfOk result (λ yes. IsTrue yes → Lost classes.now.family.profile plies position.now.setup) }
-    ensures proof { IfOk result (λ yes. IsTrue yes ↔
-        (SupportsAllLost classes.now.family certificate.now.lost × IsSaidLost classes.now.family certificate.now.lost plies position.now.setup)) }
+    ensures lost { IsTrue result → Lost classes.now.family.profile plies position.now.setup }
+    ensures proof { IsTrue result ↔
+        (SupportsAllLost classes.now.family certificate.now.lost × IsSaidLost classes.now.family certificate.now.lost plies position.now.setup) }
 {
-    let mut room = Room::new(alloc);
-    let supported = supports_all_lost(&mut room, classes, &certificate.lost)?;
-    if supported {
-        let lost = ByClass {
-            classes,
-            entries: &certificate.lost,
-        };
-        Ok(is_said_lost(classes.family, &lost, plies, position))
-    } else {
-        Ok(false)
-    }
+    let lost = ByClass {
+        classes,
+        entries: &certificate.lost,
+    };
+    supports_all_lost(classes, &certificate.lost)
+        && is_said_lost(classes.family, &lost, plies, position)
 }
 
 /// Whether the certificate proves that the side to move can force a win within `plies`: its lost list supports its entries, and
 /// the side to move catches the lion, or some move leads to what that list says to be lost in time. It reads that list alone.
-///
-/// # Errors
-///
-/// `Memory`.
 pub fn is_won_within(
-    alloc: Global,
     classes: &Classes,
     certificate: &Certificate,
     position: &Position,
     plies: u16,
-) -> Result<bool, Memory>
+) -> bool
     requires { IsPositionOf classes.now.family position.now.setup }
-    ensures won { IfOk result (λ yes. IsTrue yes → Won classes.now.family.profile plies position.now.setup) }
-    ensures proof { IfOk result (λ yes. IsTrue yes ↔
-        (SupportsAllLost classes.now.family certificate.now.lost × ShowsWon classes.now.family certificate.now.lost position.now.setup plies)) }
+    ensures won { IsTrue result → Won classes.now.family.profile plies position.now.setup }
+    ensures proof { IsTrue result ↔
+        (SupportsAllLost classes.now.family certificate.now.lost × ShowsWon classes.now.family certificate.now.lost position.now.setup plies) }
 {
-    let mut room = Room::new(alloc);
-    let supported = supports_all_lost(&mut room, classes, &certificate.lost)?;
-    if supported {
-        let lost = ByClass {
-            classes,
-            entries: &certificate.lost,
-        };
-        shows_won(&mut room.replies, classes.family, &lost, position, plies)
-    } else {
-        Ok(false)
-    }
+    let lost = ByClass {
+        classes,
+        entries: &certificate.lost,
+    };
+    supports_all_lost(classes, &certificate.lost)
+        && shows_won(classes.family, &lost, position, plies)
 }
 
 // Whether the list supports each of its entries.
-//
-// Error: `Memory`.
-fn supports_all_lost(room: &mut Room, classes: &Classes, lost: &Entries) -> Result<bool, Memory>
-    ensures { IfOk result (λ yes. IsTrue yes ↔ SupportsAllLost classes.now.family lost.now) }
+fn supports_all_lost(classes: &Classes, lost: &Entries) -> bool
+    ensures { IsTrue result ↔ SupportsAllLost classes.now.family lost.now }
 {
-    match check_list(room, classes, ListKind::Lost, lost) {
-        Ok(()) => Ok(true),
-        Err(refusal) => refused(refusal),
-    }
-}
-
-// Not all entries are supported, or memory ran out.
-fn refused(refusal: Refusal) -> Result<bool, Memory>
-    ensures { IfOk result (λ yes. (yes ≡ false) × (refusal ≢ Refusal.Memory)) }
-{
-    match refusal {
-        Refusal::Memory => Err(Memory),
-        Refusal::Unsupported(_) | Refusal::Claim => Ok(false),
-    }
+    check_list(classes, ListKind::Lost, lost).is_ok()
 }

@@ -8,17 +8,13 @@ ghost use Rattle.dob_certificate.specs.Refusals.{IsEntryVerdict, IsListVerdict, 
 ghost use Rattle.dob_check.specs.Watching.{IsToldAt};
 
 use crate::checks::{Watch, tell};
-use dob_certificate::{
-    Certificate, Claim, Entries, ListKind, Refusal, Room, check_claim, check_entry,
-};
+use dob_certificate::{Certificate, Claim, Entries, ListKind, Refusal, check_claim, check_entry};
 use dob_classes::Classes;
 use dob_pieces::Position;
 use rayon::prelude::*;
-use std::alloc::Global;
 use std::thread::Threads;
 
-/// As [`dob_certificate::verify`], its entries looked at by themselves, in as many threads as there are processors, each thread with
-/// one room for lists of moves. The answer is that of one thread. It reports to the watch at each 65,536th entry of a list and at the last one that is
+/// As [`dob_certificate::verify`], its entries looked at by themselves, in as many threads as there are processors. The answer is that of one thread. It reports to the watch at each 65,536th entry of a list and at the last one that is
 /// left: of a certificate that passes it reports as many entries as there are.
 ///
 /// # Errors
@@ -26,7 +22,6 @@ use std::thread::Threads;
 /// Those of [`dob_certificate::verify`].
 pub fn verify_watched<R: Threads + Sync, W: Watch + Sync>(
     rt: &R,
-    alloc: Global,
     classes: &Classes,
     certificate: &Certificate,
     position: &Position,
@@ -40,15 +35,14 @@ pub fn verify_watched<R: Threads + Sync, W: Watch + Sync>(
     ensures lost_told { (place : ℕ) → place < length certificate.now.lost → IsToldAt (W.told watch.now) (length certificate.now.lost) place }
     ensures held_told { OnOk result ((place : ℕ) → place < length certificate.now.held → IsToldAt (W.told watch.now) (length certificate.now.held) place) }
 {
-    check_list(rt, alloc, classes, ListKind::Lost, &certificate.lost, watch)?;
-    check_list(rt, alloc, classes, ListKind::Held, &certificate.held, watch)?;
-    check_claim(&mut Room::new(alloc), classes, certificate, position, claim)
+    check_list(rt, classes, ListKind::Lost, &certificate.lost, watch)?;
+    check_list(rt, classes, ListKind::Held, &certificate.held, watch)?;
+    check_claim(classes, certificate, position, claim)
 }
 
 // Passes a list of that kind exactly if it supports each of its entries, and reports them to the watch.
 fn check_list<R: Threads + Sync, W: Watch + Sync>(
     rt: &R,
-    alloc: Global,
     classes: &Classes,
     kind: ListKind,
     entries: &Entries,
@@ -59,15 +53,14 @@ fn check_list<R: Threads + Sync, W: Watch + Sync>(
 {
     let first_refusal = (0..entries.as_slice().len() as u64)
         .into_par_iter()
-        .map_init(
-            || -> Room { Room::new(alloc) },
-            |room: &mut Room, place: u64| -> Result<(), Refusal>
+        .map(
+            |place: u64| -> Result<(), Refusal>
                 requires { place < length entries.now }
                 ensures verdict { IsEntryVerdict (Supports kind classes.entry.now.family entries.entry.now) (listed_entry entries.entry.now place) result }
                 ensures told { IsToldAt (W.told watch.entry.now) (length entries.entry.now) place }
             {
                 tell(watch, entries.as_slice().len() as u64, place);
-                check_entry(room, classes, kind, entries, place as usize)
+                check_entry(classes, kind, entries, place as usize)
             },
         )
         .find_first(

@@ -4,11 +4,10 @@ ghost use Rattle.dob_value.specs.Follows.{IsConsistent, IsValueTable};
 ghost use Rattle.dob_probe.specs.Faults.{IsFaultOfCheck, IsVerdict};
 ghost use Rattle.dob_check.specs.Watching.{told_of, IsToldAt};
 
-use dob_moves::Move;
+use dob_moves::MoveList;
 use dob_probe::{Fault, check_class};
 use dob_value::Table;
 use rayon::prelude::*;
-use std::alloc::Global;
 use std::thread::Threads;
 
 // How many classes are looked at between two words to a watch: a power of 2, so that a place among them is a mask.
@@ -42,14 +41,14 @@ impl Watch for Unwatched {
 ///
 /// # Errors
 ///
-/// `Inconsistent` with the least class whose value doesn't follow; `Memory`.
-pub fn check(rt: &(impl Threads + Sync), alloc: Global, table: &Table) -> Result<(), Fault>
+/// `Inconsistent` with the least class whose value doesn't follow.
+pub fn check(rt: &(impl Threads + Sync), table: &Table) -> Result<(), Fault>
     ensures consistent { IfOk result (λ _. IsConsistent table.now.family table.now.values) }
     ensures right { IfOk result (λ _. IsValueTable table.now.family table.now.values) }
     ensures fault { IfErr result (IsFaultOfCheck table.now) }
     ensures passed { IsConsistent table.now.family table.now.values → (result ≡ Ok tt) ⊎ (result ≡ Err Fault.Memory) }
 {
-    check_watched(rt, alloc, table, &Unwatched)
+    check_watched(rt, table, &Unwatched)
 }
 
 /// As [`check`], and reports to the watch at each 65,536th class and at the last one that is left: of a table that passes it
@@ -60,7 +59,6 @@ pub fn check(rt: &(impl Threads + Sync), alloc: Global, table: &Table) -> Result
 /// Those of [`check`].
 pub fn check_watched<R: Threads + Sync, W: Watch + Sync>(
     rt: &R,
-    alloc: Global,
     table: &Table,
     watch: &W,
 ) -> Result<(), Fault>
@@ -75,8 +73,8 @@ pub fn check_watched<R: Threads + Sync, W: Watch + Sync>(
     let first_fault = (0..table.class_count())
         .into_par_iter()
         .map_init(
-            || -> Vec<Move> { Vec::new(alloc) },
-            |room: &mut Vec<Move>, class: u64| -> Result<(), Fault>
+            || -> MoveList { MoveList::new() },
+            |room: &mut MoveList, class: u64| -> Result<(), Fault>
                 requires { class < length table.now.values }
                 ensures verdict { IsVerdict table.entry.now class result }
                 ensures told { IsToldAt (W.told watch.entry.now) (length table.entry.now.values) class }

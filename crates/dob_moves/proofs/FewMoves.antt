@@ -167,7 +167,7 @@ steps_in_all p twelve = omega (
 joined_long : (xs ys zs : List Move) → length (xs ++ ys ++ zs) ≡ length xs + length ys + length zs
 joined_long xs ys zs = search (rules, length-append, append_assoc, arith)
 
-drops_in_all : (profile : Profile) (p : Setup) → length (all_drops profile p)
+pub drops_in_all : (profile : Profile) (p : Setup) → length (all_drops profile p)
     ≡ length (drops_of profile p hand.Chick) + length (drops_of profile p hand.Elephant) + length (drops_of profile p hand.Giraffe)
 unfolding all_drops
 drops_in_all profile p =
@@ -177,18 +177,22 @@ if_over : (over : Bool) (moves : List Move) (most : ℕ) → length moves ≤ mo
 if_over true moves most few = omega arith
 if_over false moves most few = few
 
-pub moves_few : (profile : Profile) (p : Setup) → IsLegal p → length (moves_of profile p) ≤ 63
-unfolding moves_of
-moves_few profile p legal =
+-- the steps and drops of a position, whatever its status
+pub walks_few : (profile : Profile) (p : Setup) → IsLegal p → length (all_steps Elsewhere p) + length (all_drops profile p) ≤ 63
+walks_few profile p legal =
     let twelve : length p.board ≡ 12 = legal.squares in
-    if_over (can_catch p || has_tried p) (all_steps Elsewhere p ++ all_drops profile p) 63
-    (omega (
+    omega (
       arith,
-      length-append (all_steps Elsewhere p) (all_drops profile p),
       steps_in_all p twelve,
       drops_in_all profile p,
       in_all (sum_by own_there p.board) (sum_by free_there p.board) (held p.hands.mover hand.Chick) (held p.hands.mover hand.Elephant)
           (held p.hands.mover hand.Giraffe) (length (drops_of profile p hand.Chick)) (length (drops_of profile p hand.Elephant))
           (length (drops_of profile p hand.Giraffe)) (pieces_few p legal) (omega (arith, free_few p.board, twelve))
           (drops_few profile p hand.Chick twelve) (drops_few profile p hand.Elephant twelve) (drops_few profile p hand.Giraffe twelve),
-    ))
+    )
+
+pub moves_few : (profile : Profile) (p : Setup) → IsLegal p → length (moves_of profile p) ≤ 63
+unfolding moves_of
+moves_few profile p legal =
+    if_over (can_catch p || has_tried p) (all_steps Elsewhere p ++ all_drops profile p) 63
+    (omega (arith, length-append (all_steps Elsewhere p) (all_drops profile p), walks_few profile p legal))

@@ -19,3 +19,16 @@ pub enum Move {
         to: Square,
     },
 }
+
+impl Default for Move {
+    /// What stands in the places of a list that hold no move yet: a step from a square to itself, which no position has.
+    fn default() -> Move {
+        Move::Step {
+            kind: Kind::Lion,
+            from: Square::new(0),
+            to: Square::new(0),
+            catch: false,
+            grows: false,
+        }
+    }
+}

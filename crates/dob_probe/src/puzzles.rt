@@ -11,9 +11,9 @@ ghost use Rattle.dob_probe.specs.Puzzles.{ArePuzzles, IsListedNext, puzzle_of};
 ghost use Rattle.dob_probe.specs.SingleMoves.{IsPuzzleOf, IsSingleMove};
 
 use crate::outlines::{Outline, has_outline, outline_of};
-use crate::successors::{list_moves, value_to};
+use crate::successors::value_to;
 use crate::walks::{Walk, begin_at, class_on, order_of, places_in};
-use dob_moves::Move;
+use dob_moves::{Move, legal_moves};
 use dob_pieces::{Memory, Position};
 use dob_value::{Table, Value};
 use std::alloc::Global;
@@ -28,7 +28,7 @@ pub struct Puzzle {
 /// The first classes of the walk, at most `count`, that the table says are won in `plies` plies and of whose representative just one
 /// move leads to a position lost in one ply less, each with that move, in the walk's order. If a seed makes the order, no two of them are of
 /// one block with the lions on the same squares: the first of such classes is listed. The classes are looked at up to the last one listed, and
-/// all of the walk if there are fewer; one room is kept for lists of moves.
+/// all of the walk if there are fewer.
 ///
 /// # Errors
 ///
@@ -55,17 +55,11 @@ pub fn first_puzzles(
     let end = places_in(&order, classes);
     let mut list = Vec::new(alloc);
     let mut outlines = Vec::new(alloc);
-    let mut room = Vec::new(alloc);
     for place in begin..end {
         if list.len() as u64 >= count {
             return Ok(list);
         }
-        if let Some(puzzle) = puzzle_of(
-            &mut room,
-            table,
-            plies as u16,
-            class_on(&order, classes, place),
-        )? {
+        if let Some(puzzle) = puzzle_of(table, plies as u16, class_on(&order, classes, place)) {
             let Puzzle { class, played } = puzzle;
             list_puzzle(table, &mut list, &mut outlines, is_spread, class, played)?;
         }
@@ -117,29 +111,22 @@ fn is_passed(outlines: &[Outline], is_spread: bool, outline: Outline) -> bool
     }
 }
 
-// The class as a puzzle, if the table has it and it is one. Moves are listed in the room, whatever is in it.
-//
-// Error: `Memory`.
-fn puzzle_of(
-    room: &mut Vec<Move>,
-    table: &Table,
-    plies: u16,
-    class: u64,
-) -> Result<Option<Puzzle>, Memory>
+// The class as a puzzle, if the table has it and it is one.
+fn puzzle_of(table: &Table, plies: u16, class: u64) -> Option<Puzzle>
     requires { 0 < plies }
-    ensures { IfOk result (IsPuzzleOf table.now plies class) }
+    ensures { IsPuzzleOf table.now plies class result }
 {
     if class >= table.class_count() {
-        return Ok(None);
+        return None;
     }
     if table.value(class) != Value::Win(plies) {
-        return Ok(None);
+        return None;
     }
     let position = table.classes().class_at(class);
-    list_moves(room, table, &position)?;
-    match single_move(table, &position, room, Value::Loss(plies - 1)) {
-        Some(played) => Ok(Some(Puzzle { class, played })),
-        None => Ok(None),
+    let (_, legal) = legal_moves(table.family().profile, &position);
+    match single_move(table, &position, legal.as_slice(), Value::Loss(plies - 1)) {
+        Some(played) => Some(Puzzle { class, played }),
+        None => None,
     }
 }
 

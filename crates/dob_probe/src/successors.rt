@@ -1,6 +1,6 @@
 // What decides the value of a class: its successors' values: only the least loss, the greatest win and whether
 // there is a draw are kept.
-ghost use Rattle.std.specs.Prelude.{◌≡◌, ◌++◌, List, [], ◌∷◌, IfOk, OnOk};
+ghost use Rattle.std.specs.Prelude.{◌≡◌, ◌++◌, List, [], ◌∷◌};
 ghost use Rattle.dob_pieces.specs.declared.setup.Setup.{Setup};
 ghost use Rattle.dob_pieces.specs.Setups.{turned};
 ghost use Rattle.dob_pieces.specs.Boards.{IsBoardOf};
@@ -15,8 +15,8 @@ ghost use Rattle.dob_distance.specs.Distances.{lesser_of, greater_of};
 ghost use Rattle.dob_probe.specs.Lines.{GivenBy};
 ghost use Rattle.dob_probe.specs.Sums.{AreSummed, HasNext, value_after};
 
-use dob_moves::{Move, Status, board_after, moves_into};
-use dob_pieces::{Board, Memory, Position};
+use dob_moves::{Move, MoveList, Status, board_after, moves_into};
+use dob_pieces::{Board, Position};
 use dob_value::{Table, Value};
 
 /// What is kept of the successors' values.
@@ -96,38 +96,16 @@ fn greater(greatest: Option<u16>, plies: u16) -> u16
 
 /// The value that follows from the position's status and from those that the table gives its successors. The moves are
 /// listed in the room, whatever is in it.
-///
-/// # Errors
-///
-/// `Memory`.
-pub(crate) fn value_that_follows(
-    room: &mut Vec<Move>,
-    table: &Table,
-    position: &Position,
-) -> Result<Value, Memory>
+pub(crate) fn value_that_follows(room: &mut MoveList, table: &Table, position: &Position) -> Value
     requires whole { IsTable table.now.family table.now.values }
     requires member { IsPositionOf table.now.family position.now.setup }
-    ensures { IfOk result (λ value. Follows table.now.family.profile (GivenBy table.now) position.now.setup value) }
+    ensures { Follows table.now.family.profile (GivenBy table.now) position.now.setup result }
 {
-    match list_moves(room, table, position)? {
-        Status::Caught => Ok(Value::Win(1)),
-        Status::Tried | Status::Stuck => Ok(Value::Loss(0)),
-        Status::Open => Ok(successors_of(table, position, room).value()),
+    match moves_into(table.family().profile, room, position) {
+        Status::Caught => Value::Win(1),
+        Status::Tried | Status::Stuck => Value::Loss(0),
+        Status::Open => successors_of(table, position, room.as_slice()).value(),
     }
-}
-
-// Writes the moves of the position by the rules of the table's profile into the room, and gives its status.
-//
-// Error: `Memory`.
-pub(crate) fn list_moves(
-    room: &mut Vec<Move>,
-    table: &Table,
-    position: &Position,
-) -> Result<Status, Memory>
-    ensures moves { OnOk result (AreMoves table.now.family.profile position.now.setup room.new.items) }
-    ensures status { IfOk result (λ status. HasStatus table.now.family.profile position.now.setup status) }
-{
-    moves_into(table.family().profile, room, position)
 }
 
 // The values of the positions to which the moves lead.

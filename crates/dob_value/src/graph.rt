@@ -6,7 +6,7 @@ ghost use Rattle.dob_value.specs.Graphs.{ClassStandsFor, IsNode, IsGraph, status
 
 use crate::outcomes::class_after;
 use dob_classes::Classes;
-use dob_moves::{Move, Status, moves_into};
+use dob_moves::{MoveList, Status, moves_into};
 use dob_pieces::{Family, Memory, Position};
 use std::alloc::Global;
 
@@ -45,14 +45,14 @@ impl Graph {
 fn push_successors(
     classes: &Classes,
     position: &Position,
-    legal: &mut Vec<Move>,
+    legal: &mut MoveList,
     successors: &mut Vec<usize>,
 ) -> Result<Status, Memory>
     requires { IsPositionOf classes.now.family position.now.setup }
     ensures { IfOk result (λ status. (numbers : List ℕ) × (successors.new.items ≡ successors.old.items ++ numbers)
         × IsNode classes.now.family.profile (ClassStandsFor classes.now.family) position.now.setup status numbers) }
 {
-    let status = moves_into(classes.family.profile, legal, position)?;
+    let status = moves_into(classes.family.profile, legal, position);
     for played in legal.iter() {
         let number = class_after(classes, position, *played);
         successors.push(number as usize)?;
@@ -72,7 +72,7 @@ pub(crate) fn graph_of(alloc: Global, classes: &Classes) -> Result<Graph, Memory
     let mut statuses = Vec::new(alloc);
     let mut starts = Vec::new(alloc);
     let mut successors = Vec::new(alloc);
-    let mut legal = Vec::new(alloc);
+    let mut legal = MoveList::new();
     starts.push(0)?;
     for number in 0..classes.class_count() {
         let position = classes.class_at(number);

@@ -2,7 +2,7 @@
 ghost use Rattle.std.specs.Prelude.{◌<◌};
 
 use crate::sets::classes_of;
-use dob_moves::{Move, count_moves, first_catch, moves, moves_into, status};
+use dob_moves::{Move, count_moves, first_catch, legal_moves, moves, status};
 use dob_pieces::{Memory, Position, Profile};
 use dob_plain::rules;
 use std::alloc::Global;
@@ -24,11 +24,11 @@ fn agree_by(
 ) -> Result<(), Memory> {
     assert!(rt; status(profile, position) == rules::status(profile, position));
     let expected = rules::moves(alloc, profile, position)?;
-    let mut listed = moves(alloc, profile, position)?;
+    let listed = moves(alloc, profile, position)?;
     has_moves(rt, profile, position, &listed, &expected);
-    let found = moves_into(profile, &mut listed, position)?;
+    let (found, legal) = legal_moves(profile, position);
     assert!(rt; found == status(profile, position));
-    has_moves(rt, profile, position, &listed, &expected);
+    has_moves(rt, profile, position, legal.as_slice(), &expected);
     Ok(())
 }
 

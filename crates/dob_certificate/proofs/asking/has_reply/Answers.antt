@@ -1,22 +1,26 @@
--- The reply that was found is a move, and where no number has one none is.
-use Rattle.dob_certificate.proofs.Common.{arith, false, rules, ℕ}
-use borrow.Author.Count.{below_more}
+-- The move that was found is a reply, and where none is found there is none.
+use Rattle.dob_certificate.proofs.Common.{false, rules, true}
+use Rattle.dob_value.proofs.Successors.{move_goes}
 use Rattle.dob_certificate.specs.Asked.{TakesForLost}
-use Rattle.dob_certificate.specs.Walks.{GivenLead}
-use Rattle.dob_certificate.proofs.Cases.{on_false, on_true}
-use Rattle.dob_certificate.proofs.Walked.{all_lead}
+use Rattle.dob_certificate.proofs.Walked.{all_lead, more_lead, one_leads}
 use Rattle.dob_certificate.proofs.asking.has_reply.Goals as goal
 
-pub loop-index-preserved : goal.loop-index-preserved
-loop-index-preserved g c =
-    let profile = c.args.family.profile in
-    let setup = c.args.position.now.setup in
-    below_more (λ (k : ℕ). GivenLead profile setup (g.M.Moves.gives c.args.moves.now profile setup k)
-    (TakesForLost c.args.question.kind c.args.family (g.L.Lookup.entries_of c.args.list.now) c.args.question.plies false)) c.loop-index.index
-    c.loop-index.invariant (on_false _ _ c.is_reply_at.result (search rules) c.is_reply_at.ensures)
+pub outcome_of-outcome-requires-clause-played : goal.outcome_of-outcome-requires-clause-played
+outcome_of-outcome-requires-clause-played g c =
+    move_goes c.args.family.profile c.args.position.now.setup c.args.replies.now c.loop-reply.reply-index c.reply-item.result c.requires.replies
+    c.loop-reply-test.true c.reply-item.is
 
-pub returns-then-is_reply_at : goal.returns-then-is_reply_at
-returns-then-is_reply_at g c = on_true _ _ c.is_reply_at.result (search rules) c.is_reply_at.ensures
+pub loop-reply-preserved : goal.loop-reply-preserved
+loop-reply-preserved g c =
+    more_lead _ _ c.args.replies.now (TakesForLost c.args.question.kind c.args.family (g.L.Lookup.entries_of c.args.list.now) c.args.question.plies)
+    c.takes_for_lost.result false (search rules) c.reply-item.result c.outcome_of-outcome.result.setup c.takes_for_lost.ensures
+    c.loop-reply.reply-index c.loop-reply-test.true c.reply-item.is c.outcome_of-outcome.ensures.alone c.loop-reply.invariant
+
+pub returns-then-takes_for_lost : goal.returns-then-takes_for_lost
+returns-then-takes_for_lost g c =
+    one_leads _ _ c.args.replies.now (TakesForLost c.args.question.kind c.args.family (g.L.Lookup.entries_of c.args.list.now) c.args.question.plies)
+    c.takes_for_lost.result true (search rules) c.reply-item.result c.outcome_of-outcome.result.setup c.takes_for_lost.ensures
+    c.outcome_of-outcome.ensures.goes
 
 pub returns : goal.returns
-returns g c = all_lead _ _ _ _ c.requires.given c.loop-index.index _ (omega (arith, c.count-index-end.ensures, c.loop-index-test.false)) c.requires.goes_on c.loop-index.invariant
+returns g c = all_lead _ _ c.args.replies.now c.requires.replies c.requires.goes_on _ c.loop-reply.reply-index c.loop-reply-test.false c.loop-reply.invariant

@@ -2,5 +2,5 @@
 use Rattle.dob_certificate.proofs.Cases.{held_shown}
 use Rattle.dob_certificate.proofs.asking.is_safe.Goals as goal
 
-pub returns-clause-safe : goal.returns-clause-safe
-returns-clause-safe g c = held_shown _ c.in_ok-won.won c.in_ok-won.ensures.found
+pub returns : goal.returns
+returns g c = held_shown _ c.finds_won.result c.finds_won.ensures

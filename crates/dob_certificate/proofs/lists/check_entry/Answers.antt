@@ -3,8 +3,8 @@ use Rattle.dob_certificate.proofs.Common.{List, ap, class_at, Entry}
 use Rattle.dob_certificate.proofs.Cases.{not_so}
 use Rattle.dob_certificate.proofs.lists.check_entry.Goals as goal
 
-pub returns-else-supported : goal.returns-else-supported
-returns-else-supported c = (
+pub returns-else-supports_at : goal.returns-else-supports_at
+returns-else-supports_at c = (
   ap (λ (entries : List Entry). class_at entries c.args.place) c.as_slice.ensures.entries,
-  not_so c.in_ok-supported.supported c.if-supported.false c.in_ok-supported.ensures.supported,
+  not_so c.supports_at.result c.if-supports_at.false c.supports_at.ensures,
 )

@@ -1,14 +1,17 @@
 -- What is shown to be won is so.
-use Rattle.dob_certificate.proofs.Common.{IfOk-weaker}
+use Rattle.dob_certificate.proofs.Common.{◌≡◌, false, rules}
 use Rattle.dob_certificate.proofs.Exact.{shown_won}
 use Rattle.dob_certificate.proofs.verifying.is_won_within.Goals as goal
 
-pub returns-then-supported-clause-won : goal.returns-then-supported-clause-won
-returns-then-supported-clause-won c =
-    IfOk-weaker c.shows_won.result _ _ (λ b given here. shown_won c.args.classes.now.family c.args.certificate.now.lost c.args.position.now.setup
-    (c.in_ok-supported.ensures.0 c.if-supported.true) c.args.plies (given.0 here)) c.shows_won.ensures.shown
+pub returns-then-supports_all_lost-clause-won : goal.returns-then-supports_all_lost-clause-won
+returns-then-supports_all_lost-clause-won c = λ here.
+    shown_won c.args.classes.now.family c.args.certificate.now.lost c.args.position.now.setup (c.supports_all_lost.ensures.0 (search rules))
+    c.args.plies (c.shows_won.ensures.0 here)
 
-pub returns-then-supported-clause-proof : goal.returns-then-supported-clause-proof
-returns-then-supported-clause-proof c =
-    IfOk-weaker c.shows_won.result _ _
-    (λ b given. (λ here. (c.in_ok-supported.ensures.0 c.if-supported.true, given.0 here), λ both. given.1 both.1)) c.shows_won.ensures.shown
+pub returns-then-supports_all_lost-clause-proof : goal.returns-then-supports_all_lost-clause-proof
+returns-then-supports_all_lost-clause-proof c =
+    (λ here. (c.supports_all_lost.ensures.0 (search rules), c.shows_won.ensures.0 here), λ both. c.shows_won.ensures.1 both.1)
+
+pub returns-else-supports_all_lost-clause-proof : goal.returns-else-supports_all_lost-clause-proof
+returns-else-supports_all_lost-clause-proof c =
+    (λ here. let none : c.supports_all_lost.result ≡ false = search rules in absurd (cc), λ both. c.supports_all_lost.ensures.1 both.0)

@@ -1,13 +1,7 @@
 -- All are supported, or some entry isn't.
-use Rattle.dob_certificate.proofs.Common.{IfOk-weaker, SupportsLost}
-use Rattle.dob_certificate.proofs.Cases.{said_yes}
-use Rattle.dob_certificate.proofs.Firsts.{not_supported}
+use Rattle.dob_certificate.proofs.Common.{SupportsLost}
+use Rattle.dob_certificate.proofs.Firsts.{all_supported}
 use Rattle.dob_certificate.proofs.verifying.supports_all_lost.Goals as goal
 
-pub returns-in-Ok : goal.returns-in-Ok
-returns-in-Ok c = said_yes c.in-Ok.ensures
-
-pub returns-in-Err : goal.returns-in-Err
-returns-in-Err c =
-    let lost = c.args.lost.now in
-    IfOk-weaker c.refused.result _ _ (not_supported (SupportsLost c.args.classes.now.family lost) lost c.in-Err.refusal c.in-Err.ensures) c.refused.ensures
+pub returns : goal.returns
+returns c = rw c.is_ok.ensures.value (all_supported (SupportsLost c.args.classes.now.family c.args.lost.now) c.args.lost.now c.check_list.result c.check_list.ensures)

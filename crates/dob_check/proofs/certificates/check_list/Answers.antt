@@ -12,7 +12,7 @@ find_first-first_refusal-requires-clause-items g c = λ κs lives.
     let ends = c.into_par_iter.ensures in
     let long = ap length c.as_slice.ensures.entries in
     let inside = nat_range-All (λ i. i < length c.args.entries.now) 0 (length c.as_slice.result.now) (λ i low high. omega (arith, high, long)) in
-    rw (c.map_init.ensures.base, c.map_init.ensures.f, ends.0, ends.1) (tt, λ k d lt. (λ p. inside k d lt, λ p q y e b same. tt))
+    rw (c.map.ensures.base, c.map.ensures.f, ends.0, ends.1) (λ k d lt. (inside k d lt, λ y e b same. tt))
 
 -- the answer of each entry, and what was told of it
 abbrev Says : (g : _) (c : goal.After-unwrap_or g) → ℕ → Answer → Type 0
@@ -25,9 +25,9 @@ all_say g c =
     let ends = c.into_par_iter.ensures in
     let count : length c.as_slice.result.now ≡ length c.args.entries.now = ap length c.as_slice.ensures.entries in
     let whole : length c.as_slice.result.now - 0 ≡ length c.args.entries.now = omega arith in
-    let chain = rw (c.map_init.ensures.base, c.map_init.ensures.f) at done.2 in
+    let chain = rw (c.map.ensures.base, c.map.ensures.f) at done.2 in
     let places = chain.1 ∙ (λ i. nat_range (ends.0 i) (ends.1 i)) ∙ ap (range_with_len 0) whole in
-    subst (λ (places : List ℕ). AllZip (Says g c) places done.0) places (AllZip-weaken _ (Says g c) (λ place answer h. (h.2.0, h.2.1)) chain.0 done.0 chain.2)
+    subst (λ (places : List ℕ). AllZip (Says g c) places done.0) places (AllZip-weaken _ (Says g c) (λ place answer h. (h.0, h.1)) chain.0 done.0 chain.2)
 
 pub returns-clause-verdict : goal.returns-clause-verdict
 returns-clause-verdict g c =

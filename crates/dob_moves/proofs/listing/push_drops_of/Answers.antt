@@ -1,7 +1,8 @@
 -- The squares of the mask are gone over from the lowest on, and the others give nothing.
-use Rattle.dob_moves.proofs.Common.{◌++◌, ◌∙◌, ◌≡◌, List, ap, arith, held, sym, walk_end, walk_less, walk_next, walk_start, Hand, Move}
+use Rattle.dob_moves.proofs.Common.{◌++◌, ◌∙◌, ◌≡◌, List, ap, arith, held, length, sym, walk_end, walk_less, walk_next, walk_start, Hand, Move}
 use Rattle.std.proofs.Common.{append-nil}
-use Rattle.dob_moves.proofs.Listed.{can_put, can_put_mask, puts_on, puts_quiet, put_there, drops_none, drops_all}
+use Rattle.dob_moves.proofs.Appends.{walk_room_one}
+use Rattle.dob_moves.proofs.Listed.{can_put, can_put_mask, puts_counting, puts_on, puts_quiet, put_there, drops_none, drops_all}
 use Rattle.dob_moves.proofs.listing.push_drops_of.Goals as goal
 
 pub returns-then-count-eq0 : goal.returns-then-count-eq0
@@ -16,6 +17,18 @@ loop-left-init c = λ setup empty. walk_start (can_put c.args.profile setup c.ar
 pub lowest_square-to-requires-clause-within : goal.lowest_square-to-requires-clause-within
 lowest_square-to-requires-clause-within c = (c.loop-left.invariant c.requires.0 c.requires.1).left_are.within
 
+pub push-requires : goal.push-requires
+push-requires c =
+    let setup = c.requires.0 in
+    let same : held c.args.hand c.args.kind ≡ held setup.hands.mover c.args.kind = ap (λ (hand : Hand). held hand c.args.kind) c.requires.2 in
+    omega (
+      arith,
+      walk_room_one (c.loop-left.invariant setup c.requires.1) (omega arith) c.lowest_square-to.ensures
+          (puts_quiet c.args.profile setup c.args.kind) (puts_counting c.args.profile setup c.args.kind),
+      ap length (drops_all c.args.profile setup c.args.kind (omega (arith, same))),
+      c.requires.3,
+    )
+
 pub loop-left-smaller : goal.loop-left-smaller
 loop-left-smaller c = walk_less (c.loop-left.invariant c.requires.0 c.requires.1) (omega arith) c.lowest_square-to.ensures c.without_square-left.ensures
 
@@ -23,7 +36,7 @@ pub loop-left-preserved : goal.loop-left-preserved
 loop-left-preserved c = λ setup empty.
     walk_next (c.loop-left.invariant setup empty) (omega arith) c.lowest_square-to.ensures c.without_square-left.ensures
     (puts_quiet c.args.profile setup c.args.kind)
-    (λ passes. c.in_ok-push.ensures.items
+    (λ passes. c.push.ensures.items
     ∙ ap (λ (ms : List Move). c.loop-left.moves.items ++ ms) (sym (put_there c.args.profile setup c.args.kind c.lowest_square-to.result passes)))
 
 pub returns : goal.returns

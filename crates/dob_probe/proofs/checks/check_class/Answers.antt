@@ -13,11 +13,11 @@ entry_is c =
 pub returns-then-eq : goal.returns-then-eq
 returns-then-eq c =
     class_follows c.args.table.now c.args.class c.class_at-position.result.setup c.value.result
-    (entry_is (goal.at.returns-then-eq c).After-value) c.in_ok-value_that_follows.field-0 c.in_ok-value_that_follows.ensures (search rules)
+    (entry_is (goal.at.returns-then-eq c).After-value) c.value_that_follows.result c.value_that_follows.ensures (search rules)
 
 pub returns-else-eq : goal.returns-else-eq
 returns-else-eq c = (
   refl,
   class_breaks c.args.table.now c.args.class c.class_at-position.result.setup c.value.result
-      (entry_is (goal.at.returns-else-eq c).After-value) c.in_ok-value_that_follows.field-0 c.in_ok-value_that_follows.ensures (search rules),
+      (entry_is (goal.at.returns-else-eq c).After-value) c.value_that_follows.result c.value_that_follows.ensures (search rules),
 )

@@ -59,10 +59,10 @@ loop-place-preserved c =
     let here : place < places_in order (length table.values) = rw (end_is known.After-places_in-end) at c.loop-place-test.true in
     let on : c.class_on.result ≡ class_on order place = c.class_on.ensures in
     let covered = order_covers (length table.values) walk.seed order (is_order known.After-order_of-order) in
-    elim c.match-branch-2.branch [
+    elim c.match-puzzle_of.branch [
       | in-Some+in_ok-list_puzzle w ↦
           let puzzle : Puzzle = w.in-Some.puzzle in
-          let found = rw w.in-Some.is at c.in_ok-puzzle.ensures in
+          let found = rw w.in-Some.is at c.puzzle_of.ensures in
           let next = w.in_ok-list_puzzle.ensures.listed in
           let more = next_few table plies walk order c.is_some-is_spread.result list w.list_puzzle.new.list.items puzzle next in
           rw (w.list-is, w.outlines-is) (
@@ -73,9 +73,9 @@ loop-place-preserved c =
             w.in_ok-list_puzzle.ensures.outlines,
           )
       | in_default w ↦
-          let missing = rw w.in_default.is at c.in_ok-puzzle.ensures in
-          let same : c.match-branch-2.list.items ≡ list = search rules in
-          let same_outlines : c.match-branch-2.outlines.items ≡ c.loop-place.outlines.items = search rules in
+          let missing = rw w.in_default.is at c.puzzle_of.ensures in
+          let same : c.match-puzzle_of.list.items ≡ list = search rules in
+          let same_outlines : c.match-puzzle_of.outlines.items ≡ c.loop-place.outlines.items = search rules in
           rw (same, same_outlines) (
             omega (arith, invariant.0),
             invariant.1,
@@ -94,7 +94,7 @@ returns c =
 -- the puzzle that was found is of a class of the table
 pub list_puzzle-requires-clause-within : goal.list_puzzle-requires-clause-within
 list_puzzle-requires-clause-within c =
-    let found = rw c.in-Some.is at c.in_ok-puzzle.ensures in
+    let found = rw c.in-Some.is at c.puzzle_of.ensures in
     slice_get_within c.args.table.now.values c.in-Some.puzzle.class (Win c.args.plies) found.1.won.entry
 
 pub list_puzzle-requires-clause-outlines : goal.list_puzzle-requires-clause-outlines

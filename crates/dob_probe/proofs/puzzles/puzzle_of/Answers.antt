@@ -1,7 +1,12 @@
 -- What is found of the class's representative is found of the class.
-use Rattle.dob_probe.proofs.Common.{◌≡◌, arith, refl, rules, slice_get_within, Win}
+use Rattle.dob_probe.proofs.Common.{◌≡◌, arith, refl, rules, slice_get_within, subst, sym, AreMoves, Win}
 use Rattle.dob_probe.proofs.OnlyMoves.{puzzle_missing}
 use Rattle.dob_probe.proofs.puzzles.puzzle_of.Goals as goal
+
+pub single_move-requires-clause-legal : goal.single_move-requires-clause-legal
+single_move-requires-clause-legal c =
+    subst (AreMoves c.args.table.now.family.profile c.class_at-position.result.setup) (sym c.as_slice.ensures.value)
+    (rw c.family.ensures.family at c.legal_moves-legal.ensures.moves)
 
 pub returns-in-None : goal.returns-in-None
 returns-in-None c =

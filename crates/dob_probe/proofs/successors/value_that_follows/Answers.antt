@@ -1,12 +1,23 @@
 -- The value follows from what is kept of the successors' values.
-use Rattle.dob_probe.proofs.Common.{HasStatus, Open}
+use Rattle.dob_probe.proofs.Common.{inl, inr, refl, subst, sym, AreMoves, HasStatus, Open}
+use Rattle.dob_moves.specs.declared.position_status.Status.TheVariants.{Stuck, Tried}
 use Rattle.dob_probe.proofs.Following.{follows_from, least_has_next, greatest_has_next}
 use Rattle.dob_probe.proofs.successors.value_that_follows.Goals as goal
 use Rattle.dob_probe.proofs.successors.value_that_follows.Goals.{In-Open}
 
 -- the position is open
 open_is : (c : In-Open) → HasStatus c.args.table.now.family.profile c.args.position.now.setup Open
-open_is c = rw c.in-Open.is at c.in_ok-list_moves.ensures.status
+open_is c = rw (c.in-Open.is, c.family.ensures.family) at c.moves_into.ensures.status
+
+pub successors_of-requires-clause-legal : goal.successors_of-requires-clause-legal
+successors_of-requires-clause-legal c =
+    subst (AreMoves c.args.table.now.family.profile c.args.position.now.setup) (sym c.as_slice.ensures.value)
+    (rw c.family.ensures.family at c.moves_into.ensures.moves)
+
+pub returns-in-Tried : goal.returns-in-Tried
+returns-in-Tried c =
+    let status = rw c.family.ensures.family at c.moves_into.ensures.status in
+    elim c.in-Tried.is [ inl is ↦ (Tried, rw is at status, refl) | inr is ↦ (Stuck, rw is at status, refl) ]
 
 pub value-requires-clause-least : goal.value-requires-clause-least
 value-requires-clause-least c =

@@ -7,7 +7,7 @@ use Rattle.dob_value.proofs.graph.push_successors.Goals.{After-deref-played-item
 
 -- what is known of the list of moves
 legal_are : (c : After-deref-played-items) → AreMoves c.args.classes.now.family.profile c.args.position.now.setup c.deref-played-items.result.now
-legal_are c = subst (λ xs. AreMoves c.args.classes.now.family.profile c.args.position.now.setup xs) (sym c.deref-played-items.ensures.value) c.in_ok-status.ensures.moves
+legal_are c = subst (λ xs. AreMoves c.args.classes.now.family.profile c.args.position.now.setup xs) (sym c.deref-played-items.ensures.0) c.moves_into-status.ensures.moves
 
 pub loop-played-init : goal.loop-played-init
 loop-played-init c =
@@ -42,7 +42,7 @@ returns c = (
   c.loop-played.invariant.0,
   c.loop-played.invariant.1,
   record {
-    status = c.in_ok-status.ensures.status;
+    status = c.moves_into-status.ensures.status;
     successors =
         successors_all c.args.classes.now.family.profile (ClassStandsFor c.args.classes.now.family) c.args.position.now.setup c.deref-played-items.result.now
         c.loop-played.played-index c.loop-played.invariant.0 c.loop-played-test.false
