@@ -8,18 +8,19 @@ leave_out() {
     echo "page: $1 left out: $2"
 }
 
-# Adds the counts of a test that prints `N passed, M failed` as its last line, and its failures.
+# Adds the counts that so many runs of tests have printed, and their failures: `count_runs NUMBER PRINTED ERRORS WORDS`.
+count_runs() {
+    local line='^[0-9]+ passed, [0-9]+ failed$' good bad
+    grep '^FAILED' "$2"
+    while read -r good _ bad _; do
+        passed=$((passed + good))
+        failed=$((failed + bad))
+    done < <(grep -E "$line" "$2")
+    [ "$(grep -cE "$line" "$2")" = "$1" ] || note "$4: it gave no counts, $(tail -1 "$3")" no
+}
 add_counts() {
-    local printed counts
-    printed="$("$@" 2>"$work/err")"
-    echo "$printed" | grep '^FAILED' || true
-    read -r -a counts <<<"$(echo "$printed" | tail -1)"
-    if [[ "${counts[1]-} ${counts[3]-}" = 'passed, failed' ]]; then
-        passed=$((passed + counts[0]))
-        failed=$((failed + counts[2]))
-    else
-        note "$*: it gave no counts, $(tail -1 "$work/err")" no
-    fi
+    "$@" >"$work/told" 2>"$work/err"
+    count_runs 1 "$work/told" "$work/err" "$*"
 }
 
 # The page is one file, whatever is built before and wherever it lies.
@@ -51,29 +52,40 @@ else
     leave_out 1 'the engine in plain JavaScript against tools/read_db.py, since Node is not there'
 fi
 
-# The page in browsers, with the plain engine and with the proved one, whose page is made beside the scenes. All scenes in Chromium with the plain engine; a
-# quarter of them in Firefox too, and in both with the proved one.
+# The page in Firefox: the parts that it runs, and a quarter of the scenes with either engine.
+in_firefox() {
+    python3 page/test/page_test.py "$work/dobutsu.html" "$program" --firefox --jobs 2
+    for page in dobutsu proved; do
+        python3 page/test/scenes.py --page "$work/$page.html" --firefox --states "$work/states" --jobs 2
+    done
+}
+
+# The page in browsers, with the plain engine and with the proved one, whose page is made beside the scenes. All scenes in Chromium with the plain engine, a
+# quarter of them with the proved one. Firefox goes its way beside Chromium.
 if needs chromium wasm-opt; then
     mkdir "$work/files"
     export DOBUTSU_FILES="$work/files"
     tools/page "$work/proved.html" >"$work/made" 2>&1 &
     maker=$!
     add_counts python3 page/test/scenes.py --page "$work/dobutsu.html" --states "$work/states"
-    add_counts python3 page/test/page_test.py "$work/dobutsu.html" "$program"
-    add_counts python3 page/test/planted.py "$program"
     good=yes
     wait "$maker" || good=no
     grep -q '^window.DobutsuWasm = ' "$work/proved.html" || good=no
     note "tools/page makes the page with the proved engine: $(tail -1 "$work/made")" "$good"
-    add_counts python3 page/test/scenes.py --page "$work/proved.html" elsewhere
-    add_counts python3 page/test/page_test.py "$work/proved.html" "$program" told opening certificates certificates/whole_B
     if command -v firefox-esr firefox >/dev/null; then
-        add_counts python3 page/test/page_test.py "$work/dobutsu.html" "$program" --firefox
-        for page in dobutsu proved; do
-            add_counts python3 page/test/scenes.py --page "$work/$page.html" --firefox --states "$work/states"
-        done
+        in_firefox >"$work/firefox_told" 2>"$work/firefox_err" &
+        firefox=$!
     else
         leave_out 3 'the page in Firefox with either engine, since it is not there (apt-get install firefox-esr)'
+        firefox=
+    fi
+    add_counts python3 page/test/page_test.py "$work/dobutsu.html" "$program"
+    add_counts python3 page/test/planted.py "$program"
+    add_counts python3 page/test/scenes.py --page "$work/proved.html" elsewhere
+    add_counts python3 page/test/page_test.py "$work/proved.html" "$program" told opening certificates certificates/whole_B
+    if [ -n "$firefox" ]; then
+        wait "$firefox"
+        count_runs 3 "$work/firefox_told" "$work/firefox_err" 'the page in Firefox'
     fi
     if command -v node >/dev/null; then
         if node page/test/wasm.test.js page/out/dobutsu_web.wasm 500 >"$work/out" 2>&1; then good=yes; else good=no; fi
