@@ -245,6 +245,7 @@ def certificate(at):
     at.press("next")
     at.choose("measure", "moves")
     at.choose("measure", "plies", tell=False)
+    at.enter(".../.../..l/L.. - c", tell="a loss in two plies")
     at.enter(PLAIN, tell="a position of the list's winner")
     at.click("b1")
     at.key("Escape", tell=False)
