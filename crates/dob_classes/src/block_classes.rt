@@ -3,9 +3,7 @@
 ghost use Rattle.std.specs.Prelude.{◌≡◌, true, ◌<◌, ◌≤◌, ◌+◌, ◌%◌, IfOk, vec_len, ℕ, List};
 ghost use Rattle.dob_rank.specs.Numbers.{product, digits_of, block_bases, block_size, start_of};
 ghost use Rattle.dob_rank.specs.Marks.{marks_below};
-ghost use Rattle.dob_rank.specs.Families.{class_setup, is_marked};
-ghost use Rattle.dob_pieces.specs.Boards.{IsBoardOf};
-ghost use Rattle.dob_classes.specs.Views.{seen_by};
+ghost use Rattle.dob_rank.specs.Families.{is_marked};
 ghost use Rattle.dob_classes.specs.FamilyRuns.{run_size_in, local_marks_in, classes_before, IsNumbered};
 ghost use Rattle.dob_rank.specs.Runs.{square_bases, run_bases, run_digits, runs_in, run_size, run_start, run_kind};
 ghost use Rattle.dob_classes.specs.declared.runs.Run.{Run};
@@ -14,18 +12,16 @@ ghost use Rattle.dob_classes.specs.RunTables.{AreRuns, HasTable};
 ghost use Rattle.dob_classes.specs.RunIndex.{IsRunIndex};
 ghost use Rattle.dob_rank.specs.Placing.{AreAllPlaces};
 
-use crate::bits::bit_placing::bits_by;
 use crate::place_tables::all_places;
 use crate::run_index::RunIndex;
 use crate::runs::Run;
 use crate::spots::count_before;
 use crate::stretch_tables::StretchTable;
-use dob_pieces::{Board, Family, Memory, Profile, Side};
+use dob_pieces::{Family, Memory, Profile};
 use dob_rank::block::{self, EachKind};
 use dob_rank::far_places::local_at;
 use dob_rank::placing::Places;
 use dob_rank::runs::{LIONS, RunDigits, RunKind, Spot, kind_of};
-use dob_rank::set_ranks::hands_of;
 use std::alloc::Global;
 
 /// The classes of a block of a family.
@@ -42,8 +38,8 @@ pub(crate) struct BlockClasses {
     runs: Vec<Run>,
     mixed: Vec<StretchTable>,
     index: RunIndex,
-    // The places of each choice of squares.
-    places: Vec<Places>,
+    /// The places of each choice of squares.
+    pub(crate) places: Vec<Places>,
     ghost within: { number < product (block_bases family.set) },
     ghost starts: { before ≡ marks_below (is_marked family) (start_of family.set number) },
     ghost ends: { after ≡ marks_below (is_marked family) (start_of family.set number + block_size family.set number) },
@@ -140,23 +136,6 @@ impl BlockClasses {
         }
     }
 
-    /// The board that the side sees of that representative.
-    #[inline(always)]
-    pub(crate) fn board_at(&self, class: u64, side: Side) -> Board
-        requires low { self.now.before ≤ class }
-        requires high { class < self.now.after }
-        ensures { IsBoardOf (seen_by side (class_setup self.now.family class)) result }
-    {
-        let set = self.family.set;
-        let spot = self.spot_at(class);
-        let run = self.digits_of(spot.run);
-        let digits = block::digits_with(set, &self.on_board, &self.choices, run, spot);
-        let squares = block::squares_at(&self.on_board, spot.local);
-        let hands = hands_of(set, &self.on_board, &digits);
-        let places = &self.places[squares as usize];
-        bits_by(side, &self.on_board, &digits, places, hands)
-    }
-
     // The run in which that representative stands: the last one with no more of them before it.
     fn run_at(&self, class: u64) -> u64
         requires low { self.now.before ≤ class }
@@ -184,8 +163,8 @@ impl BlockClasses {
         self.runs[run as usize].kind
     }
 
-    // The digits of a run.
-    fn digits_of(&self, run: u64) -> RunDigits
+    /// The digits of a run.
+    pub(crate) fn digits_of(&self, run: u64) -> RunDigits
         requires { run < runs_in self.now.family.set self.now.number }
         ensures { run_digits result ≡ digits_of (run_bases self.now.family.set self.now.on_board) run }
     {

@@ -9,11 +9,12 @@ ghost use Rattle.dob_pieces.specs.declared.setup.Setup.{Setup};
 ghost use Rattle.dob_pieces.specs.Boards.{IsBoardOf};
 ghost use Rattle.dob_classes.specs.Views.{seen_by, IsShown};
 
+use crate::bits::bit_placing::bits_by;
 use crate::block_classes::BlockClasses;
 use crate::spots::spot_in;
 use dob_pieces::{Board, Family, Memory, Position, Side};
 use dob_rank::block;
-use dob_rank::set_ranks::position_by;
+use dob_rank::set_ranks::{hands_of, position_by};
 use std::alloc::Global;
 
 /// The classes of a family, each with its number.
@@ -143,7 +144,15 @@ impl Classes {
         requires { class < classes_of self.now.family }
         ensures { IsBoardOf (seen_by side (class_setup self.now.family class)) result }
     {
-        self.block_of(class).board_at(class, side)
+        let block = self.block_of(class);
+        let spot = block.spot_at(class);
+        let run = block.digits_of(spot.run);
+        let set = self.family.set;
+        let digits = block::digits_with(set, &block.on_board, &block.choices, run, spot);
+        let squares = block::squares_at(&block.on_board, spot.local);
+        let hands = hands_of(set, &block.on_board, &digits);
+        let places = &block.places[squares as usize];
+        bits_by(side, &block.on_board, &digits, places, hands)
     }
 
     // The block in which the representative of that class stands.

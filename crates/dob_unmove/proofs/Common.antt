@@ -62,8 +62,8 @@ pub use Rattle.dob_classes.specs.Views.{IsShown}
 pub use Rattle.dob_pieces.specs.Changes.{IsWith}
 pub use Rattle.dob_pieces.specs.declared.board.Board.{Board}
 pub use Rattle.dob_unmove.specs.Classes.{IsSeenTurned, RepresentsClass}
-pub use Rattle.dob_unmove.specs.Ends.{CanWalk}
-unfoldable pub use Rattle.dob_unmove.specs.Ends.{setup_after}
+pub use Rattle.dob_unmove.specs.Ends.{CanWalk, setup_after}
+unfoldable pub use Rattle.dob_unmove.specs.Ends.{seen_after}
 pub use Rattle.dob_unmove.specs.Gathers.{Adds, Finds, Gathers, IsOpenRepresentative}
 pub use Rattle.dob_unmove.specs.Threats.{AreAttackers, IsThreat, elsewhere, stood_before}
 pub use Rattle.dob_unmove.specs.Undoes.{CanGiveBack, CanUndo, CanUnstep, arrives_at, choice, enemy_cell, may_give_back, without_caught}

@@ -1,6 +1,7 @@
 -- What is known of a walk over the ways to take a move back and of a square on which that move may have ended, and what is gathered.
-use Rattle.std.specs.Prelude.{◌≡◌, ℕ, List, true, false, cond}
+use Rattle.std.specs.Prelude.{◌≡◌, ℕ, List, Bool, true, false, cond}
 use Rattle.dob_pieces.specs.Masks.{is_own}
+use Rattle.dob_pieces.specs.declared.profile.Family.{Family}
 use Rattle.dob_pieces.specs.declared.setup.Setup.{Setup}
 use Rattle.dob_pieces.specs.Setups.{at, mirrored, turned}
 use Rattle.dob_rank.specs.Families.{IsPositionOf, RepresentsClass, class_setup}
@@ -13,10 +14,13 @@ use Rattle.dob_unmove.specs.Threats.{elsewhere}
 use Rattle.dob_unmove.specs.Ways.{HasLionHome, AreWays}
 
 -- the setup that the moves left: the representative of the class as the side sees it that made them, or the mirror image of that
-unfoldable pub setup_after : Walk → Setup
-setup_after walk =
-    let after = turned (class_setup walk.classes.now.family walk.class) in
-    cond walk.is_image (mirrored after) after
+unfoldable pub seen_after : Family → ℕ × Bool → Setup
+seen_after family led_to =
+    let after = turned (class_setup family led_to.0) in
+    cond led_to.1 (mirrored after) after
+
+abbrev pub setup_after : Walk → Setup
+setup_after walk = seen_after walk.classes.now.family walk.led_to.value
 
 -- the setup stands after a move of positions of the family, and the ways are those that lead to it
 pub record CanWalk (walk : Walk) : Type 0 where

@@ -25,14 +25,15 @@ use crate::ways::Ways;
 use dob_classes::Classes;
 use dob_pieces::{HandKind, Kind, Memory, Side, Square, lowest_square, without_square};
 use std::alloc::Global;
+use std::snapshot::Snapshot;
 
 // A walk over the ways to take back the moves that led to the representative of the class, or to its mirror image. The side
 // that made them is the mover in the ways, whose board shows all that a walk asks of the setup.
 #[derive(Drop)]
 struct Walk<'a> {
     classes: &'a Classes,
-    class: u64,
-    is_image: bool,
+    // The class, and whether it is the mirror image: they say of what the ways are.
+    led_to: Snapshot<(u64, bool)>,
     ways: &'a Ways,
 }
 
@@ -244,13 +245,12 @@ fn gather(room: Vec<u64>, classes: &Classes, class: u64) -> Result<Vec<u64>, Mem
     requires { class < classes_of classes.now.family }
     ensures { IfOk result (λ list. CountEdges A (RepresentsClass classes.now.family) (class_setup classes.now.family class) list.items) }
 {
+    let ways = Ways::of(classes.board_at(class, Side::Enemy));
     let mut found = room;
     found.clear();
-    let ways = Ways::of(classes.board_at(class, Side::Enemy));
     let walk = Walk {
         classes,
-        class,
-        is_image: false,
+        led_to: Snapshot::of(&(class, false)),
         ways: &ways,
     };
     walk.gather_all(&mut found)?;
@@ -260,8 +260,7 @@ fn gather(room: Vec<u64>, classes: &Classes, class: u64) -> Result<Vec<u64>, Mem
     let image_ways = Ways::of(ways.board.mirrored());
     let image_walk = Walk {
         classes,
-        class,
-        is_image: true,
+        led_to: Snapshot::of(&(class, true)),
         ways: &image_ways,
     };
     image_walk.gather_all(&mut found)?;

@@ -1,6 +1,6 @@
 -- The walks over the representative and over its mirror image count the edges.
 use Rattle.dob_unmove.proofs.Common.{◌<◌, ◌∙◌, refl, sym, true≢false, ℕ, classes_of, mirrored, turned, Family, IsBoardOf, IsPositionOf, IsSeenTurned}
-use Rattle.dob_unmove.proofs.Common.{RepresentsClass, AreWays, setup_after}
+use Rattle.dob_unmove.proofs.Common.{◌≡◌, Bool, ap, false, subst, true, RepresentsClass, Setup, AreWays, seen_after}
 use Rattle.dob_rank.specs.Families.{class_setup}
 use Rattle.dob_unmove.proofs.Classes.{IsNumbering-classes}
 use Rattle.dob_unmove.proofs.Edges.{class_seen}
@@ -25,12 +25,24 @@ of-ways-requires c =
     let after = turned (class_setup family c.args.class) in
     (after, legal_turned family after (class_seen family c.args.class c.requires), c.board_at.ensures)
 
+-- the setups that the walks are of
+after_is : (family : Family) (class : ℕ) (led_to : ℕ × Bool) → led_to ≡ (class, false) → seen_after family led_to ≡ turned (class_setup family class)
+unfolding seen_after
+after_is family class led_to e = ap (seen_after family) e
+
+image_after_is : (family : Family) (class : ℕ) (led_to : ℕ × Bool) → led_to ≡ (class, true)
+    → seen_after family led_to ≡ mirrored (turned (class_setup family class))
+unfolding seen_after
+image_after_is family class led_to e = ap (seen_after family) e
+
 pub gather_all-requires : goal.gather_all-requires
-unfolding setup_after
-gather_all-requires c = record {
-  of_set = class_seen c.args.classes.now.family c.args.class c.requires;
-  ways_are = ways_are (goal.at.gather_all-requires c).After-of-ways;
-}
+gather_all-requires c =
+    let family = c.args.classes.now.family in
+    let same = sym (after_is family c.args.class c.of.result.value c.of.ensures) in
+    record {
+      of_set = subst (IsSeenTurned (IsPositionOf family)) same (class_seen family c.args.class c.requires);
+      ways_are = subst (λ (s : Setup). AreWays s c.of-ways.result) same (ways_are (goal.at.gather_all-requires c).After-of-ways);
+    }
 
 pub is_own_image-requires-clause-ways : goal.is_own_image-requires-clause-ways
 is_own_image-requires-clause-ways c = ways_are (goal.at.is_own_image-requires-clause-ways c).After-of-ways
@@ -53,31 +65,31 @@ of-image_ways-requires c =
     )
 
 pub gather_all-requires-2 : goal.gather_all-requires-2
-unfolding setup_after
 gather_all-requires-2 c =
     let family = c.args.classes.now.family in
     let image = mirrored (turned (class_setup family c.args.class)) in
     let seen = image_seen family c.args.class c.requires in
+    let same = sym (image_after_is family c.args.class c.of-2.result.value c.of-2.ensures) in
     record {
-      of_set = seen;
-      ways_are = c.of-image_ways.ensures image (legal_turned family image seen) (image_is (goal.at.gather_all-requires-2 c).After-mirrored);
+      of_set = subst (IsSeenTurned (IsPositionOf family)) same seen;
+      ways_are = subst (λ (s : Setup). AreWays s c.of-image_ways.result) same
+          (c.of-image_ways.ensures image (legal_turned family image seen) (image_is (goal.at.gather_all-requires-2 c).After-mirrored));
     }
 
 pub returns-then-is_own_image : goal.returns-then-is_own_image
-unfolding setup_after
 returns-then-is_own_image c =
     let family = c.args.classes.now.family in
     let p = class_setup family c.args.class in
-    alone_found (RepresentsClass family) (IsNumbering-classes family) p (turned p) _ c.gather_all.new.found.items
-    (class_seen family c.args.class c.requires).1.of_set.legal (c.is_own_image.ensures.0 c.if-is_own_image.true) refl
-    c.clear.ensures.items c.in_ok-gather_all.ensures
+    alone_found (RepresentsClass family) (IsNumbering-classes family) p _ _ c.gather_all.new.found.items
+    (class_seen family c.args.class c.requires).1.of_set.legal (c.is_own_image.ensures.0 c.if-is_own_image.true)
+    (after_is family c.args.class c.of.result.value c.of.ensures) c.clear.ensures.items c.in_ok-gather_all.ensures
 
 pub returns : goal.returns
-unfolding setup_after
 returns c =
     let family = c.args.classes.now.family in
     let p = class_setup family c.args.class in
-    both_found (RepresentsClass family) (IsNumbering-classes family) p (turned p) (mirrored (turned p)) _ c.gather_all.new.found.items
+    both_found (RepresentsClass family) (IsNumbering-classes family) p _ _ _ c.gather_all.new.found.items
     c.gather_all-2.new.found.items (class_seen family c.args.class c.requires).1.of_set.legal
-    (λ own. true≢false (sym (c.is_own_image.ensures.1 own) ∙ c.if-is_own_image.false)) refl refl
+    (λ own. true≢false (sym (c.is_own_image.ensures.1 own) ∙ c.if-is_own_image.false)) (after_is family c.args.class c.of.result.value c.of.ensures)
+    (image_after_is family c.args.class c.of-2.result.value c.of-2.ensures)
     c.clear.ensures.items c.in_ok-gather_all.ensures c.in_ok-gather_all-2.ensures
