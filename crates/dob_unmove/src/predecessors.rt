@@ -6,6 +6,7 @@ ghost use Rattle.dob_pieces.specs.Pieces.{kind_on_board};
 ghost use Rattle.dob_pieces.specs.Setups.{at, piece_of, turned, mirrored, HasLionOffFarRow};
 ghost use Rattle.dob_pieces.specs.declared.kind.Kind.{Kind};
 ghost use Rattle.dob_pieces.specs.declared.kind.Side.TheVariants.{Mover};
+ghost use Rattle.dob_pieces.specs.Boards.{IsBoardOf};
 ghost use Rattle.dob_rank.specs.Families.{classes_of, class_setup};
 ghost use Rattle.dob_unmove.specs.declared.undo.Undo.{Undo};
 ghost use Rattle.dob_unmove.specs.Undoes.{arrives_at as arrival, CanUndo, earlier};
@@ -23,7 +24,7 @@ use crate::earlier::may_give_back;
 use crate::undo::Undo;
 use crate::ways::Ways;
 use dob_classes::Classes;
-use dob_pieces::{HandKind, Kind, Memory, Side, Square, lowest_square, without_square};
+use dob_pieces::{Board, HandKind, Kind, Memory, Side, Square, lowest_square, without_square};
 use std::alloc::Global;
 use std::snapshot::Snapshot;
 
@@ -241,13 +242,14 @@ fn is_own_image(classes: &Classes, class: u64, ways: &Ways) -> bool
 // The classes from which moves lead to the representative of the class or to its mirror image, in the order of the walk, in
 // the room of that list. What the walks need is the board that the enemy sees of the representative.
 #[inline(always)]
-fn gather(room: Vec<u64>, classes: &Classes, class: u64) -> Result<Vec<u64>, Memory>
-    requires { class < classes_of classes.now.family }
+fn gather(room: Vec<u64>, classes: &Classes, class: u64, board: &Board) -> Result<Vec<u64>, Memory>
+    requires class { class < classes_of classes.now.family }
+    requires board { IsBoardOf (turned (class_setup classes.now.family class)) board.now }
     ensures { IfOk result (λ list. CountEdges A (RepresentsClass classes.now.family) (class_setup classes.now.family class) list.items) }
 {
-    let ways = Ways::of(classes.board_at(class, Side::Enemy));
     let mut found = room;
     found.clear();
+    let ways = Ways::of(*board);
     let walk = Walk {
         classes,
         led_to: Snapshot::of(&(class, false)),
@@ -284,7 +286,7 @@ pub fn back_into(room: Vec<u64>, classes: &Classes, class: u64) -> Result<Vec<u6
     ensures counts { IfOk result (λ list. (q : Setup) → RepresentsClass classes.now.family q class → ArePredecessors classes.now.family.profile (RepresentsClass classes.now.family) q list.items) }
     ensures list { IfOk result (λ list. list.items ≡ predecessors classes.now.family class) }
 {
-    let mut numbers = gather(room, classes, class)?;
+    let mut numbers = gather(room, classes, class, &classes.board_at(class, Side::Enemy))?;
     numbers.sort_unstable();
     Ok(numbers)
 }

@@ -17,13 +17,13 @@ ways_are : (c : After-of-ways) → AreWays (turned (class_setup c.args.classes.n
 ways_are c =
     let family = c.args.classes.now.family in
     let after = turned (class_setup family c.args.class) in
-    c.of-ways.ensures after (legal_turned family after (class_seen family c.args.class c.requires)) c.board_at.ensures
+    c.of-ways.ensures after (legal_turned family after (class_seen family c.args.class c.requires.class)) c.requires.board
 
 pub of-ways-requires : goal.of-ways-requires
 of-ways-requires c =
     let family = c.args.classes.now.family in
     let after = turned (class_setup family c.args.class) in
-    (after, legal_turned family after (class_seen family c.args.class c.requires), c.board_at.ensures)
+    (after, legal_turned family after (class_seen family c.args.class c.requires.class), c.requires.board)
 
 -- the setups that the walks are of
 after_is : (family : Family) (class : ℕ) (led_to : ℕ × Bool) → led_to ≡ (class, false) → seen_after family led_to ≡ turned (class_setup family class)
@@ -40,7 +40,7 @@ gather_all-requires c =
     let family = c.args.classes.now.family in
     let same = sym (after_is family c.args.class c.of.result.value c.of.ensures) in
     record {
-      of_set = subst (IsSeenTurned (IsPositionOf family)) same (class_seen family c.args.class c.requires);
+      of_set = subst (IsSeenTurned (IsPositionOf family)) same (class_seen family c.args.class c.requires.class);
       ways_are = subst (λ (s : Setup). AreWays s c.of-ways.result) same (ways_are (goal.at.gather_all-requires c).After-of-ways);
     }
 
@@ -52,7 +52,7 @@ image_is : (c : After-mirrored) → IsBoardOf (mirrored (turned (class_setup c.a
 image_is c =
     let family = c.args.classes.now.family in
     let after = turned (class_setup family c.args.class) in
-    let ways = c.of-ways.ensures after (legal_turned family after (class_seen family c.args.class c.requires)) c.board_at.ensures in
+    let ways = c.of-ways.ensures after (legal_turned family after (class_seen family c.args.class c.requires.class)) c.requires.board in
     c.mirrored.ensures after ways.board_is
 
 pub of-image_ways-requires : goal.of-image_ways-requires
@@ -60,7 +60,7 @@ of-image_ways-requires c =
     let family = c.args.classes.now.family in
     let image = mirrored (turned (class_setup family c.args.class)) in (
       image,
-      legal_turned family image (image_seen family c.args.class c.requires),
+      legal_turned family image (image_seen family c.args.class c.requires.class),
       image_is (goal.at.of-image_ways-requires c).After-mirrored,
     )
 
@@ -68,7 +68,7 @@ pub gather_all-requires-2 : goal.gather_all-requires-2
 gather_all-requires-2 c =
     let family = c.args.classes.now.family in
     let image = mirrored (turned (class_setup family c.args.class)) in
-    let seen = image_seen family c.args.class c.requires in
+    let seen = image_seen family c.args.class c.requires.class in
     let same = sym (image_after_is family c.args.class c.of-2.result.value c.of-2.ensures) in
     record {
       of_set = subst (IsSeenTurned (IsPositionOf family)) same seen;
@@ -81,7 +81,7 @@ returns-then-is_own_image c =
     let family = c.args.classes.now.family in
     let p = class_setup family c.args.class in
     alone_found (RepresentsClass family) (IsNumbering-classes family) p _ _ c.gather_all.new.found.items
-    (class_seen family c.args.class c.requires).1.of_set.legal (c.is_own_image.ensures.0 c.if-is_own_image.true)
+    (class_seen family c.args.class c.requires.class).1.of_set.legal (c.is_own_image.ensures.0 c.if-is_own_image.true)
     (after_is family c.args.class c.of.result.value c.of.ensures) c.clear.ensures.items c.in_ok-gather_all.ensures
 
 pub returns : goal.returns
@@ -89,7 +89,7 @@ returns c =
     let family = c.args.classes.now.family in
     let p = class_setup family c.args.class in
     both_found (RepresentsClass family) (IsNumbering-classes family) p _ _ _ c.gather_all.new.found.items
-    c.gather_all-2.new.found.items (class_seen family c.args.class c.requires).1.of_set.legal
+    c.gather_all-2.new.found.items (class_seen family c.args.class c.requires.class).1.of_set.legal
     (λ own. true≢false (sym (c.is_own_image.ensures.1 own) ∙ c.if-is_own_image.false)) (after_is family c.args.class c.of.result.value c.of.ensures)
     (image_after_is family c.args.class c.of-2.result.value c.of-2.ensures)
     c.clear.ensures.items c.in_ok-gather_all.ensures c.in_ok-gather_all-2.ensures
