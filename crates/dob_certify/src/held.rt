@@ -7,7 +7,7 @@ ghost use Rattle.dob_certify.specs.Lists.{IsByTable};
 
 use crate::fault::{Stop, ended};
 use crate::members::Members;
-use crate::outcomes::{Listed, Outcomes};
+use crate::outcomes::{Listed, list_outcomes, value_in};
 use dob_certificate::{EVER, Entries, ListKind};
 use dob_check::Watch;
 use dob_pieces::Memory;
@@ -31,7 +31,7 @@ const DISTANCES: usize = 64;
 #[derive(Drop)]
 struct Search<'a> {
     alloc: Global,
-    outcomes: Outcomes<'a>,
+    table: &'a Table,
     members: Members,
     // Those whose moves haven't been looked at.
     fresh: Vec<u32>,
@@ -62,7 +62,7 @@ pub(crate) fn held_entries<W: Watch>(
 {
     let mut search = Search {
         alloc,
-        outcomes: Outcomes::new(alloc, table),
+        table,
         members: Members::new(alloc, most),
         fresh: Vec::new(alloc),
         costs: costs(),
@@ -134,7 +134,7 @@ impl Search<'_> {
         }
         let mut outcomes = Vec::new(self.alloc);
         for class in fresh.iter().rev() {
-            self.outcomes.list(*class, Listed::All, &mut outcomes)?;
+            list_outcomes(self.table, *class, Listed::All, &mut outcomes)?;
             self.choose(&outcomes, plies, asked)?;
             let cheapest = mem::replace(&mut self.cheapest, Vec::new(self.alloc));
             self.add_all(&cheapest, asked)?;
@@ -151,7 +151,7 @@ impl Search<'_> {
             if least == 0 {
                 break;
             }
-            if !is_won_before(self.outcomes.value(*class), plies) {
+            if !is_won_before(value_in(self.table, *class), plies) {
                 let cost = self.cost_of(*class, asked, least)?;
                 if cost < least {
                     least = cost;
@@ -164,8 +164,7 @@ impl Search<'_> {
 
     // What the classes cost for which the move to that class asks, which are listed as far as their costs are below the limit.
     fn cost_of(&mut self, class: u32, asked: u16, limit: u64) -> Result<u64, Stop> {
-        self.outcomes
-            .list(class, Listed::Uncaught, &mut self.replies)?;
+        list_outcomes(self.table, class, Listed::Uncaught, &mut self.replies)?;
         self.asked.clear();
         let mut cost = 0u64;
         for reply in self.replies.iter() {
@@ -173,7 +172,7 @@ impl Search<'_> {
                 break;
             }
             if self.members.get(*reply).is_none() {
-                let value = self.outcomes.value(*reply);
+                let value = value_in(self.table, *reply);
                 cost = cost.saturating_add(cost_at(&self.costs, value, asked));
                 self.asked.push(*reply)?;
             }

@@ -9,7 +9,7 @@ ghost use Rattle.dob_certify.specs.Lists.{IsByTable};
 
 use crate::fault::{Stop, ended};
 use crate::members::Members;
-use crate::outcomes::{Listed, Outcomes};
+use crate::outcomes::{Listed, list_outcomes, value_in};
 use dob_certificate::{Entries, ListKind};
 use dob_check::Watch;
 use dob_pieces::Memory;
@@ -50,7 +50,7 @@ struct Waiting {
 #[derive(Drop)]
 struct Search<'a> {
     alloc: Global,
-    outcomes: Outcomes<'a>,
+    table: &'a Table,
     members: Members,
     // Those whose moves haven't been looked at.
     fresh: Vec<u32>,
@@ -78,7 +78,7 @@ pub(crate) fn lost_entries<W: Watch>(
 {
     let mut search = Search {
         alloc,
-        outcomes: Outcomes::new(alloc, table),
+        table,
         members: Members::new(alloc, most),
         fresh: Vec::new(alloc),
         waiting: waiting_to(alloc, plies / 2)?,
@@ -126,7 +126,7 @@ impl Search<'_> {
         let mut outcomes = Vec::new(self.alloc);
         for class in fresh.iter() {
             if let Some(plies) = self.members.get(*class) {
-                self.outcomes.list(*class, Listed::All, &mut outcomes)?;
+                list_outcomes(self.table, *class, Listed::All, &mut outcomes)?;
                 self.look_at(&outcomes, plies.saturating_sub(2))?;
             }
         }
@@ -136,7 +136,7 @@ impl Search<'_> {
     // Each of the classes has to be answered within `plies`. One that is won in 1 ply always is.
     fn look_at(&mut self, outcomes: &[u32], plies: u16) -> Result<(), Stop> {
         for class in outcomes {
-            if self.outcomes.value(*class) != Value::Win(1) {
+            if value_in(self.table, *class) != Value::Win(1) {
                 self.ask(Need {
                     class: *class,
                     plies,
@@ -148,14 +148,13 @@ impl Search<'_> {
 
     // Has the need wait for the distance of its shortest reply, where no member meets it.
     fn ask(&mut self, need: Need) -> Result<(), Stop> {
-        self.outcomes
-            .list(need.class, Listed::All, &mut self.replies)?;
+        list_outcomes(self.table, need.class, Listed::All, &mut self.replies)?;
         let mut least = u16::MAX;
         for reply in self.replies.iter() {
             if is_within(self.members.get(*reply), need.plies) {
                 return Ok(());
             }
-            if let Value::Loss(plies) = self.outcomes.value(*reply) {
+            if let Value::Loss(plies) = value_in(self.table, *reply) {
                 least = least.min(plies);
             }
         }
@@ -197,10 +196,9 @@ impl Search<'_> {
     // Appends the replies that meet the need.
     fn choice_of(&mut self, need: Need, replies: &mut Vec<Reply>) -> Result<Choice, Stop> {
         let start = replies.len();
-        self.outcomes
-            .list(need.class, Listed::All, &mut self.replies)?;
+        list_outcomes(self.table, need.class, Listed::All, &mut self.replies)?;
         for class in self.replies.iter() {
-            match self.outcomes.value(*class) {
+            match value_in(self.table, *class) {
                 Value::Loss(plies) if plies <= need.plies => replies.push(Reply {
                     class: *class,
                     plies,

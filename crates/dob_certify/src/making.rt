@@ -12,7 +12,7 @@ ghost use Rattle.dob_certify.specs.Faults.{IsFault};
 use crate::fault::Fault;
 use crate::held::held_entries;
 use crate::lost::lost_entries;
-use crate::outcomes::{Listed, Outcomes, number_of};
+use crate::outcomes::{Listed, list_outcomes, number_of, value_in};
 use dob_certificate::{Certificate, Claim, EVER, Entries, ListKind};
 use dob_check::{Unwatched, Watch, verify_watched};
 use dob_pieces::{Memory, Position};
@@ -84,7 +84,6 @@ pub fn certify<R: Threads + Sync, W: Watch>(
     }
     verify_watched(
         rt,
-        alloc,
         table.classes(),
         &certificate,
         position,
@@ -157,11 +156,10 @@ fn lost_outcome(
     class: u32,
     plies: u16,
 ) -> Result<Option<u32>, Memory> {
-    let mut outcomes = Outcomes::new(alloc, table);
     let mut classes = Vec::new(alloc);
-    outcomes.list(class, Listed::All, &mut classes)?;
+    list_outcomes(table, class, Listed::All, &mut classes)?;
     for outcome in classes.iter() {
-        if outcomes.value(*outcome) == Value::Loss(plies) {
+        if value_in(table, *outcome) == Value::Loss(plies) {
             return Ok(Some(*outcome));
         }
     }
@@ -179,7 +177,6 @@ fn held_list<W: Watch>(
 ) -> Result<Entries, Memory>
     ensures { IfOk result (All (IsByTable table.now ListKind.Held)) }
 {
-    let mut outcomes = Outcomes::new(alloc, table);
     let mut roots = Vec::new(alloc);
     let plies = match claim {
         Claim::LostWithin(_) | Claim::WonWithin(_) => 0,
@@ -188,11 +185,11 @@ fn held_list<W: Watch>(
             plies.saturating_sub(1)
         }
         Claim::Exactly(Value::Win(plies)) => {
-            outcomes.list(class, Listed::Uncaught, &mut roots)?;
+            list_outcomes(table, class, Listed::Uncaught, &mut roots)?;
             plies.saturating_sub(2)
         }
         Claim::Exactly(Value::Draw) => {
-            outcomes.list(class, Listed::Uncaught, &mut roots)?;
+            list_outcomes(table, class, Listed::Uncaught, &mut roots)?;
             roots.push(class)?;
             EVER
         }

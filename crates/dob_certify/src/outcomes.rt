@@ -1,12 +1,11 @@
-// A table of values with the classes to which the moves of a class lead.
+// The values of classes by a table, and the classes to which the moves of a class lead.
 ghost use Rattle.dob_moves.specs.Statuses.{AreMoves};
 ghost use Rattle.dob_rank.specs.Families.{IsPositionOf};
 
 use dob_classes::Classes;
-use dob_moves::{Move, first_catch, moves_into};
+use dob_moves::{Move, first_catch, legal_moves};
 use dob_pieces::{Memory, Position};
 use dob_value::{Table, Value, outcome_of};
-use std::alloc::Global;
 
 /// Which of the classes to which moves lead are listed.
 #[derive(Clone, Copy)]
@@ -17,56 +16,39 @@ pub(crate) enum Listed {
     Uncaught,
 }
 
-/// A table with room for a list of moves.
-#[derive(Drop)]
-pub(crate) struct Outcomes<'a> {
-    table: &'a Table,
-    legal: Vec<Move>,
+/// The value that the table gives the class; a draw where the table has no class of that number.
+pub(crate) fn value_in(table: &Table, class: u32) -> Value {
+    let class = class as u64;
+    if class < table.class_count() {
+        table.value(class)
+    } else {
+        Value::Draw
+    }
 }
 
-impl<'a> Outcomes<'a> {
-    /// Takes no memory yet.
-    pub(crate) fn new(alloc: Global, table: &'a Table) -> Outcomes<'a> {
-        Outcomes {
-            table,
-            legal: Vec::new(alloc),
-        }
+/// Writes the classes to which the moves of the class's representative lead, by ascending number and each once, in place of what
+/// the list had; none if the table has no class of that number.
+///
+/// # Errors
+///
+/// `Memory`.
+pub(crate) fn list_outcomes(
+    table: &Table,
+    class: u32,
+    listed: Listed,
+    outcomes: &mut Vec<u32>,
+) -> Result<(), Memory> {
+    outcomes.clear();
+    let classes = table.classes();
+    let class = class as u64;
+    if class < classes.class_count() {
+        let position = classes.class_at(class);
+        let (_, legal) = legal_moves(classes.family.profile, &position);
+        push_outcomes(classes, &position, legal.as_slice(), listed, outcomes)?;
     }
-
-    /// The value that the table gives the class; a draw where the table has no class of that number.
-    pub(crate) fn value(&self, class: u32) -> Value {
-        let class = class as u64;
-        if class < self.table.class_count() {
-            self.table.value(class)
-        } else {
-            Value::Draw
-        }
-    }
-
-    /// Writes the classes to which the moves of the class's representative lead, by ascending number and each once, in place of what
-    /// the list had; none if the table has no class of that number.
-    ///
-    /// # Errors
-    ///
-    /// `Memory`.
-    pub(crate) fn list(
-        &mut self,
-        class: u32,
-        listed: Listed,
-        outcomes: &mut Vec<u32>,
-    ) -> Result<(), Memory> {
-        outcomes.clear();
-        let classes = self.table.classes();
-        let class = class as u64;
-        if class < classes.class_count() {
-            let position = classes.class_at(class);
-            moves_into(classes.family.profile, &mut self.legal, &position)?;
-            push_outcomes(classes, &position, &self.legal, listed, outcomes)?;
-        }
-        outcomes.sort_unstable();
-        outcomes.dedup();
-        Ok(())
-    }
+    outcomes.sort_unstable();
+    outcomes.dedup();
+    Ok(())
 }
 
 // Appends the classes to which the position's moves lead.

@@ -1,5 +1,5 @@
 // The move that a certificate gives.
-ghost use Rattle.std.specs.Prelude.{◌≡◌, IfOk};
+ghost use Rattle.std.specs.Prelude.{◌≡◌};
 ghost use Rattle.dob_moves.specs.Statuses.{AreMoves};
 ghost use Rattle.dob_rank.specs.Families.{IsPositionOf};
 ghost use Rattle.dob_certificate.specs.Lost.{SupportsAllLost};
@@ -7,10 +7,9 @@ ghost use Rattle.dob_certify.specs.Replies.{IsReply, IsRight, IsShortest, loss, 
 
 use dob_certificate::{ByClass, Entries, said_lost};
 use dob_classes::Classes;
-use dob_moves::{Move, first_catch, moves_into};
-use dob_pieces::{Memory, Position};
+use dob_moves::{Move, first_catch, legal_moves};
+use dob_pieces::Position;
 use dob_value::outcome_of;
-use std::alloc::Global;
 
 /// What a list of lost classes says of a position.
 #[derive(Clone, Copy)]
@@ -31,46 +30,31 @@ pub(crate) struct Lead {
 /// What the list says of the position, or None if it says nothing: of the position itself, and of all to which its moves lead. Where the lion can be
 /// caught that is the first catch; else the first of the moves to a position that is lost within the fewest plies that the list says; else in how many
 /// plies the position itself is lost.
-///
-/// # Errors
-///
-/// `Memory`.
-pub fn reply_to(
-    alloc: Global,
-    classes: &Classes,
-    lost: &Entries,
-    position: &Position,
-) -> Result<Option<Reply>, Memory>
+pub fn reply_to(classes: &Classes, lost: &Entries, position: &Position) -> Option<Reply>
     requires member { IsPositionOf classes.now.family position.now.setup }
     requires supported { SupportsAllLost classes.now.family lost.now }
-    ensures reply { IfOk result (IsReply classes.now.family lost.now position.now.setup) }
-    ensures right { IfOk result (IsRight classes.now.family.profile position.now.setup) }
+    ensures reply { IsReply classes.now.family lost.now position.now.setup result }
+    ensures right { IsRight classes.now.family.profile position.now.setup result }
 {
-    found_reply(alloc, classes, lost, position)
+    found_reply(classes, lost, position)
 }
 
 // What the list says of the position.
-fn found_reply(
-    alloc: Global,
-    classes: &Classes,
-    lost: &Entries,
-    position: &Position,
-) -> Result<Option<Reply>, Memory>
+fn found_reply(classes: &Classes, lost: &Entries, position: &Position) -> Option<Reply>
     requires { IsPositionOf classes.now.family position.now.setup }
-    ensures { IfOk result (IsReply classes.now.family lost.now position.now.setup) }
+    ensures { IsReply classes.now.family lost.now position.now.setup result }
 {
     if let Some(played) = first_catch(position) {
-        return Ok(Some(Reply::Win { played, plies: 0 }));
+        return Some(Reply::Win { played, plies: 0 });
     }
-    let mut legal = Vec::new(alloc);
-    moves_into(classes.family.profile, &mut legal, position)?;
+    let (_, legal) = legal_moves(classes.family.profile, position);
     let list = ByClass {
         classes,
         entries: lost,
     };
-    match shortest(&list, position, &legal) {
-        Some(Lead { played, plies }) => Ok(Some(Reply::Win { played, plies })),
-        None => Ok(loss(said_lost(classes.family, &list, position))),
+    match shortest(&list, position, legal.as_slice()) {
+        Some(Lead { played, plies }) => Some(Reply::Win { played, plies }),
+        None => loss(said_lost(classes.family, &list, position)),
     }
 }
 

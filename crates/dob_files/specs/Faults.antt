@@ -21,7 +21,6 @@ use Rattle.dob_shelf.specs.declared.shelf.ShelfFault as shelf
 use Rattle.dob_shelf.specs.declared.shelf.ShelfFault.TheVariants as shelf_fault
 use Rattle.dob_certificate.specs.Refusals as lists
 use Rattle.dob_certificate.specs.declared.refusal.Refusal.{Refusal}
-use Rattle.dob_certificate.specs.declared.refusal.Refusal.TheVariants as refusal
 use Rattle.dob_certfile.specs.Faults as certificate_file
 use Rattle.dob_certfile.specs.declared.defect.ReadFault.{ReadFault}
 use Rattle.dob_certfile.specs.declared.defect.ReadFault.TheVariants as read_fault
@@ -60,9 +59,8 @@ is_io (File fault) = reading.is_io fault
 is_io Io = true
 is_io _ = false
 
--- 3 where no memory was left or a distance is above what a file says, 1 where the certificate is refused, or is none
+-- 3 where a distance is above what a file says, 1 where the certificate is refused, or is none
 abbrev pub status_of_certificate : CertificateFault → ℕ
-status_of_certificate (Unproved refusal.Memory) = 3
 status_of_certificate Unfit = 3
 status_of_certificate _ = 1
 

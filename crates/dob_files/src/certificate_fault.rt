@@ -12,7 +12,7 @@ use std::fmt;
 pub enum CertificateFault {
     /// E15 to E20, E27, E32 to E38, E42: the file isn't a certificate's.
     Defect(Defect),
-    /// E23, E30, E31: the lists don't prove the claim.
+    /// E30, E31: the lists don't prove the claim.
     Unproved(Refusal),
     /// E39: there would be more than N entries.
     TooMany(u64),
@@ -30,7 +30,7 @@ impl CertificateFault {
         ensures { result ≡ status_of_certificate self }
     {
         match self {
-            CertificateFault::Unproved(Refusal::Memory) | CertificateFault::Unfit => 3,
+            CertificateFault::Unfit => 3,
             CertificateFault::Unproved(_) | CertificateFault::Defect(_) => 1,
             CertificateFault::TooMany(_) | CertificateFault::Unlisted => 1,
         }

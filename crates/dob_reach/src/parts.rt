@@ -8,7 +8,7 @@ ghost use Rattle.dob_reach.specs.Marks.{HasBits};
 
 use crate::marks::Marks;
 use dob_classes::Classes;
-use dob_moves::{Move, Status, moves_into};
+use dob_moves::{MoveList, Status, moves_into};
 use dob_pieces::Memory;
 use dob_value::class_after;
 use rayon::prelude::*;
@@ -92,7 +92,7 @@ fn part_of(alloc: Global, classes: &Classes, marks: &Marks, part: &[u32]) -> Res
     requires bits { HasBits marks.now.words.items (classes_of classes.now.family) }
     ensures { IfOk result (λ found. AreExpanded classes.now.family marks.now.words.items part.now found.outcomes.items found.opens) }
 {
-    let mut room = Vec::new(alloc);
+    let mut room = MoveList::new();
     let mut outcomes = Vec::new(alloc);
     let mut opens = 0;
     for class in part {
@@ -110,7 +110,7 @@ fn push_outcomes(
     classes: &Classes,
     marks: &Marks,
     class: u32,
-    room: &mut Vec<Move>,
+    room: &mut MoveList,
     outcomes: &mut Vec<u32>,
 ) -> Result<bool, Memory>
     requires class { class < classes_of classes.now.family }
@@ -120,7 +120,7 @@ fn push_outcomes(
 {
     let _few = classes.class_count();
     let position = classes.class_at(class as u64);
-    let status = moves_into(classes.family.profile, room, &position)?;
+    let status = moves_into(classes.family.profile, room, &position);
     for played in room.iter() {
         let outcome = class_after(classes, &position, *played);
         push_unmarked(marks, outcomes, outcome as u32)?;

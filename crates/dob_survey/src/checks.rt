@@ -49,7 +49,7 @@ fn check_table(
     ensures fault { IfErr result (IsFaultOfCheck table.now) }
 {
     let progress = Progress::new(rt, is_watched, table.class_count());
-    let checked = check_watched(rt, alloc, table, &progress);
+    let checked = check_watched(rt, table, &progress);
     progress.end();
     checked
 }

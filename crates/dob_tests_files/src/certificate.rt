@@ -66,19 +66,8 @@ fn answers(
 ) {
     assert!(rt; class < classes.class_count());
     let position = classes.class_at(class);
-    let alloc = rt.alloc();
-    assert!(rt; verify(alloc, classes, certificate, &position, claim) == wanted);
-    assert!(rt;
-        verify_watched(
-            rt,
-            alloc,
-            classes,
-            certificate,
-            &position,
-            claim,
-            &Unwatched
-        ) == wanted
-    );
+    assert!(rt; verify(classes, certificate, &position, claim) == wanted);
+    assert!(rt; verify_watched(rt, classes, certificate, &position, claim, &Unwatched) == wanted);
 }
 
 // The claim of the class is proved where it is true, and else each entry is passed and the claim isn't.
@@ -110,10 +99,10 @@ fn is_bounded(
     assert!(rt; class < classes.class_count() && class < table.class_count());
     let position = classes.class_at(class);
     let value = table.value(class);
-    let lost = is_lost_within(rt.alloc(), classes, certificate, &position, plies);
-    assert!(rt; lost == Ok(is_true(Claim::LostWithin(plies), value)));
-    let won = is_won_within(rt.alloc(), classes, certificate, &position, plies);
-    assert!(rt; won == Ok(is_true(Claim::WonWithin(plies), value)));
+    let lost = is_lost_within(classes, certificate, &position, plies);
+    assert!(rt; lost == is_true(Claim::LostWithin(plies), value));
+    let won = is_won_within(classes, certificate, &position, plies);
+    assert!(rt; won == is_true(Claim::WonWithin(plies), value));
 }
 
 // Each claim of so many plies is judged so.

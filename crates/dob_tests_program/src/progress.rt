@@ -221,6 +221,6 @@ fn each_class_is_reported_once(rt: HostRuntime) {
     let bytes = file(&rt);
     let table = read_table(rt.alloc(), &mut HeldSource::new(&bytes)).expect(&rt, "a table");
     let sum = Sum(AtomicU64::new(0));
-    let checked = check_watched(&rt, rt.alloc(), &table, &sum);
+    let checked = check_watched(&rt, &table, &sum);
     assert!(rt; checked.is_ok() && sum.0.load(Ordering::SeqCst) == 54);
 }

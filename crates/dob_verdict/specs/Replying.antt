@@ -50,9 +50,8 @@ pub record IsReplyOf (said : Content) (p : Setup) (found : Option Reply) : Type 
 abbrev pub IsToldReply : Content → Setup → List ℕ → Type 0
 IsToldReply said p line = (found : Reply) × IsReplyOf said p (Some found) × (line ≡ reply_line found)
 
--- why the lost list isn't believed: an entry isn't supported, or memory failed
+-- why the lost list isn't believed: an entry isn't supported
 abbrev pub IsListRefusal : Content → Refusal → Type 0
-IsListRefusal said refusal.Memory = Unit {0}
 IsListRefusal said (refusal.Unsupported class) = IsFirstUnsupported (SupportsLost said.family said.lost) said.lost class
 IsListRefusal said refusal.Claim = ⊥
 

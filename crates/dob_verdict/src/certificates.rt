@@ -50,7 +50,7 @@ fn verdict(
 {
     let classes = Classes::open(alloc, certificate.family)?;
     let position = classes.class_at(certificate.root as u64);
-    check_certificate(rt, alloc, &classes, certificate, &position, is_watched)?;
+    check_certificate(rt, &classes, certificate, &position, is_watched)?;
     Ok(claim_line(
         alloc,
         certificate.family.profile,
@@ -62,7 +62,6 @@ fn verdict(
 // Passes the certificate where its lists prove the claim of the position. Where it is watched, the console says how far that is.
 fn check_certificate(
     rt: &(impl Threads + Sync + Console),
-    alloc: Global,
     classes: &Classes,
     certificate: &CertificateFile,
     position: &Position,
@@ -77,15 +76,7 @@ fn check_certificate(
     let lost = lists.lost.as_slice().len() as u64;
     let held = lists.held.as_slice().len() as u64;
     let progress = Progress::new(rt, is_watched, lost.saturating_add(held));
-    let checked = verify_watched(
-        rt,
-        alloc,
-        classes,
-        lists,
-        position,
-        certificate.claim,
-        &progress,
-    );
+    let checked = verify_watched(rt, classes, lists, position, certificate.claim, &progress);
     progress.end();
     checked
 }

@@ -8,7 +8,7 @@ ghost use Rattle.dob_files.specs.Owed.{GivesOwed};
 
 use crate::certificates::open_certificate;
 use dob_certfile::CertificateFile;
-use dob_certificate::{ListKind, Room, check_list};
+use dob_certificate::{ListKind, check_list};
 use dob_certify::{Reply, reply_to};
 use dob_classes::Classes;
 use dob_files::{CertificateFault, Fault, Lines, position_named};
@@ -53,8 +53,8 @@ fn proved_reply(
     check_member(certificate.family, position)?;
     let classes = Classes::open(alloc, certificate.family)?;
     let lost = &certificate.certificate.lost;
-    check_list(&mut Room::new(alloc), &classes, ListKind::Lost, lost)?;
-    Ok(reply_to(alloc, &classes, lost, position)?)
+    check_list(&classes, ListKind::Lost, lost)?;
+    Ok(reply_to(&classes, lost, position))
 }
 
 // The line of a position that is lost within `plies` plies.

@@ -8,6 +8,7 @@ ghost use Rattle.dobutsu_c.specs.Certificates.{IsProvedBy, IsToldOf, IsVerifyFau
 use crate::numbers::{CLAIM, MEMORY, UNSUPPORTED};
 use dob_certfile::{CertificateFile, Defect, ReadFault, read_certificate, verify_file};
 use dob_certificate::{Claim, Refusal};
+use dob_classes::Classes;
 use dob_foreign::profile_number;
 use dob_value::Value;
 use std::alloc::Global;
@@ -49,7 +50,10 @@ pub extern "C" fn dobutsu_verify(
         Err(ReadFault::Memory) => return MEMORY,
         Err(ReadFault::Defect(defect)) => return defect_number(defect),
     };
-    match verify_file(alloc, &certificate) {
+    let Ok(classes) = Classes::open(alloc, certificate.family) else {
+        return MEMORY;
+    };
+    match verify_file(&classes, &certificate) {
         Ok(()) => {
             *claim = told(&certificate);
             0
@@ -59,7 +63,6 @@ pub extern "C" fn dobutsu_verify(
             UNSUPPORTED
         }
         Err(Refusal::Claim) => CLAIM,
-        Err(Refusal::Memory) => MEMORY,
     }
 }
 

@@ -32,7 +32,7 @@ pub extern "C" fn dobutsu_check(alloc: Global, file: &[u8], class: &mut u64) -> 
         Ok(table) => table,
         Err(fault) => return file_number(fault),
     };
-    match check(alloc, &table) {
+    match check(&table) {
         Ok(()) => 0,
         Err(Fault::Inconsistent(broken)) => {
             *class = broken;

@@ -12,7 +12,7 @@ use crate::moves::{DobutsuMove, shown_move};
 use crate::numbers::{MEMORY, UNSUPPORTED};
 use crate::value::DobutsuValue;
 use dob_certfile::{CertificateFile, Defect, ReadFault, read_certificate};
-use dob_certificate::{ListKind, Refusal, Room, check_list};
+use dob_certificate::{ListKind, Refusal, check_list};
 use dob_certify::{Reply, reply_to};
 use dob_classes::Classes;
 use dob_foreign::text_number;
@@ -114,18 +114,16 @@ fn reply_of(
         return Err(ReplyFault::Memory);
     };
     let lost = &certificate.certificate.lost;
-    match check_list(&mut Room::new(alloc), &classes, ListKind::Lost, lost) {
-        Ok(()) => match reply_to(alloc, &classes, lost, position) {
-            Ok(Some(found)) => Ok(found),
-            Ok(None) => Err(ReplyFault::Unlisted),
-            Err(_) => Err(ReplyFault::Memory),
+    match check_list(&classes, ListKind::Lost, lost) {
+        Ok(()) => match reply_to(&classes, lost, position) {
+            Some(found) => Ok(found),
+            None => Err(ReplyFault::Unlisted),
         },
         Err(Refusal::Unsupported(class)) => {
             let _ = class;
             Err(ReplyFault::Unsupported)
         }
         Err(Refusal::Claim) => Err(ReplyFault::Unsupported),
-        Err(Refusal::Memory) => Err(ReplyFault::Memory),
     }
 }
 

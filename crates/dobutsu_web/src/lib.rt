@@ -14,7 +14,6 @@ mod claims;
 mod classes;
 mod headers;
 mod numbers;
-mod places;
 mod ranked;
 mod rows;
 mod statuses;

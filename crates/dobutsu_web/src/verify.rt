@@ -10,7 +10,6 @@ ghost use Rattle.dobutsu_web.specs.Ranked.{AreRanksIn, entries_in};
 use crate::asked::ask;
 use crate::claims::claim_of;
 use crate::numbers::{CLAIM, CLAIM_BYTE, NO_ROW, UNSUPPORTED};
-use crate::places::ByPlace;
 use crate::ranked::{Listed, are_ranks};
 use dob_certificate::{Claim, ListKind, first_broken, is_shown};
 use dob_pieces::Position;
@@ -106,10 +105,7 @@ fn answer_behind(
             *broken = lost.ranks.len() as u64 + place as u64;
             UNSUPPORTED
         }
-        None => match is_shown(&mut ByPlace, lost.family, lost, held, position, claim) {
-            Ok(shown) => shown_number(shown),
-            Err(_) => unreachable!(),
-        },
+        None => shown_number(is_shown(lost.family, lost, held, position, claim)),
     }
 }
 
@@ -119,10 +115,7 @@ fn broken_in(listed: &Listed, kind: ListKind) -> Option<usize>
     ensures broken { IsFirstBroken kind listed.now.family (entries_in listed.now) result }
     ensures within { IfSome result (λ place. place < length listed.now.ranks.now) }
 {
-    match first_broken(&mut ByPlace, &mut ByPlace, listed.family, listed, kind) {
-        Ok(found) => found,
-        Err(_) => unreachable!(),
-    }
+    first_broken(listed.family, listed, kind)
 }
 
 // The number of an answer: whether the claim is shown.

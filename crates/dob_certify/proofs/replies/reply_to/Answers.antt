@@ -1,9 +1,7 @@
 -- A list that supports its entries is right.
-use Rattle.std.proofs.lemmas.Result.{IfOk-weaker}
 use Rattle.dob_certify.proofs.Shortest.{reply_right}
 use Rattle.dob_certify.proofs.replies.reply_to.Goals as goal
 
 pub returns-clause-right : goal.returns-clause-right
 returns-clause-right c =
-    IfOk-weaker c.found_reply.result _ _
-    (reply_right c.args.classes.now.family c.args.lost.now c.args.position.now.setup c.requires.supported) c.found_reply.ensures
+    reply_right c.args.classes.now.family c.args.lost.now c.args.position.now.setup c.requires.supported c.found_reply.result c.found_reply.ensures

@@ -8,7 +8,7 @@ use Rattle.dob_reach.proofs.parts.push_outcomes.Goals as goal
 
 -- what is known of the list of moves
 legal_are : (c : After-deref-played-items) → AreMoves c.args.classes.now.family.profile c.class_at-position.result.setup c.deref-played-items.result.now
-legal_are c = subst (λ xs. AreMoves c.args.classes.now.family.profile c.class_at-position.result.setup xs) (sym c.deref-played-items.ensures.value) c.in_ok-status.ensures.moves
+legal_are c = subst (λ xs. AreMoves c.args.classes.now.family.profile c.class_at-position.result.setup xs) (sym c.deref-played-items.ensures.0) c.moves_into-status.ensures.moves
 
 pub loop-played-init : goal.loop-played-init
 loop-played-init c = (
@@ -56,7 +56,7 @@ pub returns : goal.returns
 returns c =
     let family = c.args.classes.now.family in
     let setup = c.class_at-position.result.setup in
-    let status = c.in_ok-status.ensures.status in (
+    let status = c.moves_into-status.ensures.status in (
       c.loop-played.invariant.1,
       c.loop-played.invariant.2,
       expanded_class family c.args.marks.now.words.items setup c.args.class c.loop-played.invariant.0 c.loop-played.invariant.1 c.is_open.result
@@ -65,5 +65,5 @@ returns c =
           c.loop-played-test.false (legal_are (goal.at.returns c).After-deref-played-items) c.loop-played.invariant.3)
           c.loop-played.invariant.4
           (λ is. subst (HasStatus family.profile setup) (c.is_open.ensures.0 is) status)
-          (λ has. c.is_open.ensures.1 (one_status family.profile setup c.in_ok-status.status Open status has)),
+          (λ has. c.is_open.ensures.1 (one_status family.profile setup c.moves_into-status.result Open status has)),
     )

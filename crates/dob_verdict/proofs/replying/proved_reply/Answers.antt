@@ -5,6 +5,6 @@ pub returns-clause-ok : goal.returns-clause-ok
 returns-clause-ok c = record {
   member = c.in_ok-check_member.ensures.member;
   supported = rw c.in_ok-classes.ensures.family at c.in_ok-check_list.ensures;
-  reply = rw c.in_ok-classes.ensures.family at c.in_ok-reply_to.ensures.reply;
-  right = rw c.in_ok-classes.ensures.family at c.in_ok-reply_to.ensures.right;
+  reply = rw c.in_ok-classes.ensures.family at c.reply_to.ensures.reply;
+  right = rw c.in_ok-classes.ensures.family at c.reply_to.ensures.right;
 }

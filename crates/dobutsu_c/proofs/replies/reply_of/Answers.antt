@@ -8,20 +8,20 @@ use Rattle.dobutsu_c.proofs.replies.reply_of.Goals as goal
 pub reply_to-requires-clause-supported : goal.reply_to-requires-clause-supported
 reply_to-requires-clause-supported c = c.in-Ok-check_list.ensures
 
-pub returns-in-Ok-Some : goal.returns-in-Ok-Some
-returns-in-Ok-Some c = record {
+pub returns-in-Some : goal.returns-in-Some
+returns-in-Some c = record {
   member = c.requires;
   supported = rw c.in-Ok.ensures.family at c.in-Ok-check_list.ensures;
-  reply = rw (c.in-Ok.ensures.family, c.in-Ok-Some.field-0-is) at c.in-Ok-Some.ensures.reply;
-  right = rw (c.in-Ok.ensures.family, c.in-Ok-Some.field-0-is) at c.in-Ok-Some.ensures.right;
+  reply = rw c.in-Ok.ensures.family at c.in-Some.ensures.reply;
+  right = rw c.in-Ok.ensures.family at c.in-Some.ensures.right;
 }
 
-pub returns-in-Ok-None : goal.returns-in-Ok-None
-returns-in-Ok-None c = record {
+pub returns-in-None : goal.returns-in-None
+returns-in-None c = record {
   member = c.requires;
   supported = rw c.in-Ok.ensures.family at c.in-Ok-check_list.ensures;
-  reply = rw (c.in-Ok.ensures.family, c.in-Ok-None.field-0-is) at c.in-Ok-None.ensures.reply;
-  right = rw (c.in-Ok.ensures.family, c.in-Ok-None.field-0-is) at c.in-Ok-None.ensures.right;
+  reply = rw c.in-Ok.ensures.family at c.in-None.ensures.reply;
+  right = rw c.in-Ok.ensures.family at c.in-None.ensures.right;
 }
 
 pub returns-in-Err-Unsupported : goal.returns-in-Err-Unsupported

@@ -7,13 +7,13 @@ pub returns-in-Some-clause-answer : goal.returns-in-Some-clause-answer
 returns-in-Some-clause-answer c =
     inr (inl (refl, inr (c.requires.supported, c.in-Some.place, refl, rw c.requires.one at c.in-Some.ensures.broken)))
 
-pub returns-in-Ok-clause-answer : goal.returns-in-Ok-clause-answer
-returns-in-Ok-clause-answer c =
+pub returns-in-None-clause-answer : goal.returns-in-None-clause-answer
+returns-in-None-clause-answer c =
     let lost = c.args.lost.now in
     let held = c.args.held.now in
     let all = rw c.requires.one at c.in-None.ensures.broken in
-    let shows = rw c.requires.one at c.in-Ok.ensures.shown in
-    elim (cases_Bool c.in-Ok.shown) [
+    let shows = rw c.requires.one at c.is_shown.ensures in
+    elim (cases_Bool c.is_shown.result) [
       | inl on ↦ inl (
         c.shown_number.ensures.shown on,
         proof_of lost.family (entries_in lost) (entries_by lost.family held.ranks.now held.plies.now) c.args.position.now.setup c.args.claim
@@ -21,6 +21,6 @@ returns-in-Ok-clause-answer c =
       )
       | inr off ↦ inr (inr (
         c.shown_number.ensures.silent off,
-        record { lost_supported = c.requires.supported; held_supported = all; hidden = not_so c.in-Ok.shown off shows },
+        record { lost_supported = c.requires.supported; held_supported = all; hidden = not_so c.is_shown.result off shows },
       ))
     ]

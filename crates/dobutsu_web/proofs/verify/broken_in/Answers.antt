@@ -5,4 +5,4 @@ use Rattle.dobutsu_web.proofs.verify.broken_in.Goals as goal
 pub returns-clause-within : goal.returns-clause-within
 returns-clause-within c =
     let listed = c.args.listed.now in
-    broken_within c.args.kind listed.family listed.ranks.now listed.plies.now c.in-Ok.found c.in-Ok.ensures.found
+    broken_within c.args.kind listed.family listed.ranks.now listed.plies.now c.first_broken.result c.first_broken.ensures
