@@ -35,7 +35,7 @@ def large(checks, screen, program):
     with path.open("wb") as file:
         file.write(b"DOBUTSU2" + bytes([2, 2, 2, 2, 0]) + classes.to_bytes(8, "little"))
         file.truncate(21 + 2 * classes + 32)
-    screen.give(path)
+    screen.give(path, seconds=600)  # it is read once for its exercises
     screen.in_both(checks, "a large file", screen.files, [["large.db set 222, rules A, 588,021,930 classes, digest not tested", False]],
                    [["large.db セット 222、ルール A、588,021,930 局面（左右対称は1つ）、ダイジェスト未テスト", False]])
     screen.enter("gle/.c./.C./ELG - -")
