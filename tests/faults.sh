@@ -13,6 +13,11 @@ if [ -c /dev/full ]; then
         if [ "$status" = 3 ] && holds "$work/err" "$(caused 'standard output' "$full")"; then good=yes; else good=no; fi
         note "./dobutsu $words >/dev/full at a terminal: status $status, $(head -c 80 "$work/err")" "$good"
     done
+    # a build whose lines can't be written has failed, and its file is whole
+    status=0
+    ./dobutsu build --set 000 --nodes 2 --out "$work/told.db" >/dev/full 2>"$work/err" || status=$?
+    if [ "$status" = 3 ] && holds "$work/err" "$io_line" && cmp -s "$work/told.db" "$lions_2"; then good=yes; else good=no; fi
+    note "a build >/dev/full: status $status, $(head -c 80 "$work/err")" "$good"
     for words in '1|value|x' '2|solve' "0|value|$position"; do
         IFS='|' read -r -a given <<<"$words"
         status=0
@@ -55,6 +60,30 @@ for case in 'empty|E15 Truncated' 'cut|E15 Truncated' 'at_0|E16 Magic' 'at_11|E1
     expect 1 '' "dobutsu: $fault" line --db "$work/$name.db" '..l/.../.../L.. C -'
 done
 
+# Files of lions alone in which one position has a wrong value, and the digest that then belongs there: what they say, or the class whose value doesn't follow.
+wrongly() {
+    local text="$1" code="$2" told="$3"
+    shift 3
+    python3 tests/certify_wrong_table.py "$lions_2" "$work/wrong.db" "$text" "$code"
+    if [ "${told#E21}" = "$told" ]; then expect 0 "$told" '' "$@" --db "$work/wrong.db"; else expect 1 '' "dobutsu: $told" "$@" --db "$work/wrong.db"; fi
+}
+# a line goes by what the file says, wrong or not; but a lion that can be caught is
+wrongly "$long" 0 draw line "$long"
+wrongly "$long" 1 end line "$long"
+caught='.../.l./.L./... - -'
+for code in 0 1 4 5; do wrongly "$caught" "$code" Lb2xb3 line "$caught"; done
+# no move is left that a win or a loss could be forced by, where the enemy has tried or no successor has it
+tried='.../L../.../..l - -'
+for code in 2 3; do wrongly "$tried" "$code" 'E21 Inconsistent class 38' line "$tried"; done
+wrongly "$long" 8 'E21 Inconsistent class 17' line "$long"
+wrongly "$long" 8 'win 7' probe "$long"
+# class 9 wins by a move to a loss, and not to a draw or to the greatest loss, after which no win can come
+for code in 0 65535; do wrongly '.../.l./.../.L. - -' "$code" 'E21 Inconsistent class 9' check; done
+# a win in 7 for one in 5, a loss in 2 where the enemy has tried, a draw where the lion can be caught
+wrongly "$long" 8 'E21 Inconsistent class 17' check
+wrongly '.../L../.../l.. - -' 3 'E21 Inconsistent class 36' check
+wrongly '.../.../.../L.l - -' 0 'E21 Inconsistent class 1' check
+
 # `look`, `moves`, `best`, `show` and `line --records` read the header and the records that they need: they say what is wrong with these, and nothing else.
 head -c 54 "$lions" >"$work/short.db"
 for case in 'empty|E15 Truncated' 'short|E15 Truncated' 'at_0|E16 Magic' 'at_11|E17 SetByte' 'at_12|E18 ClassCount'; do
@@ -78,7 +107,10 @@ done
 { head -c 13 "$lions_2"; printf '\377'; tail -c +15 "$lions_2"; } >"$work/count.db"
 { head -c 12 "$lions_2"; printf '\2'; tail -c +14 "$lions_2" | head -c 7; } >"$work/head.db"
 { head -c 7 "$lions"; printf '2'; tail -c +9 "$lions"; } >"$work/turned.db"
-for case in 'profile|E27 ProfileByte' 'turned|E27 ProfileByte' 'count|E18 ClassCount' 'head|E15 Truncated' 'other_profile|E20 Digest'; do
+{ head -c 8 "$lions_2"; printf '\1'; tail -c +10 "$lions_2"; } >"$work/set.db"
+{ head -c 8 "$lions_2"; printf '\2\2\2'; tail -c +12 "$lions_2"; } >"$work/whole_game.db"
+for case in 'set|E18 ClassCount' 'whole_game|E18 ClassCount' 'profile|E27 ProfileByte' 'turned|E27 ProfileByte' 'count|E18 ClassCount' \
+    'head|E15 Truncated' 'other_profile|E20 Digest'; do
     IFS='|' read -r name fault <<<"$case"
     expect 1 '' "dobutsu: $fault" check --db "$work/$name.db"
     if [ "$name" != other_profile ]; then expect 1 '' "dobutsu: $fault" look --db "$work/$name.db" "$long"; fi

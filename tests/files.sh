@@ -111,6 +111,10 @@ answers 0 "$position"'\n.../.../..l/L.. - -\n.l./.../.L./... - -\n' 'win 3\nloss
 answers 0 "$position"'\r\n.../.../..l/L.. - -\r\n.l./.../.L./... - -' 'win 3\nloss 2\ndraw\n' --db="$lions"
 answers 1 "$position"'\n..l/.../L../... - x\n\n\377\n..l/.../.../L.. C -\nL../.../.../..l - -\n.../.../..l/L.. - -\n' \
     'win 3\nE3 Hand\nE1 Shape\nE1 Shape\nE7 OtherSet\nE6 FarLion\nloss 2\n' --db "$lions"
+# a line's end, and what looks like one
+answers 1 '\r\n' 'E1 Shape\n' --db "$lions"
+answers 1 "$position"'\r' 'E3 Hand\n' --db "$lions"
+answers 1 '\0.l/.../.../L.. - -\n' 'E2 Letter\n' --db "$lions"
 fails_at "$work/none.db" "$gone" probe --each --db "$work/none.db"
 expect 1 '' 'dobutsu: E15 Truncated' probe --each --db /dev/null
 fails_at 'standard input' "$folder" probe --each --db "$lions" <"$work"
@@ -179,6 +183,25 @@ for word in probe look moves line; do
 done
 python3 tests/files_objects.py "$work" >"$work/out" 2>&1 || good=no
 note "objects of probe, look, moves and line: $(tail -1 "$work/out")" "$good"
+# without its file, or with an empty one, a word reads nothing of what is typed
+: >"$work/empty.db"
+for word in probe look moves best line; do
+    for name in none empty; do
+        printf '%s\n' "$position" | { "$program" "$word" --each --db "$work/$name.db" 2>"$work/err"; cat; } >"$work/out"
+        if holds "$work/out" "$position" && [ -s "$work/err" ]; then good=yes; else good=no; fi
+        note "$word --each by $name.db leaves standard input: $(head -c 80 "$work/out")" "$good"
+    done
+done
+# the file is opened once for all lines
+if command -v strace >/dev/null && strace -qq -o "$work/calls" true 2>/dev/null; then
+    for word in probe look; do
+        printf '%s\n' "$position" "$long" | strace -f -qq -e trace=open,openat -o "$work/calls" "$program" "$word" --each --db "$lions" >"$work/out" 2>&1
+        if [ "$(grep -c 'lions_alone\.db' "$work/calls")" = 1 ] && holds "$work/out" $'win 3\nwin 5'; then good=yes; else good=no; fi
+        note "$word --each opens its file once" "$good"
+    done
+else
+    echo 'Not run: how often --each opens its file, since no strace is here.'
+fi
 # a program can talk with each of them over two pipes: a line is answered before the next one is whole, a refused one too, whatever was written of it
 talks() {
     local word="$1" answer="$2" status=0 good=yes said into from one
@@ -333,6 +356,19 @@ note "the picture of a position is one SVG, whatever was there" "$good"
 expect 0 '~In hand: nothing' '' show --svg "$work/start.svg" 'gle/.c./.C./ELG - -'
 if cmp -s "$work/start.svg" docs/start.svg; then good=yes; else good=no; fi
 note "the picture of README is that of the starting position" "$good"
+expect 0 '~^In hand: CEEG$' '' show --svg "$work/hands.svg" '..l/.../.../L.. CEEG cg'
+drawn="<use href='#L' transform='translate(280 390)'/>
+<use href='#L' transform='translate(480 90) rotate(180)'/>
+<use href='#C' transform='translate(606 390)'/>
+<use href='#E' transform='translate(606 290)'/>
+<use href='#E' transform='translate(706 290)'/>
+<use href='#G' transform='translate(606 190)'/>
+<use href='#C' transform='translate(54 90) rotate(180)'/>
+<use href='#G' transform='translate(54 290) rotate(180)'/>
+</svg>"
+sed '1,/side to move<\/text>/d' "$work/hands.svg" >"$work/out"
+if holds "$work/out" "$drawn"; then good=yes; else good=no; fi
+note "the pieces of a picture with pieces in hand" "$good"
 expect 1 '' 'dobutsu: E7 OtherSet' show --db "$lions" --svg "$work/refused.svg" '..l/.../.../L.. C -'
 fails_at "$work/none.db" "$gone" show --db "$work/none.db" --svg "$work/refused.svg" "$position"
 expect 1 '' 'dobutsu: E1 Shape' show --svg "$work/refused.svg" ''

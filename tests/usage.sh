@@ -152,7 +152,7 @@ if [ -e ./- ]; then good=no; else good=yes; fi
 note "no file is written by the name of a stream" "$good"
 
 # Words that aren't UTF-8, the name of a file among them.
-expect 2 '' '~UTF-8' value $'\xff'
+expect 2 '' $'error: an argument is not UTF-8\n\nFor more information, try \'--help\'.' value $'\xff'
 expect 2 '' '~UTF-8' $'\xff'
 expect 2 '' '~UTF-8' value "$position" $'\xc3'
 expect 2 '' '~UTF-8' build --set 000 --out $'\xff.db'

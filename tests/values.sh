@@ -24,6 +24,15 @@ expect 1 '' 'dobutsu: E3 Hand' value '..l/.../.../L.. CC EG'
 expect 1 '' 'dobutsu: E4 Lions' value '.../.../.../L.. - -'
 expect 1 '' 'dobutsu: E5 Count' value '..l/.../.../L.. CCC -'
 expect 1 '' 'dobutsu: E6 FarLion' value 'L../.../.../..l - -'
+# no line ends within a text, and of a letter so often in a hand 16 bits would see fewer
+expect 1 '' 'dobutsu: E1 Shape' value $'gle/.c./.C./ELG\n- -'
+expect 1 '' 'dobutsu: E2 Letter' value $'\n.l/.../.../L.. - -'
+expect 1 '' 'dobutsu: E3 Hand' value $'..l/.../.../L.. - -\n'
+expect 1 '' 'dobutsu: E3 Hand' value $'..l/.../.../L.. - -\r\n'
+expect 1 '' 'dobutsu: E3 Hand' value $'..l/.../.../L.. CC\n -'
+for count in 65536 65537; do
+    expect 1 '' 'dobutsu: E5 Count' value "..l/.../.../L.. $(printf "%${count}s" | tr ' ' C) -"
+done
 
 # what a side can give and still not lose: the starting layout with at most three pieces beside the lions, values from outside
 expect 0 'win 5' '' value '.l./.../.C./ELG - -'

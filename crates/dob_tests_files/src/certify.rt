@@ -7,7 +7,6 @@ use dob_pieces::Profile;
 use dob_text::read_position;
 use dob_value::sweep_table;
 use std::cell::Cell;
-use std::test::Fail;
 
 // How often it was called: once for each two plies that a search goes on.
 #[derive(Drop)]
@@ -31,9 +30,9 @@ const ROUNDS: [(u64, bool, u64); 3] = [(0, false, 0), (0, true, 0), (2, true, 2)
 
 // The other list is full at its first entry where the lost classes take all room.
 #[test]
-fn lists_end_where_they_are_full(rt: HostRuntime) -> Result<(), Fail> {
+fn lists_end_where_they_are_full(rt: HostRuntime) {
     let alloc = rt.alloc();
-    let table = sweep_table(alloc, family(&rt, "000", Profile::A))?;
+    let table = sweep_table(alloc, family(&rt, "000", Profile::A)).expect(&rt, "a table");
     let position = read_position(Profile::A, LOST).expect(&rt, "a position");
     for (most, is_exact, wanted) in ROUNDS {
         let rounds = Rounds {
@@ -42,5 +41,4 @@ fn lists_end_where_they_are_full(rt: HostRuntime) -> Result<(), Fail> {
         let made = certify(&rt, alloc, &table, &position, is_exact, most, &rounds);
         assert!(rt; matches!(made, Err(Fault::TooMany(_))) && rounds.count.get() == wanted);
     }
-    Ok(())
 }

@@ -1,4 +1,4 @@
-// Tests of files, of what is looked up in their tables, and of certificates: bytes from outside, and devices that fail.
+// Tests of files and of certificates: bytes and values from outside, and devices that fail.
 #![tactic(auto)]
 
 #[cfg(test)]
@@ -7,7 +7,5 @@ mod certificate;
 mod certify;
 #[cfg(test)]
 mod dbfile;
-#[cfg(test)]
-mod probe;
 #[cfg(test)]
 mod sets;

@@ -1,13 +1,11 @@
 // Tests of shares, items, links, nodes and worlds, a module each: what no clause says, against values from outside. What a line can ask, as a cell's
-// replies, tokens and what a driven world shows, is asked in `dob_answers`.
+// replies, tokens and what a world shows after some events, is asked in `dob_answers`.
 #![tactic(auto)]
 
 #[cfg(test)]
 mod link;
 #[cfg(test)]
 mod node;
-#[cfg(test)]
-mod openings;
 #[cfg(test)]
 mod outboxes;
 #[cfg(test)]

@@ -1,14 +1,11 @@
-// What fills the outbox of owner 0 of two for owner 1, in the set of lions alone.
-ghost use Rattle.std.specs.Prelude.{◌≡◌, IfOk, OnOk};
-ghost use Rattle.dob_unmove.specs.Edges.{predecessors};
-ghost use Rattle.dob_share.specs.Items.{items_of};
+// What fills the outbox of owner 0 of two for owner 1, in the set of lions alone, and what is cut of it.
+ghost use Rattle.std.specs.Prelude.{◌≡◌};
 
 use crate::sets::classes_of;
 use dob_classes::Classes;
-use dob_pieces::Memory;
-use dob_share::{Item, Settlement};
+use dob_share::Settlement;
 use dob_unmove::back;
-use dob_update::{Outbox, count_items, push_items};
+use dob_update::{Batch, BatchSize, Outbox, push_items};
 use dob_value::Value;
 use std::alloc::Global;
 use std::process::Abort;
@@ -23,23 +20,6 @@ pub(crate) fn won(number: u64, class: u64) -> Settlement {
     }
 }
 
-/// The items of the settlement.
-pub(crate) fn items_made(
-    rt: &impl Abort,
-    alloc: Global,
-    classes: &Classes,
-    settlement: Settlement,
-) -> Result<Vec<Item>, Memory>
-    ensures { IfOk result (λ items. items.items ≡ items_of (predecessors classes.now.family) 2 1 settlement) }
-{
-    assert!(rt; settlement.class < classes.class_count());
-    let predecessors = back(alloc, classes, settlement.class)?;
-    let mut items = Vec::new(alloc);
-    push_items(&mut items, settlement, &predecessors, 2, 1)?;
-    assert!(rt; count_items(&predecessors, 2, 1) == items.len());
-    Ok(items)
-}
-
 /// Adds the settlement with its items.
 pub(crate) fn add(
     rt: &impl Abort,
@@ -47,22 +27,36 @@ pub(crate) fn add(
     classes: &Classes,
     outbox: &mut Outbox,
     settlement: Settlement,
-) -> Result<(), Memory>
+)
     requires family { outbox.old.family ≡ classes.now.family }
     requires n { outbox.old.n ≡ 2 }
     requires to { outbox.old.to ≡ 1 }
-    ensures family { OnOk result (outbox.new.family ≡ classes.now.family) }
-    ensures n { OnOk result (outbox.new.n ≡ 2) }
-    ensures to { OnOk result (outbox.new.to ≡ 1) }
+    ensures family { outbox.new.family ≡ classes.now.family }
+    ensures n { outbox.new.n ≡ 2 }
+    ensures to { outbox.new.to ≡ 1 }
 {
-    let items = items_made(rt, alloc, classes, settlement)?;
-    outbox.add(settlement, &items)
+    assert!(rt; settlement.class < classes.class_count());
+    let predecessors = back(alloc, classes, settlement.class).expect(rt, "memory");
+    let mut items = Vec::new(alloc);
+    push_items(&mut items, settlement, &predecessors, 2, 1).expect(rt, "memory");
+    outbox.add(settlement, &items).expect(rt, "memory");
 }
 
 /// An outbox with the five items of one settlement.
-pub(crate) fn filled(rt: &impl Abort, alloc: Global) -> Result<Outbox, Memory> {
+pub(crate) fn filled(rt: &impl Abort, alloc: Global) -> Outbox {
     let classes = classes_of(rt, alloc, "000");
     let mut outbox = Outbox::new(alloc, classes.family, 2, 0, 1);
-    add(rt, alloc, &classes, &mut outbox, won(0, 16))?;
-    Ok(outbox)
+    add(rt, alloc, &classes, &mut outbox, won(0, 16));
+    outbox
+}
+
+/// The next batch of at most `size` items.
+pub(crate) fn cut(rt: &impl Abort, outbox: &mut Outbox, size: usize) -> Batch
+    ensures family { (result.family ≡ outbox.old.family) × (outbox.new.family ≡ outbox.old.family) }
+    ensures n { (result.n ≡ outbox.old.n) × (outbox.new.n ≡ outbox.old.n) }
+{
+    assert!(rt; outbox.cut_count() < 100);
+    let size = BatchSize::new(size).expect(rt, "a size");
+    let batch = outbox.cut(size).expect(rt, "memory");
+    batch.expect(rt, "a batch")
 }

@@ -1,18 +1,14 @@
 // The calls by which a file comes onto a disk, and their order: what a power cut may leave depends on it, and no clause speaks of it. The
 // files are the system's, with a list of the calls on them; one fails if that is asked for.
-use crate::lions::file;
-use crate::program::{Told, run_on};
 use crate::shelves::{has, put, removes};
-use crate::typed::Typed;
-use dob_cli::{Claim, Console, DiskShelf, Note};
+use crate::typed::silent;
+use dob_cli::{Claim, DiskShelf, Note};
 use std::alloc::{Allocator, Global};
 use std::cell::RefCell;
 use std::fs::{self, Metadata, OpenFile, OpenOptions, Permissions};
 use std::io::{self, ErrorKind, Read, Seek, SeekFrom, Write};
 use std::process::Abort;
 use std::rt::Files;
-use std::sync::Wait;
-use std::thread::Threads;
 
 const NAME: &str = "ordered_by_a_test.db";
 
@@ -21,8 +17,6 @@ const PART: &str = "ordered_by_a_test.db.part";
 const LINK: &str = "link_of_a_test.db";
 
 const TARGET: &str = "linked_by_a_test.db";
-
-const ASKED: &str = "asked_by_a_test.db";
 
 // A file in a folder of another folder.
 const DEEP: &str = "outer_of_a_test/inner_of_a_test/kept.db";
@@ -124,7 +118,6 @@ fn called(path: &str) -> &'static str {
         NAME | DEEP => "name",
         PART | DEEP_PART => "part",
         LINK => "link",
-        ASKED => "asked",
         "." | INNER => "folder",
         _ => "another",
     }
@@ -160,23 +153,9 @@ impl<'a, R: Files> Files for Listed<'a, R> {
         })
     }
 
-    fn open_dir(&self, path: &str) -> io::Result<R::Dir> {
-        self.rt.open_dir(path)
-    }
-
-    fn metadata(&self, path: &str) -> io::Result<Metadata> {
-        self.log.note("look behind", called(path))?;
-        self.rt.metadata(path)
-    }
-
     fn symlink_metadata(&self, path: &str) -> io::Result<Metadata> {
         self.log.note("look at", called(path))?;
         self.rt.symlink_metadata(path)
-    }
-
-    fn copy(&self, from: &str, to: &str) -> io::Result<u64> {
-        self.log.note("copy", called(from))?;
-        self.rt.copy(from, to)
     }
 
     fn rename(&self, from: &str, to: &str) -> io::Result<()> {
@@ -189,22 +168,35 @@ impl<'a, R: Files> Files for Listed<'a, R> {
         self.rt.remove_file(path)
     }
 
-    fn create_dir(&self, path: &str) -> io::Result<()> {
-        self.rt.create_dir(path)
+    // No file comes onto a disk by these.
+    fn open_dir(&self, _path: &str) -> io::Result<R::Dir> {
+        Err(ErrorKind::Unsupported.into())
     }
 
-    fn remove_dir(&self, path: &str) -> io::Result<()> {
-        self.rt.remove_dir(path)
+    fn metadata(&self, _path: &str) -> io::Result<Metadata> {
+        Err(ErrorKind::Unsupported.into())
     }
 
-    fn remove_dir_all<B: Allocator>(&self, alloc: B, path: &str) -> io::Result<()> {
-        self.rt.remove_dir_all(alloc, path)
+    fn copy(&self, _from: &str, _to: &str) -> io::Result<u64> {
+        Err(ErrorKind::Unsupported.into())
+    }
+
+    fn create_dir(&self, _path: &str) -> io::Result<()> {
+        Err(ErrorKind::Unsupported.into())
+    }
+
+    fn remove_dir(&self, _path: &str) -> io::Result<()> {
+        Err(ErrorKind::Unsupported.into())
+    }
+
+    fn remove_dir_all<B: Allocator>(&self, _alloc: B, _path: &str) -> io::Result<()> {
+        Err(ErrorKind::Unsupported.into())
     }
 }
 
 impl<F: Read> Read for ListedFile<'_, F> {
-    fn read(&mut self, room: &mut [u8]) -> io::Result<usize> {
-        self.file.read(room)
+    fn read(&mut self, _room: &mut [u8]) -> io::Result<usize> {
+        Err(ErrorKind::Unsupported.into())
     }
 }
 
@@ -221,8 +213,8 @@ impl<F: Write> Write for ListedFile<'_, F> {
 }
 
 impl<F: Seek> Seek for ListedFile<'_, F> {
-    fn seek(&mut self, to: SeekFrom) -> io::Result<u64> {
-        self.file.seek(to)
+    fn seek(&mut self, _to: SeekFrom) -> io::Result<u64> {
+        Err(ErrorKind::Unsupported.into())
     }
 }
 
@@ -242,13 +234,13 @@ impl<F: OpenFile> OpenFile for ListedFile<'_, F> {
         self.file.sync_all()
     }
 
-    fn set_permissions(&self, permissions: Permissions) -> io::Result<()> {
-        self.file.set_permissions(permissions)
+    // Nor by these.
+    fn set_permissions(&self, _permissions: Permissions) -> io::Result<()> {
+        Err(ErrorKind::Unsupported.into())
     }
 
     fn sync_data(&self) -> io::Result<()> {
-        self.log.note("sync the bytes of", self.path)?;
-        self.file.sync_data()
+        Err(ErrorKind::Unsupported.into())
     }
 }
 
@@ -273,7 +265,7 @@ where
     let log = Log::new(rt.alloc(), failing);
     let files = Listed { rt, log: &log };
     let note = Note::new();
-    let mut shelf = DiskShelf::new(&files, rt.alloc(), Typed::whole(b""), &note);
+    let mut shelf = DiskShelf::new(&files, rt.alloc(), silent(), &note);
     let kept = put(&mut shelf, name, bytes);
     assert!(rt; log.says(calls));
     kept
@@ -285,7 +277,7 @@ where
     R::File: Claim,
 {
     let note = Note::new();
-    let mut shelf = DiskShelf::new(rt, rt.alloc(), Typed::whole(b""), &note);
+    let mut shelf = DiskShelf::new(rt, rt.alloc(), silent(), &note);
     has(&mut shelf, name, bytes)
 }
 
@@ -333,54 +325,4 @@ fn a_link_stays(rt: HostRuntime) {
     // it is a link yet, so that its name goes and the file stays
     removes(&rt, LINK);
     removes(&rt, TARGET);
-}
-
-// What the program does with the words and two typed lines over the files of the system, of which that call fails. It makes those calls, or, where
-// none are given, any.
-fn runs_on_disk<R: Abort + Files + AllocGlobal + Threads + Wait + Sync + Console>(
-    rt: &R,
-    words: &[&str],
-    failing: &'static str,
-    calls: &[&str],
-) -> Told
-where
-    R::File: Claim,
-{
-    let log = Log::new(rt.alloc(), failing);
-    let files = Listed { rt, log: &log };
-    let note = Note::new();
-    let typed = Typed::whole(b"..l/.../L../... - -\n.../.../..l/L.. - -\n");
-    let mut shelf = DiskShelf::new(&files, rt.alloc(), typed, &note);
-    let told = run_on(rt, rt.alloc(), &mut shelf, words);
-    assert!(rt; calls.is_empty() || log.says(calls));
-    told
-}
-
-// A build whose file can't be opened, written, put on the disk or named reports that it failed, and leaves no file.
-#[test]
-fn a_build_without_its_file(rt: HostRuntime) {
-    let words = ["build", "--set", "000", "--nodes", "2", "--out", NAME];
-    for failing in [
-        "open part\n",
-        "write part\n",
-        "sync part\n",
-        "rename part\n",
-    ] {
-        let told = runs_on_disk(&rt, &words, failing, &[]);
-        assert!(rt; told.is(3, b"", b"dobutsu: E24 Io\n"), "{failing}");
-        assert!(rt; fs::symlink_metadata(&rt, NAME).is_err(), "{failing}");
-    }
-}
-
-// The file is opened once for both lines.
-#[test]
-fn one_reading_for_each_line(rt: HostRuntime) {
-    let note = Note::new();
-    let mut shelf = DiskShelf::new(&rt, rt.alloc(), Typed::whole(b""), &note);
-    assert!(rt; put(&mut shelf, ASKED, &file(&rt)));
-    for word in ["probe", "look"] {
-        let told = runs_on_disk(&rt, &[word, "--db", ASKED, "--each"], "", &["open asked\n"]);
-        assert!(rt; told.is(0, b"win 3\nloss 2\n", b""));
-    }
-    removes(&rt, ASKED);
 }

@@ -1,12 +1,12 @@
-// Tests of lists, ranks, classes, values and predecessors, a module each: what no clause says, against values from outside and against plain
-// programs.
+// Tests of lists past a segment, and of moves and predecessors against plain programs, a module each. Ranks, classes and predecessors from outside are asked in
+// `dob_answers`, and sizes in tests/values.sh.
 #![tactic(auto)]
 
 #[cfg(test)]
-mod rank;
+mod lists;
+#[cfg(test)]
+mod plain_rules;
+#[cfg(test)]
+mod plain_walk;
 #[cfg(test)]
 mod sets;
-#[cfg(test)]
-mod unmove;
-#[cfg(test)]
-mod value;

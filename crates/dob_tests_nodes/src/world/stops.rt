@@ -1,10 +1,9 @@
-// A world that stops, and what it has left. `tests/growths.sh` runs the last test with each growth refused in turn, as
+// A world that stops, and what it has left. `tests/growths.sh` runs the test with each growth refused in turn, as
 // `rt try --test --fail-alloc N -- as_before` does with the one of that number; with none refused each world comes to its end.
 ghost use Rattle.std.specs.Prelude.{◌≡◌, ◌<◌};
 ghost use Rattle.dob_world.specs.Standing.{StandsOrStopped};
 
 use crate::sets::family_of;
-use dob_node::Cause;
 use dob_world::{Event, Fault, History, World};
 use std::process::Abort;
 
@@ -22,52 +21,6 @@ const EVENTS: [Event; 11] = [
     Event::Pass(0),
     Event::Announce,
 ];
-
-// Why the world has stopped, after the event. If it had stopped for that cause before, it is the same, and no event is counted.
-fn stop_after(
-    rt: &impl Abort,
-    world: &mut World,
-    event: Event,
-    before: Option<Fault>,
-) -> Option<Fault>
-    requires { StandsOrStopped world.old }
-    ensures { StandsOrStopped world.new }
-{
-    let steps = world.steps();
-    assert!(rt; steps < 1 << 40);
-    let now = world.step(event).err();
-    assert!(rt;
-        before.is_none() || (now == before && world.steps() == steps),
-        "after {steps} events"
-    );
-    now
-}
-
-// Why the world stops within `events` events.
-fn stop_in(rt: &impl Abort, world: &mut World, events: usize) -> Option<Fault>
-    requires { StandsOrStopped world.old }
-    ensures { StandsOrStopped world.new }
-{
-    let mut stop = None;
-    for number in 0..events {
-        stop = stop_after(rt, world, EVENTS[number % 11], stop);
-    }
-    stop
-}
-
-#[test]
-fn a_stopped_world_stays(rt: HostRuntime) {
-    let Ok(mut world) = World::open(rt.alloc(), family_of(&rt, "000"), 2, 2, 1) else {
-        return;
-    };
-    match stop_in(&rt, &mut world, 11_000) {
-        None => assert!(rt; world.announced()),
-        Some(Fault::Stopped { node, cause }) => {
-            assert!(rt; node < 2 && cause == Cause::Memory && !world.announced());
-        }
-        Some(_) => panic!(rt; "another fault"),
-    }
-}
 
 // The two worlds of two nodes have done as many events, and lend the same lists.
 fn are_alike(rt: &impl Abort, one: &World, other: &World)
