@@ -71,13 +71,7 @@ fn is_judged(
 }
 
 // Within those plies the class is lost, or won, where it is by its value.
-fn is_bounded(
-    rt: &impl Abort,
-    table: &Table,
-    certificate: &Certificate,
-    class: u64,
-    plies: u16,
-) {
+fn is_bounded(rt: &impl Abort, table: &Table, certificate: &Certificate, class: u64, plies: u16) {
     let classes = table.classes();
     assert!(rt; class < classes.class_count() && class < table.class_count());
     let position = classes.class_at(class);
