@@ -1,5 +1,5 @@
 -- What is made of what a table says of a position.
-use Rattle.std.specs.Prelude.{◌≡◌, ◌≤◌, ◌+◌, ℕ, Bool, length, if◌then◌else◌}
+use Rattle.std.specs.Prelude.{◌≡◌, ◌≤◌, ◌+◌, ◌*◌, ◌/◌, ℕ, Bool, length, if◌then◌else◌}
 use Rattle.dob_pieces.specs.declared.setup.Setup.{Setup}
 use Rattle.dob_distance.specs.declared.value.Value.{Value}
 use Rattle.dob_distance.specs.declared.value.Value.TheVariants.{Win, Loss, Draw}
@@ -15,6 +15,13 @@ abbrev pub claim_of : Value → Bool → Claim
 claim_of (Win plies) is_exact = if is_exact then Exactly (Win plies) else WonWithin plies
 claim_of (Loss plies) is_exact = if is_exact then Exactly (Loss plies) else LostWithin plies
 claim_of Draw is_exact = Exactly Draw
+
+-- how often the watch is called while a certificate of that value is made: once for each two plies, as often again where it is to be
+-- exact, and once for a draw
+abbrev pub rounds_of : Value → Bool → ℕ
+rounds_of (Win plies) is_exact = if is_exact then 2 * (plies / 2) else plies / 2
+rounds_of (Loss plies) is_exact = if is_exact then 2 * (plies / 2) else plies / 2
+rounds_of Draw is_exact = 1
 
 -- the claim is that of the value which the table gives the position, and the lists prove it, by at most so many entries
 pub record IsMade (table : ClassTable) (is_exact : Bool) (most : ℕ) (p : Setup) (made : Certified) : Type 0 where

@@ -5,7 +5,7 @@ ghost use Rattle.dob_distance.specs.declared.value.Value.{Value as Valued};
 ghost use Rattle.dob_probe.specs.Lines.{GivenBy};
 ghost use Rattle.dob_certificate.specs.Ascending.{AreAscending};
 ghost use Rattle.dob_certificate.specs.Claims.{Holds, Prove};
-ghost use Rattle.dob_certify.specs.Made.{IsMade, claim_of};
+ghost use Rattle.dob_certify.specs.Made.{IsMade, claim_of, rounds_of};
 ghost use Rattle.dob_certify.specs.Lists.{IsByTable};
 ghost use Rattle.dob_certify.specs.Faults.{IsFault};
 
@@ -42,7 +42,9 @@ pub fn claim_of(value: Value, is_exact: bool) -> Claim
 
 /// How often the watch of `certify` is called, if the value isn't a draw: once for each two plies, and as often again where it is
 /// to be exact.
-pub fn rounds_of(value: Value, is_exact: bool) -> u64 {
+pub fn rounds_of(value: Value, is_exact: bool) -> u64
+    ensures { result ≡ rounds_of value is_exact }
+{
     match value {
         Value::Draw => 1,
         Value::Win(plies) | Value::Loss(plies) => {

@@ -1,9 +1,11 @@
 // Making a certificate's file by the table of a database file.
 ghost use Rattle.std.specs.Prelude.{◌≡◌, ◌++◌, IfOk, IfErr, OnOk, codes, false, string_bytes};
 ghost use Rattle.dob_rank.specs.Families.{IsInClass, IsPositionOf};
+ghost use Rattle.dob_distance.specs.declared.value.Value.{Value as Valued};
+ghost use Rattle.dob_probe.specs.Lines.{GivenBy};
 ghost use Rattle.dob_certificate.specs.Claims.{Holds};
 ghost use Rattle.dob_certfile.specs.Format.{bytes_of, content};
-ghost use Rattle.dob_certify.specs.Made.{IsMade};
+ghost use Rattle.dob_certify.specs.Made.{IsMade, rounds_of};
 ghost use Rattle.dob_certify.specs.Faults.{IsFault};
 ghost use Rattle.dob_device.specs.Sinks.{change};
 ghost use Rattle.dob_verdict.specs.Certificates.{AreMade, IsSaidOf, IsTableMakingFault, IsUnfit, certify_owed, fault_of_making, made_lines, most_entries};
@@ -145,7 +147,9 @@ fn made_watched(
 }
 
 // How many rounds are reported to the console, if the position is one of the table's.
-fn rounds_at(table: &Table, position: &Position, is_exact: bool) -> u64 {
+fn rounds_at(table: &Table, position: &Position, is_exact: bool) -> u64
+    ensures { IsPositionOf table.now.family position.now.setup → (value : Valued) → GivenBy table.now position.now.setup value → result ≡ rounds_of value is_exact }
+{
     match probe(table, position) {
         Ok(value) => rounds_of(value, is_exact),
         Err(_) => 0,
