@@ -44,9 +44,11 @@
       arrow: bestArrow(seen),
     });
   });
-  // The squares of the best move, where it is shown by an arrow; of a loss within a bound no move is known as the best.
+  // Whether a move is known as the best: none is where the value isn't known, or is a loss within a bound.
+  const hasBest = ({ value }) => value.kind !== "unknown" && !(value.kind === "loss" && value.isWithin);
+  // The squares of the best move, where it is shown by an arrow.
   function bestArrow(seen) {
-    const best = found && !options.isHidden && !Setup.isOn() && !chosen && Settings.hasArrow() && !(found.value.kind === "loss" && found.value.isWithin) && found.moves[0];
+    const best = found && !options.isHidden && !Setup.isOn() && !chosen && Settings.hasArrow() && hasBest(found) && found.moves[0];
     return best ? [best.move.from, best.move.to].map((square) => (square < 0 ? square : seen(square))) : null;
   }
   // In practice the page makes the other side's moves.
