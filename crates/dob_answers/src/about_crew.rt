@@ -2,7 +2,7 @@
 use crate::about_build::tell_outcomes;
 use crate::about_world::Sizes;
 use dob_pieces::{Family, Memory};
-use dob_run::{BATCH, CAPACITY, Fault, Free, run_nodes};
+use dob_run::{AlwaysOpen, BATCH, CAPACITY, Fault, run_nodes};
 use dob_value::Table;
 use std::alloc::Global;
 use std::sync::Wait;
@@ -40,7 +40,7 @@ pub(crate) fn about_crew<R: Threads + Wait + Sync>(
         sizes.nodes,
         sizes.batch,
         sizes.capacity,
-        &Free,
+        &AlwaysOpen,
     )?;
     Ok(tell_classes(alloc, &built.table)?)
 }

@@ -2,7 +2,7 @@
 use Rattle.std.proofs.Common.{◌≡◌, ◌≢◌, ℕ, zero, suc, ◌+◌, ◌^◌, ◌%◌, ◌<◌, List, [], ◌∷◌, set, get_or, true, refl, sym, ap, subst, arith}
 use Rattle.std.specs.Arc.{arc_value}
 use Rattle.dob_board.proofs.Names.{slice_index, slice_set, none, State, Me, step, keeps, Allows, BoardEvent, OfRing, Post, NodeSeat, witnessed_by}
-use Rattle.dob_board.proofs.Names.{Take, Stand, View, posted_word, taken_word, word_count, one, posts_more, takes_more, sees, IsHeld, Posted}
+use Rattle.dob_board.proofs.Names.{Take, SeatState, View, posted_word, taken_word, word_count, one, posts_more, takes_more, sees, IsHeld, Posted}
 use Rattle.dob_board.proofs.Names.{Looked, Took}
 use Rattle.dob_board.proofs.Places.{posted_place, taken_place, posted_in, taken_in, posted_within, taken_within}
 use Rattle.dob_board.proofs.Kept.{HasSeat, own_node}
@@ -14,7 +14,7 @@ Seated = Me (Unit {0}) View
 abbrev pub Held : ℕ → State (Unit {0}) View → Type 0
 Held n s = IsHeld n s.words s.views
 
-abbrev pub seated : ℕ → ℕ → Stand → List BoardEvent → Seated
+abbrev pub seated : ℕ → ℕ → SeatState → List BoardEvent → Seated
 seated n i stand witnessed = (one n i stand witnessed, [])
 
 -- writing what stands there changes nothing
@@ -37,7 +37,7 @@ module _ (seat : NodeSeat) where
   -- the step gives the seat's node another stand, and the rule holds
   abbrev pub Gives : ℕ → (List ℕ → List ℕ) → (Seated → ℕ → Seated → Type 0) → Type 0
   Gives w after Shown = (words : List ℕ) (views : List View) → HasSeat seat.nodes seat.node seat.seat.id words views seat.stand (witnessed_by seat) →
-      (new : Stand) × (log : List BoardEvent) × IsHeld seat.nodes (after words) (slice_set views seat.seat.id (one seat.nodes seat.node new log))
+      (new : SeatState) × (log : List BoardEvent) × IsHeld seat.nodes (after words) (slice_set views seat.seat.id (one seat.nodes seat.node new log))
       × Shown own (slice_index words w) (seated seat.nodes seat.node new log)
 
   pub asks : (w : ℕ) (f : ℕ → ℕ) (Shown : Seated → ℕ → Seated → Type 0) → w < word_count seat.nodes →

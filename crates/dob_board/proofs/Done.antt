@@ -1,6 +1,6 @@
 -- A take is a look and an event.
 use Rattle.std.proofs.Common.{◌≡◌, ℕ, ◌<◌, ◌≤◌, List, ◌++◌, sym, ap, ◌∙◌, subst, append_assoc}
-use Rattle.dob_board.proofs.Names.{slice_index, RingEvent, BoardEvent, Take, Stand, NodeSeat, takes_more, sees, IsLaterLog, MakesEvent}
+use Rattle.dob_board.proofs.Names.{slice_index, RingEvent, BoardEvent, Take, SeatState, NodeSeat, takes_more, sees, IsLaterLog, MakesEvent}
 use Rattle.dob_board.proofs.Names.{Observes, HasPosted, token_moves_of, witnessed_by, IsSameSeat, TakesOne}
 
 -- what was witnessed is witnessed still
@@ -9,7 +9,7 @@ goes_on first middle last on further =
     (further.0 ++ on.0, further.1 ∙ ap (λ (l : List BoardEvent). further.0 ++ l) on.1 ∙ sym (append_assoc further.0 on.0 first))
 
 -- a look before an event changes neither counts nor colour
-makes_later : (n i j number : ℕ) (event : RingEvent) (stand after : Stand) (witnessed middle now : List BoardEvent) → IsLaterLog witnessed middle →
+makes_later : (n i j number : ℕ) (event : RingEvent) (stand after : SeatState) (witnessed middle now : List BoardEvent) → IsLaterLog witnessed middle →
     token_moves_of i middle ≡ token_moves_of i witnessed → MakesEvent n i event (sees stand j number) after middle now → MakesEvent n i event stand after witnessed now
 makes_later n i j number event stand after witnessed middle now on still made = record {
   log = made.log;
@@ -37,10 +37,10 @@ take_one old middle new from number not_less waiting noted same counted observed
   number = number;
   not_less = not_less;
   waiting = waiting;
-  counted = counted ∙ ap (λ (s : Stand). takes_more s from) noted;
+  counted = counted ∙ ap (λ (s : SeatState). takes_more s from) noted;
   event =
       makes_later old.nodes old.node from number (Take from old.node) old.stand new.stand (witnessed_by old) (witnessed_by middle) (witnessed_by new)
       observed.went_on observed.alone
-      (subst (λ (p : ℕ × ℕ × Stand). MakesEvent p.0 p.1 (Take from p.1) p.2 new.stand (witnessed_by middle) (witnessed_by new))
+      (subst (λ (p : ℕ × ℕ × SeatState). MakesEvent p.0 p.1 (Take from p.1) p.2 new.stand (witnessed_by middle) (witnessed_by new))
       (λ q. (same.nodes q, same.node q, noted q)) made);
 }

@@ -3,7 +3,7 @@ use Rattle.std.proofs.Common.{◌≡◌, ◌≢◌, ℕ, zero, suc, ◌+◌, ◌
 use Rattle.std.proofs.Common.{ap, ◌∙◌, subst, ⊎_elim, inl, inr, arith, map, append-nil, append_assoc, length-append, get_or-set_same, get_or-set_other}
 use Rattle.dob_board.proofs.Names.{slice_get_within, some_at, slice_index, slice_set, slice_get, replicate, cases_eq, ints, same_Some, map-append, none, some}
 use Rattle.dob_board.proofs.Names.{some-ne-none, some-injective, get_elem?, State, step, keeps, Allows, Joins, at_set, set_else, BoardEvent, Token, IsPacked}
-use Rattle.dob_board.proofs.Names.{Ring, Stand, View, Halt, Ended, Failed, halt_word, posted_word, taken_word, ring_of, one, IsStand, IsNode, IsView, IsHeld, TableId, NodeSeat}
+use Rattle.dob_board.proofs.Names.{Ring, SeatState, View, Halt, Ended, Failed, halt_word, posted_word, taken_word, ring_of, one, IsStand, IsNode, IsView, IsHeld, TableId, NodeSeat}
 use Rattle.dob_board.proofs.Names.{Closed, IsLaterLog, fresh, stand_of, witnessed_by, log_of, IsSeatOf, AreSeats, AreWords, IsBoardHistory, joined, nobody}
 use Rattle.dob_board.proofs.Names.{unseated, closed_view, LeadsTo, IsWord, AreRead, AreAsWitnessed, Read, get_front, middle}
 use Rattle.dob_board.proofs.Places.{with_at, with_here, with_else, posted_within, taken_within}
@@ -24,10 +24,10 @@ nobody_is_view n port halt owner ring log = record {
 }
 
 -- the rest's view, closed or not
-abbrev rest_view : ℕ → ℕ → List Stand → List BoardEvent → Bool → Bool → View
+abbrev rest_view : ℕ → ℕ → List SeatState → List BoardEvent → Bool → Bool → View
 rest_view n from stands witnessed own closed = record { size = n; from = from; stands = stands; witnessed = witnessed; own = own; closed = closed }
 
-joins : (n i id other size : ℕ) (words : List ℕ) (views : List View) (stand : Stand) (behind : List Stand) (witnessed observed : List BoardEvent) (own closed : Bool)
+joins : (n i id other size : ℕ) (words : List ℕ) (views : List View) (stand : SeatState) (behind : List SeatState) (witnessed observed : List BoardEvent) (own closed : Bool)
     (held : IsHeld n words views) →
     get_elem? views id ≡ some (rest_view size (suc i) behind witnessed own closed) → other ≢ id →
     get_elem? (slice_set views id (rest_view n i (stand ∷ behind) observed false false)) other ≡ some (one n i stand observed) →
@@ -66,14 +66,14 @@ joins n i id other size words views stand behind witnessed observed own closed h
       nodes_set (set views id both) other (one n i stand observed) nobody there,
     ))
   where
-    both_nodes : (n i id : ℕ) (halt : Halt) (size : ℕ) (owner : ℕ → ℕ) (ring : Ring) (stand : Stand) (behind : List Stand) → i < n → IsStand n ring halt i stand →
-        ((k : ℕ) (at : Stand) → get_elem? behind k ≡ some at → IsNode n owner ring halt id size (suc i + k) at) →
-        (k : ℕ) (at : Stand) → get_elem? (stand ∷ behind) k ≡ some at → IsNode n (with_at i id owner) ring halt id n (i + k) at
+    both_nodes : (n i id : ℕ) (halt : Halt) (size : ℕ) (owner : ℕ → ℕ) (ring : Ring) (stand : SeatState) (behind : List SeatState) → i < n → IsStand n ring halt i stand →
+        ((k : ℕ) (at : SeatState) → get_elem? behind k ≡ some at → IsNode n owner ring halt id size (suc i + k) at) →
+        (k : ℕ) (at : SeatState) → get_elem? (stand ∷ behind) k ≡ some at → IsNode n (with_at i id owner) ring halt id n (i + k) at
     both_nodes n i id halt size owner ring stand behind within is rest zero at e =
         let first : i ≡ i + 0 = omega arith in
         let here : IsNode n (with_at i id owner) ring halt id n i stand =
         record { size_is = refl; within = within; owned = with_here i id owner; is_stand = is } in
-        subst (λ (x : ℕ × Stand). IsNode n (with_at i id owner) ring halt id n x.0 x.1) (λ q. (first q, some-injective stand at e q)) here
+        subst (λ (x : ℕ × SeatState). IsNode n (with_at i id owner) ring halt id n x.0 x.1) (λ q. (first q, some-injective stand at e q)) here
     both_nodes n i id halt size owner ring stand behind within is rest (suc k) at e =
         let node = rest k at e in
         let place : suc i + k ≡ i + suc k = omega arith in
@@ -81,7 +81,7 @@ joins n i id other size words views stand behind witnessed observed own closed h
         subst (λ (x : ℕ). IsNode n (with_at i id owner) ring halt id n x at) place
         (record { size_is = refl; within = node.within; owned = with_else i (suc i + k) id owner apart ∙ node.owned; is_stand = node.is_stand })
 
-pub joins_call : (key n i id other : ℕ) (view : View) (me : Seated) (stand : Stand) (observed : List BoardEvent) → key ≡ n → view.from ≡ suc i
+pub joins_call : (key n i id other : ℕ) (view : View) (me : Seated) (stand : SeatState) (observed : List BoardEvent) → key ≡ n → view.from ≡ suc i
     → me ≡ seated n i stand observed →
     Joins (Held key) id view other me.0 (joined view me.0) nobody
 joins_call key n i id other view me stand observed key_is from_is me_is =
@@ -101,7 +101,7 @@ reads n w id words views view held at from_is =
     let ring : Ring = ring_of n words held.black held.token in
     let halt : Halt = held.halt in
     let was = held.views_are id view at in
-    let node : (k : ℕ) (stand : Stand) → get_elem? view.stands k ≡ some stand → IsNode n held.owner ring halt id view.size k stand =
+    let node : (k : ℕ) (stand : SeatState) → get_elem? view.stands k ≡ some stand → IsNode n held.owner ring halt id view.size k stand =
     λ k stand e. let place : view.from + k ≡ k = omega (arith, from_is) in
     subst (λ (x : ℕ). IsNode n held.owner ring halt id view.size x stand) place (was.nodes k stand e) in
     let here : w ≡ 2 → slice_index words w ≡ halt_word halt = λ w_is. ap (slice_index words) w_is ∙ held.halt_is in
@@ -184,7 +184,7 @@ reads_call key n w id slots me key_is size_is from_is all_is s held len at small
 -- ---- one seat less
 
 -- The seats that are left of those of a board, and the rest, which stands for the nodes behind them: together for all.
-pub record AreLeft (board : TableId) (n : ℕ) (all : List Stand) (seats : List NodeSeat) (me : Seated) : Type 0 where
+pub record AreLeft (board : TableId) (n : ℕ) (all : List SeatState) (seats : List NodeSeat) (me : Seated) : Type 0 where
   pub size_is : me.0.size ≡ n
   pub from_is : me.0.from ≡ length seats
   pub no_slot : me.1 ≡ []
@@ -192,14 +192,14 @@ pub record AreLeft (board : TableId) (n : ℕ) (all : List Stand) (seats : List 
   pub all_are : all ≡ map stand_of seats ++ me.0.stands
   pub seats_are : (k : ℕ) (seat : NodeSeat) → slice_get seats k ≡ Some seat → IsSeatOf board n k seat
 
-pub last_seat : (board : TableId) (n : ℕ) (all : List Stand) (seats fewer : List NodeSeat) (seat : NodeSeat) (me : Seated) → AreLeft board n all seats me →
+pub last_seat : (board : TableId) (n : ℕ) (all : List SeatState) (seats fewer : List NodeSeat) (seat : NodeSeat) (me : Seated) → AreLeft board n all seats me →
     seats ≡ fewer ++ seat ∷ [] → IsSeatOf board n (length fewer) seat × (me.0.from ≡ suc seat.node)
 last_seat board n all seats fewer seat me left seats_is =
     let is : IsSeatOf board n (length fewer) seat =
     left.seats_are (length fewer) seat (ap (λ (xs : List NodeSeat). slice_get xs (length fewer)) seats_is ∙ middle fewer [] seat) in
     (is, omega (arith, left.from_is, ap length seats_is, length-append fewer (seat ∷ []), is.node))
 
-pub one_less : (board : TableId) (n : ℕ) (all : List Stand) (seats fewer : List NodeSeat) (seat : NodeSeat) (me after : Seated) → AreLeft board n all seats me →
+pub one_less : (board : TableId) (n : ℕ) (all : List SeatState) (seats fewer : List NodeSeat) (seat : NodeSeat) (me after : Seated) → AreLeft board n all seats me →
     seats ≡ fewer ++ seat ∷ [] → after ≡ (joined me.0 seat.seat.me.0, []) → AreLeft board n all fewer after
 one_less board n all seats fewer seat me after left seats_is after_is =
     let is : IsSeatOf board n (length fewer) seat = (last_seat board n all seats fewer seat me left seats_is).0 in
@@ -212,7 +212,7 @@ one_less board n all seats fewer seat me after left seats_is after_is =
       no_slot = ap (λ (x : Seated). x.1) after_is;
       not_closed = ap (λ (v : View). v.closed) after_view;
       all_are = left.all_are ∙ ap (λ (xs : List NodeSeat). map stand_of xs ++ me.0.stands) seats_is
-          ∙ ap (λ (ss : List Stand). ss ++ me.0.stands) (map-append stand_of fewer (seat ∷ []))
+          ∙ ap (λ (ss : List SeatState). ss ++ me.0.stands) (map-append stand_of fewer (seat ∷ []))
           ∙ append_assoc (map stand_of fewer) (seat.stand ∷ []) me.0.stands
           ∙ ap (λ (v : View). map stand_of fewer ++ v.stands) (sym after_view);
       seats_are = λ k other e. left.seats_are k other (ap (λ (xs : List NodeSeat). slice_get xs k) seats_is ∙ get_front fewer (seat ∷ []) other k e);
@@ -236,7 +236,7 @@ all_left board n seats me are me_is =
 
 -- ---- the words
 
-pub read_more : (n word found : ℕ) (stands : List Stand) (was log : List BoardEvent) (words : List ℕ) → word < length words → (0 < word → log ≡ was) →
+pub read_more : (n word found : ℕ) (stands : List SeatState) (was log : List BoardEvent) (words : List ℕ) → word < length words → (0 < word → log ≡ was) →
     ((w : ℕ) → w < word → IsWord n stands was w (get_or words w 0)) → IsWord n stands log word found →
     (w : ℕ) → w < word + 1 → IsWord n stands log w (get_or (set words word found) w 0)
 read_more n word found stands was log words within same before here w lt =
@@ -256,7 +256,7 @@ mapped_there f (y ∷ xs) zero x e = let same : y ≡ x = cc in ap (λ s. some (
 mapped_there f (y ∷ xs) (suc k) x e = mapped_there f xs k x e
 
 -- the ring of a closed board: word 1 is its token's, and word 2 says whether it is announced
-pub read_ring : (n : ℕ) (stands : List Stand) (log : List BoardEvent) (words : List ℕ) → 0 < n → AreRead n stands log words →
+pub read_ring : (n : ℕ) (stands : List SeatState) (log : List BoardEvent) (words : List ℕ) → 0 < n → AreRead n stands log words →
     (ring : Ring) × LeadsTo n stands log ring × IsPacked ring.token (slice_index words 1) × (ring.announced ≡ eqb (slice_index words 2) 1)
 read_ring n stands log words some_nodes read =
     let first = read.words_are 1 (omega arith) in
@@ -268,12 +268,12 @@ read_ring n stands log words some_nodes read =
 word_once : (token : Token) (one other : ℕ) → IsPacked token one → IsPacked token other → one ≡ other
 word_once token one other first second = omega (arith, ints, first.word_is, second.word_is)
 
-pub are_as_witnessed : (n : ℕ) (stands : List Stand) (log : List BoardEvent) (words : List ℕ) → 0 < n → length stands ≡ n → AreRead n stands log words →
+pub are_as_witnessed : (n : ℕ) (stands : List SeatState) (log : List BoardEvent) (words : List ℕ) → 0 < n → length stands ≡ n → AreRead n stands log words →
     AreAsWitnessed (closed_view n stands log) words
 are_as_witnessed n stands log words some_nodes all_nodes read =
     let has = read_ring n stands log words some_nodes read in
     let halt = read.words_are 2 (omega arith) in
-    let within : (k : ℕ) (stand : Stand) → get_elem? stands k ≡ some stand → k < n = λ k stand e. omega (arith, there_in stands k stand e, all_nodes) in
+    let within : (k : ℕ) (stand : SeatState) → get_elem? stands k ≡ some stand → k < n = λ k stand e. omega (arith, there_in stands k stand e, all_nodes) in
     record {
       is_closed = refl;
       count = read.count;
@@ -289,7 +289,7 @@ are_as_witnessed n stands log words some_nodes all_nodes read =
       taken = λ i j stand e j_in. (read.words_are (taken_word n j i) (taken_within n j i j_in (within i stand e))).taken i j stand e j_in refl;
     }
   where
-    there_in : (xs : List Stand) (k : ℕ) (stand : Stand) → get_elem? xs k ≡ some stand → k < length xs
+    there_in : (xs : List SeatState) (k : ℕ) (stand : SeatState) → get_elem? xs k ≡ some stand → k < length xs
     there_in [] k stand e = absurd (some-ne-none stand (sym e))
     there_in (x ∷ xs) zero stand e = omega arith
     there_in (x ∷ xs) (suc k) stand e = omega (arith, there_in xs k stand e)

@@ -2,7 +2,7 @@
 use Rattle.std.proofs.Common.{◌≡◌, ℕ, zero, suc, ◌+◌, ◌<◌, ◌⊎◌, List, [], ◌∷◌, length, set, get_or, Bool, true, false, eqb, eq-eqb, ne_eqb, refl, sym, ap}
 use Rattle.std.proofs.Common.{◌∙◌, subst, inl, inr, arith, length-set, get_or-set_same, get_or-set_other}
 use Rattle.dob_board.proofs.Names.{slice_index, slice_set, either, none, step, Token, BoardEvent, OfRing, Failure, Announce, IsPacked, MayAnnounce, Ring}
-use Rattle.dob_board.proofs.Names.{CountsStay, ColoursStay, counter, IsLawfulRing, Announces, Halt, Running, Ended, Failed, Stand, View, halt_word, halt_after}
+use Rattle.dob_board.proofs.Names.{CountsStay, ColoursStay, counter, IsLawfulRing, Announces, Halt, Running, Ended, Failed, SeatState, View, halt_word, halt_after}
 use Rattle.dob_board.proofs.Names.{ring_of, one, counter_of, finds, IsStand, Runs, MakesEvent, HasHalt, IsHeld, NodeSeat, MayEnd, witnessed_by}
 use Rattle.dob_board.proofs.Names.{LooksAt, Announcing, Halted, FailedRun, Announced, Exchanged, own_stand}
 use Rattle.dob_board.proofs.Kept.{HasSeat, Writes, Leaves, AreBy, ring_before, ring_stays, counts_left, counts_stay, knows_now, goes_further, own_node, own_alone}
@@ -42,14 +42,14 @@ goes_or (Failed node) = inr (λ mark. refl)
 -- ---- what a node knows of the halt
 
 -- a node that found the halt, or made it, knows what is right
-finds_stand : (n i : ℕ) (halt now : Halt) (old new : Ring) (stand : Stand) → i < n → CountsStay n old.posted new.posted → CountsStay n old.taken new.taken →
+finds_stand : (n i : ℕ) (halt now : Halt) (old new : Ring) (stand : SeatState) → i < n → CountsStay n old.posted new.posted → CountsStay n old.taken new.taken →
     ColoursStay n old new → new.token ≡ old.token → (now ≡ Ended → new.announced ≡ true) → IsStand n old halt i stand → IsStand n new now i (finds stand now)
 finds_stand n i halt now old new stand within posted taken colours token ended is =
     counts_stay n i old new halt now stand stand.black stand.token now within posted taken (is.shows.colour ∙ sym (colours i within))
     (λ seen e. let had = is.shows.token seen e in (had.0 ∙ sym token, had.1)) ended (knows_now i now) is
 
 -- in a ring that stays
-finds_there : (n i : ℕ) (halt now : Halt) (ring : Ring) (stand : Stand) → i < n → (now ≡ Ended → ring.announced ≡ true) → IsStand n ring halt i stand →
+finds_there : (n i : ℕ) (halt now : Halt) (ring : Ring) (stand : SeatState) → i < n → (now ≡ Ended → ring.announced ≡ true) → IsStand n ring halt i stand →
     IsStand n ring now i (finds stand now)
 finds_there n i halt now ring stand within =
     finds_stand n i halt now ring ring stand within (λ k l k_in l_in. refl) (λ k l k_in l_in. refl) (λ k k_in. refl) refl
@@ -95,7 +95,7 @@ announces_moved n words black token wide may = record {
 announces_by : (i : ℕ) (log : List BoardEvent) → i ≡ 0 → AreBy i (OfRing Announce ∷ []) log
 announces_by i log first k apart = let other : eqb k 0 ≡ false = ne_eqb k 0 (λ e. apart (e ∙ sym first)) in rw other refl
 
-module _ {n i id : ℕ} {words : List ℕ} {views : List View} {stand : Stand} {witnessed : List BoardEvent} (seat : HasSeat n i id words views stand witnessed) where
+module _ {n i id : ℕ} {words : List ℕ} {views : List View} {stand : SeatState} {witnessed : List BoardEvent} (seat : HasSeat n i id words views stand witnessed) where
   ended_white : seat.held.halt ≡ Ended → stand.black ≡ false
   ended_white e = (own_node seat).is_stand.shows.colour
       ∙ seat.held.lawful.all_white (ap (λ (h : ℕ). eqb h 1) (seat.held.halt_is ∙ ap halt_word e)) i (own_node seat).within

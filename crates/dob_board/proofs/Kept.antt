@@ -2,7 +2,7 @@
 use Rattle.std.proofs.Common.{◌≡◌, ◌≢◌, ℕ, zero, suc, ◌+◌, ◌<◌, ◌≤◌, List, [], ◌∷◌, ◌++◌, length, Bool, true, Option, Some, refl, sym, ap, ◌∙◌, subst, ⊎_elim}
 use Rattle.std.proofs.Common.{arith, append_assoc}
 use Rattle.dob_board.proofs.Names.{slice_index, slice_set, some, some-ne-none, some-injective, get_elem?, at_set, Token, RingEvent, BoardEvent, OfRing}
-use Rattle.dob_board.proofs.Names.{IsPacked, Ring, CountsStay, IsLawfulRing, Moved, HasFew, moved_kept, Stand, View, ring_of, one, KnowsHalt, IsStand, Runs}
+use Rattle.dob_board.proofs.Names.{IsPacked, Ring, CountsStay, IsLawfulRing, Moved, HasFew, moved_kept, SeatState, View, ring_of, one, KnowsHalt, IsStand, Runs}
 use Rattle.dob_board.proofs.Names.{IsLaterLog, IsInTime, MakesEvent, Observes, halt_told, token_moves_of, IsNode, IsView, IsHeld, Halt, Running, Ended, Failed}
 use Rattle.dob_board.proofs.Names.{halt_word, nodes_in, sum_by-cons}
 
@@ -44,7 +44,7 @@ counts_left n i old new halt now posted taken colour token announced of_halt = r
 pub ring_stays : (n i : ℕ) (ring : Ring) (halt now : Halt) → LeavesHalt i halt now → Leaves n i ring ring halt now
 ring_stays n i ring halt now = counts_left n i ring ring halt now (λ k l k_in l_in. refl) (λ k l k_in l_in. refl) (λ k k_in apart. refl) (λ k apart e. refl) (λ e. e)
 
-stand_stays : (n i k : ℕ) (old new : Ring) (halt now : Halt) (stand : Stand) → k < n → k ≢ i → Leaves n i old new halt now →
+stand_stays : (n i k : ℕ) (old new : Ring) (halt now : Halt) (stand : SeatState) → k < n → k ≢ i → Leaves n i old new halt now →
     IsStand n old halt k stand → IsStand n new now k stand
 stand_stays n i k old new halt now stand within apart leaves is = record {
   long = is.long;
@@ -66,7 +66,7 @@ stand_stays n i k old new halt now stand within apart leaves is = record {
 }
 
 -- a step of node i that leaves the counts may change its colour, its token and the halt that it knows
-pub counts_stay : (n i : ℕ) (old new : Ring) (halt now : Halt) (stand : Stand) (black : Bool) (token : Option Token) (known : Halt) → i < n →
+pub counts_stay : (n i : ℕ) (old new : Ring) (halt now : Halt) (stand : SeatState) (black : Bool) (token : Option Token) (known : Halt) → i < n →
     CountsStay n old.posted new.posted → CountsStay n old.taken new.taken → black ≡ new.black i →
     ((seen : Token) → token ≡ Some seen → (seen ≡ new.token) × (seen.at ≡ i)) → (known ≡ Ended → new.announced ≡ true) → KnowsHalt i now known →
     IsStand n old halt i stand → IsStand n new now i (record stand { black = black; token = token; halt = known })
@@ -93,22 +93,22 @@ pub goes_further : (witnessed log more : List BoardEvent) → IsLaterLog witness
 goes_further witnessed log more on = (more ++ on.0, ap (λ (l : List BoardEvent). more ++ l) on.1 ∙ sym (append_assoc more on.0 witnessed))
 
 -- the view of one node is right where that node is, and has moved nothing since
-pub one_is_view : (n i id : ℕ) (halt : Halt) (owner : ℕ → ℕ) (ring : Ring) (log witnessed : List BoardEvent) (stand : Stand) → i < n → owner i ≡ id →
+pub one_is_view : (n i id : ℕ) (halt : Halt) (owner : ℕ → ℕ) (ring : Ring) (log witnessed : List BoardEvent) (stand : SeatState) → i < n → owner i ≡ id →
     IsLaterLog witnessed log → token_moves_of i log ≡ token_moves_of i witnessed → IsStand n ring halt i stand → IsView n owner ring halt log id (one n i stand witnessed)
 one_is_view n i id halt owner ring log witnessed stand within owned on still is =
     record { was_witnessed = on; nodes = node; alone = λ e. unmoved; is_closed = λ e. absurd (cc) }
   where
-    unmoved : (k : ℕ) (at : Stand) → get_elem? (stand ∷ []) k ≡ some at → token_moves_of (i + k) log ≡ token_moves_of (i + k) witnessed
+    unmoved : (k : ℕ) (at : SeatState) → get_elem? (stand ∷ []) k ≡ some at → token_moves_of (i + k) log ≡ token_moves_of (i + k) witnessed
     unmoved zero at e =
         let first : i ≡ i + 0 = omega arith in
         subst (λ (x : ℕ). token_moves_of x log ≡ token_moves_of x witnessed) first still
     unmoved (suc k) at e = absurd (some-ne-none at (sym e))
 
-    node : (k : ℕ) (at : Stand) → get_elem? (stand ∷ []) k ≡ some at → IsNode n owner ring halt id n (i + k) at
+    node : (k : ℕ) (at : SeatState) → get_elem? (stand ∷ []) k ≡ some at → IsNode n owner ring halt id n (i + k) at
     node zero at e =
         let first : i ≡ i + 0 = omega arith in
         let here : IsNode n owner ring halt id n i stand = record { size_is = refl; within = within; owned = owned; is_stand = is } in
-        subst (λ (x : ℕ × Stand). IsNode n owner ring halt id n x.0 x.1) (λ q. (first q, some-injective stand at e q)) here
+        subst (λ (x : ℕ × SeatState). IsNode n owner ring halt id n x.0 x.1) (λ q. (first q, some-injective stand at e q)) here
     node (suc k) at e = absurd (some-ne-none at (sym e))
 
 there_is : {A : Type 0} (xs : List A) (k : ℕ) → k < length xs → (x : A) × (get_elem? xs k ≡ some x)
@@ -165,7 +165,7 @@ other_view n i id port halt now owner old new log more view within owned apart b
 }
 
 -- node i's seat, which stands for it alone, where the rule holds
-pub record HasSeat (n i id : ℕ) (words : List ℕ) (views : List View) (stand : Stand) (witnessed : List BoardEvent) : Type 0 where
+pub record HasSeat (n i id : ℕ) (words : List ℕ) (views : List View) (stand : SeatState) (witnessed : List BoardEvent) : Type 0 where
   pub held : IsHeld n words views
   pub at : get_elem? views id ≡ some (one n i stand witnessed)
 
@@ -176,7 +176,7 @@ pub record Writes (n : ℕ) (words after : List ℕ) (token : Token) (halt : Hal
   pub packed : IsPacked token (slice_index after 1)
   pub halt_is : slice_index after 2 ≡ halt_word halt
 
-module _ {n i id : ℕ} {words : List ℕ} {views : List View} {stand : Stand} {witnessed : List BoardEvent} (seat : HasSeat n i id words views stand witnessed) where
+module _ {n i id : ℕ} {words : List ℕ} {views : List View} {stand : SeatState} {witnessed : List BoardEvent} (seat : HasSeat n i id words views stand witnessed) where
   -- the ring that the words show
   abbrev pub ring_before : Ring
   ring_before = ring_of n words seat.held.black seat.held.token
@@ -195,7 +195,7 @@ module _ {n i id : ℕ} {words : List ℕ} {views : List View} {stand : Stand} {
       subst (λ (x : ℕ). token_moves_of x seat.held.log ≡ token_moves_of x witnessed) first
       ((seat.held.views_are id (one n i stand witnessed) seat.at).alone refl 0 stand refl)
 
-  pub kept : (after : List ℕ) (new : Stand) (more : List BoardEvent) (black : ℕ → Bool) (token : Token) (halt : Halt) → Writes n words after token halt →
+  pub kept : (after : List ℕ) (new : SeatState) (more : List BoardEvent) (black : ℕ → Bool) (token : Token) (halt : Halt) → Writes n words after token halt →
       halt_word halt < 2 + n → IsLawfulRing n (ring_of n after black token) → Runs n (more ++ seat.held.log) (ring_of n after black token) →
       halt_word halt ≡ halt_told (more ++ seat.held.log) → AreBy i more seat.held.log → Leaves n i ring_before (ring_of n after black token) seat.held.halt halt →
       IsStand n (ring_of n after black token) halt i new → IsHeld n after (slice_set views id (one n i new (more ++ seat.held.log)))
@@ -227,7 +227,7 @@ module _ {n i id : ℕ} {words : List ℕ} {views : List View} {stand : Stand} {
   }
 
   -- a step that is an event keeps the rule, and makes the event
-  pub happened : (event : RingEvent) (after : List ℕ) (new : Stand) (black : ℕ → Bool) (token : Token) (halt : Halt) → Writes n words after token halt →
+  pub happened : (event : RingEvent) (after : List ℕ) (new : SeatState) (black : ℕ → Bool) (token : Token) (halt : Halt) → Writes n words after token halt →
       halt_word halt < 2 + n → IsInTime event ring_before → Moved n ring_before event (ring_of n after black token) → HasFew n (ring_of n after black token) →
       halt_word halt ≡ halt_told (OfRing event ∷ seat.held.log) → AreBy i (OfRing event ∷ []) seat.held.log →
       Leaves n i ring_before (ring_of n after black token) seat.held.halt halt → IsStand n (ring_of n after black token) halt i new →
@@ -254,7 +254,7 @@ module _ {n i id : ℕ} {words : List ℕ} {views : List View} {stand : Stand} {
       )
 
   -- a step that changes no word, but what the node knows, keeps the rule, and observes what is so of the ring
-  pub known : (new : Stand) (IsSo : Ring → Type 0) → IsStand n ring_before seat.held.halt i new → IsSo ring_before →
+  pub known : (new : SeatState) (IsSo : Ring → Type 0) → IsStand n ring_before seat.held.halt i new → IsSo ring_before →
       IsHeld n words (slice_set views id (one n i new seat.held.log)) × Observes n i new witnessed seat.held.log IsSo
   known new IsSo is so = (
     kept words new [] seat.held.black seat.held.token seat.held.halt (record { long = refl; nodes = refl; packed = seat.held.packed; halt_is = seat.held.halt_is })

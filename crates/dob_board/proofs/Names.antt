@@ -18,7 +18,7 @@ pub use Rattle.dob_board.specs.declared.halt.Halt.TheVariants.{Ended, Failed, Ru
 pub use Rattle.dob_board.specs.declared.seat.NodeSeat.{NodeSeat}
 pub use Rattle.dob_board.specs.declared.view.BoardEvent.{BoardEvent}
 pub use Rattle.dob_board.specs.declared.view.BoardEvent.TheVariants.{Failure, OfRing}
-pub use Rattle.dob_board.specs.declared.view.Stand.{Stand}
+pub use Rattle.dob_board.specs.declared.view.SeatState.{SeatState}
 pub use Rattle.dob_board.specs.declared.view.View.{View}
 pub use Rattle.dob_pieces.proofs.Elements.{at_end, get_front, middle, some_at}
 pub use Rattle.dob_safra.proofs.Kept.{moved_kept, raised_at_least, raised_at_most}

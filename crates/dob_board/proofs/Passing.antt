@@ -2,7 +2,7 @@
 use Rattle.std.proofs.Common.{◌≡◌, ℕ, zero, suc, ◌+◌, ◌-◌, ◌*◌, ◌^◌, ◌<◌, ◌≤◌, List, [], ◌∷◌, length, set, Bool, true, false, eqb, eq-eqb, ne_eqb, Some}
 use Rattle.std.proofs.Common.{refl, sym, ap, ◌∙◌, subst, inl, inr, arith, length-set, get_or-set_same, get_or-set_other}
 use Rattle.dob_board.proofs.Names.{ℤ, pos, neg_ℤ, ◌-ℤ◌, ints, sum_by-cons, slice_index, slice_set, sum, ◌≤ℤ◌, cases_eq, none, step, Halt, IsLawfulRing, Shows}
-use Rattle.dob_board.proofs.Names.{Token, BoardEvent, OfRing, Pass, IsToken, IsPacked, passed_on, Ring, counter, sum_below, Passes, sum_same, Stand}
+use Rattle.dob_board.proofs.Names.{Token, BoardEvent, OfRing, Pass, IsToken, IsPacked, passed_on, Ring, counter, sum_below, Passes, sum_same, SeatState}
 use Rattle.dob_board.proofs.Names.{View, posted_word, taken_word, ring_of, one, token_at, meets, counter_of, passed_by, passes, IsStand, IsInBounds}
 use Rattle.dob_board.proofs.Names.{IsTokenInBounds, MakesEvent, HasToken, IsHeld, Met, Passed, NodeSeat}
 use Rattle.dob_board.proofs.Places.{with_at, posted_in, taken_in}
@@ -22,7 +22,7 @@ seen_there i token known e =
     ]
 
 -- a token that a node knows, where a lawful ring shows how it stands, has a sum in bounds
-shown_bounds : (n i : ℕ) (ring : Ring) (stand : Stand) → IsLawfulRing n ring → Shows n ring i stand → IsTokenInBounds n i stand
+shown_bounds : (n i : ℕ) (ring : Ring) (stand : SeatState) → IsLawfulRing n ring → Shows n ring i stand → IsTokenInBounds n i stand
 shown_bounds n i ring stand lawful shows token e =
     let had = shows.token token e in
     let here : ring.token.at ≡ i = ap (λ (t : Token). t.at) (sym had.0) ∙ had.1 in (
@@ -45,13 +45,13 @@ sum_shown : (n : ℕ) (xs : List ℕ) (f : ℕ → ℕ) → length xs ≡ n → 
 sum_shown n xs f long are =
     sum_same n (λ j. slice_index xs j) f (λ j j_in. sym (are j j_in)) ∙ ap (λ (m : ℕ). sum_below m (λ j. slice_index xs j)) (sym long) ∙ sum_is xs
 
-pub counter_is : (n i : ℕ) (halt : Halt) (ring : Ring) (stand : Stand) → IsStand n ring halt i stand → counter n ring i ≡ counter_of stand
+pub counter_is : (n i : ℕ) (halt : Halt) (ring : Ring) (stand : SeatState) → IsStand n ring halt i stand → counter n ring i ≡ counter_of stand
 counter_is n i halt ring stand is = λ q. pos (sum_shown n stand.posted (ring.posted i) is.long.posted is.shows.posted q)
     -ℤ pos (sum_shown n stand.taken (λ j. ring.taken j i) is.long.taken is.shows.taken q)
 
 -- ---- token
 
-meets_stand : (n i : ℕ) (halt : Halt) (ring : Ring) (stand : Stand) → i < n → IsStand n ring halt i stand → IsStand n ring halt i (meets i stand ring.token)
+meets_stand : (n i : ℕ) (halt : Halt) (ring : Ring) (stand : SeatState) → i < n → IsStand n ring halt i stand → IsStand n ring halt i (meets i stand ring.token)
 meets_stand n i halt ring stand within is =
     counts_stay n i ring ring halt halt stand stand.black (token_at i ring.token) stand.halt within (λ k l k_in l_in. refl) (λ k l k_in l_in. refl) is.shows.colour
     (λ token e. seen_there i ring.token token e) is.shows.ended is.knows is
@@ -94,7 +94,7 @@ passes_moved n i word words black old next at is = record {
   announced = ap (λ (halt : ℕ). eqb halt 1) (get_or-set_other words 1 2 word 0 (λ e. omega (arith, e)));
 }
 
-passes_stand : (n i : ℕ) (old new : Ring) (halt : Halt) (stand : Stand) (token : Token) → i < n → Passes n old i new →
+passes_stand : (n i : ℕ) (old new : Ring) (halt : Halt) (stand : SeatState) (token : Token) → i < n → Passes n old i new →
     new.token ≡ passed_by n stand token → IsStand n old halt i stand → IsStand n new halt i (passes n i stand token)
 passes_stand n i old new halt stand token within moved next is =
     counts_stay n i old new halt halt stand false (token_at i (passed_by n stand token)) stand.halt within moved.posted moved.taken (sym moved.colours.colour_is)
@@ -104,7 +104,7 @@ passes_stand n i old new halt stand token within moved next is =
 passes_by : (i : ℕ) (log : List BoardEvent) → AreBy i (OfRing (Pass i) ∷ []) log
 passes_by i log k apart = let other : eqb i k ≡ false = ne_eqb i k (λ e. apart (sym e)) in rw other refl
 
-module _ {n i id : ℕ} {words : List ℕ} {views : List View} {stand : Stand} {witnessed : List BoardEvent} (seat : HasSeat n i id words views stand witnessed)
+module _ {n i id : ℕ} {words : List ℕ} {views : List View} {stand : SeatState} {witnessed : List BoardEvent} (seat : HasSeat n i id words views stand witnessed)
     (token : Token) (word : ℕ) (has : stand.token ≡ Some token) (packed : IsPacked (passed_by n stand token) word) where
   passes_held : IsHeld n (set words 1 word) (slice_set views id (one n i (passes n i stand token) (OfRing (Pass i) ∷ seat.held.log)))
       × MakesEvent n i (Pass i) stand (passes n i stand token) witnessed (OfRing (Pass i) ∷ seat.held.log)

@@ -3,7 +3,7 @@ use Rattle.std.proofs.Common.{◌≡◌, ◌≢◌, ℕ, zero, suc, ◌+◌, ◌
 use Rattle.std.proofs.Common.{subst, ⊎_elim, inl, inr, arith, rules, map, length-set, length-append, get_or-set_same, get_or-set_other}
 use Rattle.dob_board.proofs.Names.{replicate_next, sum_by-cons, sum_by_push, length-replicate, slice_set, slice_get, replicate, map-append, some, some-ne-none}
 use Rattle.dob_board.proofs.Names.{some-injective, get_elem?, Splits, at_set, BoardEvent, IsPacked, first_token, Ring, IsLawfulRing, IsStart, black_token}
-use Rattle.dob_board.proofs.Names.{IsSize, Stand, View, posted_word, taken_word, word_count, ring_of, one, Halt, Running, IsStand, token_moves_of, IsNode, IsView}
+use Rattle.dob_board.proofs.Names.{IsSize, SeatState, View, posted_word, taken_word, word_count, ring_of, one, Halt, Running, IsStand, token_moves_of, IsNode, IsView}
 use Rattle.dob_board.proofs.Names.{IsHeld, fresh, whole, others_of, first_of, first_words, unseated, TableId, NodeSeat, stand_of, IsSeatOf, at_end}
 use Rattle.dob_board.proofs.Places.{with_at, with_here, with_else}
 use Rattle.dob_board.proofs.Kept.{has_all, one_is_view, knows_now, nodes_set, with_views}
@@ -35,10 +35,10 @@ elsewhere n i id fresh_port port halt owner ring log view within owned apart was
   is_closed = λ e. absurd (apart (has_all n i id port halt owner ring log view within owned was e));
 }
 
-abbrev pub view_from : ℕ → ℕ → List Stand → List BoardEvent → View
+abbrev pub view_from : ℕ → ℕ → List SeatState → List BoardEvent → View
 view_from n from stands witnessed = record { size = n; from = from; stands = stands; witnessed = witnessed; own = true; closed = false }
 
-splits : (n i id : ℕ) (words : List ℕ) (views : List View) (stand : Stand) (rest : List Stand) (witnessed : List BoardEvent) (held : IsHeld n words views) →
+splits : (n i id : ℕ) (words : List ℕ) (views : List View) (stand : SeatState) (rest : List SeatState) (witnessed : List BoardEvent) (held : IsHeld n words views) →
     get_elem? views id ≡ some (view_from n i (stand ∷ rest) witnessed) →
     IsHeld n words (slice_set views id (view_from n (suc i) rest witnessed) ++ one n i stand witnessed ∷ [])
 splits n i id words views stand rest witnessed held at =
@@ -85,7 +85,7 @@ splits n i id words views stand rest witnessed held at =
       nodes_set views id (view_from n i (stand ∷ rest) witnessed) (view_from n (suc i) rest witnessed) at,
     ))
 
-abbrev stands_behind : ℕ → ℕ → List Stand
+abbrev stands_behind : ℕ → ℕ → List SeatState
 stands_behind n m = replicate m (fresh n)
 
 pub others-unseated : (n k : ℕ) → k < n → others_of (unseated n k) ≡ unseated n (suc k)
@@ -167,7 +167,7 @@ fresh_stand n word i within =
       knows = knows_now i Running;
     }
 
-at_fresh : (m k : ℕ) (x stand : Stand) → get_elem? (replicate m x) k ≡ some stand → (k < m) × (x ≡ stand)
+at_fresh : (m k : ℕ) (x stand : SeatState) → get_elem? (replicate m x) k ≡ some stand → (k < m) × (x ≡ stand)
 at_fresh zero k x stand e = absurd (some-ne-none stand (sym e))
 at_fresh (suc m) zero x stand e = (omega arith, some-injective x stand e)
 at_fresh (suc m) (suc k) x stand e = let more = at_fresh m k x stand e in (omega (arith, more.0), more.1)
@@ -192,7 +192,7 @@ begins n word size packed = record {
   told = refl;
   owner = λ k. 0;
   views_are = view;
-  each_once = omega (arith, sum_by-cons (λ (v : View). length v.stands) (whole n) [], length-replicate {A = Stand} n (fresh n));
+  each_once = omega (arith, sum_by-cons (λ (v : View). length v.stands) (whole n) [], length-replicate {A = SeatState} n (fresh n));
 }
   where
     view : (port : ℕ) (v : View) → get_elem? (whole n ∷ []) port ≡ some v → IsView n (λ k. 0) (first_ring n word) Running [] port v
@@ -202,7 +202,7 @@ begins n word size packed = record {
           nodes = λ k stand there.
               let found = at_fresh n k (fresh n) stand there in
               let place : k ≡ 0 + k = omega arith in
-              subst (λ (p : ℕ × Stand). IsNode n (λ m. 0) (first_ring n word) Running 0 n p.0 p.1) (λ q. (place q, found.1 q))
+              subst (λ (p : ℕ × SeatState). IsNode n (λ m. 0) (first_ring n word) Running 0 n p.0 p.1) (λ q. (place q, found.1 q))
               (record { size_is = refl; within = found.0; owned = refl; is_stand = fresh_stand n word k found.0 });
           alone = λ own k stand there. refl;
           is_closed = λ e'. absurd (cc);
@@ -229,6 +229,6 @@ push_first board n k seats pushed seat first is is_fresh pushed_is =
           (λ last. subst (λ (p : ℕ × NodeSeat). IsSeatOf board n p.0 p.1) (λ q. ((sym first.count ∙ sym last.0) q, last.1 q)) is)
           (at_end seats seat other m e);
       are_fresh =
-          map-append stand_of seats (seat ∷ []) ∙ ap (λ (s : Stand). map stand_of seats ++ s ∷ []) is_fresh ∙ ap (λ (ss : List Stand). ss ++ fresh n ∷ []) first.are_fresh
+          map-append stand_of seats (seat ∷ []) ∙ ap (λ (s : SeatState). map stand_of seats ++ s ∷ []) is_fresh ∙ ap (λ (ss : List SeatState). ss ++ fresh n ∷ []) first.are_fresh
           ∙ sym (replicate_next k (fresh n)) ∙ ap (λ (m : ℕ). replicate m (fresh n)) next;
     })

@@ -2,7 +2,7 @@
 use Rattle.std.proofs.Common.{◌≡◌, ◌≢◌, ℕ, suc, ◌^◌, ◌<◌, ◌≤◌, List, ◌∷◌, length, set, get_or, Bool, true, true≢false, eqb, refl, sym, ap, ◌∙◌, subst, inl, inr}
 use Rattle.std.proofs.Common.{arith, length-set, get_or-set_same, get_or-set_other}
 use Rattle.dob_board.proofs.Names.{slice_index, slice_set, false_from_ne_true, cases_eq, BoardEvent, OfRing, Post, Take, IsPacked, Ring, Halt}
-use Rattle.dob_board.proofs.Names.{Colours, Posts, Takes, raised_at_least, raised_at_most, Stand, View, posted_word, taken_word}
+use Rattle.dob_board.proofs.Names.{Colours, Posts, Takes, raised_at_least, raised_at_most, SeatState, View, posted_word, taken_word}
 use Rattle.dob_board.proofs.Names.{ring_of, one, posts_more, takes_more, sees, IsStand, MakesEvent, Observes, HasPosted, IsHeld, Ended}
 use Rattle.dob_board.proofs.Places.{with_at, with_here, with_else, posted_in, taken_in, posted_raised, taken_raised, taken_stays, posted_stays, head_stays}
 use Rattle.dob_board.proofs.Kept.{HasSeat, Writes, Leaves, halt_stays, ring_before, own_node, happened, known}
@@ -43,7 +43,7 @@ posts_leaves n i j old new halt moved = record {
 }
 
 -- what node i knows after its post
-posts_stand : (n i j : ℕ) (old new : Ring) (halt : Halt) (stand : Stand) → j ≢ i → Posts n old i j new → IsStand n old halt i stand →
+posts_stand : (n i j : ℕ) (old new : Ring) (halt : Halt) (stand : SeatState) → j ≢ i → Posts n old i j new → IsStand n old halt i stand →
     IsStand n new halt i (posts_more stand j)
 posts_stand n i j old new halt stand other moved is = record {
   long = record { posted = length-set stand.posted j (suc (slice_index stand.posted j)) ∙ is.long.posted; taken = is.long.taken; seen = is.long.seen };
@@ -60,7 +60,7 @@ posts_stand n i j old new halt stand other moved is = record {
   knows = is.knows;
 }
 
-module _ {n i id : ℕ} {words : List ℕ} {views : List View} {stand : Stand} {witnessed : List BoardEvent} (seat : HasSeat n i id words views stand witnessed)
+module _ {n i id : ℕ} {words : List ℕ} {views : List View} {stand : SeatState} {witnessed : List BoardEvent} (seat : HasSeat n i id words views stand witnessed)
     (j : ℕ) (j_in : j < n) where
   pub posts : j ≢ i → stand.black ≡ true → slice_index stand.posted j < 2 ^ 40 →
       IsHeld n (posted_after n i j words) (slice_set views id (one n i (posts_more stand j) (OfRing (Post i j) ∷ seat.held.log)))
@@ -91,7 +91,7 @@ module _ {n i id : ℕ} {words : List ℕ} {views : List View} {stand : Stand} {
 
 -- ---- look
 
-sees_stand : (n i j : ℕ) (halt : Halt) (ring : Ring) (stand : Stand) → i < n → j < n → IsStand n ring halt i stand
+sees_stand : (n i j : ℕ) (halt : Halt) (ring : Ring) (stand : SeatState) → i < n → j < n → IsStand n ring halt i stand
     → IsStand n ring halt i (sees stand j (ring.posted j i))
 sees_stand n i j halt ring stand i_in j_in is = record {
   long = record { posted = is.long.posted; taken = is.long.taken; seen = length-set stand.seen j (ring.posted j i) ∙ is.long.seen };
@@ -110,7 +110,7 @@ sees_stand n i j halt ring stand i_in j_in is = record {
   knows = is.knows;
 }
 
-module _ {n i id : ℕ} {words : List ℕ} {views : List View} {stand : Stand} {witnessed : List BoardEvent} (seat : HasSeat n i id words views stand witnessed)
+module _ {n i id : ℕ} {words : List ℕ} {views : List View} {stand : SeatState} {witnessed : List BoardEvent} (seat : HasSeat n i id words views stand witnessed)
     (j : ℕ) (j_in : j < n) where
   pub looks : IsHeld n words (slice_set views id (one n i (sees stand j (posted_in n words j i)) seat.held.log))
       × Observes n i (sees stand j (posted_in n words j i)) witnessed seat.held.log (HasPosted j i (posted_in n words j i))
@@ -144,7 +144,7 @@ takes_leaves n i j old new halt moved = record {
   of_halt = halt_stays i halt;
 }
 
-takes_stand : (n i j : ℕ) (old new : Ring) (halt : Halt) (stand : Stand) → Takes n old j i new → IsStand n old halt i stand → IsStand n new halt i (takes_more stand j)
+takes_stand : (n i j : ℕ) (old new : Ring) (halt : Halt) (stand : SeatState) → Takes n old j i new → IsStand n old halt i stand → IsStand n new halt i (takes_more stand j)
 takes_stand n i j old new halt stand moved is = record {
   long = record { posted = is.long.posted; taken = length-set stand.taken j (suc (slice_index stand.taken j)) ∙ is.long.taken; seen = is.long.seen };
   shows = record {
@@ -160,7 +160,7 @@ takes_stand n i j old new halt stand moved is = record {
   knows = is.knows;
 }
 
-module _ {n i id : ℕ} {words : List ℕ} {views : List View} {stand : Stand} {witnessed : List BoardEvent} (seat : HasSeat n i id words views stand witnessed)
+module _ {n i id : ℕ} {words : List ℕ} {views : List View} {stand : SeatState} {witnessed : List BoardEvent} (seat : HasSeat n i id words views stand witnessed)
     (j : ℕ) (j_in : j < n) where
   pub takes : slice_index stand.taken j < slice_index stand.seen j →
       IsHeld n (taken_after n j i words) (slice_set views id (one n i (takes_more stand j) (OfRing (Take j i) ∷ seat.held.log)))

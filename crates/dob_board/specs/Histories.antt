@@ -6,7 +6,7 @@ use Rattle.dob_board.specs.declared.view.BoardEvent.{BoardEvent}
 use Rattle.dob_board.specs.declared.view.BoardEvent.TheVariants.{OfRing, Failure}
 use Rattle.dob_safra.specs.declared.event.RingEvent.TheVariants.{Post, Take, Pass, Announce}
 use Rattle.dob_safra.specs.Rings.{Ring, IsStart, IsLawfulRing, Moved}
-use Rattle.dob_board.specs.declared.view.Stand.{Stand}
+use Rattle.dob_board.specs.declared.view.SeatState.{SeatState}
 use Rattle.dob_board.specs.Views.{Shows}
 
 -- the halt word as the events give it: 1 after the announcement, 2 + i after the failure of node i
@@ -47,7 +47,7 @@ IsInTime Announce ring = ring.announced ≡ false
 -- Node i, which has witnessed some events and stood like that, made this event the next one: others had happened since, and it
 -- had made no move of those; they had led to a lawful ring that shows how the node stood; the event came in time, and moved it to
 -- a lawful one that shows how the node stands now; and the node has witnessed all that.
-pub record MakesEvent (n i : ℕ) (event : RingEvent) (before after : Stand) (witnessed now : List BoardEvent) : Type 0 where
+pub record MakesEvent (n i : ℕ) (event : RingEvent) (before after : SeatState) (witnessed now : List BoardEvent) : Type 0 where
   pub log : List BoardEvent
   pub went_on : IsLaterLog witnessed log
   pub alone : token_moves_of i log ≡ token_moves_of i witnessed
@@ -64,7 +64,7 @@ pub record MakesEvent (n i : ℕ) (event : RingEvent) (before after : Stand) (wi
 
 -- Node i has witnessed all events so far, and made no move of those that are new to it. They led to a lawful ring that shows how the
 -- node stands, and of which this is so.
-pub record Observes (n i : ℕ) (stand : Stand) (witnessed now : List BoardEvent) (IsSo : Ring → Type 0) : Type 0 where
+pub record Observes (n i : ℕ) (stand : SeatState) (witnessed now : List BoardEvent) (IsSo : Ring → Type 0) : Type 0 where
   pub went_on : IsLaterLog witnessed now
   pub alone : token_moves_of i now ≡ token_moves_of i witnessed
   pub ring : Ring

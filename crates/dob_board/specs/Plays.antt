@@ -7,7 +7,7 @@ use Rattle.dob_safra.specs.declared.event.RingEvent.TheVariants.{Post, Take, Pas
 use Rattle.dob_safra.specs.Tokens.{IsPacked}
 use Rattle.dob_safra.specs.Rings.{Ring}
 use Rattle.dob_board.specs.declared.view.BoardEvent.{BoardEvent}
-use Rattle.dob_board.specs.declared.view.Stand.{Stand}
+use Rattle.dob_board.specs.declared.view.SeatState.{SeatState}
 use Rattle.dob_board.specs.declared.view.View.{View}
 use Rattle.dob_board.specs.declared.halt.Halt.{Halt}
 use Rattle.dob_board.specs.declared.halt.Halt.TheVariants.{Running, Ended, Failed}
@@ -18,46 +18,46 @@ use Rattle.dob_board.specs.Rule.{fresh}
 
 -- All events so far give the halt that node i finds or leaves; it is the one that the node knew if it knew one, and no end to a
 -- black node.
-pub record IsTold (n : ℕ) (stand : Stand) (now : List BoardEvent) (halt : Halt) : Type 0 where
+pub record IsTold (n : ℕ) (stand : SeatState) (now : List BoardEvent) (halt : Halt) : Type 0 where
   pub within : halt_word halt < 2 + n
   pub stays : stand.halt ≢ Running → halt ≡ stand.halt
   pub told : halt_word halt ≡ halt_told now
   pub white : halt ≡ Ended → stand.black ≡ false
 
 -- Node i found one halt and left another one, which is the end to node 0 only where that node knew it.
-pub record LooksAt (n i : ℕ) (stand : Stand) (witnessed : List BoardEvent) (was halt : Halt) (now : List BoardEvent) : Type 0 where
+pub record LooksAt (n i : ℕ) (stand : SeatState) (witnessed : List BoardEvent) (was halt : Halt) (now : List BoardEvent) : Type 0 where
   pub is_told : IsTold n stand now halt
   pub announced : i ≡ 0 → halt ≡ Ended → stand.halt ≡ Ended
   pub observed : Observes n i (finds stand halt) witnessed now (HasHalt (halt_word was))
 
 -- Node i, which may announce the end, left that halt: it made the event, or it observed the halt that it found, which is the end
 -- only where the node knew it; a failure of its own it knew.
-pub record Announcing (n i : ℕ) (stand : Stand) (witnessed : List BoardEvent) (halt : Halt) (now : List BoardEvent) : Type 0 where
+pub record Announcing (n i : ℕ) (stand : SeatState) (witnessed : List BoardEvent) (halt : Halt) (now : List BoardEvent) : Type 0 where
   pub is_told : IsTold n stand now halt
   pub own : halt ≡ Failed i → stand.halt ≡ halt
   pub event : ((halt ≡ Ended) × MakesEvent n i Announce stand (finds stand halt) witnessed now)
       ⊎ ((halt ≡ Ended → stand.halt ≡ Ended) × Observes n i (finds stand halt) witnessed now (HasHalt (halt_word halt)))
 
 -- what is known of the first node
-abbrev pub first_stand : List Stand → Stand
+abbrev pub first_stand : List SeatState → SeatState
 first_stand [] = fresh 0
 first_stand (stand ∷ stands) = stand
 
 module _ {S : Type 0} where
   -- how the seat's node stands
-  abbrev pub own_stand : Me S View → Stand
+  abbrev pub own_stand : Me S View → SeatState
   own_stand me = first_stand me.0.stands
 
   -- its node stands like that afterwards
-  abbrev pub Stands : Me S View → Stand → Me S View → Type 0
+  abbrev pub Stands : Me S View → SeatState → Me S View → Type 0
   Stands me new after = after ≡ (one me.0.size me.0.from new after.0.witnessed, me.1)
 
   -- it made that event, and its node stands like that afterwards
-  abbrev pub Makes : Me S View → RingEvent → Stand → Me S View → Type 0
+  abbrev pub Makes : Me S View → RingEvent → SeatState → Me S View → Type 0
   Makes me event new after = Stands me new after × MakesEvent me.0.size me.0.from event (own_stand me) new me.0.witnessed after.0.witnessed
 
   -- it observed what is so of the ring, and its node stands like that afterwards
-  abbrev pub Notes : Me S View → (Ring → Type 0) → Stand → Me S View → Type 0
+  abbrev pub Notes : Me S View → (Ring → Type 0) → SeatState → Me S View → Type 0
   Notes me IsSo new after = Stands me new after × Observes me.0.size me.0.from new me.0.witnessed after.0.witnessed IsSo
 
   -- one more on the word of what this node posted to j
@@ -106,11 +106,11 @@ module _ {S : Type 0} where
   Announced st me found = Exchanged me found Ended (λ was. Announcing me.0.size me.0.from (own_stand me) me.0.witnessed)
 
 -- the first node of a view, with a seat of its own, and the others
-abbrev pub first_node : List Stand → List Stand
+abbrev pub first_node : List SeatState → List SeatState
 first_node [] = []
 first_node (stand ∷ stands) = stand ∷ []
 
-abbrev pub other_nodes : List Stand → List Stand
+abbrev pub other_nodes : List SeatState → List SeatState
 other_nodes [] = []
 other_nodes (stand ∷ stands) = stands
 

@@ -8,7 +8,7 @@ use Rattle.dob_board.specs.declared.view.BoardEvent.{BoardEvent}
 use Rattle.dob_safra.specs.Tokens.{IsPacked}
 use Rattle.dob_safra.specs.Rings.{Ring, IsLawfulRing}
 use Rattle.dob_safra.specs.Laws.{IsSize}
-use Rattle.dob_board.specs.declared.view.Stand.{Stand}
+use Rattle.dob_board.specs.declared.view.SeatState.{SeatState}
 use Rattle.dob_board.specs.declared.view.View.{View}
 use Rattle.dob_board.specs.declared.halt.Halt.{Halt}
 use Rattle.dob_board.specs.declared.halt.Halt.TheVariants.{Running}
@@ -17,7 +17,7 @@ use Rattle.dob_board.specs.Views.{IsStand}
 use Rattle.dob_board.specs.Histories.{Runs, IsLaterLog, halt_told, token_moves_of}
 
 -- What a seat's view says of a node is right: the view is of n nodes, the node is this seat's, and what it knows is right.
-pub record IsNode (n : ℕ) (owner : ℕ → ℕ) (ring : Ring) (halt : Halt) (port size node : ℕ) (stand : Stand) : Type 0 where
+pub record IsNode (n : ℕ) (owner : ℕ → ℕ) (ring : Ring) (halt : Halt) (port size node : ℕ) (stand : SeatState) : Type 0 where
   pub size_is : size ≡ n
   pub within : node < n
   pub owned : owner node ≡ port
@@ -34,8 +34,8 @@ pub record IsClosed (n : ℕ) (log : List BoardEvent) (view : View) : Type 0 whe
 -- that of all nodes.
 pub record IsView (n : ℕ) (owner : ℕ → ℕ) (ring : Ring) (halt : Halt) (log : List BoardEvent) (port : ℕ) (view : View) : Type 0 where
   pub was_witnessed : IsLaterLog view.witnessed log
-  pub nodes : (k : ℕ) (stand : Stand) → get_elem? view.stands k ≡ some stand → IsNode n owner ring halt port view.size (view.from + k) stand
-  pub alone : view.own ≡ true → (k : ℕ) (stand : Stand) → get_elem? view.stands k ≡ some stand →
+  pub nodes : (k : ℕ) (stand : SeatState) → get_elem? view.stands k ≡ some stand → IsNode n owner ring halt port view.size (view.from + k) stand
+  pub alone : view.own ≡ true → (k : ℕ) (stand : SeatState) → get_elem? view.stands k ≡ some stand →
       token_moves_of (view.from + k) log ≡ token_moves_of (view.from + k) view.witnessed
   pub is_closed : view.closed ≡ true → IsClosed n log view
 
@@ -67,7 +67,7 @@ pub record IsHeld (n : ℕ) (words : List ℕ) (views : List View) : Type 0 wher
   pub each_once : nodes_in views ≡ n
 
 -- a node at the start
-abbrev pub fresh : ℕ → Stand
+abbrev pub fresh : ℕ → SeatState
 fresh n = record { posted = replicate n 0; taken = replicate n 0; seen = replicate n 0; black = true; token = None; halt = Running }
 
 -- all nodes at the start, in one view

@@ -8,7 +8,7 @@ use Rattle.dob_safra.specs.Tokens.{IsPacked, MayAnnounce}
 use Rattle.dob_safra.specs.Rings.{Ring, IsLawfulRing}
 use Rattle.dob_board.specs.declared.halt.Halt.{Halt}
 use Rattle.dob_board.specs.declared.halt.Halt.TheVariants.{Running, Ended, Failed}
-use Rattle.dob_board.specs.declared.view.Stand.{Stand}
+use Rattle.dob_board.specs.declared.view.SeatState.{SeatState}
 use Rattle.dob_board.specs.declared.seat.NodeSeat.{NodeSeat}
 use Rattle.dob_board.specs.declared.board.Closed.{Closed}
 use Rattle.dob_board.specs.Words.{posted_word, taken_word, word_count, halt_word, halt_after}
@@ -16,7 +16,7 @@ use Rattle.dob_board.specs.Histories.{Runs, IsLaterLog, MakesEvent, Observes, Ha
 use Rattle.dob_board.specs.Views.{Shows, sees, takes_more, counter_of, finds}
 
 -- what the seat knows of its node
-abbrev pub stand_of : NodeSeat → Stand
+abbrev pub stand_of : NodeSeat → SeatState
 stand_of seat = seat.stand
 
 -- the events that the seat has witnessed
@@ -58,7 +58,7 @@ pub record TakesNone (old new : NodeSeat) (from number : ℕ) : Type 0 where
   pub observed : Observes old.nodes old.node new.stand (witnessed_by old) (witnessed_by new) (HasPosted from old.node number)
 
 -- The node, as the seat knows, may announce the end.
-pub record MayEnd (stand : Stand) : Type 0 where
+pub record MayEnd (stand : SeatState) : Type 0 where
   pub token : Token
   pub known : stand.token ≡ Some token
   pub may : MayAnnounce token (counter_of stand) stand.black true

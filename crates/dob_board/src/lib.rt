@@ -30,4 +30,4 @@ pub use counts::Counts;
 pub use fault::{Fault, NotPosted};
 pub use halt::Halt;
 pub use seat::NodeSeat;
-pub use view::Stand;
+pub use view::SeatState;

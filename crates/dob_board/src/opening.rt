@@ -12,7 +12,7 @@ ghost use Rattle.dob_board.specs.Seats.{stand_of, IsSeatOf, AreSeats};
 use crate::counts::Counts;
 use crate::rule::FirstNode;
 use crate::seat::Words;
-use crate::view::{Stand, View};
+use crate::view::{SeatState, View};
 use crate::words::{NODES, TOKEN, word_count};
 use crate::{Board, Fault, Halt, NodeSeat};
 use atomic_table::{Seat, Table};
@@ -123,7 +123,7 @@ fn next_seat(
     let posted = Counts::zeros(alloc, nodes)?;
     let taken = Counts::zeros(alloc, nodes)?;
     let seen = Counts::zeros(alloc, nodes)?;
-    let stand = Stand {
+    let stand = SeatState {
         posted,
         taken,
         seen,

@@ -7,7 +7,7 @@ ghost use Rattle.dob_board.specs.Views.{one, IsTokenInBounds};
 ghost use Rattle.dob_safra.specs.Tokens.{most_nodes};
 
 use crate::rule::Order;
-use crate::view::{Stand, View};
+use crate::view::{SeatState, View};
 use atomic_table::{Seat, Table};
 use std::alloc::Global;
 use std::sync::Arc;
@@ -25,7 +25,7 @@ pub struct NodeSeat {
     /// How many nodes the board has.
     pub nodes: usize,
     /// What it knows of the node.
-    pub stand: Stand,
+    pub stand: SeatState,
     pub ghost size: { nodes ≤ most_nodes },
     pub ghost within: { node < nodes },
     pub ghost of_board: { seat.table_id ≡ (arc_value board).shared.table_id },

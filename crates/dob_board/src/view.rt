@@ -12,7 +12,7 @@ pub enum BoardEvent {
 
 /// What a seat knows of its node. A node whose seat saw that the end was announced is white.
 #[derive(Drop)]
-pub struct Stand {
+pub struct SeatState {
     /// How many batches the node posted to each node.
     pub posted: Counts,
     /// How many batches the node took of each node.
@@ -33,7 +33,7 @@ pub struct Stand {
 pub struct View {
     pub size: u64,
     pub from: u64,
-    pub stands: LinkedList<Stand>,
+    pub stands: LinkedList<SeatState>,
     pub witnessed: LinkedList<BoardEvent>,
     pub own: bool,
     pub closed: bool,

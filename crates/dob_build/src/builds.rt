@@ -9,7 +9,7 @@ ghost use Rattle.dob_build.specs.Builds.{AreBuilt, AreNodes, HaveBuilt, IsRunFau
 
 use dob_classes::count_classes;
 use dob_dbfile::Sink;
-use dob_files::{Lines, fill_with_table, keep_filled};
+use dob_files::{Answer, fill_with_table, keep_filled};
 use dob_lines::{Console, Progress, lines_of, tell_need};
 use dob_pieces::{Family, PieceSet};
 use dob_run::{BATCH, Built, CAPACITY, CrewSizes, Gate, build_by};
@@ -32,7 +32,7 @@ pub fn answer_build<R: Threads + Wait + Sync + Console, S: Shelf>(
     alloc: Global,
     shelf: &mut S,
     order: BuildOrder<'_>,
-) -> Lines
+) -> Answer
     ensures { GivesOwed (build_owed order.entry.profile order.entry.set.now order.entry.nodes order.entry.file.now) S.state shelf.old shelf.new result }
 {
     let BuildOrder {
@@ -58,7 +58,7 @@ fn fill_built<R: Threads + Wait + Sync + Console, D: Sink>(
     family: Family,
     sizes: &CrewSizes,
     is_watched: bool,
-) -> Lines
+) -> Answer
     requires sink { (D.state sink.old).has_failed ≡ false }
     requires sizes { IsUsualCrew sizes.now }
     ensures { FillsSink (AreBuilt family sizes.now.nodes) (IsUnbuilt family sizes.now.nodes) result (change (D.state sink.old) (D.state sink.new)) }

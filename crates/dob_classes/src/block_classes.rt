@@ -18,7 +18,7 @@ use crate::runs::Run;
 use crate::spots::count_before;
 use crate::stretch_tables::StretchTable;
 use dob_pieces::{Family, Memory, Profile};
-use dob_rank::block::{self, EachKind};
+use dob_rank::block::{self, PerKind};
 use dob_rank::far_places::local_at;
 use dob_rank::placing::Places;
 use dob_rank::runs::{LIONS, RunDigits, RunKind, Spot, kind_of};
@@ -33,8 +33,8 @@ pub(crate) struct BlockClasses {
     pub(crate) before: u64,
     pub(crate) after: u64,
     /// How many pieces of each kind stand on the board, and in how many ways their squares are chosen.
-    pub(crate) on_board: EachKind,
-    pub(crate) choices: EachKind,
+    pub(crate) on_board: PerKind,
+    pub(crate) choices: PerKind,
     runs: Vec<Run>,
     mixed: Vec<StretchTable>,
     index: RunIndex,

@@ -4,7 +4,7 @@ ghost use Rattle.dob_rank.specs.Placing.{AreAllPlaces};
 ghost use Rattle.dob_rank.specs.Runs.{AreFewOnBoard, square_bases};
 
 use dob_pieces::Memory;
-use dob_rank::block::EachKind;
+use dob_rank::block::PerKind;
 use dob_rank::placing::{Places, places_by};
 use dob_rank::radix;
 use std::alloc::Global;
@@ -16,8 +16,8 @@ use std::alloc::Global;
 /// `Memory`.
 pub(crate) fn all_places(
     alloc: Global,
-    on_board: &EachKind,
-    choices: &EachKind,
+    on_board: &PerKind,
+    choices: &PerKind,
 ) -> Result<Vec<Places>, Memory>
     requires few { AreFewOnBoard on_board.now }
     requires choices { choices.now ≡ square_bases on_board.now }

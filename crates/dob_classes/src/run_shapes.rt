@@ -5,15 +5,15 @@ ghost use Rattle.dob_rank.specs.Numbers.{product, block_bases};
 ghost use Rattle.dob_rank.specs.Runs.{runs_in};
 
 use dob_pieces::PieceSet;
-use dob_rank::block::{self, EachKind};
+use dob_rank::block::{self, PerKind};
 use dob_rank::runs::RunDigits;
 
 /// What the places of a run have in common.
 #[derive(Clone, Copy)]
 pub(crate) struct RunShape {
     /// How many pieces of each kind stand on the board, and in how many ways their squares are chosen.
-    pub(crate) on_board: EachKind,
-    pub(crate) choices: EachKind,
+    pub(crate) on_board: PerKind,
+    pub(crate) choices: PerKind,
     /// The bases of the digits that give a place.
     pub(crate) bases: [u64; 6],
     /// The digits of the run.

@@ -14,5 +14,7 @@ mod program;
 
 pub use dob_files::Fault;
 pub use dob_lines::{Console, Progress};
-pub use dob_shelf::{Claim, DiskFile, DiskShelf, Heard, MemShelf, Note, Place, Shelf, ShelfFault};
+pub use dob_shelf::{
+    Claim, Device, DiskFile, DiskShelf, ErrorRecorder, LastError, MemShelf, Shelf, ShelfFault,
+};
 pub use program::{run_given, run_over, run_words, tell_memory};

@@ -17,7 +17,7 @@ ghost use Rattle.dob_files.specs.declared.fault.Fault.TheVariants.{Io, Memory};
 use dob_build::answer_build;
 use dob_counts::{answer_reach, answer_stats};
 use dob_dbfile::{Lent, Sink, put_all, write_all};
-use dob_files::{Fault, Lines};
+use dob_files::{Answer, Fault};
 use dob_lines::Console;
 use dob_query::{answer_count, answer_question, answer_question_each, answer_show, answer_value};
 use dob_shelf::Shelf;
@@ -184,7 +184,7 @@ fn answer<S: Shelf>(
     alloc: Global,
     order: LinesOrder<'_>,
     shelf: &mut S,
-) -> Lines
+) -> Answer
     ensures { GivesOwed (owed_by order.entry) S.state shelf.old shelf.new result }
 {
     match order {

@@ -9,7 +9,7 @@ ghost use Rattle.dob_words.specs.Readings.{text_given};
 ghost use Rattle.dob_shelf.specs.Shelves.{Leaving, SameFiles};
 
 use dob_classes::Classes;
-use dob_files::{Lines, file_and_position};
+use dob_files::{Answer, file_and_position};
 use dob_lines::Console;
 use dob_pieces::{Family, Memory, Position, Profile};
 use dob_probe::check_member;
@@ -46,7 +46,7 @@ pub fn answer_reach<S: Shelf>(
     search: ReachSearch,
     file: Option<&str>,
     text: &str,
-) -> Lines
+) -> Answer
     ensures { GivesOwed (reach_owed search (text_given file.entry) text.now) S.state shelf.old shelf.new result }
 {
     match file {
@@ -61,7 +61,7 @@ fn by_rules(
     alloc: Global,
     search: ReachSearch,
     text: &str,
-) -> Lines
+) -> Answer
     ensures ok { IfOk result (λ lines. AreReachLines search text.now (string_bytes lines)) }
     ensures err { IfErr result (IsReachFault search.profile text.now) }
 {
@@ -92,7 +92,7 @@ fn by_file<S: Shelf>(
     search: ReachSearch,
     file: &str,
     text: &str,
-) -> Lines
+) -> Answer
     ensures { GivesOwed (reach_owed search (Some file.now) text.now) S.state shelf.old shelf.new result }
 {
     let (table, position) = file_and_position(alloc, shelf, file, text)?;

@@ -5,7 +5,7 @@ ghost use Rattle.dob_counts.specs.Stats.{AreStatsFor, AreStatsOf, IsLongestLine,
 ghost use Rattle.dob_files.specs.Owed.{GivesOwed};
 
 use dob_check::statistics;
-use dob_files::{Lines, open};
+use dob_files::{Answer, open};
 use dob_lines::{group_object, joined, lines_of};
 use dob_pieces::Memory;
 use dob_probe::Group;
@@ -31,7 +31,7 @@ pub fn answer_stats<S: Shelf>(
     shelf: &mut S,
     file: &str,
     form: StatsForm,
-) -> Lines
+) -> Answer
     ensures { GivesOwed (stats_owed file.now form) S.state shelf.old shelf.new result }
 {
     let table = open(alloc, shelf, file)?;

@@ -7,7 +7,7 @@ use Rattle.dob_crew.proofs.Common.{HasRowMore, IsCrew, end_in, ends_out, row_of,
 use Rattle.dob_crew.proofs.Common.{AreDealt, StandsAt, AreSeated, CanSeatAll, AreLaid, IsLaid, IsUntaken}
 use Rattle.dob_endpoint.proofs.Places.{map_got, get_map}
 use Rattle.dob_chan.specs.Ends.{IsEndOf}
-use Rattle.dob_board.specs.declared.view.Stand.{Stand}
+use Rattle.dob_board.specs.declared.view.SeatState.{SeatState}
 use Rattle.dob_crew.specs.declared.crew_close.Parts.{Parts}
 
 -- ---- what endpoints are at the start, of seats with their rows of outlets and their inlets
@@ -44,7 +44,7 @@ module _ {Z : Type 0} (capacity n : ℕ) (rows : List (Vec Outlet Z)) (inlets : 
   module _ (board : Board) (seats : List NodeSeat) (are : AreLaid capacity n rows inlets) (of : AreSeats board.rest.table_id n seats)
       (new : map stand_of seats ≡ replicate n (fresh n)) where
     is_fresh : (k : ℕ) (seat : NodeSeat) → slice_get seats k ≡ Some seat → fresh n ≡ seat.stand
-    is_fresh k seat at = at_replicate n k (fresh n) seat.stand (ap (λ (l : List Stand). slice_get l k) (sym new) ∙ get_map stand_of seats k seat at)
+    is_fresh k seat at = at_replicate n k (fresh n) seat.stand (ap (λ (l : List SeatState). slice_get l k) (sym new) ∙ get_map stand_of seats k seat at)
 
     pub can_seat : CanSeatAll seats rows inlets
     can_seat = record {
@@ -59,9 +59,9 @@ module _ {Z : Type 0} (capacity n : ℕ) (rows : List (Vec Outlet Z)) (inlets : 
             senders = bare.senders ∙ sym nodes;
             own = λ j outlet there. (out_laid are k j outlet (row, at_row, there)).1.paired.1 ∙ sym (of.seats_are k seat at).node;
             posted = λ j outlet there. let laid = out_laid are k j outlet (row, at_row, there) in
-                ap (λ (s : Stand). slice_index s.posted j) (sym start) ∙ no_count n j ∙ sym (ap length (new_out capacity k outlet laid.0 laid.1));
+                ap (λ (s : SeatState). slice_index s.posted j) (sym start) ∙ no_count n j ∙ sym (ap length (new_out capacity k outlet laid.0 laid.1));
             taken = λ j low.
-                ap (λ (s : Stand). slice_index s.taken j) (sym start) ∙ no_count n j
+                ap (λ (s : SeatState). slice_index s.taken j) (sym start) ∙ no_count n j
                 ∙ sym (ap (λ (bs : List BatchView). length (batches_of j bs)) (new_in n inlet bare));
           };
     }
@@ -73,8 +73,8 @@ module _ {Z : Type 0} (capacity n : ℕ) (rows : List (Vec Outlet Z)) (inlets : 
         let start = is_fresh k got.0 got.3 in
         let bare = are.untaken k got.2 got.5 in
         record {
-          black = ap (λ (s : NodeSeat). s.stand.black) is.seat_is ∙ ap (λ (s : Stand). s.black) (sym start);
-          running = ap (λ (s : NodeSeat). s.stand.halt) is.seat_is ∙ ap (λ (s : Stand). s.halt) (sym start);
+          black = ap (λ (s : NodeSeat). s.stand.black) is.seat_is ∙ ap (λ (s : SeatState). s.black) (sym start);
+          running = ap (λ (s : NodeSeat). s.stand.halt) is.seat_is ∙ ap (λ (s : SeatState). s.halt) (sym start);
           unsent = λ to outlet there.
               let laid = out_laid are k to outlet (got.1, got.4, ap (λ (l : List Outlet). slice_get l to) (sym is.outlets) ∙ there) in
               (new_out capacity k outlet laid.0 laid.1, laid.1.empty, laid.1.room);

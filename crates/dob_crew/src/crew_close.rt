@@ -6,7 +6,7 @@ ghost use Rattle.dob_crew.specs.CrewRunners.{endpoint_of, node_of};
 use dob_board::{Board, Closed, NodeSeat};
 use dob_chan::{Rejoined, SendEnd, TakeEnd};
 use dob_endpoint::{Endpoint, Inlet};
-use dob_inboxes::{deal, empty_rows, part_outlets, rejoin_all, spread_slot};
+use dob_inboxes::{empty_rows, part_outlets, push_each, rejoin_all, spread_slot};
 use dob_node::Node;
 use dob_pieces::Memory;
 use dob_runner::Runner;
@@ -138,7 +138,7 @@ impl Parts {
         let taking = spread_slot(alloc, slot, seat.nodes)?;
         self.seats.push(seat)?;
         let (sends, sending) = part_outlets(alloc, outlets)?;
-        deal(sends, &mut self.sends)?;
+        push_each(sends, &mut self.sends)?;
         self.sending.push(sending)?;
         self.takes.push(take)?;
         self.taking.push(taking)?;

@@ -14,7 +14,7 @@ use crate::limits::CrewSizes;
 use dob_board::{Board, NodeSeat};
 use dob_classes::Classes;
 use dob_endpoint::{Endpoint, Inlet, Outlet};
-use dob_inboxes::lay;
+use dob_inboxes::open_inboxes;
 use dob_node::Node;
 use dob_pieces::Memory;
 use dob_runner::{Pace, Runner};
@@ -127,7 +127,7 @@ fn open_endpoints(
     ensures new { IfOk result (λ opened. AreNewEndpoints capacity opened.1.items) }
 {
     let (board, seats) = Board::open_for(alloc, nodes)?;
-    let (rows, inlets) = lay(alloc, nodes, capacity)?;
+    let (rows, inlets) = open_inboxes(alloc, nodes, capacity)?;
     let endpoints = seat_all(alloc, seats, rows, inlets)?;
     Ok((board, endpoints))
 }

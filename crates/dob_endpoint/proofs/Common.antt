@@ -14,7 +14,7 @@ pub use Rattle.dob_board.specs.Seats.{FailsAfter, HasAnnounced, IsSameSeat, Knew
 pub use Rattle.dob_board.specs.declared.halt.Halt.{Halt}
 pub use Rattle.dob_board.specs.declared.halt.Halt.TheVariants.{Ended, Failed, Running}
 pub use Rattle.dob_board.specs.declared.seat.NodeSeat.{NodeSeat}
-pub use Rattle.dob_board.specs.declared.view.Stand.{Stand}
+pub use Rattle.dob_board.specs.declared.view.SeatState.{SeatState}
 pub use Rattle.dob_chan.proofs.Deliveries.{others_more}
 pub use Rattle.dob_chan.specs.Ends.{SendsToSame, TakesFromSame, place_of, senders_of, sent_by, taken_by, taken_of}
 pub use Rattle.dob_chan.specs.Inboxes.{batches_of}

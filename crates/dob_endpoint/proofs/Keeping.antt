@@ -1,7 +1,7 @@
 -- What links, seats and endpoints keep, through one step and the next.
 use Rattle.dob_endpoint.proofs.Common.{◌++◌, ◌↔◌, ◌∙◌, ◌≡◌, ◌≢◌, Bool, IsTrue, List, None, Option, Some, [], ap, append_assoc, arith, false, length, refl, set, subst, sym, true, ℕ, append-nil}
 use Rattle.dob_endpoint.proofs.Common.{same_Some, slice_get_within, slice_get, some_at, BatchView, token_moves_of, IsSameSeat, KnewOwnFailure, MovesNothing}
-use Rattle.dob_endpoint.proofs.Common.{witnessed_by, Halt, Failed, NodeSeat, Stand, SendsToSame, TakesFromSame, sent_by, taken_by, SendEnd, TakeEnd, KeepsEach}
+use Rattle.dob_endpoint.proofs.Common.{witnessed_by, Halt, Failed, NodeSeat, SeatState, SendsToSame, TakesFromSame, sent_by, taken_by, SendEnd, TakeEnd, KeepsEach}
 use Rattle.dob_endpoint.proofs.Common.{HasSameLinks, KeepsEndpoint, KeepsInlet, KeepsOutlet, Endpoint, Inlet, Outlet}
 use Rattle.dob_pieces.specs.Lists.{IsBeginning}
 use Rattle.dob_safra.specs.declared.token.Token.{Token}
@@ -113,7 +113,7 @@ pub passed_counts : (old new : NodeSeat) (known : Option Token) → old.stand.to
     ((token : Token) → old.stand.token ≡ Some token → new.stand ≡ passes old.nodes old.node old.stand token) →
     (new.stand.posted ≡ old.stand.posted) × (new.stand.taken ≡ old.stand.taken)
 passed_counts old new None is some passed = absurd (some is)
-passed_counts old new (Some token) is some passed = (let stand = passed token is in (ap (λ (s : Stand). s.posted) stand, ap (λ (s : Stand). s.taken) stand))
+passed_counts old new (Some token) is some passed = (let stand = passed token is in (ap (λ (s : SeatState). s.posted) stand, ap (λ (s : SeatState). s.taken) stand))
 
 -- ---- the token
 

@@ -14,8 +14,8 @@ use Rattle.dob_stops.specs.declared.fault.Fault.TheVariants as run_fault
 use Rattle.dob_probe.specs.Faults as table
 use Rattle.dob_probe.specs.declared.fault.Fault.{Fault as TableFault}
 use Rattle.dob_probe.specs.declared.fault.Fault.TheVariants as table_fault
-use Rattle.dob_probe.specs.declared.gap.Gap.{Gap}
-use Rattle.dob_probe.specs.declared.gap.Gap.TheVariants as gap
+use Rattle.dob_probe.specs.declared.gap.LookupFault.{LookupFault}
+use Rattle.dob_probe.specs.declared.gap.LookupFault.TheVariants as gap
 use Rattle.dob_pieces.specs.Bytes.{line_feed}
 use Rattle.dob_shelf.specs.declared.shelf.ShelfFault as shelf
 use Rattle.dob_shelf.specs.declared.shelf.ShelfFault.TheVariants as shelf_fault
@@ -93,14 +93,14 @@ fault_of_shelf shelf_fault.Memory = Memory
 fault_of_shelf shelf_fault.Failed = Io
 
 -- a fault of asking the records of a file
-abbrev pub fault_of_records : Gap FileFault → Fault
-fault_of_records (gap.Unsaid fault) = File fault
+abbrev pub fault_of_records : LookupFault FileFault → Fault
+fault_of_records (gap.NoValue fault) = File fault
 fault_of_records (gap.Inconsistent class) = Table (table_fault.Inconsistent class)
 fault_of_records gap.Memory = Memory
 
 -- a fault of asking a table
-abbrev pub fault_of_table : Gap TableFault → Fault
-fault_of_table (gap.Unsaid fault) = Table fault
+abbrev pub fault_of_table : LookupFault TableFault → Fault
+fault_of_table (gap.NoValue fault) = Table fault
 fault_of_table (gap.Inconsistent class) = Table (table_fault.Inconsistent class)
 fault_of_table gap.Memory = Memory
 

@@ -35,7 +35,7 @@ pub enum Fault {
 }
 
 /// The lines of an answer, or why there are none.
-pub type Lines = Result<String, Fault>;
+pub type Answer = Result<String, Fault>;
 
 impl Fault {
     ghost use Rattle.dob_files.specs.Faults.{is_io, status_of};
@@ -148,34 +148,34 @@ impl From<dob_probe::Fault> for Fault {
     }
 }
 
-impl From<dob_probe::Gap<dob_dbfile::Fault>> for Fault {
+impl From<dob_probe::LookupFault<dob_dbfile::Fault>> for Fault {
     ghost use Rattle.dob_files.specs.Faults.{fault_of_records};
 
     ghost from_gives = { λ given result. result ≡ fault_of_records given };
 
-    fn from(given: dob_probe::Gap<dob_dbfile::Fault>) -> Fault {
+    fn from(given: dob_probe::LookupFault<dob_dbfile::Fault>) -> Fault {
         match given {
-            dob_probe::Gap::Unsaid(fault) => Fault::File(fault),
-            dob_probe::Gap::Inconsistent(class) => Fault::Table(dob_probe::Fault::Inconsistent(
-                class,
-            )),
-            dob_probe::Gap::Memory => Fault::Memory,
+            dob_probe::LookupFault::NoValue(fault) => Fault::File(fault),
+            dob_probe::LookupFault::Inconsistent(class) => Fault::Table(
+                dob_probe::Fault::Inconsistent(class),
+            ),
+            dob_probe::LookupFault::Memory => Fault::Memory,
         }
     }
 }
 
-impl From<dob_probe::Gap<dob_probe::Fault>> for Fault {
+impl From<dob_probe::LookupFault<dob_probe::Fault>> for Fault {
     ghost use Rattle.dob_files.specs.Faults.{fault_of_table};
 
     ghost from_gives = { λ given result. result ≡ fault_of_table given };
 
-    fn from(given: dob_probe::Gap<dob_probe::Fault>) -> Fault {
+    fn from(given: dob_probe::LookupFault<dob_probe::Fault>) -> Fault {
         match given {
-            dob_probe::Gap::Unsaid(fault) => Fault::Table(fault),
-            dob_probe::Gap::Inconsistent(class) => Fault::Table(dob_probe::Fault::Inconsistent(
-                class,
-            )),
-            dob_probe::Gap::Memory => Fault::Memory,
+            dob_probe::LookupFault::NoValue(fault) => Fault::Table(fault),
+            dob_probe::LookupFault::Inconsistent(class) => Fault::Table(
+                dob_probe::Fault::Inconsistent(class),
+            ),
+            dob_probe::LookupFault::Memory => Fault::Memory,
         }
     }
 }

@@ -15,8 +15,8 @@ mod tables;
 mod talk;
 
 pub use certificate_fault::CertificateFault;
-pub use fault::{Fault, Lines};
+pub use fault::{Answer, Fault};
 pub use keeping::{fill, fill_with_table, keep_filled};
-pub use positions::{file_and_position, position_named, position_on};
+pub use positions::{file_and_position, position_in_line, position_named};
 pub use tables::open;
 pub use talk::{Answerer, LineAnswers, tell_each};

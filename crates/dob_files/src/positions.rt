@@ -37,7 +37,7 @@ pub fn position_named(text: &str) -> Result<Position, TextFault>
 }
 
 /// The same of a line of bytes.
-pub fn position_on(line: &[u8]) -> Result<Position, TextFault>
+pub fn position_in_line(line: &[u8]) -> Result<Position, TextFault>
     ensures { MatchResult result (λ position. IsTextOf line.now position.setup) (HasTextFault A line.now) }
 {
     read_position_bytes(Profile::A, line)

@@ -5,7 +5,7 @@ ghost use Rattle.dob_chan.specs.Ends.{taken_by, AreEndsOf, AreRejoined};
 ghost use Rattle.dob_endpoint.specs.Slots.{held_from, slot_row};
 ghost use Rattle.dob_inboxes.specs.InboxClose.{outlet_end, outlet_slot, AreEnds, AreJoined};
 
-use crate::rows::{deal, empty_rows, join};
+use crate::rows::{empty_rows, join, push_each};
 use dob_chan::{Rejoined, SendEnd, TakeEnd, rejoin_inbox};
 use dob_endpoint::Outlet;
 use dob_pieces::Memory;
@@ -89,7 +89,7 @@ pub fn rejoin_all<R: Wait>(
     let mut rows = empty_rows(alloc, nodes)?;
     for (row, take) in sends.into_iter().zip(takes) {
         let links = rejoin_one(rt, alloc, row, take)?;
-        deal(links, &mut rows)?;
+        push_each(links, &mut rows)?;
     }
     join(alloc, rows, nodes)
 }

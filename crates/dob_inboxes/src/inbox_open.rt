@@ -2,7 +2,7 @@
 ghost use Rattle.std.specs.Prelude.{◌≡◌, IfOk, length};
 ghost use Rattle.dob_inboxes.specs.InboxOpen.{AreOutlets, IsOneLaid, AreLaid};
 
-use crate::rows::{deal, empty_rows};
+use crate::rows::{empty_rows, push_each};
 use dob_chan::{SendEnd, inbox};
 use dob_endpoint::{Inlet, Outlet};
 use dob_pieces::Memory;
@@ -16,7 +16,7 @@ use std::alloc::Global;
 /// # Errors
 ///
 /// `Memory`.
-pub fn lay(
+pub fn open_inboxes(
     alloc: Global,
     nodes: NodeCount,
     capacity: Capacity,
@@ -28,7 +28,7 @@ pub fn lay(
     let mut inlets = Vec::with_capacity(alloc, count)?;
     for _ in 0..count {
         let (outlets, inlet) = lay_one(alloc, nodes, capacity)?;
-        deal(outlets, &mut rows)?;
+        push_each(outlets, &mut rows)?;
         inlets.push(inlet)?;
     }
     Ok((rows, inlets))

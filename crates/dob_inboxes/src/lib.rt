@@ -9,5 +9,5 @@ mod inbox_open;
 mod rows;
 
 pub use inbox_close::{part_outlets, rejoin_all, spread_slot};
-pub use inbox_open::lay;
-pub use rows::{deal, empty_rows};
+pub use inbox_open::open_inboxes;
+pub use rows::{empty_rows, push_each};

@@ -25,7 +25,7 @@ pub fn empty_rows<T: Drop>(alloc: Global, count: usize) -> Result<Vec<Vec<T>>, M
 /// # Errors
 ///
 /// `Memory`, with some of the things put.
-pub fn deal<T: Drop>(things: Vec<T>, rows: &mut Vec<Vec<T>>) -> Result<(), Memory>
+pub fn push_each<T: Drop>(things: Vec<T>, rows: &mut Vec<Vec<T>>) -> Result<(), Memory>
     requires { vec_len things ≡ vec_len rows.old }
     ensures { OnOk result (AreDealt (vec_len things) things.items rows.old.items rows.new.items) }
 {

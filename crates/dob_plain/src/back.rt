@@ -4,7 +4,7 @@ ghost use Rattle.dob_pieces.specs.declared.profile.Profile.TheVariants.{A};
 ghost use Rattle.dob_pieces.specs.declared.setup.Setup.{Setup};
 ghost use Rattle.dob_rank.specs.Families.{IsPositionOf};
 ghost use Rattle.dob_rank.specs.Families.{classes_of};
-ghost use Rattle.dob_unmove.specs.declared.undo.Undo.{Undo};
+ghost use Rattle.dob_unmove.specs.declared.undo.RetroMove.{RetroMove};
 ghost use Rattle.dob_unmove.specs.Undoes.{CanUndo, earlier};
 ghost use Rattle.dob_unmove.specs.Unmoves.{CountEdges, ArePredecessors};
 ghost use Rattle.dob_unmove.specs.Edges.{predecessors};
@@ -16,7 +16,7 @@ use crate::earlier::open_before;
 use crate::walk::{Taker, take_all};
 use dob_classes::Classes;
 use dob_pieces::{Board, Memory, Position, Setup};
-use dob_unmove::{Threat, Undo, may_give_back};
+use dob_unmove::{RetroMove, Threat, may_give_back};
 
 // What finds classes: their numbering, and the threat to the enemy lion in the setup from which ways back are taken.
 #[derive(Drop)]
@@ -30,7 +30,7 @@ impl Taker for Finder<'_> {
 
     ghost takes = { λ after finder old undo new. Adds (RepresentsClass finder.classes.now.family) after undo old new };
 
-    fn take(&self, after: &Setup, undo: Undo, found: &mut Vec<u64>) -> Result<(), Memory> {
+    fn take(&self, after: &Setup, undo: RetroMove, found: &mut Vec<u64>) -> Result<(), Memory> {
         if let Some(class) = class_before(self.classes, after, &self.threat, undo) {
             found.push(class)?;
         }
@@ -39,7 +39,7 @@ impl Taker for Finder<'_> {
 }
 
 // The class whose representative stood there before the move, if a representative did and was open.
-fn class_before(classes: &Classes, after: &Setup, threat: &Threat, undo: Undo) -> Option<u64>
+fn class_before(classes: &Classes, after: &Setup, threat: &Threat, undo: RetroMove) -> Option<u64>
     requires can { CanUndo after.now undo }
     requires of_set { IsSeenTurned (IsPositionOf classes.now.family) after.now }
     requires threat { IsThreat after.now threat.now }

@@ -9,12 +9,12 @@ ghost use Rattle.dob_unmove.specs.Unmoves.{IsOpenPosition};
 ghost use Rattle.dob_unmove.specs.Classes.{IsSeenTurned};
 
 use dob_pieces::{HandKind, Hands, Kind, Piece, Position, Setup, Side, Square};
-use dob_unmove::{Undo, enemy_cell, without_caught};
+use dob_unmove::{RetroMove, enemy_cell, without_caught};
 
 /// The position before the move, where there was one, if by its status it would be open. In `after` the side that made
 /// the move is still the mover; seen from the other side it is a position. Taking a move back keeps the lions and the
 /// other pieces, so only the mover's lion on row 4 is left to be tested.
-pub(crate) fn open_before(after: &Setup, undo: Undo) -> Option<Position>
+pub(crate) fn open_before(after: &Setup, undo: RetroMove) -> Option<Position>
     requires can { CanUndo after.now undo }
     requires legal { IsSeenTurned IsLegal after.now }
     requires was_open { HasStatus A (earlier after.now undo) Open }
@@ -29,19 +29,19 @@ pub(crate) fn open_before(after: &Setup, undo: Undo) -> Option<Position>
 }
 
 // What stood and lay where before the move.
-fn earlier(after: &Setup, undo: Undo) -> Setup
+fn earlier(after: &Setup, undo: RetroMove) -> Setup
     requires can { CanUndo after.now undo }
     requires few { HasFewPieces after.now }
     ensures { result ≡ earlier after.now undo }
 {
     match undo {
-        Undo::Unstep {
+        RetroMove::Unstep {
             kind,
             from,
             to,
             caught,
         } => before_step(after, kind, from, to, caught),
-        Undo::Unput { kind, to } => before_put(after, kind, to),
+        RetroMove::Unput { kind, to } => before_put(after, kind, to),
     }
 }
 
@@ -49,7 +49,7 @@ fn earlier(after: &Setup, undo: Undo) -> Setup
 #[tactic(auto, unfolding(dob_unmove::specs::Undoes::earlier))]
 fn before_step(after: &Setup, kind: Kind, from: Square, to: Square, caught: Option<Kind>) -> Setup
     requires { CanGiveBack after.now.hands.mover caught }
-    ensures { result ≡ earlier after.now (Undo.Unstep kind from to caught) }
+    ensures { result ≡ earlier after.now (RetroMove.Unstep kind from to caught) }
 {
     let mut board = after.board;
     board[to.index()] = enemy_cell(caught);
@@ -71,7 +71,7 @@ fn before_step(after: &Setup, kind: Kind, from: Square, to: Square, caught: Opti
 #[tactic(auto, using(dob_unmove::proofs::Undone::few_held), unfolding(dob_unmove::specs::Undoes::earlier))]
 fn before_put(after: &Setup, kind: HandKind, to: Square) -> Setup
     requires { HasFewPieces after.now }
-    ensures { result ≡ earlier after.now (Undo.Unput kind to) }
+    ensures { result ≡ earlier after.now (RetroMove.Unput kind to) }
 {
     let mut board = after.board;
     board[to.index()] = None;

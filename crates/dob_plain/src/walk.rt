@@ -5,12 +5,12 @@ ghost use Rattle.dob_pieces.specs.declared.setup.Setup.{Setup};
 ghost use Rattle.dob_pieces.specs.Masks.{is_kind};
 ghost use Rattle.dob_pieces.specs.Pieces.{leads};
 ghost use Rattle.dob_pieces.specs.Setups.{at};
-ghost use Rattle.dob_unmove.specs.declared.undo.Undo.{Undo};
+ghost use Rattle.dob_unmove.specs.declared.undo.RetroMove.{RetroMove};
 ghost use Rattle.dob_unmove.specs.Undoes.{arrives_at, CanUndo};
 ghost use Rattle.dob_unmove.specs.Walks.{TakesAll, stands, uncatch, unsteps_from, unsteps, unputs, undoes_at, undoes};
 
 use dob_pieces::{HandKind, Kind, Memory, Piece, Setup, Side, Square};
-use dob_unmove::{Undo, holds_caught};
+use dob_unmove::{RetroMove, holds_caught};
 
 /// Takes the ways in which the last move may have been made, one at a time, and notes numbers.
 pub(crate) trait Taker {
@@ -18,10 +18,10 @@ pub(crate) trait Taker {
     ghost suits: { Setup → Self → Type 0 };
 
     /// By `takes after self old undo new` taking that way back leads from the one list of numbers to the other.
-    ghost takes: { Setup → Self → List ℕ → Undo → List ℕ → Type 0 };
+    ghost takes: { Setup → Self → List ℕ → RetroMove → List ℕ → Type 0 };
 
     // Takes one way to take the last move back from `after`, in which the side that made it is the mover.
-    fn take(&self, after: &Setup, undo: Undo, found: &mut Vec<u64>) -> Result<(), Memory>
+    fn take(&self, after: &Setup, undo: RetroMove, found: &mut Vec<u64>) -> Result<(), Memory>
         requires can { CanUndo after.now undo }
         requires suited { suits after.now self.now }
         ensures { OnOk result (takes after.now self.now found.old.items undo found.new.items) };
@@ -105,7 +105,7 @@ fn take_unsteps_from<T: Taker>(
     }
     taker.take(
         after,
-        Undo::Unstep {
+        RetroMove::Unstep {
             kind,
             from,
             to,
@@ -130,7 +130,7 @@ fn take_uncatch<T: Taker>(
     caught: Kind,
     found: &mut Vec<u64>,
 ) -> Result<(), Memory>
-    requires step { CanUndo after.now (Undo.Unstep kind from to None) }
+    requires step { CanUndo after.now (RetroMove.Unstep kind from to None) }
     requires suited { T.suits after.now taker.now }
     ensures { OnOk result (TakesAll (T.takes after.now taker.now) found.old.items (uncatch after.now kind from to caught) found.new.items) }
 {
@@ -139,7 +139,7 @@ fn take_uncatch<T: Taker>(
     }
     taker.take(
         after,
-        Undo::Unstep {
+        RetroMove::Unstep {
             kind,
             from,
             to,
@@ -164,7 +164,7 @@ fn take_unput<T: Taker>(
     if !stands(after.at(to), kind.on_board()) {
         return Ok(());
     }
-    taker.take(after, Undo::Unput { kind, to }, found)
+    taker.take(after, RetroMove::Unput { kind, to }, found)
 }
 
 // Whether the mover's piece of that kind stands there.

@@ -8,9 +8,9 @@ use Rattle.dob_pieces.specs.declared.profile.Family.{Family}
 use Rattle.dob_classes.proofs.OfFamilies.FamilyRepresentatives.{one_class}
 use Rattle.dob_probe.specs.Laws.{LinesDontBreak, OneBreak}
 use Rattle.dob_probe.specs.Said.{IsGapOfLine, IsGapTo, fault_of}
-use Rattle.dob_probe.specs.declared.gap.Gap.{Gap}
-use Rattle.dob_probe.specs.declared.gap.Gap.TheVariants.{Unsaid}
-use Rattle.dob_probe.specs.declared.gap.Gap.TheVariants as gaps
+use Rattle.dob_probe.specs.declared.gap.LookupFault.{LookupFault}
+use Rattle.dob_probe.specs.declared.gap.LookupFault.TheVariants.{NoValue}
+use Rattle.dob_probe.specs.declared.gap.LookupFault.TheVariants as gaps
 use Rattle.dob_probe.proofs.Entries.{one_given}
 use Rattle.dob_probe.proofs.InOrder.{in_order}
 use Rattle.std.proofs.lemmas.Bool.{cases_lt}
@@ -163,17 +163,17 @@ line_catches {profile} {Has} {p} {moves} {q} on m catch = line_after profile Has
 
 -- why there is no next move is why there is no line
 pub gap_breaks : {F : Type 0} (family : Family) (Has : Setup → Value → Type 0) (Lacks : Setup → F → Type 0) (p : Setup) (moves : List Move) (q : Setup)
-    (value wanted : Value) (gap : Gap F) → IsBegun family.profile Has p moves q value → ¬ CanCatch q → value_wanted value ≡ Some wanted
+    (value wanted : Value) (gap : LookupFault F) → IsBegun family.profile Has p moves q value → ¬ CanCatch q → value_wanted value ≡ Some wanted
     → IsGapTo family Has Lacks q wanted gap → IsGapOfLine family Has Lacks p gap
-gap_breaks family Has Lacks p moves q value wanted (Unsaid fault) on no_catch next gap = (gap.0, inr (moves, q, on.begins, gap.1), gap.2)
+gap_breaks family Has Lacks p moves q value wanted (NoValue fault) on no_catch next gap = (gap.0, inr (moves, q, on.begins, gap.1), gap.2)
 gap_breaks family Has Lacks p moves q value wanted (gaps.Inconsistent class) on no_catch next gap =
     (moves, q, on.begins, gap.0, (wanted, goes_on_to on no_catch wanted next, gap.1))
 gap_breaks family Has Lacks p moves q value wanted gaps.Memory on no_catch next gap = tt
 
 -- by a table that is a fault of the line
-pub fault_of_line : (table : ClassTable) (p : Setup) (gap : Gap Fault) → IsPositionOf table.family p
+pub fault_of_line : (table : ClassTable) (p : Setup) (gap : LookupFault Fault) → IsPositionOf table.family p
     → IsGapOfLine table.family (GivenBy table) (λ q fault. ⊥) p gap → IsFaultOfLine table p (fault_of gap)
-fault_of_line table p (Unsaid fault) member lacks = absurd lacks.2
+fault_of_line table p (NoValue fault) member lacks = absurd lacks.2
 fault_of_line table p (gaps.Inconsistent class) member breaks = (member, breaks)
 fault_of_line table p gaps.Memory member memory = tt
 

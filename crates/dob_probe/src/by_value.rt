@@ -15,7 +15,7 @@ ghost use Rattle.dob_probe.specs.Lines.{GivenBy};
 ghost use Rattle.dob_probe.specs.Said.{IsGapOfMoves, fails, is_failing};
 
 use crate::fault::Fault;
-use crate::gap::Gap;
+use crate::gap::LookupFault;
 use crate::members::check_member;
 use crate::values::Values;
 use dob_moves::{Move, first_catch, moves};
@@ -82,14 +82,14 @@ fn moves_of_set(
 ///
 /// # Errors
 ///
-/// `Unsaid` if one of them has none; `Memory`.
+/// `NoValue` if one of them has none; `Memory`.
 pub fn moves_by<S, V: Values<S>>(
     alloc: Global,
     by: &V,
     source: &mut S,
     family: Family,
     position: &Position,
-) -> Result<Vec<ValuedMove>, Gap<V::Fault>>
+) -> Result<Vec<ValuedMove>, LookupFault<V::Fault>>
     requires stands { V.stands by.now }
     requires family { V.family_of by.now ≡ family }
     requires member { IsPositionOf family position.now.setup }
@@ -129,7 +129,7 @@ fn moves_in_order<S, V: Values<S>>(
     family: Family,
     position: &Position,
     legal: &[Move],
-) -> Result<Vec<ValuedMove>, Gap<V::Fault>>
+) -> Result<Vec<ValuedMove>, LookupFault<V::Fault>>
     requires stands { V.stands by.now }
     requires family { V.family_of by.now ≡ family }
     requires member { IsPositionOf family position.now.setup }
@@ -147,7 +147,7 @@ fn moves_in_order<S, V: Values<S>>(
         let next = outcome_of(family, position, *played);
         let value = match by.value_at(source, &next) {
             Ok(value) => value,
-            Err(fault) => return Err(Gap::Unsaid(fault)),
+            Err(fault) => return Err(LookupFault::NoValue(fault)),
         };
         let valued = ValuedMove {
             played: *played,

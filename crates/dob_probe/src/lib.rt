@@ -30,7 +30,7 @@ mod walks;
 pub use by_value::{ValuedMove, insert_by_value, moves_by, value_seen, valued_moves};
 pub use checks::{check, check_class};
 pub use fault::Fault;
-pub use gap::Gap;
+pub use gap::LookupFault;
 pub use groups::{Group, add_slots, groups_of, slots_between};
 pub use lines::{line, line_by};
 pub use members::check_member;

@@ -12,7 +12,7 @@ ghost use Rattle.dob_probe.specs.Faults.{IsFaultOfLine};
 ghost use Rattle.dob_probe.specs.Said.{AreSingle, IsGapOfLine, IsGapTo, fails, is_failing};
 
 use crate::fault::Fault;
-use crate::gap::{Gap, fault_of};
+use crate::gap::{LookupFault, fault_of};
 use crate::probes::probe;
 use crate::values::Values;
 use dob_classes::Classes;
@@ -72,7 +72,7 @@ fn line_from(
 ///
 /// # Errors
 ///
-/// `Unsaid` if one of them has none; `Inconsistent` with the class at which the line goes on, but no move leads to the value that it needs; `Memory`.
+/// `NoValue` if one of them has none; `Inconsistent` with the class at which the line goes on, but no move leads to the value that it needs; `Memory`.
 pub fn line_by<S, V: Values<S>>(
     alloc: Global,
     by: &V,
@@ -80,7 +80,7 @@ pub fn line_by<S, V: Values<S>>(
     classes: &Classes,
     mut position: Position,
     mut value: Value,
-) -> Result<Vec<Move>, Gap<V::Fault>>
+) -> Result<Vec<Move>, LookupFault<V::Fault>>
     requires stands { V.stands by.now }
     requires single { (held : V.Held) → AreSingle classes.now.family (V.says by.now held) }
     requires family { V.family_of by.now ≡ classes.now.family }
@@ -130,7 +130,7 @@ fn value_wanted(value: Value) -> Option<Value>
 
 // The first move to a position with that value, and that position.
 //
-// Errors: `Unsaid` if a position to which a move leads has no value; `Inconsistent` with the position's class where none leads to that value; `Memory`.
+// Errors: `NoValue` if a position to which a move leads has no value; `Inconsistent` with the position's class where none leads to that value; `Memory`.
 fn first_to<S, V: Values<S>>(
     alloc: Global,
     by: &V,
@@ -138,7 +138,7 @@ fn first_to<S, V: Values<S>>(
     classes: &Classes,
     position: &Position,
     wanted: Value,
-) -> Result<(Move, Position), Gap<V::Fault>>
+) -> Result<(Move, Position), LookupFault<V::Fault>>
     requires stands { V.stands by.now }
     requires single { (held : V.Held) → AreSingle classes.now.family (V.says by.now held) }
     requires family { V.family_of by.now ≡ classes.now.family }
@@ -158,7 +158,7 @@ fn first_to<S, V: Values<S>>(
 
 // The first of the moves to a position with that value, and that position.
 //
-// Errors: `Unsaid` and `Inconsistent`, as of `first_to`.
+// Errors: `NoValue` and `Inconsistent`, as of `first_to`.
 fn first_among<S, V: Values<S>>(
     by: &V,
     source: &mut S,
@@ -166,7 +166,7 @@ fn first_among<S, V: Values<S>>(
     position: &Position,
     legal: &[Move],
     wanted: Value,
-) -> Result<(Move, Position), Gap<V::Fault>>
+) -> Result<(Move, Position), LookupFault<V::Fault>>
     requires stands { V.stands by.now }
     requires single { (held : V.Held) → AreSingle classes.now.family (V.says by.now held) }
     requires family { V.family_of by.now ≡ classes.now.family }
@@ -185,11 +185,11 @@ fn first_among<S, V: Values<S>>(
         let next = outcome_of(classes.family, position, *played);
         let value = match by.value_at(source, &next) {
             Ok(value) => value,
-            Err(fault) => return Err(Gap::Unsaid(fault)),
+            Err(fault) => return Err(LookupFault::NoValue(fault)),
         };
         if value == wanted {
             return Ok((*played, next));
         }
     }
-    Err(Gap::Inconsistent(classes.class_of(position)))
+    Err(LookupFault::Inconsistent(classes.class_of(position)))
 }

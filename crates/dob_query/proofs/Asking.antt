@@ -21,8 +21,8 @@ use Rattle.dob_words.specs.declared.command.orders.By.TheVariants as way
 use Rattle.dob_files.specs.declared.fault.Fault.TheVariants.{Text}
 use Rattle.dob_text.specs.declared.fault.TextFault.{TextFault}
 use Rattle.dob_files.specs.Faults.{fault_of_table}
-use Rattle.dob_probe.specs.declared.gap.Gap.{Gap}
-use Rattle.dob_probe.specs.declared.gap.Gap.TheVariants as gap
+use Rattle.dob_probe.specs.declared.gap.LookupFault.{LookupFault}
+use Rattle.dob_probe.specs.declared.gap.LookupFault.TheVariants as gap
 use Rattle.std.proofs.Common.{arith}
 use Rattle.std.specs.Prelude.{string_bytes}
 
@@ -106,11 +106,11 @@ by_table c question file table p (Err lower) is works told fault = (table_asks q
 -- ---- by what says values
 
 -- a table has a value for each position, so it leaves open only where a line breaks off
-pub table_gap : (question : Question) (table : ClassTable) (p : Setup) (why : Gap probing.Fault) → IsPositionOf table.family p
+pub table_gap : (question : Question) (table : ClassTable) (p : Setup) (why : LookupFault probing.Fault) → IsPositionOf table.family p
     → IsGapFor question table.family (GivenBy table) (λ (q : Setup) (fault : probing.Fault). ⊥) p why → IsTableFault question table p (fault_of_table why)
-table_gap (OfValue form) table p (gap.Unsaid fault) member is = absurd is
-table_gap (Moves form) table p (gap.Unsaid fault) member is = absurd is.2
-table_gap line table p (gap.Unsaid fault) member is = absurd is.2
+table_gap (OfValue form) table p (gap.NoValue fault) member is = absurd is
+table_gap (Moves form) table p (gap.NoValue fault) member is = absurd is.2
+table_gap line table p (gap.NoValue fault) member is = absurd is.2
 table_gap question table p (gap.Inconsistent class) member is = (member, is)
 table_gap question table p gap.Memory member is = tt
 

@@ -7,7 +7,7 @@ use Rattle.std.specs.Prelude.{string_bytes}
 use Rattle.dob_probe.specs.declared.fault.Fault as probing
 use Rattle.dob_dbfile.specs.declared.fault.Fault.TheVariants as file_fault
 use Rattle.dob_probe.specs.declared.fault.Fault.TheVariants as table_fault
-use Rattle.dob_probe.specs.declared.gap.Gap.TheVariants as gap
+use Rattle.dob_probe.specs.declared.gap.LookupFault.TheVariants as gap
 use Rattle.dob_words.specs.declared.command.orders.By.TheVariants as way
 use Rattle.dob_query.specs.QuestionsEach.{AnswersLine, EndsRecords, GivesLine, IsStreamAnswer}
 use Rattle.dob_query.specs.QuestionsEach.{IsPlaceAnswer, IsRecordAnswer, IsRecordEnd, IsToldOf, TellsRecords, end_of, ended_lines, ends_all}
@@ -94,7 +94,7 @@ module _ (question : Question) (Shows : Stream → Type 0) (format : Format) (fa
 
 module _ (question : Question) (Shows : Stream → Type 0) (format : Format) (family : Family) (line : List ℕ) where
   -- a device that fails is the source
-  lacks_io : (q : Question) → question ≡ q → (stream : Stream) (bytes : ℕ) → (position : Setup) → IsRecordsGap q stream format family position (gap.Unsaid (file_fault.Io bytes))
+  lacks_io : (q : Question) → question ≡ q → (stream : Stream) (bytes : ℕ) → (position : Setup) → IsRecordsGap q stream format family position (gap.NoValue (file_fault.Io bytes))
       → stream.fails ≡ true
   lacks_io (OfValue form) same stream bytes position lacks = lacks.fails.1
   lacks_io q same stream bytes position lacks = lacks.2.fails.1

@@ -20,8 +20,8 @@ use Rattle.dob_value.specs.Follows.{ClassTable}
 use Rattle.dob_probe.specs.declared.by_value.ValuedMove.{ValuedMove}
 use Rattle.dob_probe.specs.declared.fault.Fault as probing
 use Rattle.dob_probe.specs.declared.fault.Fault.TheVariants as table_fault
-use Rattle.dob_probe.specs.declared.gap.Gap.{Gap}
-use Rattle.dob_probe.specs.declared.gap.Gap.TheVariants as gap
+use Rattle.dob_probe.specs.declared.gap.LookupFault.{LookupFault}
+use Rattle.dob_probe.specs.declared.gap.LookupFault.TheVariants as gap
 use Rattle.dob_probe.specs.Faults.{IsRefusal}
 use Rattle.dob_probe.specs.Lines.{GivenBy, IsLine}
 use Rattle.dob_probe.specs.Said.{IsGapOfLine, IsGapOfMoves, fails as says_failed, is_failing}
@@ -97,13 +97,13 @@ IsToldBy (ask.Moves form) profile Has p = TellsMoves (moves_told form p) profile
 IsToldBy (ask.Line form) profile Has p = TellsPlay (line_told form p) profile Has p
 
 -- why no value is told: it isn't said, by Lacks for that reason; or memory failed
-abbrev pub IsGapOfValue : {F : Type 0} → (Setup → F → Type 0) → Setup → Gap F → Type 0
-IsGapOfValue Lacks p (gap.Unsaid fault) = Lacks p fault
+abbrev pub IsGapOfValue : {F : Type 0} → (Setup → F → Type 0) → Setup → LookupFault F → Type 0
+IsGapOfValue Lacks p (gap.NoValue fault) = Lacks p fault
 IsGapOfValue Lacks p (gap.Inconsistent class) = ⊥
 IsGapOfValue Lacks p gap.Memory = Unit {0}
 
 -- why the question isn't answered: a value that it needs isn't said, or the line breaks off at that class; or memory failed
-abbrev pub IsGapFor : {F : Type 0} → Question → Family → (Setup → Value → Type 0) → (Setup → F → Type 0) → Setup → Gap F → Type 0
+abbrev pub IsGapFor : {F : Type 0} → Question → Family → (Setup → Value → Type 0) → (Setup → F → Type 0) → Setup → LookupFault F → Type 0
 IsGapFor (ask.Value form) family Has Lacks p why = IsGapOfValue Lacks p why
 IsGapFor (ask.Moves form) family Has Lacks p why = IsGapOfMoves family.profile Lacks p why
 IsGapFor (ask.Line form) family Has Lacks p why = IsGapOfLine family Has Lacks p why
@@ -111,7 +111,7 @@ IsGapFor (ask.Line form) family Has Lacks p why = IsGapOfLine family Has Lacks p
 -- What a call gives that answers by what says values: the lines, or why there are none. What the source holds it still holds, and it has failed just where it
 -- had or the call's fault is a device's.
 pub record GivesSaid {X H F : Type 0} (question : Question) (family : Family) (p : Setup) (Holds Still : H → Type 0) (says : H → Setup → Value → Type 0)
-    (lacks : H → Setup → F → Type 0) (had_failed has_failed : Bool) (is_failure : F → Bool) (result : Result (String X) (Gap F)) : Type 0 where
+    (lacks : H → Setup → F → Type 0) (had_failed has_failed : Bool) (is_failure : F → Bool) (result : Result (String X) (LookupFault F)) : Type 0 where
   pub ok : (held : H) → Holds held → IfOk result (λ lines. IsToldBy question family.profile (says held) p (string_bytes lines))
   pub fault : (held : H) → Holds held → IfErr result (IsGapFor question family (says held) (lacks held) p)
   pub still : (held : H) → Holds held → Still held
@@ -147,13 +147,13 @@ pub record IsAnswerOf (question : Question) (stream : Stream) (position : Setup)
   pub told : IsToldBy question family.profile (IsRecorded stream format family) position lines
 
 -- why its records don't answer the question
-abbrev pub IsRecordsGap : Question → Stream → Format → Family → Setup → Gap file.Fault → Type 0
+abbrev pub IsRecordsGap : Question → Stream → Format → Family → Setup → LookupFault file.Fault → Type 0
 IsRecordsGap question stream format family = IsGapFor question family (IsRecorded stream format family) (LacksRecord stream format family)
 
 -- a fault of answering by the records of a source that shows these streams, in that format and family
 abbrev pub IsRecordsFault : Question → (Stream → Type 0) → Format → Family → Setup → Fault → Type 0
 IsRecordsFault question Shows format family p (File fault) =
-    (stream : Stream) → Shows stream → IsRecordsGap question stream format family p (gap.Unsaid fault)
+    (stream : Stream) → Shows stream → IsRecordsGap question stream format family p (gap.NoValue fault)
 IsRecordsFault question Shows format family p (Table (table_fault.Inconsistent class)) =
     (stream : Stream) → Shows stream → IsRecordsGap question stream format family p (gap.Inconsistent class)
 IsRecordsFault question Shows format family p Memory = Unit {0}
@@ -177,7 +177,7 @@ IsRefusedBy stream position fault =
 -- failed.
 abbrev pub IsFaultOfAsking : Question → (Stream → Type 0) → Setup → Fault → Type 0
 IsFaultOfAsking question Gives p (File fault) = (stream : Stream) → Gives stream → (fault ≡ file_fault.Memory) ⊎ (HasFrontFault stream fault
-    ⊎ ((format : Format) × (family : Family) × IsOfNamed stream p format family × IsRecordsGap question stream format family p (gap.Unsaid fault)))
+    ⊎ ((format : Format) × (family : Family) × IsOfNamed stream p format family × IsRecordsGap question stream format family p (gap.NoValue fault)))
 IsFaultOfAsking question Gives p (Table (table_fault.Inconsistent class)) = (stream : Stream) → Gives stream
     → (format : Format) × (family : Family) × IsOfNamed stream p format family × IsRecordsGap question stream format family p (gap.Inconsistent class)
 IsFaultOfAsking question Gives p (Table table_fault.Memory) = ⊥

@@ -14,7 +14,7 @@ use Rattle.dob_dbfile.specs.Faults.{CountsClasses}
 use Rattle.dob_dbfile.specs.Looking.{HasFrontFault}
 use Rattle.dob_value.specs.Follows.{ClassTable}
 use Rattle.dob_probe.specs.declared.fault.Fault.TheVariants as table_fault
-use Rattle.dob_probe.specs.declared.gap.Gap.TheVariants as gap
+use Rattle.dob_probe.specs.declared.gap.LookupFault.TheVariants as gap
 use Rattle.dob_probe.specs.Faults.{IsRefusal}
 use Rattle.dob_records.specs.Records.{IsRecorded}
 use Rattle.dob_files.specs.declared.fault.Fault.{Fault}
@@ -131,7 +131,7 @@ IsStreamAnswer question Gives position lines = (stream : Stream) → Gives strea
 -- why the family of the header refuses the position, or that a record which the question needs isn't whole, or that the line breaks off
 abbrev pub IsPlaceFault : Question → (Stream → Type 0) → Setup → Fault → Type 0
 IsPlaceFault question Gives position (File fault) = (stream : Stream) → Gives stream
-    → (format : Format) × (family : Family) × IsOfNamed stream position format family × IsRecordsGap question stream format family position (gap.Unsaid fault)
+    → (format : Format) × (family : Family) × IsOfNamed stream position format family × IsRecordsGap question stream format family position (gap.NoValue fault)
 IsPlaceFault question Gives position fault = IsFaultOfAsking question Gives position fault
 
 -- what a line comes to by it; by IsTold an answer is a line's

@@ -3,7 +3,7 @@ ghost use Rattle.std.specs.Prelude.{◌≡◌, IfOk, IfErr, string_bytes};
 ghost use Rattle.dob_query.specs.Sizes.{AreCountLinesOf, HasCounts, IsCountFaultOf, count_lines};
 
 use dob_classes::count_classes;
-use dob_files::Lines;
+use dob_files::Answer;
 use dob_pieces::{Family, Memory, PieceSet, Profile};
 use dob_rank::size;
 use std::alloc::Global;
@@ -16,7 +16,7 @@ pub(crate) struct Counts {
 }
 
 /// The lines that give the numbers of positions and of classes of the piece set that the text names, by the rules of the profile.
-pub fn answer_count(alloc: Global, profile: Profile, text: &str) -> Lines
+pub fn answer_count(alloc: Global, profile: Profile, text: &str) -> Answer
     ensures ok { IfOk result (λ lines. AreCountLinesOf profile text.now (string_bytes lines)) }
     ensures err { IfErr result (IsCountFaultOf text.now) }
 {

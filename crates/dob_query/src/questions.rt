@@ -15,14 +15,14 @@ ghost use Rattle.dob_query.specs.Questions.{IsGapOfValue, IsRecordsFault, IsTabl
 
 use dob_classes::Classes;
 use dob_dbfile::{Format, PlacedSource, read_classes};
-use dob_files::{Lines, open, position_named};
+use dob_files::{Answer, open, position_named};
 use dob_lines::{
     best_move_line, line_object, line_of, move_lines, moves_lines, moves_object, played_drawing,
     value_object,
 };
 use dob_moves::Move;
 use dob_pieces::{Memory, Position};
-use dob_probe::{Gap, ValuedMove, Values, check_member, line_by, moves_by};
+use dob_probe::{LookupFault, ValuedMove, Values, check_member, line_by, moves_by};
 use dob_records::Records;
 use dob_shelf::Shelf;
 use dob_value::{Table, Value};
@@ -37,7 +37,7 @@ pub fn answer_question<S: Shelf>(
     file: &str,
     asked: Asked,
     text: &str,
-) -> Lines
+) -> Answer
     ensures { GivesOwed (question_owed asked file.now text.now) S.state shelf.old shelf.new result }
 {
     let position = position_named(text)?;
@@ -54,7 +54,7 @@ fn answer_by_table<S: Shelf>(
     file: &str,
     question: Question,
     position: &Position,
-) -> Lines
+) -> Answer
     ensures { Leaving SameFiles S.state shelf.old shelf.new (λ c.
         GivesLines c (IsAnswerTo way.Table question (c.before.has file.now) position.now.setup)
         (IsFaultTo way.Table question (c.before.has file.now) position.now.setup) result) }
@@ -69,7 +69,7 @@ pub(crate) fn answer_in_table(
     table: &Table,
     question: Question,
     position: &Position,
-) -> Lines
+) -> Answer
     ensures ok { IfOk result (λ lines. IsTableAnswer question table.now position.now.setup (string_bytes lines)) }
     ensures fault { IfErr result (IsTableFault question table.now position.now.setup) }
 {
@@ -92,7 +92,7 @@ pub(crate) fn answer_of<S: Shelf>(
     file: &str,
     question: Question,
     position: &Position,
-) -> Lines
+) -> Answer
     ensures answered { Leaving SameFiles S.state shelf.old shelf.new (λ c.
         GivesLines c (IsAnswerBy question (c.before.has file.now) position.now.setup)
         (IsAskingFault question (c.before.has file.now) position.now.setup) result) }
@@ -110,7 +110,7 @@ fn ask<R: PlacedSource>(
     source: &mut R,
     question: Question,
     position: &Position,
-) -> Lines
+) -> Answer
     requires { R.has_failed source.old ≡ false }
     ensures ok { (stream : Stream) → R.gives source.old stream → R.shows source.old stream
         → IfOk result (λ lines. IsAnswerOf question stream position.now.setup (string_bytes lines)) }
@@ -130,7 +130,7 @@ pub(crate) fn answer_by_records<R: PlacedSource>(
     classes: &Classes,
     question: Question,
     position: &Position,
-) -> Lines
+) -> Answer
     requires { IsPositionOf classes.now.family position.now.setup }
     ensures told { GivesTold question (R.shows source.old) (R.shows source.new) (R.has_failed source.old) (R.has_failed source.new)
         format classes.now.family position.now.setup result }
@@ -148,7 +148,7 @@ fn told_by<S, V: Values<S>>(
     classes: &Classes,
     question: Question,
     position: &Position,
-) -> Result<String, Gap<V::Fault>>
+) -> Result<String, LookupFault<V::Fault>>
     requires stands { V.stands by.now }
     requires single { (held : V.Held) → AreSingle classes.now.family (V.says by.now held) }
     requires family { V.family_of by.now ≡ classes.now.family }
@@ -178,7 +178,7 @@ fn said_value<S, V: Values<S>>(
     by: &V,
     source: &mut S,
     position: &Position,
-) -> Result<Value, Gap<V::Fault>>
+) -> Result<Value, LookupFault<V::Fault>>
     requires stands { V.stands by.now }
     requires member { IsPositionOf (V.family_of by.now) position.now.setup }
     ensures said { (held : V.Held) → V.holds source.old held → IfOk result (V.says by.now held position.now.setup) }
@@ -189,7 +189,7 @@ fn said_value<S, V: Values<S>>(
 {
     match by.value_at(source, position) {
         Ok(value) => Ok(value),
-        Err(fault) => Err(Gap::Unsaid(fault)),
+        Err(fault) => Err(LookupFault::NoValue(fault)),
     }
 }
 

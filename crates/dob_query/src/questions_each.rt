@@ -15,7 +15,7 @@ ghost use Rattle.dob_words.specs.declared.command.orders.By.TheVariants as way;
 use crate::questions::{answer_by_records, answer_in_table};
 use dob_classes::Classes;
 use dob_dbfile::{Format, PlacedSource, Sink, read_classes};
-use dob_files::{Answerer, Fault, LineAnswers, Lines, open, position_on, tell_each};
+use dob_files::{Answer, Answerer, Fault, LineAnswers, open, position_in_line, tell_each};
 use dob_pieces::Memory;
 use dob_probe::check_member;
 use dob_shelf::Shelf;
@@ -77,10 +77,10 @@ impl Answerer for ByTable {
 }
 
 // The table's answer to the question of the line's position, or why there is none.
-fn line_in_table(alloc: Global, table: &Table, question: Question, line: &[u8]) -> Lines
+fn line_in_table(alloc: Global, table: &Table, question: Question, line: &[u8]) -> Answer
     ensures { GivesLine (IsTableLine (AnswersLine (IsTableAnswer question table.now)) question table.now line.now) result }
 {
-    let position = position_on(line)?;
+    let position = position_in_line(line)?;
     answer_in_table(alloc, table, question, &position)
 }
 
@@ -174,18 +174,18 @@ fn line_by_records<R: PlacedSource>(
     classes: &Classes,
     question: Question,
     line: &[u8],
-) -> Lines
+) -> Answer
     ensures answer { GivesLine (IsRecordAnswer question (R.shows source.old) format classes.now.family line.now) result }
     ensures shown { (stream : Stream) → R.shows source.old stream → R.shows source.new stream }
     ensures failed { R.has_failed source.new ≡ (R.has_failed source.old || fails is_io result) }
 {
-    let position = position_on(line)?;
+    let position = position_in_line(line)?;
     check_member(classes.family, &position)?;
     answer_by_records(alloc, source, format, classes, question, &position)
 }
 
 // What is told of a line for that answer, but where it is a fault that ends all.
-fn told_line(alloc: Global, answer: Lines, question: Question) -> Result<LineAnswers, Fault>
+fn told_line(alloc: Global, answer: Answer, question: Question) -> Result<LineAnswers, Fault>
     ensures told { IfOk result (λ told. IsKept question answer (told_of told)) }
     ensures ended { IfErr result (λ fault. (fault ≡ OutOfMemory) ⊎ ((answer ≡ Err fault) × (ends_all fault ≡ true))) }
     ensures failed { fails is_io result ≡ fails is_io answer }
@@ -221,7 +221,7 @@ fn end_of(question: Question) -> &'static str
 }
 
 // The lines of the answer, and that end.
-fn ended_lines(alloc: Global, answer: Lines, question: Question) -> Result<String, Memory>
+fn ended_lines(alloc: Global, answer: Answer, question: Question) -> Result<String, Memory>
     ensures { IfOk result (λ lines. string_bytes lines ≡ ended_lines (end_of question) (bytes_of answer)) }
 {
     match answer {

@@ -7,7 +7,7 @@ ghost use Rattle.dob_shelf.specs.Shelves.{Leaving, SameFiles, SameOthers};
 ghost use Rattle.dob_query.specs.Shows.{AreDrawn, IsDrawingFault, KeepsPicture, show_owed};
 
 use crate::questions::answer_of;
-use dob_files::{Lines, fill, keep_filled, position_named};
+use dob_files::{Answer, fill, keep_filled, position_named};
 use dob_pieces::Position;
 use dob_shelf::Shelf;
 use dob_text::{draw_position, picture_position};
@@ -22,7 +22,7 @@ pub fn answer_show<S: Shelf>(
     file: Option<&str>,
     picture: Option<&str>,
     text: &str,
-) -> Lines
+) -> Answer
     ensures { GivesOwed (show_owed (text_given file.entry) (text_given picture.entry) text.now) S.state shelf.old shelf.new result }
 {
     let position = position_named(text)?;
@@ -39,7 +39,7 @@ fn drawn_lines<S: Shelf>(
     shelf: &mut S,
     file: Option<&str>,
     position: &Position,
-) -> Lines
+) -> Answer
     ensures answered { Leaving SameFiles S.state shelf.old shelf.new (λ c.
         GivesOver c (λ lines. AreDrawn c.before.has (text_given file.entry) position.now.setup (string_bytes lines))
         (IsDrawingFault c.before.has (text_given file.entry) position.now.setup) result) }
@@ -64,7 +64,7 @@ fn keep_picture<S: Shelf>(
     name: &str,
     position: &Position,
     lines: String,
-) -> Lines
+) -> Answer
     ensures { Leaving (SameOthers name.now) S.state shelf.old shelf.new (KeepsPicture name.now position.now.setup (string_bytes lines) result) }
 {
     let picture = picture_position(alloc, position)?;

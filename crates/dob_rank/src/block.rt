@@ -10,14 +10,14 @@ use dob_lists::{join_by_power, split_by_power};
 use dob_pieces::{Hand, PieceSet};
 
 /// One number for each kind of piece: chicks (hens counted with them), elephants, giraffes.
-pub type EachKind = [u64; 3];
+pub type PerKind = [u64; 3];
 
 /// How many digits give the place in a block: 0 to 2 are the numbers in hand, 3 to 7 the choices of squares of five
 /// layers, and 8 to 10 the forms of three kinds.
 pub const DIGITS: usize = 11;
 
 /// The bases of the numbers on the board.
-pub fn block_bases_of(set: PieceSet) -> EachKind
+pub fn block_bases_of(set: PieceSet) -> PerKind
     ensures { result ≡ block_bases set }
 {
     [
@@ -36,7 +36,7 @@ pub fn blocks(set: PieceSet) -> u64
 }
 
 /// The numbers on the board in the block of that number.
-pub fn numbers_in(set: PieceSet, block: u64) -> EachKind
+pub fn numbers_in(set: PieceSet, block: u64) -> PerKind
     requires { block < product (block_bases set) }
     ensures { result ≡ digits_of (block_bases set) block }
 {
@@ -44,7 +44,7 @@ pub fn numbers_in(set: PieceSet, block: u64) -> EachKind
 }
 
 /// The bases of the digits in the block of those numbers on the board.
-pub(crate) fn bases_in(set: PieceSet, on_board: &EachKind) -> [u64; DIGITS]
+pub(crate) fn bases_in(set: PieceSet, on_board: &PerKind) -> [u64; DIGITS]
     requires chicks { slice_index on_board.now 0 ≤ set.chicks }
     requires elephants { slice_index on_board.now 1 ≤ set.elephants }
     requires giraffes { slice_index on_board.now 2 ≤ set.giraffes }
@@ -69,7 +69,7 @@ pub(crate) fn bases_in(set: PieceSet, on_board: &EachKind) -> [u64; DIGITS]
 }
 
 /// In how many ways the squares of each kind are chosen, for those numbers on the board.
-pub fn choices_in(on_board: &EachKind) -> EachKind
+pub fn choices_in(on_board: &PerKind) -> PerKind
     requires { AreFewOnBoard on_board.now }
     ensures { result ≡ square_bases on_board.now }
 {
@@ -103,8 +103,8 @@ pub fn local_bases_in(set: PieceSet, block: u64) -> [u64; 6]
 /// The digits of a spot in the block of those numbers on the board and choices of squares.
 pub(crate) fn digits_in(
     set: PieceSet,
-    on_board: &EachKind,
-    choices: &EachKind,
+    on_board: &PerKind,
+    choices: &PerKind,
     spot: Spot,
 ) -> [u64; DIGITS]
     requires on_board { HasDigits (block_bases set) on_board.now }
@@ -123,7 +123,7 @@ pub(crate) fn digits_in(
 }
 
 /// The digits of a run of those numbers on the board.
-pub fn run_digits_in(set: PieceSet, on_board: &EachKind, run: u64) -> RunDigits
+pub fn run_digits_in(set: PieceSet, on_board: &PerKind, run: u64) -> RunDigits
     requires on_board { HasDigits (block_bases set) on_board.now }
     requires run { run < product (run_bases set on_board.now) }
     ensures { run_digits result ≡ digits_of (run_bases set on_board.now) run }
@@ -147,8 +147,8 @@ pub fn run_digits_in(set: PieceSet, on_board: &EachKind, run: u64) -> RunDigits
 #[inline(always)]
 pub fn digits_with(
     set: PieceSet,
-    on_board: &EachKind,
-    choices: &EachKind,
+    on_board: &PerKind,
+    choices: &PerKind,
     run: RunDigits,
     spot: Spot,
 ) -> [u64; DIGITS]
@@ -179,7 +179,7 @@ pub fn digits_with(
 
 /// The number of the choice of all squares at a place of a run of those numbers on the board.
 #[tactic(auto, using(crate::proofs::InRuns::DigitParts::quotient_is))]
-pub fn squares_at(on_board: &EachKind, local: u64) -> u64
+pub fn squares_at(on_board: &PerKind, local: u64) -> u64
     requires { AreFewOnBoard on_board.now }
     ensures { result ≡ local / product (form_bases on_board.now) }
 {
@@ -187,7 +187,7 @@ pub fn squares_at(on_board: &EachKind, local: u64) -> u64
 }
 
 /// The spot that those digits write in the block of those numbers on the board.
-pub fn spot_from(set: PieceSet, on_board: &EachKind, digits: &[u64; DIGITS]) -> Spot
+pub fn spot_from(set: PieceSet, on_board: &PerKind, digits: &[u64; DIGITS]) -> Spot
     requires on_board { HasDigits (block_bases set) on_board.now }
     requires digits { HasDigits (bases_by set on_board.now) digits.now }
     ensures run { result.run ≡ run_number set on_board.now digits.now }
@@ -210,7 +210,7 @@ pub fn spot_from(set: PieceSet, on_board: &EachKind, digits: &[u64; DIGITS]) -> 
 }
 
 /// The place in the block of those numbers on the board at which a spot is.
-pub(crate) fn place_of(on_board: &EachKind, spot: Spot) -> u64
+pub(crate) fn place_of(on_board: &PerKind, spot: Spot) -> u64
     requires few { AreFewOnBoard on_board.now }
     requires run { spot.run < 2 ^ 12 }
     requires local { spot.local < product (local_bases on_board.now) }
@@ -220,7 +220,7 @@ pub(crate) fn place_of(on_board: &EachKind, spot: Spot) -> u64
 }
 
 /// The spot that is at a place in the block of those numbers on the board and choices of squares.
-pub(crate) fn spot_at(set: PieceSet, on_board: &EachKind, choices: &EachKind, place: u64) -> Spot
+pub(crate) fn spot_at(set: PieceSet, on_board: &PerKind, choices: &PerKind, place: u64) -> Spot
     requires on_board { HasDigits (block_bases set) on_board.now }
     requires choices { choices.now ≡ square_bases on_board.now }
     requires place { place < product (bases_by set on_board.now) }
@@ -236,7 +236,7 @@ pub(crate) fn spot_at(set: PieceSet, on_board: &EachKind, choices: &EachKind, pl
 }
 
 // How many positions each run of those numbers on the board and choices of squares has.
-fn size_of_runs(on_board: &EachKind, choices: &EachKind) -> u64
+fn size_of_runs(on_board: &PerKind, choices: &PerKind) -> u64
     requires few { AreFewOnBoard on_board.now }
     requires choices { choices.now ≡ square_bases on_board.now }
     ensures value { result ≡ product (local_bases on_board.now) }
@@ -247,7 +247,7 @@ fn size_of_runs(on_board: &EachKind, choices: &EachKind) -> u64
 
 // How many forms the pieces of those numbers on the board have.
 #[tactic(auto, using(std::proofs::lemmas::Nat::one_shl))]
-fn forms_in(on_board: &EachKind) -> u64
+fn forms_in(on_board: &PerKind) -> u64
     requires { AreFewOnBoard on_board.now }
     ensures { result ≡ product (form_bases on_board.now) }
 {
@@ -256,7 +256,7 @@ fn forms_in(on_board: &EachKind) -> u64
 
 // How many bits hold the forms of the pieces of those numbers on the board.
 #[tactic(auto, using(crate::proofs::InRuns::DigitParts::form_bits_are))]
-fn form_bits(on_board: &EachKind) -> u64
+fn form_bits(on_board: &PerKind) -> u64
     requires { AreFewOnBoard on_board.now }
     ensures value { 2 ^ result ≡ product (form_bases on_board.now) }
     ensures bound { result ≤ 8 }
@@ -266,7 +266,7 @@ fn form_bits(on_board: &EachKind) -> u64
 
 // The digits of the forms for those numbers on the board.
 #[tactic(auto, using(crate::proofs::InRuns::DigitParts::form_digits_are))]
-fn form_digits(on_board: &EachKind, number: u64) -> EachKind
+fn form_digits(on_board: &PerKind, number: u64) -> PerKind
     requires few { AreFewOnBoard on_board.now }
     requires number { number < product (form_bases on_board.now) }
     ensures { result ≡ digits_of (form_bases on_board.now) number }
@@ -277,7 +277,7 @@ fn form_digits(on_board: &EachKind, number: u64) -> EachKind
 }
 
 // The number whose digits are those forms.
-fn form_number(on_board: &EachKind, forms: &EachKind) -> u64
+fn form_number(on_board: &PerKind, forms: &PerKind) -> u64
     requires few { AreFewOnBoard on_board.now }
     requires forms { HasDigits (form_bases on_board.now) forms.now }
     ensures value { result ≡ number_of (form_bases on_board.now) forms.now }

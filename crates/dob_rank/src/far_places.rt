@@ -9,7 +9,7 @@ ghost use Rattle.dob_rank.specs.Weights.{may_have, are_allowed, forms_stand, lio
 ghost use Rattle.dob_rank.specs.Weights.{others_squares, others_forms};
 ghost use Rattle.dob_rank.specs.Places.{AreChickParts, IsPlaceFor};
 
-use crate::block::{self, EachKind};
+use crate::block::{self, PerKind};
 use crate::far_rows::{before_choice, before_lions};
 use crate::layers::Layer;
 use crate::placing;
@@ -156,7 +156,7 @@ fn parts_at(chicks: u64, lions: u64, others: u64, number: u64) -> ChickParts
 
 /// The place in a run of those lions of the position with `number` of profile B before it in the run.
 #[inline(never)]
-pub fn local_at(on_board: &EachKind, lions: u64, number: u64) -> u64
+pub fn local_at(on_board: &PerKind, lions: u64, number: u64) -> u64
     requires few { AreFewOnBoard on_board.now }
     requires lions { lions < LIONS }
     requires number { number < forms_in B (slice_index on_board.now 0) lions * (others_squares on_board.now * others_forms on_board.now) }

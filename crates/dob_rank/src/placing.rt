@@ -3,7 +3,7 @@ ghost use Rattle.std.specs.Prelude.{◌≡◌, ◌<◌, ◌≤◌, ◌+◌, ◌^
 ghost use Rattle.dob_rank.specs.Numbers.{order, choose, board_of, numbers_by, layers_by};
 ghost use Rattle.dob_rank.specs.Placing.{past, lower_of, higher_of, first_place, second_place, put, AreChoices, AreSquareChoices, ArePlaces};
 
-use crate::block::{DIGITS, EachKind};
+use crate::block::{DIGITS, PerKind};
 use crate::forms::{base_of, cell_of};
 use crate::layers::Layer;
 use crate::runs::FREE_SQUARES;
@@ -60,7 +60,7 @@ pub struct Places {
 }
 
 /// The places that those choices of squares take.
-pub fn places_by(on_board: &EachKind, choices: &EachKind) -> Places
+pub fn places_by(on_board: &PerKind, choices: &PerKind) -> Places
     requires { AreSquareChoices on_board.now choices.now }
     ensures { ArePlaces on_board.now (slice_index choices.now 0) (slice_index choices.now 1) (slice_index choices.now 2) result }
 {
@@ -98,10 +98,7 @@ pub fn wide(places: (u8, u8)) -> (u64, u64)
 }
 
 /// The board of those numbers on the board and those digits.
-pub(crate) fn board_by(
-    on_board: &EachKind,
-    digits: &[u64; DIGITS],
-) -> [Option<Piece>; Square::COUNT]
+pub(crate) fn board_by(on_board: &PerKind, digits: &[u64; DIGITS]) -> [Option<Piece>; Square::COUNT]
     requires { AreChoices on_board.now digits.now }
     ensures { result ≡ board_of (numbers_by digits.now) (layers_by on_board.now digits.now) }
 {

@@ -15,7 +15,7 @@ ghost use Rattle.dob_rank.specs.Runs.{AreFewOnBoard, square_bases};
 ghost use Rattle.dob_rank.specs.Weights.{may_have, allowed_number, choice_weight, forms_before, lions_before, others_squares, others_forms};
 ghost use Rattle.dob_rank.specs.Weights.{squares_by, others_by, hand_size, place_behind};
 
-use crate::block::{self, DIGITS, EachKind};
+use crate::block::{self, DIGITS, PerKind};
 use crate::far_places::{lions_at, local_at};
 use crate::far_rows::{before_choice, before_lions, forms_below, hand_size};
 use crate::layers::Layer;
@@ -77,7 +77,7 @@ fn far_unrank(set: PieceSet, rank: u64) -> Position
 }
 
 // The spot of a block of those numbers on the board with `number` positions of profile B before it in the block.
-fn far_spot_at(on_board: &EachKind, choices: &EachKind, number: u64) -> Spot
+fn far_spot_at(on_board: &PerKind, choices: &PerKind, number: u64) -> Spot
     requires few { AreFewOnBoard on_board.now }
     requires choices { choices.now ≡ square_bases on_board.now }
     requires small { number < 2 ^ 42 }
@@ -113,7 +113,7 @@ fn far_rank(position: &Position) -> u64
 }
 
 // How many positions of profile B stand, in its block, before the one that the board shows.
-fn far_place(set: PieceSet, board: &Board, on_board: &EachKind) -> u64
+fn far_place(set: PieceSet, board: &Board, on_board: &PerKind) -> u64
     requires { (setup : Setup) × IsPositionOf (family_of set B) setup × ArePartsOf board.now on_board.now setup }
     ensures { (setup : Setup) → IsPositionOf (family_of set B) setup → ArePartsOf board.now on_board.now setup
         → marks_below (is_present (family_of set B)) (start_of set (block_of set setup)) + result ≡ rank_of (family_of set B) setup }
@@ -129,7 +129,7 @@ fn far_place(set: PieceSet, board: &Board, on_board: &EachKind) -> u64
 /// The place that those numbers write: of `chosen` choices of the chicks' squares with forms before, of the digits of the others' squares and forms where
 /// those lions stand, and of `forms` allowed forms of the chicks before.
 pub fn place_behind(
-    on_board: &EachKind,
+    on_board: &PerKind,
     digits: &[u64; DIGITS],
     lions: u64,
     chosen: u64,

@@ -10,7 +10,7 @@ ghost use Rattle.dob_rank.specs.Numbers.{size_of_set, rank_of_set, product, numb
 ghost use Rattle.dob_rank.specs.Numbers.{HasBlock, bases_by, on_board as on_board_of, digits as all_digits_of, setup_by, hands_by, HasDigits, digits_of};
 ghost use Rattle.dob_rank.specs.Runs.{runs_in, run_size, run_bases, square_bases, local_bases, run_of, local_of};
 
-use crate::block::{self, DIGITS, EachKind};
+use crate::block::{self, DIGITS, PerKind};
 use crate::layers::Layer;
 use crate::runs::Spot;
 use crate::starts::{block_start, find_block};
@@ -66,7 +66,7 @@ pub fn spot_by(set: PieceSet, board: &Board) -> (u64, Spot)
 }
 
 /// Block and spot by the position's numbers on the board and its digits.
-pub fn spot_from(set: PieceSet, on_board: &EachKind, digits: &[u64; DIGITS]) -> (u64, Spot)
+pub fn spot_from(set: PieceSet, on_board: &PerKind, digits: &[u64; DIGITS]) -> (u64, Spot)
     requires { (setup : Setup) × AreNumbersOf set on_board.now digits.now setup }
     ensures block { (setup : Setup) → AreNumbersOf set on_board.now digits.now setup → result.0 ≡ block_of set setup }
     ensures run { (setup : Setup) → AreNumbersOf set on_board.now digits.now setup → result.1.run ≡ run_of set setup }
@@ -77,7 +77,7 @@ pub fn spot_from(set: PieceSet, on_board: &EachKind, digits: &[u64; DIGITS]) -> 
 }
 
 /// The piece set of a position, by the numbers on its board.
-pub(crate) fn piece_set_of(position: &Position, on_board: &EachKind) -> PieceSet
+pub(crate) fn piece_set_of(position: &Position, on_board: &PerKind) -> PieceSet
     requires { on_board.now ≡ on_board_of position.now.setup }
     ensures chicks { result.chicks ≡ total HandKind.Chick position.now.setup }
     ensures elephants { result.elephants ≡ total HandKind.Elephant position.now.setup }
@@ -113,7 +113,7 @@ pub fn position_at(set: PieceSet, block: u64, spot: Spot) -> Position
 }
 
 /// The position of the set at that spot of the block of those numbers on the board and choices of squares.
-pub fn position_by(set: PieceSet, on_board: &EachKind, choices: &EachKind, spot: Spot) -> Position
+pub fn position_by(set: PieceSet, on_board: &PerKind, choices: &PerKind, spot: Spot) -> Position
     requires on_board { HasDigits (block_bases set) on_board.now }
     requires choices { choices.now ≡ square_bases on_board.now }
     requires run { spot.run < product (run_bases set on_board.now) }
@@ -125,7 +125,7 @@ pub fn position_by(set: PieceSet, on_board: &EachKind, choices: &EachKind, spot:
 }
 
 /// How many chicks, elephants and giraffes stand on the board.
-pub fn numbers_in(board: &Board) -> EachKind
+pub fn numbers_in(board: &Board) -> PerKind
     ensures { (setup : Setup) → IsBoardOf setup board.now → length setup.board ≡ 12 → result ≡ on_board_of setup }
 {
     [
@@ -138,7 +138,7 @@ pub fn numbers_in(board: &Board) -> EachKind
 /// The digits, in its block, of the position that the board shows, by the numbers on it. Within its callers, since a call of its own hands eleven digits back
 /// by memory.
 #[inline(always)]
-pub fn digits_of(board: &Board, on_board: &EachKind) -> [u64; DIGITS]
+pub fn digits_of(board: &Board, on_board: &PerKind) -> [u64; DIGITS]
     requires { (setup : Setup) × ArePartsOf board.now on_board.now setup }
     ensures { (setup : Setup) → ArePartsOf board.now on_board.now setup → result ≡ all_digits_of setup }
 {
@@ -169,7 +169,7 @@ pub fn digits_of(board: &Board, on_board: &EachKind) -> [u64; DIGITS]
 }
 
 /// The setup of those numbers on the board and those digits.
-pub fn setup_of(set: PieceSet, on_board: &EachKind, digits: &[u64; DIGITS]) -> Setup
+pub fn setup_of(set: PieceSet, on_board: &PerKind, digits: &[u64; DIGITS]) -> Setup
     requires on_board { HasDigits (block_bases set) on_board.now }
     requires digits { HasDigits (bases_by set on_board.now) digits.now }
     ensures { result ≡ setup_by set on_board.now digits.now }
@@ -181,7 +181,7 @@ pub fn setup_of(set: PieceSet, on_board: &EachKind, digits: &[u64; DIGITS]) -> S
 }
 
 /// The hands: the mover's has what the digits say, the enemy's all that is neither there nor on the board.
-pub fn hands_of(set: PieceSet, on_board: &EachKind, digits: &[u64; DIGITS]) -> Hands
+pub fn hands_of(set: PieceSet, on_board: &PerKind, digits: &[u64; DIGITS]) -> Hands
     requires on_board { HasDigits (block_bases set) on_board.now }
     requires digits { HasDigits (bases_by set on_board.now) digits.now }
     ensures { result ≡ hands_by set on_board.now digits.now }

@@ -25,6 +25,6 @@ pub use built_table::Built;
 pub use crew_turns::{EndedCrew, run_crew};
 pub use dob_crew::{BATCH, CAPACITY, ClosedCrew, CrewSizes, close_runners, crew};
 pub use dob_gather::scan;
-pub use dob_runner::{Free, Gate, Runner};
+pub use dob_runner::{AlwaysOpen, Gate, Runner};
 pub use dob_stops::Fault;
 pub use laws::finished_is_right;

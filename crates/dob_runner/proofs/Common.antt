@@ -43,7 +43,7 @@ pub use Rattle.dob_board.specs.Seats.{IsSameSeat, MovesNothing, TakesOne}
 pub use Rattle.dob_board.specs.declared.halt.Halt.{Halt}
 pub use Rattle.dob_board.specs.declared.halt.Halt.TheVariants.{Ended, Running}
 pub use Rattle.dob_board.specs.declared.seat.NodeSeat.{NodeSeat}
-pub use Rattle.dob_board.specs.declared.view.Stand.{Stand}
+pub use Rattle.dob_board.specs.declared.view.SeatState.{SeatState}
 pub use Rattle.dob_chan.proofs.Deliveries.{others_more}
 pub use Rattle.dob_chan.specs.Ends.{sent_by, taken_by}
 pub use Rattle.dob_chan.specs.Inboxes.{batches_of}

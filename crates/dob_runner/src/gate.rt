@@ -21,9 +21,9 @@ pub trait Gate {
 }
 
 /// A gate that always answers yes.
-pub struct Free;
+pub struct AlwaysOpen;
 
-impl Gate for Free {
+impl Gate for AlwaysOpen {
     ghost use Rattle.std.specs.Prelude.{◌≡◌, true};
 
     ghost says = { λ _ _ yes. yes ≡ true };

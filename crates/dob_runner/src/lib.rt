@@ -35,7 +35,7 @@ mod turn_steps;
 mod turn_token;
 
 pub use dob_endpoint::{Endpoint, Inlet, Outlet};
-pub use gate::{Free, Gate};
+pub use gate::{AlwaysOpen, Gate};
 pub use pace::Pace;
 pub use runner::Runner;
 pub use turn_loop::Until;

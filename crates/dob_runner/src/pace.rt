@@ -55,7 +55,7 @@ impl Pace {
 
     // Says on which level the node is, none if it has nothing to expand, and gives the highest one that it may expand now, as it is told
     // of the others.
-    pub(crate) fn hear(&mut self, level: Option<u16>) -> u16
+    pub(crate) fn exchange_levels(&mut self, level: Option<u16>) -> u16
         ensures place { member_of self.new ≡ member_of self.old }
         ensures limit { IsLimitOf self.new result }
     {

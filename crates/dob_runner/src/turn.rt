@@ -184,7 +184,7 @@ impl Runner {
     {
         let took = self.take_one(rt)?;
         let level = self.level();
-        let limit = self.hear(level);
+        let limit = self.exchange_levels(level);
         let expanded = self.expand_all(classes, limit, took)?;
         let applied = self.apply_all()?;
         let small = self.sends_small(took, level, limit);
@@ -201,12 +201,12 @@ impl Runner {
     }
 
     // Says that its own level is that one, and gives the highest one that it may expand now.
-    fn hear(&mut self, level: Option<u16>) -> u16
+    fn exchange_levels(&mut self, level: Option<u16>) -> u16
         requires { self.old.failed ≡ None }
         ensures { HearsLimit self.old self.new result }
     {
         match &mut self.pace {
-            Some(pace) => pace.hear(level),
+            Some(pace) => pace.exchange_levels(level),
             None => u16::MAX,
         }
     }

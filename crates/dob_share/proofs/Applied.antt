@@ -1,7 +1,7 @@
 -- An item applied at one place: what the steps of the code give of it, and the rows of the table of items: what each makes of its cell, and of the
 -- cell's value.
 use Rattle.dob_share.proofs.Common.{◌+◌, ◌-◌, ◌<◌, ◌∙◌, ◌≡◌, ◌≤◌, ArePooled, Cell, CellCanTake, CellValue, ChangesRun, Contradiction, Draw, Err, Fault}
-use Rattle.dob_share.proofs.Common.{IsApplied, IsChange, IsGreatestIn, IsShortCell, IsTooDeep, List, Loss, MatchOption, None, Ok, Option, SameCell, Slot}
+use Rattle.dob_share.proofs.Common.{IsApplied, IsChange, IsGreatestIn, IsShortCell, IsTooDeep, List, Loss, MatchOption, None, Ok, Option, SameCell, CellHead}
 use Rattle.dob_share.proofs.Common.{Some, TooDeep, Value, Win, ap, arith, beyond, cases_eq, cell_by, cell_in, cell_of, changed, get_or, get_or_default}
 use Rattle.dob_share.proofs.Common.{greater_of, inl, inr, least_of, length, length-set, less_at, lesser_of, more_at, refl, room_at, set, set-get_or, slot_at}
 use Rattle.dob_share.proofs.Common.{start_at, subst, sym, wins_in, ℕ}
@@ -22,7 +22,7 @@ pub same_itself : (cell : Cell) → SameCell cell cell
 same_itself cell = record { left = refl; wins = λ plies. refl; least = refl }
 
 -- a fault leaves all as it was
-pub refused : (to : ℕ) (was now : Value) (place : ℕ) (slots : List Slot) (pool : List ℕ) (slot : Slot) (fault : Fault) →
+pub refused : (to : ℕ) (was now : Value) (place : ℕ) (slots : List CellHead) (pool : List ℕ) (slot : CellHead) (fault : Fault) →
     ArePooled slots pool → IsStep to was now (cell_in slots pool place) slot (Err fault) →
     IsApplied to was now place slots pool slots pool (Err fault)
 refused to was now place slots pool slot fault pooled step = record {
@@ -40,21 +40,21 @@ refused to was now place slots pool slot fault pooled step = record {
 }
 
 -- the slot that was read
-pub read : (slots : List Slot) (pool : List ℕ) (place : ℕ) (slot : Slot) → place < length slots → slot ≡ get_or slots place slot →
+pub read : (slots : List CellHead) (pool : List ℕ) (place : ℕ) (slot : CellHead) → place < length slots → slot ≡ get_or slots place slot →
     slot ≡ slot_at slots (length pool) place
 read slots pool place slot within is = is ∙ get_or_default slots place slot (beyond (length pool)) within
 
 -- the slot is the one at that place of those with that pool
-pub record IsRead (slots : List Slot) (pool : List ℕ) (place : ℕ) (slot : Slot) : Type 0 where
+pub record IsRead (slots : List CellHead) (pool : List ℕ) (place : ℕ) (slot : CellHead) : Type 0 where
   pub pooled : ArePooled slots pool
   pub within : place < length slots
   pub is : slot ≡ get_or slots place slot
 
-pub is_read : {slots : List Slot} {pool : List ℕ} {slot : Slot} (place : ℕ) → ArePooled slots pool → place < length slots → slot ≡ get_or slots place slot →
+pub is_read : {slots : List CellHead} {pool : List ℕ} {slot : CellHead} (place : ℕ) → ArePooled slots pool → place < length slots → slot ≡ get_or slots place slot →
     IsRead slots pool place slot
 is_read place pooled within is = record { pooled = pooled; within = within; is = is }
 
-module _ {slots : List Slot} {pool : List ℕ} {place : ℕ} {slot : Slot} (here : IsRead slots pool place slot) where
+module _ {slots : List CellHead} {pool : List ℕ} {place : ℕ} {slot : CellHead} (here : IsRead slots pool place slot) where
   pub slot_is : slot ≡ slot_at slots (length pool) place
   slot_is = read slots pool place slot here.within here.is
 
@@ -86,7 +86,7 @@ module _ {slots : List Slot} {pool : List ℕ} {place : ℕ} {slot : Slot} (here
         IsApplied to was now place slots pool slots pool (Err fault)
     refused_here fault step = refused to was now place slots pool slot fault here.pooled (subst (λ c. IsStep to was now c slot (Err fault)) cell_same step)
 
-    module _ (next : Slot) (new_pool : List ℕ)
+    module _ (next : CellHead) (new_pool : List ℕ)
         (step : IsStep to was now (cell_by slot pool) slot (Ok next))
         (changes : ChangesRun slot.start (room_at slots (length pool) place) pool new_pool)
         (wins : (plies : ℕ) → (cell_by next new_pool).wins plies ≡ (changed was now (cell_by slot pool)).wins plies)
@@ -140,7 +140,7 @@ module _ {slots : List Slot} {pool : List ℕ} {place : ℕ} {slot : Slot} (here
 
 -- ---- values of a cell with a win, or with none while moves are left
 
-win_value_is : (slot : Slot) (wins : ℕ → ℕ) (value : Value) → (slot.win ≡ 0 → 0 < slot.left) → (0 < slot.win → value ≡ Win slot.win) →
+win_value_is : (slot : CellHead) (wins : ℕ → ℕ) (value : Value) → (slot.win ≡ 0 → 0 < slot.left) → (0 < slot.win → value ≡ Win slot.win) →
     (slot.win ≡ 0 → value ≡ Draw) → CellValue (cell_of slot wins) value
 win_value_is slot wins value left some none = elim (cases_eq slot.win 0) [
   | inl e ↦ rw (none e) (ap least_of e, inl (left e))
@@ -151,7 +151,7 @@ least_is : (win least : ℕ) → least_of win ≡ Some least → win ≡ least +
 least_is win least e = grind arith
 
 -- after a loss of the enemy
-nearer_win : (slot next : Slot) (wins new_wins : ℕ → ℕ) (least : ℕ) (value : Value) (change : Option (Value × Value)) → (slot.win ≡ 0 → 0 < slot.left) →
+nearer_win : (slot next : CellHead) (wins new_wins : ℕ → ℕ) (least : ℕ) (value : Value) (change : Option (Value × Value)) → (slot.win ≡ 0 → 0 < slot.left) →
     (0 < slot.win → value ≡ Win slot.win) → (slot.win ≡ 0 → value ≡ Draw) → least_of next.win ≡ Some least →
     MatchOption change (value ≡ Win next.win) (λ values. (values.0 ≡ value) × (values.1 ≡ Win next.win) × (value ≡ Win next.win → ⊥)) →
     IsChange (cell_of slot wins) (cell_of next new_wins) change
@@ -162,7 +162,7 @@ nearer_win slot next wins new_wins least value change left some none win both =
     both
 
 -- after a win of the enemy that isn't the last move's
-value_kept : (slot next : Slot) (wins new_wins : ℕ → ℕ) → 0 < slot.left → (slot.left ≡ 1 → slot.win ≡ 0 → ⊥) → next.left ≡ slot.left - 1 →
+value_kept : (slot next : CellHead) (wins new_wins : ℕ → ℕ) → 0 < slot.left → (slot.left ≡ 1 → slot.win ≡ 0 → ⊥) → next.left ≡ slot.left - 1 →
     next.win ≡ slot.win → IsChange (cell_of slot wins) (cell_of next new_wins) None
 value_kept slot next wins new_wins some not_last left win = elim (cases_eq slot.win 0) [
   | inl none ↦
@@ -173,7 +173,7 @@ value_kept slot next wins new_wins some not_last left win = elim (cases_eq slot.
 ]
 
 -- after the last move's win of the enemy
-lost : (slot next : Slot) (wins new_wins : ℕ → ℕ) (plies : ℕ) (greatest : Option ℕ) → slot.left ≡ 1 → slot.win ≡ 0 → next.left ≡ 0 → next.win ≡ 0 →
+lost : (slot next : CellHead) (wins new_wins : ℕ → ℕ) (plies : ℕ) (greatest : Option ℕ) → slot.left ≡ 1 → slot.win ≡ 0 → next.left ≡ 0 → next.win ≡ 0 →
     IsGreatestIn wins greatest → ((other : ℕ) → new_wins other ≡ more_at plies wins other) →
     IsChange (cell_of slot wins) (cell_of next new_wins) (Some (Draw, Loss (greater_of greatest plies + 1)))
 lost slot next wins new_wins plies greatest left win none_left none is more = (
@@ -186,7 +186,7 @@ lost slot next wins new_wins plies greatest left win none_left none is more = (
 
 -- ---- the rows
 
-module _ {slots : List Slot} {pool : List ℕ} {place : ℕ} {slot : Slot} (here : IsRead slots pool place slot) where
+module _ {slots : List CellHead} {pool : List ℕ} {place : ℕ} {slot : CellHead} (here : IsRead slots pool place slot) where
   short : IsShortCell (cell_by slot pool)
   short = short_here here
 
@@ -201,7 +201,7 @@ module _ {slots : List Slot} {pool : List ℕ} {place : ℕ} {slot : Slot} (here
   win_too_deep to plies greatest last none is deep = refused_here here to Draw (Win plies) TooDeep
       (win_deep to plies slot (wins_in pool slot.start slot.used) greatest last none is deep)
 
-  module _ (to plies : ℕ) (next : Slot) (new_pool : List ℕ) (some : 0 < slot.left)
+  module _ (to plies : ℕ) (next : CellHead) (new_pool : List ℕ) (some : 0 < slot.left)
       (start_same : next.start ≡ slot.start) (used_more : next.used ≡ slot.used + 1) (left : next.left ≡ slot.left - 1) (win : next.win ≡ slot.win)
       (changes : ChangesRun slot.start (slot.used + 1) pool new_pool)
       (wins : (other : ℕ) → wins_in new_pool slot.start (slot.used + 1) other ≡ more_at plies (wins_in pool slot.start slot.used) other) where
@@ -263,7 +263,7 @@ module _ {slots : List Slot} {pool : List ℕ} {place : ℕ} {slot : Slot} (here
       IsApplied to (Loss was) (Loss now) place slots pool slots pool (Err (Contradiction to))
   loss_not_known to was now not = misfit_here to (Loss was) (Loss now) (λ takes. let known = takes.1 in not takes.0 (grind arith) (grind arith))
 
-  module _ (to : ℕ) (next : Slot) (value : Value) (change : Option (Value × Value))
+  module _ (to : ℕ) (next : CellHead) (value : Value) (change : Option (Value × Value))
       (start_same : next.start ≡ slot.start) (used_same : next.used ≡ slot.used)
       (some_win : 0 < slot.win → value ≡ Win slot.win) (no_win : slot.win ≡ 0 → value ≡ Draw)
       (told : MatchOption change (value ≡ Win next.win) (λ values. (values.0 ≡ value) × (values.1 ≡ Win next.win) × (value ≡ Win next.win → ⊥))) where

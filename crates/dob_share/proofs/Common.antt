@@ -34,7 +34,7 @@ pub use Rattle.dob_share.specs.Statuses.{AreCounted, IsStatusOf, StatusesView, b
 pub use Rattle.dob_share.specs.Statuses.{tries, word_of}
 pub use Rattle.dob_share.specs.Steps.{IsApplied, IsChange, IsTooDeep}
 pub use Rattle.dob_share.specs.Values.{Better, NoWorse, is_win_in}
-pub use Rattle.dob_share.specs.declared.cells.Slot.{Slot}
+pub use Rattle.dob_share.specs.declared.cells.CellHead.{CellHead}
 pub use Rattle.dob_share.specs.declared.fault.Fault.{Fault}
 pub use Rattle.dob_share.specs.declared.fault.Fault.TheVariants.{Contradiction, TooDeep}
 pub use Rattle.dob_share.specs.declared.opening.Opening.{Opening}

@@ -1,6 +1,6 @@
 -- Sums over a run of the pool: after a write, at one entry, and with one entry more in use. And one cell is written: the others stay, and the pool
 -- keeps its order.
-use Rattle.dob_share.proofs.Common.{◌+◌, ◌<◌, ◌∙◌, ◌≡◌, ◌≤◌, ArePooled, Cell, ChangesRun, IsGreatestIn, IsShortCell, List, None, Option, SameCell, Slot, Some}
+use Rattle.dob_share.proofs.Common.{◌+◌, ◌<◌, ◌∙◌, ◌≡◌, ◌≤◌, ArePooled, Cell, ChangesRun, IsGreatestIn, IsShortCell, List, None, Option, SameCell, CellHead, Some}
 use Rattle.dob_share.proofs.Common.{add-one, ap, arith, beyond, cases_eq, cases_lt, cell_by, cell_in, get_or, get_or-set_other, get_or-set_same}
 use Rattle.dob_share.proofs.Common.{get_or_default, inl, inr, length, length-set, less_at, more_at, moves_at, nat_tests, refl, room_at, set, slot_at}
 use Rattle.dob_share.proofs.Common.{start_at, subst, suc, sym, tally, vacant, wins_in, zero, ℕ}
@@ -85,15 +85,15 @@ wins_same old new start room plies same = tally_same (moves_at plies) old new st
 pub same_short : (a b : Cell) → SameCell a b → IsShortCell b → IsShortCell a
 same_short a b same short = grind arith
 
-pub cell_is : (slots : List Slot) (pool : List ℕ) (place : ℕ) → cell_in slots pool place ≡ cell_by (slot_at slots (length pool) place) pool
+pub cell_is : (slots : List CellHead) (pool : List ℕ) (place : ℕ) → cell_in slots pool place ≡ cell_by (slot_at slots (length pool) place) pool
 unfolding cell_in
 cell_is slots pool place = refl
 
-module _ (slots : List Slot) (pool new_pool : List ℕ) (place : ℕ) (next : Slot) (pooled : ArePooled slots pool)
+module _ (slots : List CellHead) (pool new_pool : List ℕ) (place : ℕ) (next : CellHead) (pooled : ArePooled slots pool)
     (within : place < length slots) (same_start : next.start ≡ start_at slots (length pool) place)
     (changes : ChangesRun (start_at slots (length pool) place) (room_at slots (length pool) place) pool new_pool) where
   -- the slots after the write
-  slots_after : List Slot
+  slots_after : List CellHead
   slots_after = set slots place next
 
   slot_here : slot_at (set slots place next) (length new_pool) place ≡ next

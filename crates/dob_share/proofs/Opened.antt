@@ -1,7 +1,7 @@
 -- What has been opened grows by a slot with its run, and is in order. A share is opened place by place; and what it then owns and knows of each class,
 -- of its own openings or those of all.
 use Rattle.dob_share.proofs.Common.{◌%◌, ◌*◌, ◌++◌, ◌+◌, ◌-◌, ◌/◌, ◌<◌, ◌↔◌, ◌∙◌, ◌∷◌, ◌≡◌, ◌≤◌, AreOpened, AreOwn, ArePlaced, ArePooled, Cell, IsNewShare}
-use Rattle.dob_share.proofs.Common.{IsOwn, IsShortCell, IsStatusOf, List, Open, Opening, SameCell, Share, Slot, Status, StatusWord, [], add-one, ap}
+use Rattle.dob_share.proofs.Common.{IsOwn, IsShortCell, IsStatusOf, List, Open, Opening, SameCell, Share, CellHead, Status, StatusWord, [], add-one, ap}
 use Rattle.dob_share.proofs.Common.{append-nil, arith, beyond, cases_eq, cases_lt, cell_at, cell_in, cell_moves, cell_where, class_of_place, div-add-mod'}
 use Rattle.dob_share.proofs.Common.{fresh, get_or, get_or_append_left, get_or_default, get_or_past, get_or_push, inl, inr, le-div, least_of, length}
 use Rattle.dob_share.proofs.Common.{length-replicate, length_push, moves_at, moves_where, mul-le-mul_right, new_slot, open_at, open_number, opening_of, opens}
@@ -15,7 +15,7 @@ wins_none_used : (pool : List ℕ) (start used plies : ℕ) → used ≡ 0 → w
 unfolding wins_in
 wins_none_used pool start used plies none = ap (λ (k : ℕ). tally (moves_at plies) pool start k) none
 
-module _ (slots : List Slot) (pool : List ℕ) (opened : AreOpened slots pool) where
+module _ (slots : List CellHead) (pool : List ℕ) (opened : AreOpened slots pool) where
   past_end : (place : ℕ) → length slots ≤ place → slot_at slots (length pool) place ≡ beyond (length pool)
   past_end place after = get_or_past slots place (beyond (length pool)) after
 
@@ -52,7 +52,7 @@ module _ (slots : List Slot) (pool : List ℕ) (opened : AreOpened slots pool) w
   }
 
   -- one more slot, whose run begins at the pool's end, and its run
-  module _ (next : Slot) (new_pool : List ℕ) (at_end : next.start ≡ length pool) (longer : length new_pool ≡ length pool + next.left)
+  module _ (next : CellHead) (new_pool : List ℕ) (at_end : next.start ≡ length pool) (longer : length new_pool ≡ length pool + next.left)
       (few : next.left < 64) (no_win : next.win ≡ 0) (unused : next.used ≡ 0) where
     before : (place : ℕ) → place < length slots → slot_at (slots ++ next ∷ []) (length new_pool) place ≡ slot_at slots (length pool) place
     before place inside = get_or_append_left slots (next ∷ []) (beyond (length new_pool)) place inside
@@ -68,7 +68,7 @@ module _ (slots : List Slot) (pool : List ℕ) (opened : AreOpened slots pool) w
     old_start place upto = grind (arith, before place, here place, past_end place)
 
     -- what those before have, the new one and what is beyond all, each has
-    each : (P : Slot → Type 0) → ((place : ℕ) → P (slot_at slots (length pool) place)) → P next → P (beyond (length new_pool)) →
+    each : (P : CellHead → Type 0) → ((place : ℕ) → P (slot_at slots (length pool) place)) → P next → P (beyond (length new_pool)) →
         (place : ℕ) → P (slot_at (slots ++ next ∷ []) (length new_pool) place)
     each P old new none place = elim (cases_lt place (length slots)) [
       | inl inside ↦ rw (before place inside) (old place)
@@ -101,7 +101,7 @@ module _ (slots : List Slot) (pool : List ℕ) (opened : AreOpened slots pool) w
 pub longer : (size moves : ℕ) → length (replicate (size + moves) vacant) ≡ length (replicate size vacant) + moves
 longer size moves = length-replicate (size + moves) vacant ∙ ap (λ (k : ℕ). k + moves) (sym (length-replicate size vacant))
 
-pub none_opened : (slots : List Slot) (pool : List ℕ) → slots ≡ [] → pool ≡ [] → AreOpened slots pool
+pub none_opened : (slots : List CellHead) (pool : List ℕ) → slots ≡ [] → pool ≡ [] → AreOpened slots pool
 none_opened slots pool no_slot no_count =
     let none : length slots ≡ 0 = ap length no_slot in
     let empty : length pool ≡ 0 = ap length no_count in record {
@@ -138,20 +138,20 @@ class_back : (class n id : ℕ) → class % n ≡ id → class / n * n + id ≡ 
 class_back class n id e = let whole : class / n * n + class % n ≡ class = div-add-mod' class n in omega arith
 
 -- The slots of the open classes at that many first places, where that is listed of each, with so many entries in the pool.
-pub record AreSlotsBelow (words : List StatusWord) (listed : ℕ → Opening) (upto : ℕ) (slots : List Slot) (entries : ℕ) : Type 0 where
+pub record AreSlotsBelow (words : List StatusWord) (listed : ℕ → Opening) (upto : ℕ) (slots : List CellHead) (entries : ℕ) : Type 0 where
   pub opened : AreOpened slots (replicate entries vacant)
   pub count : length slots ≡ opens_below words upto
   pub moves : (place : ℕ) → place < upto → open_at words place ≡ 1 → (get_or slots (opens_below words place) (beyond 0)).left ≡ (listed place).moves
 
 module _ {words : List StatusWord} {listed : ℕ → Opening} where
-  pub slots_none : {slots : List Slot} → slots ≡ [] → AreSlotsBelow words listed 0 slots 0
+  pub slots_none : {slots : List CellHead} → slots ≡ [] → AreSlotsBelow words listed 0 slots 0
   slots_none {slots = slots} none = record {
     opened = none_opened slots (replicate 0 vacant) none refl;
     count = ap length none;
     moves = λ place low. absurd (omega arith);
   }
 
-  module _ {place entries : ℕ} {slots : List Slot} (so_far : AreSlotsBelow words listed place slots entries) where
+  module _ {place entries : ℕ} {slots : List CellHead} (so_far : AreSlotsBelow words listed place slots entries) where
     -- a class that isn't open
     closed_more : open_at words place ≡ 0 → AreSlotsBelow words listed (place + 1) (slots ++ []) (entries + 0)
     closed_more closed = rw (append-nil slots, let e : entries + 0 ≡ entries = omega arith in e) (record {
@@ -191,12 +191,12 @@ module _ {words : List StatusWord} {listed : ℕ → Opening} where
     slots_by Open moves is few told = open_more moves is few told
     slots_by status moves is few told = closed_more is
 
-    pub slots_more : (opening : Opening) (new : List Slot) → opening ≡ listed place →
+    pub slots_more : (opening : Opening) (new : List CellHead) → opening ≡ listed place →
         IsStatusOf (word_of words place) (place % 64) (listed place).status → cell_moves opening < 64 →
         new ≡ slots ++ slots_where opening.status (new_slot entries opening.moves) →
         AreSlotsBelow words listed (place + 1) new (entries + cell_moves opening)
     slots_more opening new is status few new_is =
-        subst (λ (xs : List Slot). AreSlotsBelow words listed (place + 1) xs (entries + cell_moves opening)) (sym new_is)
+        subst (λ (xs : List CellHead). AreSlotsBelow words listed (place + 1) xs (entries + cell_moves opening)) (sym new_is)
         (slots_by opening.status opening.moves (status.opens_is ∙ ap (λ (o : Opening). opens o.status) (sym is)) few (ap (λ (o : Opening). o.moves) is))
 
 -- a cell that is there where the class is open

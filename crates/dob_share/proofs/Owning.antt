@@ -1,6 +1,6 @@
 -- What an item at one place is for the share's classes.
 use Rattle.dob_share.proofs.Common.{◌%◌, ◌+◌, ◌/◌, ◌<◌, ◌↔◌, ◌∙◌, ◌≡◌, ArePooled, Better, Cell, CellCanTake, CellValue, Contradiction, Err, Fault, IsApplied}
-use Rattle.dob_share.proofs.Common.{IsChange, IsOwn, IsOwnOpen, IsShortCell, IsTooDeep, List, None, Ok, Option, Result, SameCell, Share, Slot, Some}
+use Rattle.dob_share.proofs.Common.{IsChange, IsOwn, IsOwnOpen, IsShortCell, IsTooDeep, List, None, Ok, Option, Result, SameCell, Share, CellHead, Some}
 use Rattle.dob_share.proofs.Common.{StatusesView, TooDeep, Value, ap, arith, cell_at, cell_in, cell_where, changed, fresh, get_or, inl, inr, length, open_at}
 use Rattle.dob_share.proofs.Common.{open_number, opens_below, places_of, refl, start_at, status_at, subst, suc, sym, zero, ℕ}
 use Rattle.std.proofs.Props.{props}
@@ -60,7 +60,7 @@ numbered_within share class place number e is =
     number_within share class place here.0 here.1
 
 -- what is seen of it, by the number
-pub seen_some : (share : Share) (class place : ℕ) (number : Option ℕ) (slot : Slot) → number ≡ Some place → IsCellNumber share class number →
+pub seen_some : (share : Share) (class place : ℕ) (number : Option ℕ) (slot : CellHead) → number ≡ Some place → IsCellNumber share class number →
     slot ≡ get_or share.slots place slot → IsSeen share class (Some (record { place = place; start = slot.start }))
 unfolding IsSeen
 seen_some share class place number slot e is read_is =
@@ -134,17 +134,17 @@ improved was now cell after v w takes same is then differs =
     ]
 
 -- what is known of a share with other cells, where these are as many
-abbrev Holds : Share → List Slot → List ℕ → Type 0
+abbrev Holds : Share → List CellHead → List ℕ → Type 0
 Holds share slots pool = (share.id < share.nodes) × (length slots ≡ opens_below share.statuses.words share.statuses.places) × ArePooled slots pool
 
-abbrev with_cells : (share : Share) (slots : List Slot) (pool : List ℕ) → Holds share slots pool → Share
+abbrev with_cells : (share : Share) (slots : List CellHead) (pool : List ℕ) → Holds share slots pool → Share
 with_cells share slots pool holds = record share { slots = slots; pool = pool; owner = holds.0; opens = holds.1; pooled = holds.2 }
 
 -- with the same cells it is the same share
-same_share : (share : Share) (slots : List Slot) (pool : List ℕ) → slots ≡ share.slots → pool ≡ share.pool → (holds : Holds share slots pool) →
+same_share : (share : Share) (slots : List CellHead) (pool : List ℕ) → slots ≡ share.slots → pool ≡ share.pool → (holds : Holds share slots pool) →
     with_cells share slots pool holds ≡ share
 same_share share slots pool one other =
-    subst (λ (xs : List Slot). (holds : Holds share xs pool) → with_cells share xs pool holds ≡ share) (sym one)
+    subst (λ (xs : List CellHead). (holds : Holds share xs pool) → with_cells share xs pool holds ≡ share) (sym one)
     (subst (λ (ps : List ℕ). (holds : Holds share share.slots ps) → with_cells share share.slots ps holds ≡ share) (sym other)
     (λ holds.
     let alike : IsProp (Holds share share.slots share.pool) = hlevel props in
@@ -239,7 +239,7 @@ module _ (old : Share) (item : Item) (look : Option Seen) (seen : Seen) (seen_is
           )
 
   -- where it is refused, the share is as it was
-  pub refused : (slots : List Slot) (pool : List ℕ) (holds : Holds old slots pool) (made : Result (Option (Value × Value)) Fault) (fault : Fault) → made ≡ Err fault →
+  pub refused : (slots : List CellHead) (pool : List ℕ) (holds : Holds old slots pool) (made : Result (Option (Value × Value)) Fault) (fault : Fault) → made ≡ Err fault →
       IsApplied item.to item.was item.now seen.place old.slots old.pool slots pool made → IsApplication old item (Err fault) (with_cells old slots pool holds)
   refused slots pool holds made fault is_made applied =
       let both = applied.unchanged fault is_made in

@@ -3,7 +3,7 @@ use Prim.Native.Nat.{zero-le}
 use Rattle.std.specs.Prelude.{◌≡◌, ◌↔◌, ℕ, zero, suc, ◌+◌, ◌<◌, List, [], ◌∷◌, length, slice_index_or}
 use Rattle.dob_moves.specs.declared.position_status.Status.{Status}
 use Rattle.dob_moves.specs.declared.position_status.Status.TheVariants.{Stuck, Open}
-use Rattle.dob_share.specs.declared.cells.Slot.{Slot}
+use Rattle.dob_share.specs.declared.cells.CellHead.{CellHead}
 use Rattle.dob_share.specs.declared.opening.Opening.{Opening}
 use Rattle.dob_share.specs.Owners.{class_of_place}
 use Rattle.dob_share.specs.Slots.{slot_at, start_at}
@@ -47,7 +47,7 @@ abbrev pub cell_moves : Opening → ℕ
 cell_moves opening = moves_where opening.status opening.moves
 
 -- each slot has a run of as many entries as it has moves, and none of them is in use
-pub record AreOpened (slots : List Slot) (pool : List ℕ) : Type 0 where
+pub record AreOpened (slots : List CellHead) (pool : List ℕ) : Type 0 where
   pub runs : (place : ℕ) → place < length slots →
       start_at slots (length pool) (place + 1) ≡ start_at slots (length pool) place + (slot_at slots (length pool) place).left
   pub few : (place : ℕ) → (slot_at slots (length pool) place).left < 64
@@ -55,14 +55,14 @@ pub record AreOpened (slots : List Slot) (pool : List ℕ) : Type 0 where
   pub unused : (place : ℕ) → (slot_at slots (length pool) place).used ≡ 0
 
 -- the slot of an open class with that many moves, of which nothing is known, with a run from the pool's end on
-abbrev pub new_slot : ℕ → ℕ → Slot
+abbrev pub new_slot : ℕ → ℕ → CellHead
 new_slot start moves = record { start = start; win = 0; left = moves; used = 0 }
 
 -- a slot where the status is open
-abbrev pub slots_where : Status → Slot → List Slot
+abbrev pub slots_where : Status → CellHead → List CellHead
 slots_where Open slot = slot ∷ []
 slots_where _ slot = []
 
 -- the slots that a class adds: one where it is open
-abbrev pub slots_of : ℕ → Opening → List Slot
+abbrev pub slots_of : ℕ → Opening → List CellHead
 slots_of start opening = slots_where opening.status (new_slot start opening.moves)

@@ -2,7 +2,7 @@
 use Rattle.std.specs.Prelude.{◌≡◌, ◌≢◌, ℕ, ◌↔◌, List, length, Option, None, Some, Result, Ok, Err}
 use Rattle.dob_distance.specs.declared.value.Value.{Value}
 use Rattle.dob_distance.specs.Codes.{IsShort}
-use Rattle.dob_share.specs.declared.cells.Slot.{Slot}
+use Rattle.dob_share.specs.declared.cells.CellHead.{CellHead}
 use Rattle.dob_share.specs.declared.fault.Fault.{Fault}
 use Rattle.dob_share.specs.declared.fault.Fault.TheVariants.{TooDeep, Contradiction}
 use Rattle.dob_share.specs.Cells.{Cell, CellValue, SameCell, CellCanTake, changed}
@@ -19,8 +19,8 @@ IsChange old new (Some values) = CellValue old values.0 × CellValue new values.
 
 -- What an item to a class, whose cell is at that place, makes of slots and pool. That it doesn't fit comes before that
 -- the value is too deep; a fault leaves all as it was, and no item touches another cell.
-pub record IsApplied (to : ℕ) (was now : Value) (place : ℕ) (old_slots : List Slot) (old_pool : List ℕ)
-    (slots : List Slot) (pool : List ℕ) (result : Result (Option (Value × Value)) Fault) : Type 0 where
+pub record IsApplied (to : ℕ) (was now : Value) (place : ℕ) (old_slots : List CellHead) (old_pool : List ℕ)
+    (slots : List CellHead) (pool : List ℕ) (result : Result (Option (Value × Value)) Fault) : Type 0 where
   pub misfit : (result ≡ Err (Contradiction to)) ↔ (¬ CellCanTake was now (cell_in old_slots old_pool place))
   pub deep : (result ≡ Err TooDeep)
       ↔ (CellCanTake was now (cell_in old_slots old_pool place) × IsTooDeep (changed was now (cell_in old_slots old_pool place)))

@@ -11,7 +11,7 @@ use dob_lists::Segments;
 /// least known loss of the enemy gives, one more than that loss; 0 if no loss is known. `used` is how many entries of
 /// the run are in use, which are fewer than 64.
 #[derive(Clone, Copy)]
-pub(crate) struct Slot {
+pub(crate) struct CellHead {
     pub(crate) start: u32,
     pub(crate) win: u16,
     pub(crate) left: u8,
@@ -20,7 +20,7 @@ pub(crate) struct Slot {
 
 /// The place of an entry of the slot's run that counts a win in that distance.
 #[tactic(auto, using(crate::proofs::Keeping::wins_none, crate::proofs::Keeping::wins_some))]
-pub(crate) fn counted_place(pool: &Segments<u16>, slot: Slot, plies: u16) -> Option<usize>
+pub(crate) fn counted_place(pool: &Segments<u16>, slot: CellHead, plies: u16) -> Option<usize>
     requires { slot.start + slot.used ≤ length pool.now }
     ensures wins { MatchOption result (wins_in pool.now slot.start slot.used plies ≡ 0) (λ _. 0 < wins_in pool.now slot.start slot.used plies) }
     ensures place { IfSome result (λ place. IsCountedAt pool.now slot.start slot.used plies place) }
@@ -35,7 +35,7 @@ pub(crate) fn counted_place(pool: &Segments<u16>, slot: Slot, plies: u16) -> Opt
 }
 
 /// The greatest distance that the slot's run counts.
-pub(crate) fn greatest_win(pool: &Segments<u16>, slot: Slot) -> Option<u16>
+pub(crate) fn greatest_win(pool: &Segments<u16>, slot: CellHead) -> Option<u16>
     requires { slot.start + slot.used ≤ length pool.now }
     ensures { IsGreatestIn (wins_in pool.now slot.start slot.used) result }
 {
@@ -68,7 +68,7 @@ pub(crate) fn count_win(pool: &mut Segments<u16>, start: u32, used: u8, plies: u
 }
 
 /// Counts a win in that distance in place of the greater one at that place of the slot's run.
-pub(crate) fn count_better(pool: &mut Segments<u16>, slot: Slot, place: usize, plies: u16)
+pub(crate) fn count_better(pool: &mut Segments<u16>, slot: CellHead, place: usize, plies: u16)
     requires within { slot.start + slot.used ≤ length pool.old }
     requires place { IsWithin slot.start slot.used place }
     ensures changes { ChangesRun slot.start slot.used pool.old pool.new }

@@ -9,7 +9,7 @@ ghost use Rattle.dob_share.specs.declared.opening.Opening.{Opening as Opened};
 ghost use Rattle.dob_share.specs.Openings.{ArePlaced, opening_of, cell_moves, settles, settled_among, new_slot, slots_of};
 ghost use Rattle.dob_share.specs.Statuses.{open_at, opens_below};
 
-use crate::cells::Slot;
+use crate::cells::CellHead;
 use crate::fault::Fault;
 use crate::listed::opening_at;
 use crate::news::{Item, Settlement};
@@ -39,7 +39,7 @@ pub struct Share {
     nodes: NodeCount,
     settled: u64,
     statuses: Statuses,
-    slots: Segments<Slot>,
+    slots: Segments<CellHead>,
     pool: Segments<u16>,
     ghost owner: { id < nodes },
     ghost opens: { length slots ≡ opens_below statuses.words statuses.places },
@@ -295,7 +295,7 @@ fn settlements_of(status: Status) -> u64
 
 // Appends the fresh slot of a class whose run begins at `start`, if it is open. It answers how many
 // entries the run has, none if there is no slot.
-fn push_slot(slots: &mut Segments<Slot>, start: u64, opening: Opening) -> Result<u64, Memory>
+fn push_slot(slots: &mut Segments<CellHead>, start: u64, opening: Opening) -> Result<u64, Memory>
     requires { start < 2 ^ 33 }
     ensures small { OnOk result (start + cell_moves opening < 2 ^ 33) }
     ensures few { OnOk result (cell_moves opening < 64) }
@@ -312,7 +312,7 @@ fn push_slot(slots: &mut Segments<Slot>, start: u64, opening: Opening) -> Result
 }
 
 // Appends the fresh slot of an open class with that many moves, whose run begins at `start`.
-fn push_open(slots: &mut Segments<Slot>, start: u64, moves: u8) -> Result<(), Memory>
+fn push_open(slots: &mut Segments<CellHead>, start: u64, moves: u8) -> Result<(), Memory>
     requires { moves < 64 }
     ensures small { OnOk result (start < 2 ^ 32) }
     ensures slots { OnOk result (slots.new ≡ slots.old ++ new_slot start moves ∷ []) }
@@ -320,7 +320,7 @@ fn push_open(slots: &mut Segments<Slot>, start: u64, moves: u8) -> Result<(), Me
     if start > u64::from(u32::MAX) {
         return Err(Memory);
     }
-    slots.push(Slot {
+    slots.push(CellHead {
         start: start as u32,
         win: 0,
         left: moves,

@@ -8,14 +8,14 @@ ghost use Rattle.dob_share.specs.Cells.{CellValue};
 ghost use Rattle.dob_share.specs.Slots.{slot_at, start_at, cell_by, ArePooled, IsShortCell, least_of};
 ghost use Rattle.dob_share.specs.Steps.{IsApplied};
 
-use crate::cells::{Slot, count_better, count_win, counted_place, greatest_win, later};
+use crate::cells::{CellHead, count_better, count_win, counted_place, greatest_win, later};
 use crate::fault::Fault;
 use crate::share::Seen;
 use dob_distance::{MAX_DISTANCE, Value};
 use dob_lists::Segments;
 
 /// The value of the cell.
-pub(crate) fn value_in(pool: &Segments<u16>, slot: Slot) -> Value
+pub(crate) fn value_in(pool: &Segments<u16>, slot: CellHead) -> Value
     requires within { slot.start + slot.used ≤ length pool.now }
     requires short { IsShortCell (cell_by slot pool.now) }
     ensures { CellValue (cell_by slot pool.now) result }
@@ -40,7 +40,7 @@ pub(crate) fn value_in(pool: &Segments<u16>, slot: Slot) -> Value
 /// Which leave the cells as they were: `Contradiction` if the change doesn't fit the cell, else `TooDeep`
 /// where the cell's value would have a distance above `MAX_DISTANCE`.
 pub(crate) fn apply_at(
-    slots: &mut Segments<Slot>,
+    slots: &mut Segments<CellHead>,
     pool: &mut Segments<u16>,
     seen: Seen,
     to: u64,
@@ -72,7 +72,7 @@ pub(crate) fn apply_at(
 
 // The first news of a move: it leads to a win of the enemy.
 fn apply_win(
-    slots: &mut Segments<Slot>,
+    slots: &mut Segments<CellHead>,
     pool: &mut Segments<u16>,
     seen: Seen,
     to: u64,
@@ -92,7 +92,7 @@ fn apply_win(
         return apply_last_win(slots, pool, place, plies);
     }
     // The slot first: after a write to the pool its place would be looked for anew.
-    slots[place] = Slot {
+    slots[place] = CellHead {
         start: slot.start,
         win: slot.win,
         left: slot.left - 1,
@@ -104,7 +104,7 @@ fn apply_win(
 
 // The news of the last move of a cell that knows no loss of the enemy: it leads to a win of the enemy too, as all do.
 fn apply_last_win(
-    slots: &mut Segments<Slot>,
+    slots: &mut Segments<CellHead>,
     pool: &mut Segments<u16>,
     place: usize,
     plies: u16,
@@ -120,7 +120,7 @@ fn apply_last_win(
     if greatest >= MAX_DISTANCE {
         return Err(Fault::TooDeep);
     }
-    slots[place] = Slot {
+    slots[place] = CellHead {
         start: slot.start,
         win: 0,
         left: 0,
@@ -132,7 +132,7 @@ fn apply_last_win(
 
 // The first news of a move: it leads to a loss of the enemy.
 fn apply_loss(
-    slots: &mut Segments<Slot>,
+    slots: &mut Segments<CellHead>,
     place: usize,
     to: u64,
     plies: u16,
@@ -149,7 +149,7 @@ fn apply_loss(
         return Err(Fault::TooDeep);
     }
     let win = win_after(slot.win, plies);
-    slots[place] = Slot {
+    slots[place] = CellHead {
         start: slot.start,
         win,
         left: slot.left - 1,
@@ -161,7 +161,7 @@ fn apply_loss(
 // Better news of a move that leads to a win of the enemy.
 #[inline(never)]
 fn apply_better_win(
-    slots: &Segments<Slot>,
+    slots: &Segments<CellHead>,
     pool: &mut Segments<u16>,
     place: usize,
     to: u64,
@@ -188,7 +188,7 @@ fn apply_better_win(
 // Better news of a move that leads to a loss of the enemy.
 #[inline(never)]
 fn apply_better_loss(
-    slots: &mut Segments<Slot>,
+    slots: &mut Segments<CellHead>,
     place: usize,
     to: u64,
     was: u16,
@@ -206,7 +206,7 @@ fn apply_better_loss(
         return Err(Fault::Contradiction(to));
     }
     let win = win_after(slot.win, now);
-    slots[place] = Slot {
+    slots[place] = CellHead {
         start: slot.start,
         win,
         left: slot.left,

@@ -2,7 +2,7 @@
 ghost use Rattle.std.specs.Prelude.{◌≡◌, None, OnOk, false, string_bytes};
 
 use crate::line_reader::LineReader;
-use crate::said::{Heard, Note, Place};
+use crate::said::{Device, ErrorRecorder, LastError};
 use crate::shelf::{Shelf, ShelfFault, is_failed};
 use dob_device::{Sink, Source, Std};
 use std::alloc::{AllocError, Global};
@@ -27,8 +27,8 @@ use std::snapshot::Snapshot;
 pub struct DiskShelf<'a, R, I> {
     rt: &'a R,
     alloc: Global,
-    input: LineReader<Std<Heard<'a, I>>>,
-    note: &'a Note,
+    input: LineReader<Std<ErrorRecorder<'a, I>>>,
+    note: &'a LastError,
     name: String,
     made: Snapshot<String>,
     has_failed: bool,
@@ -70,7 +70,7 @@ pub struct DiskFile<F> {
     has_old: bool,
 }
 
-impl<F: OpenFile> DiskFile<Heard<'_, F>> {
+impl<F: OpenFile> DiskFile<ErrorRecorder<'_, F>> {
     // Takes away what stood there before.
     fn clear(&mut self) -> io::Result<()> {
         if self.has_old {
@@ -81,7 +81,7 @@ impl<F: OpenFile> DiskFile<Heard<'_, F>> {
     }
 }
 
-impl<F: Write + OpenFile> Write for DiskFile<Heard<'_, F>> {
+impl<F: Write + OpenFile> Write for DiskFile<ErrorRecorder<'_, F>> {
     fn write(&mut self, bytes: &[u8]) -> io::Result<usize> {
         self.clear()?;
         self.file.write(bytes)
@@ -94,13 +94,16 @@ impl<F: Write + OpenFile> Write for DiskFile<Heard<'_, F>> {
 
 impl<'a, R, I> DiskShelf<'a, R, I> {
     /// The files of the system and that standard input; no call has failed. What they say is left in the note.
-    pub fn new(rt: &'a R, alloc: Global, input: I, note: &'a Note) -> DiskShelf<'a, R, I>
+    pub fn new(rt: &'a R, alloc: Global, input: I, note: &'a LastError) -> DiskShelf<'a, R, I>
         ensures { result.has_failed ≡ false }
     {
         DiskShelf {
             rt,
             alloc,
-            input: LineReader::new(alloc, Std::new(Heard::new(input, Place::Input, note))),
+            input: LineReader::new(
+                alloc,
+                Std::new(ErrorRecorder::new(input, Device::Input, note)),
+            ),
             note,
             name: String::new(alloc),
             made: Snapshot::of(&String::new(alloc)),
@@ -114,14 +117,14 @@ where
     R::File: Claim,
 {
     // The file of that name.
-    fn open(&mut self, name: &str) -> Result<Heard<'a, R::File>, ShelfFault>
+    fn open(&mut self, name: &str) -> Result<ErrorRecorder<'a, R::File>, ShelfFault>
         ensures failed { self.new.has_failed ≡ self.old.has_failed }
         ensures made { self.new.made ≡ self.old.made }
     {
         self.name = name.to_string(self.alloc)?;
         let opened = fs::open(self.rt, name);
-        self.note.hear(Place::File, &opened);
-        Ok(Heard::new(opened?, Place::File, self.note))
+        self.note.record_error(Device::File, &opened);
+        Ok(ErrorRecorder::new(opened?, Device::File, self.note))
     }
 
     // How a file of that name is written.
@@ -192,14 +195,14 @@ where
     }
 
     // A new file for the bytes of that name.
-    fn create(&mut self, name: &str) -> Result<DiskFile<Heard<'a, R::File>>, ShelfFault>
+    fn create(&mut self, name: &str) -> Result<DiskFile<ErrorRecorder<'a, R::File>>, ShelfFault>
         ensures failed { self.new.has_failed ≡ self.old.has_failed }
         ensures made { OnOk result (string_bytes self.new.made.value ≡ name.now) }
     {
         self.name = name.to_string(self.alloc)?;
         self.made = Snapshot::of(&self.name);
         let way = self.way_to(name);
-        self.note.hear(Place::File, &way);
+        self.note.record_error(Device::File, &way);
         let (made, part) = match way? {
             Way::InPlace => (self.open_in_place(name), None),
             Way::Beside(mode) => {
@@ -207,8 +210,8 @@ where
                 (self.begin(part.as_str(), mode), Some(part))
             }
         };
-        self.note.hear(Place::File, &made);
-        let file = Heard::new(made?, Place::File, self.note);
+        self.note.record_error(Device::File, &made);
+        let file = ErrorRecorder::new(made?, Device::File, self.note);
         let has_old = part.is_none();
         Ok(DiskFile {
             file,
@@ -244,7 +247,11 @@ where
     }
 
     // Keeps the file under the name. One that isn't kept takes its part along.
-    fn keep_file(&self, name: &str, mut kept: DiskFile<Heard<'a, R::File>>) -> io::Result<()> {
+    fn keep_file(
+        &self,
+        name: &str,
+        mut kept: DiskFile<ErrorRecorder<'a, R::File>>,
+    ) -> io::Result<()> {
         kept.clear()?;
         let DiskFile { file, part, .. } = kept;
         let Some(part) = part else {
@@ -278,9 +285,9 @@ impl<'a, R: Files, I: Read> Shelf for DiskShelf<'a, R, I>
 where
     R::File: Claim,
 {
-    type Src = Std<Heard<'a, R::File>>;
+    type Src = Std<ErrorRecorder<'a, R::File>>;
 
-    type Dst = Std<DiskFile<Heard<'a, R::File>>>;
+    type Dst = Std<DiskFile<ErrorRecorder<'a, R::File>>>;
 
     ghost state = { λ shelf. record {
       has = λ _ _. ⊥;
@@ -290,17 +297,20 @@ where
       input = None;
     } };
 
-    fn find(&mut self, name: &str) -> Result<Std<Heard<'a, R::File>>, ShelfFault> {
+    fn find(&mut self, name: &str) -> Result<Std<ErrorRecorder<'a, R::File>>, ShelfFault> {
         let found = self.open(name);
         self.has_failed |= is_failed(&found);
         Ok(Std::new(found?))
     }
 
-    fn close(&mut self, source: Std<Heard<'a, R::File>>) {
+    fn close(&mut self, source: Std<ErrorRecorder<'a, R::File>>) {
         self.has_failed |= Source::failed(&source);
     }
 
-    fn make(&mut self, name: &str) -> Result<Std<DiskFile<Heard<'a, R::File>>>, ShelfFault> {
+    fn make(
+        &mut self,
+        name: &str,
+    ) -> Result<Std<DiskFile<ErrorRecorder<'a, R::File>>>, ShelfFault> {
         let made = self.create(name);
         self.has_failed |= is_failed(&made);
         Ok(Std::new(made?))
@@ -309,11 +319,11 @@ where
     fn keep(
         &mut self,
         name: &str,
-        sink: Std<DiskFile<Heard<'a, R::File>>>,
+        sink: Std<DiskFile<ErrorRecorder<'a, R::File>>>,
     ) -> Result<(), ShelfFault> {
         self.has_failed |= Sink::failed(&sink);
         let kept = self.keep_file(name, sink.into_inner());
-        self.note.hear(Place::File, &kept);
+        self.note.record_error(Device::File, &kept);
         match kept {
             Ok(()) => Ok(()),
             Err(_) => {
@@ -323,7 +333,7 @@ where
         }
     }
 
-    fn discard(&mut self, _name: &str, sink: Std<DiskFile<Heard<'a, R::File>>>) {
+    fn discard(&mut self, _name: &str, sink: Std<DiskFile<ErrorRecorder<'a, R::File>>>) {
         self.has_failed |= Sink::failed(&sink);
         let DiskFile { file, part, .. } = sink.into_inner();
         if let Some(part) = part {

@@ -9,7 +9,7 @@ use std::io::{self, Read, Seek, SeekFrom, Write};
 
 /// Which device it is.
 #[derive(Clone, Copy)]
-pub enum Place {
+pub enum Device {
     /// A file.
     File,
     /// Standard input.
@@ -21,7 +21,7 @@ pub enum Place {
 // Which device failed, and why.
 #[derive(Clone, Copy)]
 struct Said {
-    place: Place,
+    place: Device,
     reason: io::Error,
 }
 
@@ -30,15 +30,15 @@ impl Said {
     fn text(self, alloc: Global, file: &str) -> Result<String, AllocError> {
         let reason = self.reason;
         match self.place {
-            Place::File => format!(in alloc; "{file}: {reason}"),
-            Place::Input => format!(in alloc; "standard input: {reason}"),
-            Place::Output => format!(in alloc; "standard output: {reason}"),
+            Device::File => format!(in alloc; "{file}: {reason}"),
+            Device::Input => format!(in alloc; "standard input: {reason}"),
+            Device::Output => format!(in alloc; "standard output: {reason}"),
         }
     }
 }
 
 // What was said last, where that was said before this answer of that device.
-fn said_after<X>(before: Option<Said>, place: Place, answer: &io::Result<X>) -> Option<Said>
+fn said_after<X>(before: Option<Said>, place: Device, answer: &io::Result<X>) -> Option<Said>
     ensures { result ≡ said_after before place answer.now }
 {
     match answer {
@@ -52,20 +52,20 @@ fn said_after<X>(before: Option<Said>, place: Place, answer: &io::Result<X>) -> 
 
 /// What the device said that failed last. Devices and a shelf that share a note leave it there.
 #[derive(Drop)]
-pub struct Note {
+pub struct LastError {
     said: Cell<Option<Said>>,
 }
 
-impl Note {
+impl LastError {
     /// A note in which nothing was left.
-    pub fn new() -> Note {
-        Note {
+    pub fn new() -> LastError {
+        LastError {
             said: Cell::new(None),
         }
     }
 
     /// Leaves why that device failed, if it did.
-    pub(crate) fn hear<X>(&self, place: Place, answer: &io::Result<X>) {
+    pub(crate) fn record_error<X>(&self, place: Device, answer: &io::Result<X>) {
         self.said.set(said_after(self.said.get(), place, answer));
     }
 
@@ -80,16 +80,16 @@ impl Note {
 
 /// A reader or a writer that leaves in a note why a call of it failed.
 #[derive(Drop)]
-pub struct Heard<'a, T> {
+pub struct ErrorRecorder<'a, T> {
     inner: T,
-    place: Place,
-    note: &'a Note,
+    place: Device,
+    note: &'a LastError,
 }
 
-impl<'a, T> Heard<'a, T> {
+impl<'a, T> ErrorRecorder<'a, T> {
     /// The device of that place, over it.
-    pub fn new(inner: T, place: Place, note: &'a Note) -> Heard<'a, T> {
-        Heard { inner, place, note }
+    pub fn new(inner: T, place: Device, note: &'a LastError) -> ErrorRecorder<'a, T> {
+        ErrorRecorder { inner, place, note }
     }
 
     /// What it was made over.
@@ -98,11 +98,11 @@ impl<'a, T> Heard<'a, T> {
     }
 }
 
-impl<T: OpenFile> Heard<'_, T> {
+impl<T: OpenFile> ErrorRecorder<'_, T> {
     /// Takes away the bytes of a regular file; a pipe and a device have none.
     pub(crate) fn clear(&self) -> io::Result<()> {
         let cleared = clear_file(&self.inner);
-        self.note.hear(self.place, &cleared);
+        self.note.record_error(self.place, &cleared);
         cleared
     }
 }
@@ -116,32 +116,32 @@ fn clear_file(file: &impl OpenFile) -> io::Result<()> {
     }
 }
 
-impl<T: Read> Read for Heard<'_, T> {
+impl<T: Read> Read for ErrorRecorder<'_, T> {
     fn read(&mut self, room: &mut [u8]) -> io::Result<usize> {
         let read = self.inner.read(room);
-        self.note.hear(self.place, &read);
+        self.note.record_error(self.place, &read);
         read
     }
 }
 
-impl<T: Seek> Seek for Heard<'_, T> {
+impl<T: Seek> Seek for ErrorRecorder<'_, T> {
     fn seek(&mut self, place: SeekFrom) -> io::Result<u64> {
         let found = self.inner.seek(place);
-        self.note.hear(self.place, &found);
+        self.note.record_error(self.place, &found);
         found
     }
 }
 
-impl<T: Write> Write for Heard<'_, T> {
+impl<T: Write> Write for ErrorRecorder<'_, T> {
     fn write(&mut self, bytes: &[u8]) -> io::Result<usize> {
         let written = self.inner.write(bytes);
-        self.note.hear(self.place, &written);
+        self.note.record_error(self.place, &written);
         written
     }
 
     fn flush(&mut self) -> io::Result<()> {
         let flushed = self.inner.flush();
-        self.note.hear(self.place, &flushed);
+        self.note.record_error(self.place, &flushed);
         flushed
     }
 }

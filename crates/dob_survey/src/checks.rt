@@ -6,7 +6,7 @@ ghost use Rattle.dob_survey.specs.Checks.{check_owed, consistent_line};
 ghost use Rattle.dob_files.specs.Owed.{GivesOwed};
 
 use dob_check::check_watched;
-use dob_files::{Lines, open};
+use dob_files::{Answer, open};
 use dob_lines::{Console, Progress};
 use dob_pieces::Memory;
 use dob_shelf::Shelf;
@@ -22,7 +22,7 @@ pub fn answer_check<S: Shelf>(
     shelf: &mut S,
     file: &str,
     is_watched: bool,
-) -> Lines
+) -> Answer
     ensures { GivesOwed (check_owed file.now) S.state shelf.old shelf.new result }
 {
     let table = open(alloc, shelf, file)?;

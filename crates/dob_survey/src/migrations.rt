@@ -8,7 +8,7 @@ ghost use Rattle.dob_lines.specs.Tallies.{count_line};
 ghost use Rattle.dob_files.specs.Owed.{GivesOwed};
 
 use dob_dbfile::{Sink, write_table};
-use dob_files::{Lines, keep_filled, open};
+use dob_files::{Answer, keep_filled, open};
 use dob_pieces::Memory;
 use dob_shelf::Shelf;
 use dob_value::Table;
@@ -16,7 +16,7 @@ use std::alloc::Global;
 
 /// Keeps the table of the file under the other name, in the second format, and gives the line that says how many classes it
 /// has. The second file is made when the first one is read whole, and each file has what it had until it is kept, so both may have one name.
-pub fn answer_migrate<S: Shelf>(alloc: Global, shelf: &mut S, file: &str, out: &str) -> Lines
+pub fn answer_migrate<S: Shelf>(alloc: Global, shelf: &mut S, file: &str, out: &str) -> Answer
     ensures { GivesOwed (migrate_owed file.now out.now) S.state shelf.old shelf.new result }
 {
     let table = open(alloc, shelf, file)?;
@@ -26,7 +26,7 @@ pub fn answer_migrate<S: Shelf>(alloc: Global, shelf: &mut S, file: &str, out: &
 }
 
 // Fills the sink with the table's file. The line that says how many classes it has.
-fn fill_anew<D: Sink>(alloc: Global, sink: &mut D, table: &Table) -> Lines
+fn fill_anew<D: Sink>(alloc: Global, sink: &mut D, table: &Table) -> Answer
     requires { (D.state sink.old).has_failed ≡ false }
     ensures { FillsSink (AreThese (count_line (codes "classes ") (length table.now.values)) (bytes_of table.now)) (IsFillingFault table.now) result
         (change (D.state sink.old) (D.state sink.new)) }

@@ -5,7 +5,7 @@ ghost use Rattle.dob_pieces.specs.Bytes.{line_feed};
 ghost use Rattle.dob_survey.specs.Puzzles.{IsPuzzleLength, line_of_puzzle, puzzle_line, puzzle_lines, puzzle_text, puzzles_owed};
 ghost use Rattle.dob_files.specs.Owed.{GivesOwed};
 
-use dob_files::{Fault, Lines, open};
+use dob_files::{Answer, Fault, open};
 use dob_moves::Move;
 use dob_pieces::{Memory, Position};
 use dob_probe::{Puzzle, Walk, first_puzzles};
@@ -21,7 +21,7 @@ pub fn answer_puzzles<S: Shelf>(
     shelf: &mut S,
     file: &str,
     search: PuzzleSearch,
-) -> Lines
+) -> Answer
     ensures { GivesOwed (puzzles_owed file.now search) S.state shelf.old shelf.new result }
 {
     if !is_puzzle_length(search.plies) {

@@ -6,7 +6,7 @@ ghost use Rattle.dob_zugzwang.specs.Pairs.{ArePairs};
 ghost use Rattle.dob_survey.specs.Zugzwangs.{AreOfTable, IsOfTable, count_text, deepest_line, first_pairs, pair_line, pair_text, value_words, zugzwang_lines, zugzwangs_owed};
 ghost use Rattle.dob_files.specs.Owed.{GivesOwed};
 
-use dob_files::{Lines, open};
+use dob_files::{Answer, open};
 use dob_lines::joined;
 use dob_pieces::{Memory, Position};
 use dob_shelf::Shelf;
@@ -24,7 +24,7 @@ pub fn answer_zugzwangs<S: Shelf>(
     shelf: &mut S,
     file: &str,
     listed: Option<u64>,
-) -> Lines
+) -> Answer
     ensures { GivesOwed (zugzwangs_owed file.now listed) S.state shelf.old shelf.new result }
 {
     let table = open(alloc, shelf, file)?;

@@ -75,6 +75,6 @@ pub use Rattle.dob_unmove.specs.Ways.{AreWays, HasLionHome, TellsHome, comes_hom
 pub use Rattle.dob_unmove.specs.declared.attackers.Attackers.{Attackers}
 pub use Rattle.dob_unmove.specs.declared.attackers.Attackers.TheVariants.{Nobody, One, Several}
 pub use Rattle.dob_unmove.specs.declared.attackers.Threat.{Threat}
-pub use Rattle.dob_unmove.specs.declared.undo.Undo.{Undo}
-pub use Rattle.dob_unmove.specs.declared.undo.Undo.TheVariants.{Unput, Unstep}
+pub use Rattle.dob_unmove.specs.declared.undo.RetroMove.{RetroMove}
+pub use Rattle.dob_unmove.specs.declared.undo.RetroMove.TheVariants.{Unput, Unstep}
 pub use Rattle.dob_unmove.specs.declared.ways.TheConstants.{BESIDE_B, HOMES_ON_A, HOMES_ON_A_AND_B}

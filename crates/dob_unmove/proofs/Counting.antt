@@ -4,7 +4,7 @@ use Rattle.dob_unmove.proofs.Common.{get_or, inl, inr, length, length-append, op
 use Rattle.dob_unmove.proofs.Common.{All-head, All-nil, All-push, All-tail, Contains-append_cases, Contains-append_left, Contains-append_right, AllPairs-cons}
 use Rattle.dob_unmove.proofs.Common.{sum_by_push, count_by, length-mirrored, length-turned, cons_cases, mirrored, turned, A, Setup, HasOutcome-is, HasOutcome}
 use Rattle.dob_unmove.proofs.Common.{HasStatus, Move, Open, Finds, Gathers, IsOpenRepresentative, CanUndo, choice, earlier, CountEdges, HasEdges, IsNumbering}
-use Rattle.dob_unmove.proofs.Common.{undoes, Undo, All-append, head_in, append-nil}
+use Rattle.dob_unmove.proofs.Common.{undoes, RetroMove, All-append, head_in, append-nil}
 use Rattle.std.proofs.lemmas.List.Elements.{Contains-get_or}
 use Rattle.dob_pieces.proofs.Lists.{rest_in}
 pub use Rattle.dob_classes.proofs.OfFamilies.Counted.{pairs-head, pairs-tail}
@@ -31,7 +31,7 @@ module _ (Represents : Setup → ℕ → Type 0) (n : IsNumbering Represents) wh
   known_more p None old f h = subst (All (λ class. (p : Setup) × Represents p class)) (sym (append-nil old)) h
   known_more p (Some class) old f h = All-push (λ class. (p : Setup) × Represents p class) old class h (p, f.0)
 
-  pub gathered_known : (t : Setup) (us : List Undo) (old new : List ℕ) → Gathers Represents t us old new → All (λ class. (p : Setup) × Represents p class) old
+  pub gathered_known : (t : Setup) (us : List RetroMove) (old new : List ℕ) → Gathers Represents t us old new → All (λ class. (p : Setup) × Represents p class) old
       → All (λ class. (p : Setup) × Represents p class) new
   gathered_known t [] old new e h = subst (All (λ class. (p : Setup) × Represents p class)) e h
   gathered_known t (u ∷ us) old new g h = gathered_known t us _ new g.2 (known_more (earlier t u) g.0 old g.1 h)
@@ -42,9 +42,9 @@ module _ (Represents : Setup → ℕ → Type 0) (n : IsNumbering Represents) wh
 
     module _ (q : Setup) (twelve : length q.board ≡ 12) where
       -- the moves of the ways that lead back to the class's representative
-      record Selects (us : List Undo) (ms : List Move) : Type 0 where
-        sound : (m : Move) → Contains ms m → (u : Undo) × Contains us u × (choice u ≡ m) × IsOpenRepresentative Represents (earlier (turned q) u) class
-        whole : (u : Undo) → Contains us u → IsOpenRepresentative Represents (earlier (turned q) u) class → Contains ms (choice u)
+      record Selects (us : List RetroMove) (ms : List Move) : Type 0 where
+        sound : (m : Move) → Contains ms m → (u : RetroMove) × Contains us u × (choice u ≡ m) × IsOpenRepresentative Represents (earlier (turned q) u) class
+        whole : (u : RetroMove) → Contains us u → IsOpenRepresentative Represents (earlier (turned q) u) class → Contains ms (choice u)
         once : AllPairs (λ (a b : Move). a ≢ b) ms
 
       selects_none : Selects [] []
@@ -55,19 +55,19 @@ module _ (Represents : Setup → ℕ → Type 0) (n : IsNumbering Represents) wh
       }
 
       -- a way that doesn't lead back there
-      selects_passed : (u : Undo) (us : List Undo) (ms : List Move) → ¬ IsOpenRepresentative Represents (earlier (turned q) u) class → Selects us ms → Selects (u ∷ us) ms
+      selects_passed : (u : RetroMove) (us : List RetroMove) (ms : List Move) → ¬ IsOpenRepresentative Represents (earlier (turned q) u) class → Selects us ms → Selects (u ∷ us) ms
       selects_passed u us ms other s = record {
         sound = λ m h. let w = s.sound m h in (w.0, Contains-append_right (u ∷ []) us w.0 w.1, w.2, w.3);
         whole = λ v h represents.
             elim (cons_cases u us v h) [
-              | inl e ↦ absurd (other (subst (λ (x : Undo). IsOpenRepresentative Represents (earlier (turned q) x) class) (sym e) represents))
+              | inl e ↦ absurd (other (subst (λ (x : RetroMove). IsOpenRepresentative Represents (earlier (turned q) x) class) (sym e) represents))
               | inr later ↦ s.whole v later represents
             ];
         once = s.once;
       }
 
       -- a way that does
-      selects_taken : (u : Undo) (us : List Undo) (ms : List Move) → CanUndo (turned q) u → All (CanUndo (turned q)) us → All (λ (v : Undo). u ≢ v) us
+      selects_taken : (u : RetroMove) (us : List RetroMove) (ms : List Move) → CanUndo (turned q) u → All (CanUndo (turned q)) us → All (λ (v : RetroMove). u ≢ v) us
           → IsOpenRepresentative Represents (earlier (turned q) u) class → Selects us ms → Selects (u ∷ us) (choice u ∷ ms)
       selects_taken u us ms can all_can apart represents s = record {
         sound = λ m h.
@@ -77,7 +77,7 @@ module _ (Represents : Setup → ℕ → Type 0) (n : IsNumbering Represents) wh
             ];
         whole = λ v h back.
             elim (cons_cases u us v h) [
-              | inl e ↦ subst (λ (x : Undo). Contains (choice u ∷ ms) (choice x)) e (0, omega arith, refl)
+              | inl e ↦ subst (λ (x : RetroMove). Contains (choice u ∷ ms) (choice x)) e (0, omega arith, refl)
               | inr later ↦ Contains-append_right (choice u ∷ []) ms (choice v) (s.whole v later back)
             ];
         once = AllPairs-cons (λ (a b : Move). a ≢ b) (choice u) ms
@@ -85,16 +85,16 @@ module _ (Represents : Setup → ℕ → Type 0) (n : IsNumbering Represents) wh
             let w = s.sound (get_or ms k d) (Contains-get_or ms k d lt) in
             let same : u ≡ w.0 =
             same_undo (turned q) u w.0 (length-turned q) can (All-contains (CanUndo (turned q)) us w.0 all_can w.1) (e ∙ sym w.2) (n.one_represents _ _ class represents.0 w.3.0) in
-            All-contains (λ (v : Undo). u ≢ v) us w.0 apart w.1 same)
+            All-contains (λ (v : RetroMove). u ≢ v) us w.0 apart w.1 same)
             s.once;
       }
 
       -- what was gathered has the class as often as there are such moves
-      abbrev Counted : List Undo → List ℕ → List ℕ → Type 0
+      abbrev Counted : List RetroMove → List ℕ → List ℕ → Type 0
       Counted us old new = (ms : List Move) × Selects us ms × (number_of new ≡ number_of old + length ms)
 
-      select_step : (u : Undo) (us : List Undo) (old new : List ℕ) (found : Option ℕ) → CanUndo (turned q) u → All (CanUndo (turned q)) us
-          → All (λ (v : Undo). u ≢ v) us
+      select_step : (u : RetroMove) (us : List RetroMove) (old new : List ℕ) (found : Option ℕ) → CanUndo (turned q) u → All (CanUndo (turned q)) us
+          → All (λ (v : RetroMove). u ≢ v) us
           → Finds Represents (earlier (turned q) u) found → Counted us (old ++ option_to_list found) new → Counted (u ∷ us) old new
       select_step u us old new None can all_can apart none c =
           (c.0, selects_passed u us c.0 (λ represents. none (class, represents)) c.1, rw append-nil at c.2)
@@ -111,13 +111,13 @@ module _ (Represents : Setup → ℕ → Type 0) (n : IsNumbering Represents) wh
             )
           ]
 
-      select : (us : List Undo) (old new : List ℕ) → All (CanUndo (turned q)) us → AllPairs (λ (u v : Undo). u ≢ v) us → Gathers Represents (turned q) us old new
+      select : (us : List RetroMove) (old new : List ℕ) → All (CanUndo (turned q)) us → AllPairs (λ (u v : RetroMove). u ≢ v) us → Gathers Represents (turned q) us old new
           → Counted us old new
       select [] old new can once e = ([], selects_none, ap number_of (sym e) ∙ omega arith)
       select (u ∷ us) old new can once g =
           let tail_can = All-tail (CanUndo (turned q)) u us can in
-          select_step u us old new g.0 (All-head (CanUndo (turned q)) u us can) tail_can (pairs-head (λ (u v : Undo). u ≢ v) u us once) g.1
-          (select us (old ++ option_to_list g.0) new tail_can (pairs-tail (λ (u v : Undo). u ≢ v) u us once) g.2)
+          select_step u us old new g.0 (All-head (CanUndo (turned q)) u us can) tail_can (pairs-head (λ (u v : RetroMove). u ≢ v) u us once) g.1
+          (select us (old ++ option_to_list g.0) new tail_can (pairs-tail (λ (u v : RetroMove). u ≢ v) u us once) g.2)
 
       -- the moves of the representative that lead to q itself
       record Leading (ms : List Move) : Type 0 where

@@ -5,7 +5,7 @@ use Rattle.dob_unmove.proofs.Common.{inl, inr, not, cases_eq, one_lion, side_of,
 use Rattle.dob_unmove.proofs.Common.{sym, true, true≢false, ℕ, and_parts, cases_Bool, not-true, trailing_zeros, w16, lion_at, is_empty, is_own, is_piece}
 use Rattle.dob_unmove.proofs.Common.{kind_of, leads, Cell, IsLegal, at, piece_of, Kind, Chick, Elephant, Giraffe, Hen, Lion, Enemy, Mover, Family, Setup}
 use Rattle.dob_unmove.proofs.Common.{IsSeenTurned, CanWalk, Gathers, elsewhere, stood_before, CanUndo, CanUnstep, arrives_at, earlier, stands, uncatch}
-use Rattle.dob_unmove.proofs.Common.{undoes_at, unsteps_between, unsteps_from, comes_home, is_home, may_come, may_have_ended, Threat, Undo, Unput, Unstep, setup_after}
+use Rattle.dob_unmove.proofs.Common.{undoes_at, unsteps_between, unsteps_from, comes_home, is_home, may_come, may_have_ended, Threat, RetroMove, Unput, Unstep, setup_after}
 use Rattle.std.proofs.lemmas.Bool.{and_cases, not-false, or_cases, or_parts}
 use Rattle.dob_rank.specs.Families.{RepresentsClass}
 use Rattle.dob_unmove.specs.declared.predecessors.Walk.{Walk}
@@ -28,12 +28,12 @@ no_enemy None e = cc
 no_enemy (Some kind) e = let sides : Enemy ≡ Mover = ap side_of e in cc
 
 -- a step may come from there
-abbrev pub MayCome : Setup → ℕ → Undo → Type 0
+abbrev pub MayCome : Setup → ℕ → RetroMove → Type 0
 MayCome after lion (Unstep kind from to caught) = may_come after lion kind to from ≡ true
 MayCome after lion (Unput kind to) = Unit {0}
 
 -- then the lion comes from a home
-from_home : (after : Setup) (lion : ℕ) (u : Undo) → MayCome after lion u → came u ≡ own_lion → is_home lion (leaves u) ≡ true
+from_home : (after : Setup) (lion : ℕ) (u : RetroMove) → MayCome after lion u → came u ≡ own_lion → is_home lion (leaves u) ≡ true
 from_home after lion (Unstep kind from to caught) may e =
     let same : kind ≡ Lion = ap kind_of e in
     ap (λ (k : Kind). comes_home k lion from) (sym same) ∙ (and_parts _ (comes_home kind lion from) may).1
@@ -63,10 +63,10 @@ module _ (walk : Walk) (w : CanWalk walk) where
   abbrev legal : IsSeenTurned IsLegal after
   legal = legal_turned family after w.of_set
 
-  abbrev Dead : Undo → Type 0
+  abbrev Dead : RetroMove → Type 0
   Dead u = IsDead (RepresentsClass family) after u
 
-  module _ (u : Undo) (can : CanUndo after u) where
+  module _ (u : RetroMove) (can : CanUndo after u) where
     abbrev both : IsBefore after u
     both = changed after threat legal w.ways_are.threat_is u can
 
@@ -182,7 +182,7 @@ pub steps_from : (Represents : Setup → ℕ → Type 0) (after : Setup) (kind :
     → Gathers Represents after (uncatch after kind from to Elephant) c d → Gathers Represents after (uncatch after kind from to Chick) d e
     → Gathers Represents after (uncatch after kind from to Hen) e f → Gathers Represents after (unsteps_from after kind to from) a f
 steps_from Represents after kind from to a b c d e f same none giraffe elephant chick hen =
-    subst (λ (us : List Undo). Gathers Represents after us a f) (sym same)
+    subst (λ (us : List RetroMove). Gathers Represents after us a f) (sym same)
     (gathers_cons Represents after (Unstep kind from to None) _ a b f none
     (gathers_append Represents after (uncatch after kind from to Giraffe) _ b c f giraffe
     (gathers_append Represents after (uncatch after kind from to Elephant) _ c d f elephant

@@ -1,19 +1,19 @@
 -- What the ways add, one list after the other: nothing where none can lead to an open representative.
 use Rattle.dob_unmove.proofs.Common.{◌++◌, ◌<◌, ◌∷◌, ◌≡◌, ◌≤◌, Bool, Contains, List, None, [], append-nil, arith, false, inl, inr, option_to_list, refl, subst}
 use Rattle.dob_unmove.proofs.Common.{suc, sym, true, zero, ℕ, cases_lt, Contains-append_right, trailing_zeros, w16, head_in, IsLeft, all_left, next_left}
-use Rattle.dob_unmove.proofs.Common.{none_left, without, each_below, IsMask, Setup, Gathers, IsOpenRepresentative, earlier, Undo, TakesAll, Adds}
+use Rattle.dob_unmove.proofs.Common.{none_left, without, each_below, IsMask, Setup, Gathers, IsOpenRepresentative, earlier, RetroMove, TakesAll, Adds}
 
 pub gathers_none : (Represents : Setup → ℕ → Type 0) (after : Setup) (xs : List ℕ) → Gathers Represents after [] xs xs
 gathers_none Represents after xs = refl
 
-pub gathers_append : (Represents : Setup → ℕ → Type 0) (after : Setup) (us vs : List Undo) (xs ys zs : List ℕ) → Gathers Represents after us xs ys
+pub gathers_append : (Represents : Setup → ℕ → Type 0) (after : Setup) (us vs : List RetroMove) (xs ys zs : List ℕ) → Gathers Represents after us xs ys
     → Gathers Represents after vs ys zs
     → Gathers Represents after (us ++ vs) xs zs
 gathers_append Represents after [] vs xs ys zs first second = subst (λ (l : List ℕ). Gathers Represents after vs l zs) (sym first) second
 gathers_append Represents after (u ∷ us) vs xs ys zs first second =
     (first.0, first.1, gathers_append Represents after us vs (xs ++ option_to_list first.0) ys zs first.2 second)
 
-pub gathers_cons : (Represents : Setup → ℕ → Type 0) (after : Setup) (u : Undo) (us : List Undo) (xs ys zs : List ℕ) → Gathers Represents after (u ∷ []) xs ys
+pub gathers_cons : (Represents : Setup → ℕ → Type 0) (after : Setup) (u : RetroMove) (us : List RetroMove) (xs ys zs : List ℕ) → Gathers Represents after (u ∷ []) xs ys
     → Gathers Represents after us ys zs
     → Gathers Represents after (u ∷ us) xs zs
 gathers_cons Represents after u us xs ys zs first second = gathers_append Represents after (u ∷ []) us xs ys zs first second
@@ -21,17 +21,17 @@ gathers_cons Represents after u us xs ys zs first second = gathers_append Repres
 pub ruleset gathers = (gathers_none, gathers_append, gathers_cons)
 
 -- what the plain walk adds, way by way
-pub gathers_taken : (Represents : Setup → ℕ → Type 0) (after : Setup) (us : List Undo) (xs ys : List ℕ)
+pub gathers_taken : (Represents : Setup → ℕ → Type 0) (after : Setup) (us : List RetroMove) (xs ys : List ℕ)
     → TakesAll (λ old undo new. Adds Represents after undo old new) xs us ys
     → Gathers Represents after us xs ys
 gathers_taken Represents after [] xs ys h = h
 gathers_taken Represents after (u ∷ us) xs ys h = grind (arith, (gathers_taken Represents after us h.0 ys h.2))
 
 -- the way leads back to no open representative
-abbrev pub IsDead : (Setup → ℕ → Type 0) → Setup → Undo → Type 0
+abbrev pub IsDead : (Setup → ℕ → Type 0) → Setup → RetroMove → Type 0
 IsDead Represents after u = ¬ ((class : ℕ) × IsOpenRepresentative Represents (earlier after u) class)
 
-pub gathers_dead : (Represents : Setup → ℕ → Type 0) (after : Setup) (us : List Undo) (xs : List ℕ) → ((u : Undo) → Contains us u → IsDead Represents after u)
+pub gathers_dead : (Represents : Setup → ℕ → Type 0) (after : Setup) (us : List RetroMove) (xs : List ℕ) → ((u : RetroMove) → Contains us u → IsDead Represents after u)
     → Gathers Represents after us xs xs
 gathers_dead Represents after [] xs dead = refl
 gathers_dead Represents after (u ∷ us) xs dead =
@@ -41,17 +41,17 @@ gathers_dead Represents after (u ∷ us) xs dead =
 -- ---- walks over the squares of a mask
 
 -- where the test fails the ways are dead
-abbrev pub AreDead : (Setup → ℕ → Type 0) → Setup → (ℕ → Bool) → (ℕ → List Undo) → Type 0
-AreDead Represents after test g = (k : ℕ) → k < 12 → test k ≡ false → (u : Undo) → Contains (g k) u → IsDead Represents after u
+abbrev pub AreDead : (Setup → ℕ → Type 0) → Setup → (ℕ → Bool) → (ℕ → List RetroMove) → Type 0
+AreDead Represents after test g = (k : ℕ) → k < 12 → test k ≡ false → (u : RetroMove) → Contains (g k) u → IsDead Represents after u
 
 -- the squares that are left of a mask, and what was added so far
-pub record IsGathered (Represents : Setup → ℕ → Type 0) (after : Setup) (test : ℕ → Bool) (g : ℕ → List Undo) (left : ℕ) (before items : List ℕ) : Type 0 where
+pub record IsGathered (Represents : Setup → ℕ → Type 0) (after : Setup) (test : ℕ → Bool) (g : ℕ → List RetroMove) (left : ℕ) (before items : List ℕ) : Type 0 where
   pub upto : ℕ
   pub bound : upto ≤ 12
   pub left_are : IsLeft test upto left
   pub gathered : Gathers Represents after (each_below g upto) before items
 
-module _ (Represents : Setup → ℕ → Type 0) (after : Setup) (test : ℕ → Bool) (g : ℕ → List Undo) where
+module _ (Represents : Setup → ℕ → Type 0) (after : Setup) (test : ℕ → Bool) (g : ℕ → List RetroMove) where
   dead_between : AreDead Represents after test g → (from n : ℕ) (xs ys : List ℕ) → from ≤ n → n ≤ 12 → ((k : ℕ) → from ≤ k → k < n → test k ≡ false)
       → Gathers Represents after (each_below g from) xs ys → Gathers Represents after (each_below g n) xs ys
   dead_between dead from zero xs ys le within between h =
@@ -67,7 +67,7 @@ module _ (Represents : Setup → ℕ → Type 0) (after : Setup) (test : ℕ →
   pub gathered_start : (mask : ℕ) (before : List ℕ) → IsMask test mask → IsGathered Represents after test g mask before before
   gathered_start mask before is = record { upto = 0; bound = omega arith; left_are = all_left test mask is; gathered = refl }
 
-module _ {Represents : Setup → ℕ → Type 0} {after : Setup} {test : ℕ → Bool} {g : ℕ → List Undo} {left : ℕ} {before items : List ℕ}
+module _ {Represents : Setup → ℕ → Type 0} {after : Setup} {test : ℕ → Bool} {g : ℕ → List RetroMove} {left : ℕ} {before items : List ℕ}
     (w : IsGathered Represents after test g left before items) where
   -- the lowest square passes the test
   pub passes_lowest : {place : ℕ} → 0 < left → place ≡ trailing_zeros w16 left → test place ≡ true

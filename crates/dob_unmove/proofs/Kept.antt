@@ -3,7 +3,7 @@ use Rattle.dob_unmove.proofs.Common.{if◌then◌else◌, ◌<◌, ◌∙◌, �
 use Rattle.dob_unmove.proofs.Common.{cases_eq, all_below, all_below-at, leads-to_board, within-from_piece, leads, is_far, may_stand, piece_of, row, Kind}
 use Rattle.dob_unmove.proofs.Common.{Chick, Mover, Profile, A, B, none_stands, enemy_cell, Unput, Unstep, turned-mirrored, IsAllowed}
 use Rattle.dob_unmove.proofs.Common.{HasLionOffFarRow, IsLegal, mirrored, total, turned, Family, Setup, IsPositionOf, IsPositionOf-mirrored, IsBoardOf}
-use Rattle.dob_unmove.proofs.Common.{IsShown, Board, IsSeenTurned, CanUndo, earlier, may_give_back, Undo}
+use Rattle.dob_unmove.proofs.Common.{IsShown, Board, IsSeenTurned, CanUndo, earlier, may_give_back, RetroMove}
 use Rattle.dob_pieces.proofs.Allowed.{stands-from_allowed, allowed-from_stands, IsAllowed-turned}
 use Rattle.dob_unmove.proofs.Undone.{leaves, ends_on, came, given, IsBefore, is_before, turned_squares, squares_before, total_before, lions_before}
 
@@ -11,7 +11,7 @@ abbrev pub legal_turned : (family : Family) (after : Setup) → IsSeenTurned (Is
 legal_turned family after t = (t.0, t.1.of_set.legal, t.2)
 
 -- what stood before a move that led to a position is one too, unless the mover's lion stood on row 4
-pub legal_before : (after s : Setup) (u : Undo) → CanUndo after u → IsSeenTurned IsLegal after → s ≡ earlier after u → HasLionOffFarRow s → IsLegal s
+pub legal_before : (after s : Setup) (u : RetroMove) → CanUndo after u → IsSeenTurned IsLegal after → s ≡ earlier after u → HasLionOffFarRow s → IsLegal s
 legal_before after s u can t e home = subst IsLegal (sym e) (record {
   squares = squares_before after t u can;
   lions = lions_before after t u can;
@@ -37,15 +37,15 @@ departs B Chick from to low steps =
     rw steps at told
 departs B _ from to low steps = refl
 
-came_stands : (profile : Profile) (after : Setup) (u : Undo) → CanUndo after u → may_stand profile (leaves u) (came u) ≡ true
+came_stands : (profile : Profile) (after : Setup) (u : RetroMove) → CanUndo after u → may_stand profile (leaves u) (came u) ≡ true
 came_stands profile after (Unstep kind from to caught) can = departs profile kind from to can.on_board can.leads
 came_stands profile after (Unput kind to) can = none_stands profile 12
 
-given_stands : (profile : Profile) (u : Undo) → may_stand profile (ends_on u) (enemy_cell (given u)) ≡ may_give_back profile u
+given_stands : (profile : Profile) (u : RetroMove) → may_stand profile (ends_on u) (enemy_cell (given u)) ≡ may_give_back profile u
 given_stands profile (Unstep kind from to caught) = refl
 given_stands profile (Unput kind to) = none_stands profile to
 
-module _ (family : Family) (after : Setup) (u : Undo) (can : CanUndo after u) (t : IsSeenTurned (IsPositionOf family) after) where
+module _ (family : Family) (after : Setup) (u : RetroMove) (can : CanUndo after u) (t : IsSeenTurned (IsPositionOf family) after) where
   abbrev legal : IsSeenTurned IsLegal after
   legal = legal_turned family after t
 

@@ -4,7 +4,7 @@ use Rattle.dob_unmove.proofs.Common.{refl, subst, true, ℕ, and_parts, lt-ltb, 
 use Rattle.dob_unmove.proofs.Common.{is_some, leads-to_board, within-from_piece, cond_sound, cons_cases, each_sound, head_in, none_in_empty, is_kind}
 use Rattle.dob_unmove.proofs.Common.{kind_in_hand, kind_on_board, leads, Cell, at, held, piece_of, Hand, HandKind, Kind, Chick, Elephant, Giraffe, Hen, Lion}
 use Rattle.dob_unmove.proofs.Common.{Side, Enemy, Mover, Setup, CanGiveBack, CanUndo, CanUnstep, arrives_at, holds_any, holds_caught, if_so, is_movers, stands}
-use Rattle.dob_unmove.proofs.Common.{uncatch, undoes, undoes_at, unputs, unsteps, unsteps_between, unsteps_from, Undo, Unput, Unstep}
+use Rattle.dob_unmove.proofs.Common.{uncatch, undoes, undoes_at, unputs, unsteps, unsteps_between, unsteps_from, RetroMove, Unput, Unstep}
 use Rattle.dob_pieces.specs.declared.kind.HandKind.TheVariants as hand
 use Rattle.dob_unmove.proofs.Runs.{runs}
 use Rattle.dob_unmove.proofs.Undone.{ends_on}
@@ -59,29 +59,29 @@ pub ruleset steps = (runs, free_step)
 
 -- ---- the way alone, if a test is met
 
-pub if_so_sound : (b : Bool) (x u : Undo) → Contains (if_so b x) u → (b ≡ true) × (x ≡ u)
+pub if_so_sound : (b : Bool) (x u : RetroMove) → Contains (if_so b x) u → (b ≡ true) × (x ≡ u)
 if_so_sound b x u h = search (rules, cond_sound, cons_cases, none_in_empty)
 
-if_so_whole : (b : Bool) (x : Undo) → b ≡ true → Contains (if_so b x) x
+if_so_whole : (b : Bool) (x : RetroMove) → b ≡ true → Contains (if_so b x) x
 if_so_whole b x e = cond_whole b (x ∷ []) x e (head_in x [])
 
 -- ---- every way in the list can undo the last move
 
-either : {P : Type 0} (xs ys : List Undo) (u : Undo) → Contains (xs ++ ys) u → (Contains xs u → P) → (Contains ys u → P) → P
+either : {P : Type 0} (xs ys : List RetroMove) (u : RetroMove) → Contains (xs ++ ys) u → (Contains xs u → P) → (Contains ys u → P) → P
 either xs ys u h first second = elim (Contains-append_cases xs ys u h) [ inl a ↦ first a | inr b ↦ second b ]
 
 -- a step of the kind between these squares, with a catch or without
-pub record IsStep (t : Setup) (kind : Kind) (from to : ℕ) (u : Undo) : Type 0 where
+pub record IsStep (t : Setup) (kind : Kind) (from to : ℕ) (u : RetroMove) : Type 0 where
   pub caught : Option Kind
   pub is : Unstep kind from to caught ≡ u
   pub can : CanUnstep t kind from to caught
 
 -- the way ends on the square
-abbrev pub EndsOn : Setup → ℕ → Undo → Type 0
+abbrev pub EndsOn : Setup → ℕ → RetroMove → Type 0
 EndsOn t to u = CanUndo t u × (ends_on u ≡ to)
 
 module _ (t : Setup) where
-  uncatch_sound : (kind : Kind) (from to : ℕ) (caught : Kind) (u : Undo) → CanUnstep t kind from to None → Contains (uncatch t kind from to caught) u
+  uncatch_sound : (kind : Kind) (from to : ℕ) (caught : Kind) (u : RetroMove) → CanUnstep t kind from to None → Contains (uncatch t kind from to caught) u
       → IsStep t kind from to u
   uncatch_sound kind from to caught u step h =
       let found = if_so_sound (holds_caught t.hands.mover caught) (Unstep kind from to (Some caught)) u h in
@@ -92,7 +92,7 @@ module _ (t : Setup) where
         can = record { stands = step.stands; on_board = step.on_board; empty = step.empty; leads = step.leads; in_hand = back };
       }
 
-  between_sound : (kind : Kind) (from to : ℕ) (u : Undo) → CanUnstep t kind from to None → Contains (unsteps_between t kind from to) u
+  between_sound : (kind : Kind) (from to : ℕ) (u : RetroMove) → CanUnstep t kind from to None → Contains (unsteps_between t kind from to) u
       → IsStep t kind from to u
   between_sound kind from to u step h = elim (cons_cases _ _ u h) [
     | inl e ↦ record { caught = None; is = e; can = step }
@@ -101,7 +101,7 @@ module _ (t : Setup) where
         either _ _ u rest (some Giraffe) (λ rest. either _ _ u rest (some Elephant) (λ rest. either _ _ u rest (some Chick) (some Hen)))
   ]
 
-  pub from_sound : (kind : Kind) (from to : ℕ) (u : Undo) → at t to ≡ Some (piece_of Mover (arrives_at kind to)) → from < 12
+  pub from_sound : (kind : Kind) (from to : ℕ) (u : RetroMove) → at t to ≡ Some (piece_of Mover (arrives_at kind to)) → from < 12
       → Contains (unsteps_from t kind to from) u → IsStep t kind from to u
   unfolding unsteps_from
   from_sound kind from to u here low h =
@@ -109,7 +109,7 @@ module _ (t : Setup) where
       let parts = and_parts (not (is_some (at t from))) (leads kind from to) found.0 in
       between_sound kind from to u (record { stands = here; on_board = low; empty = empty-true (at t from) parts.0; leads = parts.1; in_hand = tt }) found.1
 
-  unsteps_sound : (kind : Kind) (to : ℕ) (u : Undo) → Contains (unsteps t kind to) u → EndsOn t to u
+  unsteps_sound : (kind : Kind) (to : ℕ) (u : RetroMove) → Contains (unsteps t kind to) u → EndsOn t to u
   unfolding unsteps
   unsteps_sound kind to u h =
       let found = cond_sound _ _ u h in
@@ -117,13 +117,13 @@ module _ (t : Setup) where
       let step = from_sound kind w.0 to u (stands-true (at t to) (arrives_at kind to) found.0) w.1 w.2 in
       subst (EndsOn t to) step.is (step.can, refl)
 
-  unputs_sound : (kind : HandKind) (to : ℕ) (u : Undo) → Contains (unputs t kind to) u → EndsOn t to u
+  unputs_sound : (kind : HandKind) (to : ℕ) (u : RetroMove) → Contains (unputs t kind to) u → EndsOn t to u
   unfolding unputs
   unputs_sound kind to u h =
       let found = if_so_sound (stands (at t to) (kind_on_board kind)) (Unput kind to) u h in
       subst (EndsOn t to) found.1 (stands-true (at t to) (kind_on_board kind) found.0, refl)
 
-  pub at_sound : (to : ℕ) (u : Undo) → Contains (undoes_at t to) u → EndsOn t to u
+  pub at_sound : (to : ℕ) (u : RetroMove) → Contains (undoes_at t to) u → EndsOn t to u
   unfolding undoes_at
   at_sound to u h =
       let step = λ (kind : Kind) (there : Contains (unsteps t kind to) u). unsteps_sound kind to u there in
@@ -136,7 +136,7 @@ module _ (t : Setup) where
       (λ rest. either _ _ u rest (put hand.Chick)
       (λ rest. either _ _ u rest (put hand.Elephant) (put hand.Giraffe)))))))
 
-  pub undoes_sound : (u : Undo) → Contains (undoes t) u → CanUndo t u
+  pub undoes_sound : (u : RetroMove) → Contains (undoes t) u → CanUndo t u
   unfolding undoes
   undoes_sound u h = let w = each_sound (undoes_at t) 12 u h in (at_sound w.0 u w.2).0
 
@@ -174,17 +174,17 @@ module _ (t : Setup) where
   unfolding unputs
   unputs_whole kind to u = if_so_whole (stands (at t to) (kind_on_board kind)) (Unput kind to) (stands-from (at t to) (kind_on_board kind) u)
 
-  step_at_whole : (kind : Kind) (to : ℕ) (u : Undo) → Contains (unsteps t kind to) u → Contains (undoes_at t to) u
+  step_at_whole : (kind : Kind) (to : ℕ) (u : RetroMove) → Contains (unsteps t kind to) u → Contains (undoes_at t to) u
   unfolding undoes_at
   step_at_whole Lion to u h = search (Contains-append_left, Contains-append_right) depth 9
   step_at_whole _ to u h = search (Contains-append_left, Contains-append_right) depth 9
 
-  put_at_whole : (kind : HandKind) (to : ℕ) (u : Undo) → Contains (unputs t kind to) u → Contains (undoes_at t to) u
+  put_at_whole : (kind : HandKind) (to : ℕ) (u : RetroMove) → Contains (unputs t kind to) u → Contains (undoes_at t to) u
   unfolding undoes_at
   put_at_whole hand.Chick to u h = search (Contains-append_left, Contains-append_right) depth 9
   put_at_whole _ to u h = search (Contains-append_left, Contains-append_right) depth 9
 
-  pub undoes_whole : (u : Undo) → length t.board ≡ 12 → CanUndo t u → Contains (undoes t) u
+  pub undoes_whole : (u : RetroMove) → length t.board ≡ 12 → CanUndo t u → Contains (undoes t) u
   unfolding undoes
   undoes_whole (Unstep kind from to caught) twelve s =
       each_whole (undoes_at t) 12 to _ (leads-to_board kind from to s.leads) (step_at_whole kind to _ (unsteps_whole kind from to caught s))

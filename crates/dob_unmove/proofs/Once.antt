@@ -1,7 +1,7 @@
 -- The list of the ways has no way twice: their places in the walk ascend.
 use Rattle.dob_unmove.proofs.Common.{◌*◌, ◌++◌, ◌+◌, ◌<◌, ◌∷◌, ◌≡◌, ◌≢◌, ◌≤◌, AllPairs, List, None, Option, Some, [], ap, arith, suc, sym, ℕ, each_below}
 use Rattle.dob_unmove.proofs.Common.{kind_place, HandKind, Kind, Chick, Elephant, Giraffe, Hen, Lion, Setup, undoes, undoes_at, unputs, unsteps}
-use Rattle.dob_unmove.proofs.Common.{unsteps_between, unsteps_from, Undo, Unput, Unstep}
+use Rattle.dob_unmove.proofs.Common.{unsteps_between, unsteps_from, RetroMove, Unput, Unstep}
 use Rattle.dob_pieces.specs.declared.kind.HandKind.TheVariants as hand
 use Rattle.dob_pieces.proofs.Lists.{Rising, rising-lower, rising-append, rising-cond, rising-each, rising-pairs}
 
@@ -18,26 +18,26 @@ hand_place hand.Giraffe = 2
 
 -- A thousand for each square of arrival; within it a hundred for each kind of piece and for the drops behind them; within that five
 -- for each square of departure, one for each kind that may be caught.
-place : Undo → ℕ
+place : RetroMove → ℕ
 place (Unstep kind from to caught) = 1000 * to + (100 * kind_place kind + (5 * from + caught_place caught))
 place (Unput kind to) = 1000 * to + (500 + hand_place kind)
 
-rising-higher : (low high more : ℕ) (us : List Undo) → high ≤ more → Rising place low high us → Rising place low more us
+rising-higher : (low high more : ℕ) (us : List RetroMove) → high ≤ more → Rising place low high us → Rising place low more us
 rising-higher low high more [] h r = omega arith
 rising-higher low high more (u ∷ us) h r = (r.0, rising-higher (suc (place u)) high more us h r.1)
 
 -- one list behind another
-rising-then : (low mid next high : ℕ) (xs ys : List Undo) → Rising place low mid xs → mid ≤ next → Rising place next high ys → Rising place low high (xs ++ ys)
+rising-then : (low mid next high : ℕ) (xs ys : List RetroMove) → Rising place low mid xs → mid ≤ next → Rising place next high ys → Rising place low high (xs ++ ys)
 rising-then low mid next high xs ys first le second = rising-append place low mid high xs ys first (rising-lower place mid next high ys le second)
 
-rising-one : (u : Undo) (low : ℕ) → place u ≡ low → Rising place low (suc low) (u ∷ [])
+rising-one : (u : RetroMove) (low : ℕ) → place u ≡ low → Rising place low (suc low) (u ∷ [])
 rising-one u low e = (omega (arith, e), omega (arith, e))
 
-apart-place : (u v : Undo) → place u < place v → u ≢ v
+apart-place : (u v : RetroMove) → place u < place v → u ≢ v
 apart-place u v lt e = let same : place u ≡ place v = ap place e in absurd (omega arith)
 
 -- no way stands twice in a list whose places ascend
-rising-once : (low high : ℕ) (us : List Undo) → Rising place low high us → AllPairs (λ u v. u ≢ v) us
+rising-once : (low high : ℕ) (us : List RetroMove) → Rising place low high us → AllPairs (λ u v. u ≢ v) us
 rising-once low high us r = λ i j d before within. apart-place _ _ (rising-pairs place low high us r i j d before within)
 
 -- ---- the places in the walk

@@ -5,7 +5,7 @@ use Rattle.dob_unmove.proofs.Common.{true≢false, ℕ, cases_Bool, cases_eq, ca
 use Rattle.dob_unmove.proofs.Common.{one_lion, within-from_piece, all_left, next_left, none_left, none_passes, without, IsMask, attacks, attacks_by, Cell}
 use Rattle.dob_unmove.proofs.Common.{HasLions, IsLegal, at, piece_of, Kind, Lion, Enemy, A, Setup, sides_apart, turned_lion, CanCatch, HasStatus, HasTried}
 use Rattle.dob_unmove.proofs.Common.{Step, Open, IsSeenTurned, AreAttackers, IsThreat, elsewhere, stood_before, CanUndo, choice, earlier, enemy_cell, Attackers}
-use Rattle.dob_unmove.proofs.Common.{Nobody, One, Several, Threat, Undo, Unput, Unstep}
+use Rattle.dob_unmove.proofs.Common.{Nobody, One, Several, Threat, RetroMove, Unput, Unstep}
 use Rattle.dob_moves.proofs.Masked.{catch_by}
 use Rattle.dob_unmove.proofs.Undone.{leaves, ends_on, came, arrived, given, IsBefore, is_before, turned_squares, goes_before, lions_before}
 use Rattle.dob_pieces.specs.declared.kind.Piece.{Piece}
@@ -47,7 +47,7 @@ several p target mask place are some e more =
 -- ---- before the move
 
 -- by what stood where the piece came from, or what stands elsewhere
-pub stood_by : (threat : Threat) (u : Undo) → stood_before threat u
+pub stood_by : (threat : Threat) (u : RetroMove) → stood_before threat u
     ≡ (if attacks_by (came u) (leaves u) threat.lion then true else elsewhere threat.attackers (ends_on u))
 stood_by threat (Unstep kind from to caught) = refl
 stood_by threat (Unput kind to) = refl
@@ -80,7 +80,7 @@ enemy_stands_still : (caught : Option Kind) (from to : ℕ) → attacks_by (enem
 enemy_stands_still None from to = refl
 enemy_stands_still (Some kind) from to = refl
 
-module _ (after : Setup) (threat : Threat) (t : IsSeenTurned IsLegal after) (h : IsThreat after threat) (u : Undo) (can : CanUndo after u) where
+module _ (after : Setup) (threat : Threat) (t : IsSeenTurned IsLegal after) (h : IsThreat after threat) (u : RetroMove) (can : CanUndo after u) where
   abbrev before : Setup
   before = earlier after u
 

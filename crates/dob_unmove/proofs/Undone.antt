@@ -3,7 +3,7 @@ use Rattle.dob_unmove.proofs.Common.{◌+◌, ◌-◌, ◌<◌, ◌∙◌, ◌�
 use Rattle.dob_unmove.proofs.Common.{sym, true, ℕ, get_or-set_other, get_or-set_same, get_or_past, length-set, set-get_or, set-set, set_comm, is_some}
 use Rattle.dob_unmove.proofs.Common.{leads-apart, leads-to_board, length-turned, within-from_piece, turned-turned, kind_on_board, Cell, at, held, piece_of}
 use Rattle.dob_unmove.proofs.Common.{turned, with_one_less, with_one_more, Hand, HandKind, Kind, Hen, Mover, Setup, HasOutcome, grows_at, Move, Put, Step}
-use Rattle.dob_unmove.proofs.Common.{CanGiveBack, CanUndo, arrives_at, choice, earlier, enemy_cell, without_caught, Undo, Unput, Unstep, HasFewPieces, HasLions}
+use Rattle.dob_unmove.proofs.Common.{CanGiveBack, CanUndo, arrives_at, choice, earlier, enemy_cell, without_caught, RetroMove, Unput, Unstep, HasFewPieces, HasLions}
 use Rattle.dob_unmove.proofs.Common.{IsLegal, total, Enemy, HasOutcome-is, lions-HasOutcome, total-HasOutcome, HasFewPieces-turned, HasLions-turned}
 use Rattle.dob_unmove.proofs.Common.{IsSeenTurned}
 use Rattle.dob_pieces.specs.declared.kind.HandKind.TheVariants as hand
@@ -40,38 +40,38 @@ written_back_once b i c x at_i = rw (set-set, ← at_i, set-get_or) refl
 -- ---- what stood where
 
 -- the square from which the piece came, for a drop one beyond the board
-abbrev pub leaves : Undo → ℕ
+abbrev pub leaves : RetroMove → ℕ
 leaves (Unstep kind from to caught) = from
 leaves (Unput kind to) = 12
 
 -- the square on which the move ended
-abbrev pub ends_on : Undo → ℕ
+abbrev pub ends_on : RetroMove → ℕ
 ends_on (Unstep kind from to caught) = to
 ends_on (Unput kind to) = to
 
 -- what stood on the one, and what stands on the other
-abbrev pub came : Undo → Cell
+abbrev pub came : RetroMove → Cell
 came (Unstep kind from to caught) = Some (piece_of Mover kind)
 came (Unput kind to) = None
 
-abbrev pub arrived : Undo → Kind
+abbrev pub arrived : RetroMove → Kind
 arrived (Unstep kind from to caught) = arrives_at kind to
 arrived (Unput kind to) = kind_on_board kind
 
 -- what is given back there
-abbrev pub given : Undo → Option Kind
+abbrev pub given : RetroMove → Option Kind
 given (Unstep kind from to caught) = caught
 given (Unput kind to) = None
 
 -- the move changed the cells of these two squares alone
-pub record IsBefore (after : Setup) (u : Undo) : Type 0 where
+pub record IsBefore (after : Setup) (u : RetroMove) : Type 0 where
   pub from_after : at after (leaves u) ≡ None
   pub to_after : at after (ends_on u) ≡ Some (piece_of Mover (arrived u))
   pub from_before : at (earlier after u) (leaves u) ≡ came u
   pub to_before : at (earlier after u) (ends_on u) ≡ enemy_cell (given u)
   pub others : (s : ℕ) → s ≢ leaves u → s ≢ ends_on u → at (earlier after u) s ≡ at after s
 
-pub is_before : (after : Setup) (u : Undo) → length after.board ≡ 12 → CanUndo after u → IsBefore after u
+pub is_before : (after : Setup) (u : RetroMove) → length after.board ≡ 12 → CanUndo after u → IsBefore after u
 unfolding earlier
 is_before after (Unstep kind from to caught) twelve can =
     let given = set after.board to (enemy_cell caught) in record {
@@ -110,7 +110,7 @@ met_again p to h None there some = there
 met_again p to h (Some kind) there some = (some.0, (kind, there, some.1))
 
 module _ (after : Setup) (twelve : length after.board ≡ 12) where
-  moved_again : (u : Undo) → CanUndo after u → moved (earlier after u) (choice u) ≡ after
+  moved_again : (u : RetroMove) → CanUndo after u → moved (earlier after u) (choice u) ≡ after
   unfolding earlier stepped dropped
   moved_again (Unstep kind from to caught) can =
       let board = written_back after.board to from (enemy_cell caught) (Some (piece_of Mover kind)) None
@@ -123,7 +123,7 @@ module _ (after : Setup) (twelve : length after.board ≡ 12) where
       let board = written_back_once after.board to None (Some (piece_of Mover (kind_on_board kind))) can in
       λ i. setup_of (board i) (record after.hands { mover = one_less-more after.hands.mover kind i })
 
-  HasOutcome-earlier : (u : Undo) → CanUndo after u → HasOutcome (earlier after u) (choice u) (turned after)
+  HasOutcome-earlier : (u : RetroMove) → CanUndo after u → HasOutcome (earlier after u) (choice u) (turned after)
   unfolding earlier stepped dropped
   HasOutcome-earlier (Unstep kind from to caught) can =
       let u = Unstep kind from to caught in
@@ -161,10 +161,10 @@ is_taken p to true t = record {
 }
 
 -- a way that takes the move back to p
-abbrev pub Undoes : Setup → Move → Setup → Undo → Type 0
+abbrev pub Undoes : Setup → Move → Setup → RetroMove → Type 0
 Undoes p m after u = CanUndo after u × (choice u ≡ m) × (earlier after u ≡ p)
 
-undone : (p : Setup) (m : Move) (q : Setup) → length p.board ≡ 12 → HasOutcome p m q → (u : Undo) × Undoes p m (moved p m) u
+undone : (p : Setup) (m : Move) (q : Setup) → length p.board ≡ 12 → HasOutcome p m q → (u : RetroMove) × Undoes p m (moved p m) u
 unfolding earlier stepped dropped
 undone p (Step kind from to catch grows) q twelve g =
     let parts = step_parts p kind from to q catch grows g in
@@ -204,10 +204,10 @@ unfolding stepped dropped
 length-moved p (Step kind from to catch grows) = length-set (set p.board from None) to _ ∙ length-set p.board from None
 length-moved p (Put kind to) = length-set p.board to _
 
-pub undo_from_HasOutcome : (p : Setup) (m : Move) (q : Setup) → length p.board ≡ 12 → HasOutcome p m q → (u : Undo) × Undoes p m (turned q) u
+pub undo_from_HasOutcome : (p : Setup) (m : Move) (q : Setup) → length p.board ≡ 12 → HasOutcome p m q → (u : RetroMove) × Undoes p m (turned q) u
 undo_from_HasOutcome p m q twelve g =
     let after : turned q ≡ moved p m = ap turned (HasOutcome-is p m q g) ∙ turned-turned (moved p m) (length-moved p m ∙ twelve) in
-    subst (λ (t : Setup). (u : Undo) × Undoes p m t u) (sym after) (undone p m q twelve g)
+    subst (λ (t : Setup). (u : RetroMove) × Undoes p m t u) (sym after) (undone p m q twelve g)
 
 -- ---- two ways never take the same move back to the same setup
 
@@ -220,7 +220,7 @@ same_caught None None e = refl
 same_caught (Some a) (Some b) e = ap kind_there e
 same_caught _ _ e = cc
 
-pub same_undo : (after : Setup) (u v : Undo) → length after.board ≡ 12 → CanUndo after u → CanUndo after v
+pub same_undo : (after : Setup) (u v : RetroMove) → length after.board ≡ 12 → CanUndo after u → CanUndo after v
     → choice u ≡ choice v → earlier after u ≡ earlier after v → u ≡ v
 same_undo after (Unstep kind from to caught) (Unstep kind2 from2 to2 caught2) twelve can other e f =
     let here = is_before after (Unstep kind from to caught) twelve can in
@@ -247,16 +247,16 @@ pub few_held : (s : Setup) (kind : HandKind) → HasFewPieces s → held s.hands
 unfolding total
 few_held s kind few = omega (arith, few kind)
 
-pub HasOutcome-from_undo : (q after : Setup) (u : Undo) → length q.board ≡ 12 → after ≡ turned q → CanUndo after u → HasOutcome (earlier after u) (choice u) q
+pub HasOutcome-from_undo : (q after : Setup) (u : RetroMove) → length q.board ≡ 12 → after ≡ turned q → CanUndo after u → HasOutcome (earlier after u) (choice u) q
 HasOutcome-from_undo q after u twelve e can =
     subst (HasOutcome (earlier after u) (choice u)) (ap turned e ∙ turned-turned q twelve) (HasOutcome-earlier after (rw e (length-turned q)) u can)
 
-length-earlier : (after : Setup) (u : Undo) → length (earlier after u).board ≡ length after.board
+length-earlier : (after : Setup) (u : RetroMove) → length (earlier after u).board ≡ length after.board
 unfolding earlier
 length-earlier after (Unstep kind from to caught) = length-set (set after.board to (enemy_cell caught)) from _ ∙ length-set after.board to _
 length-earlier after (Unput kind to) = length-set after.board to _
 
-module _ (after : Setup) (t : IsSeenTurned IsLegal after) (u : Undo) (can : CanUndo after u) where
+module _ (after : Setup) (t : IsSeenTurned IsLegal after) (u : RetroMove) (can : CanUndo after u) where
   pub goes_before : HasOutcome (earlier after u) (choice u) t.0
   goes_before = HasOutcome-from_undo t.0 after u t.1.squares t.2 can
 

@@ -7,7 +7,7 @@ use Rattle.dob_pieces.specs.Setups.{at, mirrored, turned}
 use Rattle.dob_rank.specs.Families.{IsPositionOf, RepresentsClass, class_setup}
 use Rattle.dob_unmove.specs.declared.predecessors.End.{End}
 use Rattle.dob_unmove.specs.declared.predecessors.Walk.{Walk}
-use Rattle.dob_unmove.specs.declared.undo.Undo.{Undo}
+use Rattle.dob_unmove.specs.declared.undo.RetroMove.{RetroMove}
 use Rattle.dob_unmove.specs.Classes.{IsSeenTurned}
 use Rattle.dob_unmove.specs.Gathers.{Gathers}
 use Rattle.dob_unmove.specs.Threats.{elsewhere}
@@ -35,5 +35,5 @@ pub record CanEnd (end : End) : Type 0 where
   pub home : HasLionHome (setup_after end.walk.now) end.walk.now.ways.now.threat.lion end.to
 
 -- what the ways, one after the other, add to the classes that the walk has found
-abbrev pub Collects : Walk → List Undo → List ℕ → List ℕ → Type 0
+abbrev pub Collects : Walk → List RetroMove → List ℕ → List ℕ → Type 0
 Collects walk undoes old new = Gathers (RepresentsClass walk.classes.now.family) (setup_after walk) undoes old new

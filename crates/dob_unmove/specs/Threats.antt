@@ -9,8 +9,8 @@ pub use Rattle.dob_pieces.specs.Masks.{attacks_by, attacks}
 use Rattle.dob_unmove.specs.declared.attackers.Attackers.{Attackers}
 use Rattle.dob_unmove.specs.declared.attackers.Attackers.TheVariants.{Nobody, One, Several}
 use Rattle.dob_unmove.specs.declared.attackers.Threat.{Threat}
-use Rattle.dob_unmove.specs.declared.undo.Undo.{Undo}
-use Rattle.dob_unmove.specs.declared.undo.Undo.TheVariants.{Unstep, Unput}
+use Rattle.dob_unmove.specs.declared.undo.RetroMove.{RetroMove}
+use Rattle.dob_unmove.specs.declared.undo.RetroMove.TheVariants.{Unstep, Unput}
 
 -- of the squares below the bound none, just that one, or several have a piece that attacks the target
 abbrev pub AreAttackers : Setup → ℕ → ℕ → Attackers → Type 0
@@ -32,6 +32,6 @@ elsewhere (One attacker) square = not (attacker == square)
 elsewhere Several square = true
 
 -- a piece attacked the enemy lion before the move: one that didn't move, or the one that did
-abbrev pub stood_before : Threat → Undo → Bool
+abbrev pub stood_before : Threat → RetroMove → Bool
 stood_before threat (Unstep kind from to caught) = if leads kind from threat.lion then true else elsewhere threat.attackers to
 stood_before threat (Unput kind to) = elsewhere threat.attackers to

@@ -14,11 +14,11 @@ use Rattle.dob_pieces.specs.Setups.{Cell, at, held, piece_of, with_one_more, wit
 use Rattle.dob_moves.specs.declared.game_move.Move.{Move}
 use Rattle.dob_moves.specs.declared.game_move.Move.TheVariants.{Step, Put}
 use Rattle.dob_moves.specs.Moves.{grows_at}
-use Rattle.dob_unmove.specs.declared.undo.Undo.{Undo}
-use Rattle.dob_unmove.specs.declared.undo.Undo.TheVariants.{Unstep, Unput}
+use Rattle.dob_unmove.specs.declared.undo.RetroMove.{RetroMove}
+use Rattle.dob_unmove.specs.declared.undo.RetroMove.TheVariants.{Unstep, Unput}
 
 -- the move that is taken back
-abbrev pub choice : Undo → Move
+abbrev pub choice : RetroMove → Move
 choice (Unstep kind from to caught) = Step kind from to (is_some caught) (grows_at kind to)
 choice (Unput kind to) = Put kind to
 
@@ -41,7 +41,7 @@ without_caught h None = h
 without_caught h (Some kind) = without_any h (kind_in_hand kind)
 
 -- The setup before the move. In what stands after it the side that made it is still the mover.
-unfoldable pub earlier : Setup → Undo → Setup
+unfoldable pub earlier : Setup → RetroMove → Setup
 earlier after (Unstep kind from to caught) = record {
   board = slice_set (slice_set after.board to (enemy_cell caught)) from (Some (piece_of Mover kind));
   hands = record after.hands { mover = without_caught after.hands.mover caught };
@@ -52,7 +52,7 @@ earlier after (Unput kind to) = record {
 }
 
 -- the profile lets the piece that was caught stand where it was
-abbrev pub may_give_back : Profile → Undo → Bool
+abbrev pub may_give_back : Profile → RetroMove → Bool
 may_give_back profile (Unstep kind from to caught) = may_stand profile to (enemy_cell caught)
 may_give_back profile (Unput kind to) = true
 
@@ -70,6 +70,6 @@ pub record CanUnstep (after : Setup) (kind : Kind) (from to : ℕ) (caught : Opt
   pub in_hand : CanGiveBack after.hands.mover caught
 
 -- the last move may have been made in this way
-abbrev pub CanUndo : Setup → Undo → Type 0
+abbrev pub CanUndo : Setup → RetroMove → Type 0
 CanUndo after (Unstep kind from to caught) = CanUnstep after kind from to caught
 CanUndo after (Unput kind to) = at after to ≡ Some (piece_of Mover (kind_on_board kind))

@@ -9,7 +9,7 @@ ghost use Rattle.dob_pieces.specs.Setups.{IsLegal};
 ghost use Rattle.dob_unmove.specs.Classes.{IsSeenTurned};
 ghost use Rattle.dob_unmove.specs.Threats.{elsewhere, stood_before, AreAttackers, IsThreat};
 
-use crate::undo::Undo;
+use crate::undo::RetroMove;
 use dob_pieces::{Board, Square, lowest_square, without_square};
 
 /// From which squares a square is attacked.
@@ -71,14 +71,14 @@ impl Threat {
 
     /// Whether a piece attacked the enemy lion before the move, so that it could have been caught: one that didn't move,
     /// or the one that did, from where it stood.
-    pub fn stood_before(&self, undo: &Undo) -> bool
+    pub fn stood_before(&self, undo: &RetroMove) -> bool
         ensures { result ≡ stood_before self.now undo.now }
     {
         match *undo {
-            Undo::Unstep { kind, from, to, .. } => {
+            RetroMove::Unstep { kind, from, to, .. } => {
                 kind.leads(from, self.lion) || self.attackers.elsewhere(to)
             }
-            Undo::Unput { to, .. } => self.attackers.elsewhere(to),
+            RetroMove::Unput { to, .. } => self.attackers.elsewhere(to),
         }
     }
 }

@@ -4,27 +4,27 @@ ghost use Rattle.std.specs.Prelude.{◌≡◌, ◌<◌, length, None};
 ghost use Rattle.dob_pieces.specs.declared.setup.Setup.{Setup};
 ghost use Rattle.dob_pieces.specs.Setups.{at, held, HasFewPieces};
 ghost use Rattle.dob_pieces.specs.Boards.{IsBoardOf};
-ghost use Rattle.dob_unmove.specs.declared.undo.Undo.{Undo};
+ghost use Rattle.dob_unmove.specs.declared.undo.RetroMove.{RetroMove};
 ghost use Rattle.dob_pieces.specs.Changes.{IsWith};
 ghost use Rattle.dob_unmove.specs.Undoes.{CanUndo, earlier, enemy_cell};
 
 use crate::earlier::without_caught;
-use crate::undo::Undo;
+use crate::undo::RetroMove;
 use dob_pieces::{Board, HandKind, Hands, Kind, Square};
 
 /// What stood and lay where before the move, by the sets of what stands after it.
-pub(crate) fn bits_before(board: Board, undo: Undo) -> Board
+pub(crate) fn bits_before(board: Board, undo: RetroMove) -> Board
     requires { (after : Setup) × CanUndo after undo × (length after.board ≡ 12) × HasFewPieces after × IsBoardOf after board }
     ensures { (after : Setup) → CanUndo after undo → length after.board ≡ 12 → IsBoardOf after board → IsBoardOf (earlier after undo) result }
 {
     match undo {
-        Undo::Unstep {
+        RetroMove::Unstep {
             kind,
             from,
             to,
             caught,
         } => bits_before_step(board, kind, from, to, caught),
-        Undo::Unput { kind, to } => bits_before_put(board, kind, to),
+        RetroMove::Unput { kind, to } => bits_before_put(board, kind, to),
     }
 }
 
@@ -36,9 +36,9 @@ fn bits_before_step(
     to: Square,
     caught: Option<Kind>,
 ) -> Board
-    requires { (after : Setup) × CanUndo after (Undo.Unstep kind from to caught) × (length after.board ≡ 12) × IsBoardOf after board }
-    ensures { (after : Setup) → CanUndo after (Undo.Unstep kind from to caught) → length after.board ≡ 12 → IsBoardOf after board
-        → IsBoardOf (earlier after (Undo.Unstep kind from to caught)) result }
+    requires { (after : Setup) × CanUndo after (RetroMove.Unstep kind from to caught) × (length after.board ≡ 12) × IsBoardOf after board }
+    ensures { (after : Setup) → CanUndo after (RetroMove.Unstep kind from to caught) → length after.board ≡ 12 → IsBoardOf after board
+        → IsBoardOf (earlier after (RetroMove.Unstep kind from to caught)) result }
 {
     let hands = Hands {
         mover: without_caught(board.hands.mover, caught),
@@ -54,8 +54,8 @@ fn bits_before_step(
 // The sets of squares before a drop.
 fn bits_before_put(board: Board, kind: HandKind, to: Square) -> Board
     requires { held board.hands.mover kind < 255 }
-    ensures { (after : Setup) → CanUndo after (Undo.Unput kind to) → length after.board ≡ 12 → IsBoardOf after board
-        → IsBoardOf (earlier after (Undo.Unput kind to)) result }
+    ensures { (after : Setup) → CanUndo after (RetroMove.Unput kind to) → length after.board ≡ 12 → IsBoardOf after board
+        → IsBoardOf (earlier after (RetroMove.Unput kind to)) result }
 {
     let hands = Hands {
         mover: board.hands.mover.with_one_more(kind),

@@ -3,16 +3,16 @@ ghost use Rattle.std.specs.Prelude.{◌≡◌};
 ghost use Rattle.dob_unmove.specs.Undoes.{CanGiveBack, without_caught, enemy_cell, may_give_back};
 ghost use Rattle.dob_unmove.specs.Walks.{holds_caught};
 
-use crate::undo::Undo;
+use crate::undo::RetroMove;
 use dob_pieces::{Hand, Kind, Piece, Profile, Side};
 
 /// Whether the profile lets the piece that was caught stand where it was: in profile B no chick on row 1.
-pub fn may_give_back(profile: Profile, undo: &Undo) -> bool
+pub fn may_give_back(profile: Profile, undo: &RetroMove) -> bool
     ensures { result ≡ may_give_back profile undo.now }
 {
     match undo {
-        Undo::Unstep { to, caught, .. } => profile.may_stand(*to, enemy_cell(*caught)),
-        Undo::Unput { .. } => true,
+        RetroMove::Unstep { to, caught, .. } => profile.may_stand(*to, enemy_cell(*caught)),
+        RetroMove::Unput { .. } => true,
     }
 }
 

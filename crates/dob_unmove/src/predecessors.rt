@@ -8,7 +8,7 @@ ghost use Rattle.dob_pieces.specs.declared.kind.Kind.{Kind};
 ghost use Rattle.dob_pieces.specs.declared.kind.Side.TheVariants.{Mover};
 ghost use Rattle.dob_pieces.specs.Boards.{IsBoardOf};
 ghost use Rattle.dob_rank.specs.Families.{classes_of, class_setup};
-ghost use Rattle.dob_unmove.specs.declared.undo.Undo.{Undo};
+ghost use Rattle.dob_unmove.specs.declared.undo.RetroMove.{RetroMove};
 ghost use Rattle.dob_unmove.specs.Undoes.{arrives_at as arrival, CanUndo, earlier};
 ghost use Rattle.dob_unmove.specs.Unmoves.{CountEdges, ArePredecessors};
 ghost use Rattle.dob_unmove.specs.Edges.{predecessors};
@@ -21,7 +21,7 @@ ghost use Rattle.dob_unmove.specs.Ends.{CanWalk, CanEnd, Collects, setup_after};
 
 use crate::bits_before::bits_before;
 use crate::earlier::may_give_back;
-use crate::undo::Undo;
+use crate::undo::RetroMove;
 use crate::ways::Ways;
 use dob_classes::Classes;
 use dob_pieces::{Board, HandKind, Kind, Memory, Side, Square, lowest_square, without_square};
@@ -62,7 +62,7 @@ impl Walk<'_> {
     }
 
     // The one from which the move was made in that way, if it was the earlier one of its class.
-    fn gather_one(&self, undo: Undo, found: &mut Vec<u64>) -> Result<(), Memory>
+    fn gather_one(&self, undo: RetroMove, found: &mut Vec<u64>) -> Result<(), Memory>
         requires walk { CanWalk self.now }
         requires can { CanUndo (setup_after self.now) undo }
         requires calm { stood_before self.now.ways.now.threat undo ≡ false }
@@ -77,7 +77,7 @@ impl Walk<'_> {
 
     // The class whose representative stood there before a move that left an open position, if a representative did. In
     // profile B no chick is given back on row 1, where none stood.
-    fn class_before(&self, undo: Undo) -> Option<u64>
+    fn class_before(&self, undo: RetroMove) -> Option<u64>
         requires walk { CanWalk self.now }
         requires can { CanUndo (setup_after self.now) undo }
         requires calm { stood_before self.now.ways.now.threat undo ≡ false }
@@ -176,7 +176,7 @@ impl End<'_> {
         requires comes { may_come (setup_after self.now.walk.now) self.now.walk.now.ways.now.threat.lion kind self.now.to from ≡ true }
         ensures { OnOk result (Collects self.now.walk.now (unsteps_from (setup_after self.now.walk.now) kind self.now.to from) found.old.items found.new.items) }
     {
-        let undo = Undo::Unstep {
+        let undo = RetroMove::Unstep {
             kind,
             from,
             to: self.to,
@@ -206,7 +206,7 @@ impl End<'_> {
         if !self.walk.ways.holds_caught(caught) {
             return Ok(());
         }
-        let undo = Undo::Unstep {
+        let undo = RetroMove::Unstep {
             kind,
             from,
             to: self.to,
@@ -222,7 +222,7 @@ impl End<'_> {
         ensures { OnOk result (Collects self.now.walk.now (unputs (setup_after self.now.walk.now) kind self.now.to) found.old.items found.new.items) }
     {
         self.walk
-            .gather_one(Undo::Unput { kind, to: self.to }, found)
+            .gather_one(RetroMove::Unput { kind, to: self.to }, found)
     }
 }
 

@@ -3,7 +3,7 @@ use dob_pieces::{HandKind, Kind, Square};
 
 /// A way in which the last move may have been made, seen from the side that made it.
 #[derive(Clone, Copy)]
-pub enum Undo {
+pub enum RetroMove {
     /// A step: the piece goes back from `to` to `from`, and is of that kind there; `caught` is the kind of the
     /// enemy's piece that comes back to `to`, if there is one.
     Unstep {

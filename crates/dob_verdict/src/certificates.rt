@@ -14,7 +14,7 @@ use dob_certfile::{CertificateFile, read_certificate};
 use dob_certificate::{Claim, Refusal};
 use dob_check::verify_watched;
 use dob_classes::Classes;
-use dob_files::{Fault, Lines};
+use dob_files::{Answer, Fault};
 use dob_lines::{Console, Progress};
 use dob_pieces::{Memory, Position, Profile};
 use dob_shelf::{Shelf, read_all};
@@ -30,7 +30,7 @@ pub fn answer_verify<S: Shelf>(
     shelf: &mut S,
     file: &str,
     is_watched: bool,
-) -> Lines
+) -> Answer
     ensures { GivesOwed (verify_owed file.now) S.state shelf.old shelf.new result }
 {
     let certificate = open_certificate(alloc, shelf, file)?;
@@ -43,7 +43,7 @@ fn verdict(
     alloc: Global,
     certificate: &CertificateFile,
     is_watched: bool,
-) -> Lines
+) -> Answer
     requires { Fits (content certificate.now) }
     ensures ok { IfOk result (λ line. IsVerdict (content certificate.now) (string_bytes line)) }
     ensures err { IfErr result (IsVerdictFault (content certificate.now)) }

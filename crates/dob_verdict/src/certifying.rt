@@ -18,7 +18,7 @@ use dob_certfile::{CertificateFile, WriteFault, certificate_bytes};
 use dob_certify::{Certified, certify, rounds_of};
 use dob_classes::Classes;
 use dob_device::Sink;
-use dob_files::{CertificateFault, Fault, Lines, fill, keep_filled, open, position_named};
+use dob_files::{Answer, CertificateFault, Fault, fill, keep_filled, open, position_named};
 use dob_lines::{Console, Progress};
 use dob_pieces::{Memory, Position};
 use dob_probe::probe;
@@ -36,7 +36,7 @@ pub fn answer_certify<S: Shelf>(
     alloc: Global,
     shelf: &mut S,
     order: CertifyOrder<'_>,
-) -> Lines
+) -> Answer
     ensures { GivesOwed (certify_owed order.entry.file.now order.entry.out.now order.entry.is_exact (most_entries order.entry.most) order.entry.position.now)
         S.state shelf.old shelf.new result }
 {
@@ -55,7 +55,7 @@ fn fill_certificate<D: Sink>(
     table: &Table,
     position: &Position,
     order: CertifyOrder<'_>,
-) -> Lines
+) -> Answer
     requires { (D.state sink.old).has_failed ≡ false }
     ensures { FillsSink (AreMade table.now order.entry.is_exact (most_entries order.entry.most) position.now.setup)
         (IsTableMakingFault table.now order.entry.is_exact (most_entries order.entry.most) position.now.setup) result

@@ -15,7 +15,7 @@ use crate::certificates::claim_text;
 use dob_certfile::{FRONT_LEN, Front, front_of, is_title};
 use dob_classes::{Classes, count_classes};
 use dob_dbfile::{Failed, Format, PlacedSource, Source, read_classes, read_full};
-use dob_files::{CertificateFault, Fault, Lines};
+use dob_files::{Answer, CertificateFault, Fault};
 use dob_pieces::{Family, Memory, PieceSet, Position, Profile};
 use dob_shelf::Shelf;
 use dob_text::write_position;
@@ -26,7 +26,7 @@ const TITLE_LEN: usize = 8;
 
 /// The lines that say what the header of the file says, of a certificate where it begins as one and else of a table; as a JSON object if that is asked for. No
 /// more than the header is read.
-pub fn answer_info<S: Shelf>(alloc: Global, shelf: &mut S, file: &str, is_object: bool) -> Lines
+pub fn answer_info<S: Shelf>(alloc: Global, shelf: &mut S, file: &str, is_object: bool) -> Answer
     ensures { GivesOwed (info_owed file.now is_object) S.state shelf.old shelf.new result }
 {
     let mut source = shelf.find(file)?;
@@ -36,7 +36,7 @@ pub fn answer_info<S: Shelf>(alloc: Global, shelf: &mut S, file: &str, is_object
 }
 
 // The lines by a source that is new.
-fn info_lines<R: PlacedSource>(alloc: Global, source: &mut R, is_object: bool) -> Lines
+fn info_lines<R: PlacedSource>(alloc: Global, source: &mut R, is_object: bool) -> Answer
     requires { R.has_failed source.old ≡ false }
     ensures ok { IfOk result (λ lines. AreInfoLines (GivesAll (R.gives source.old) (R.shows source.old)) is_object (string_bytes lines)) }
     ensures fault { IfErr result (IsInfoFault (GivesAll (R.gives source.old) (R.shows source.old))) }
@@ -70,7 +70,7 @@ fn begins_certificate<R: PlacedSource>(source: &mut R) -> Result<bool, Fault>
 }
 
 // The lines about a certificate, by a source that is at its first byte.
-fn certificate_lines<R: Source>(alloc: Global, source: &mut R, is_object: bool) -> Lines
+fn certificate_lines<R: Source>(alloc: Global, source: &mut R, is_object: bool) -> Answer
     requires { R.has_failed source.old ≡ false }
     ensures ok { IfOk result (λ lines. AreInfoLines (Begins true (R.gives source.old)) is_object (string_bytes lines)) }
     ensures fault { IfErr result (IsInfoFault (Begins true (R.gives source.old))) }
@@ -118,7 +118,7 @@ fn root_of(alloc: Global, front: Front) -> Result<Position, Memory>
 }
 
 // The lines about a table, by a source that is at its first byte.
-fn table_lines<R: Source>(alloc: Global, source: &mut R, is_object: bool) -> Lines
+fn table_lines<R: Source>(alloc: Global, source: &mut R, is_object: bool) -> Answer
     requires { R.has_failed source.old ≡ false }
     ensures ok { IfOk result (λ lines. AreInfoLines (Begins false (R.gives source.old)) is_object (string_bytes lines)) }
     ensures fault { IfErr result (IsInfoFault (Begins false (R.gives source.old))) }

@@ -11,7 +11,7 @@ use dob_certfile::CertificateFile;
 use dob_certificate::{ListKind, check_list};
 use dob_certify::{Reply, reply_to};
 use dob_classes::Classes;
-use dob_files::{CertificateFault, Fault, Lines, position_named};
+use dob_files::{Answer, CertificateFault, Fault, position_named};
 use dob_moves::Move;
 use dob_pieces::{Memory, Position};
 use dob_probe::check_member;
@@ -21,7 +21,7 @@ use std::alloc::Global;
 
 /// The line that gives what the certificate of the file says of the position that the text names: a winning move, or that the position is lost. Its
 /// lost list is checked first.
-pub fn answer_reply<S: Shelf>(alloc: Global, shelf: &mut S, file: &str, text: &str) -> Lines
+pub fn answer_reply<S: Shelf>(alloc: Global, shelf: &mut S, file: &str, text: &str) -> Answer
     ensures { GivesOwed (reply_owed file.now text.now) S.state shelf.old shelf.new result }
 {
     let position = position_named(text)?;
@@ -30,7 +30,7 @@ pub fn answer_reply<S: Shelf>(alloc: Global, shelf: &mut S, file: &str, text: &s
 }
 
 // The line of what the certificate says of the position.
-fn told_reply(alloc: Global, certificate: &CertificateFile, position: &Position) -> Lines
+fn told_reply(alloc: Global, certificate: &CertificateFile, position: &Position) -> Answer
     ensures ok { IfOk result (λ line. IsToldReply (content certificate.now) position.now.setup (string_bytes line)) }
     ensures err { IfErr result (IsReplyFault (content certificate.now) position.now.setup) }
 {

@@ -5,7 +5,7 @@ use Rattle.dob_words.proofs.Common.{before_first, option_map_or, ◌&&◌, ◌==
 use Rattle.dob_words.proofs.Common.{IsReadingOf, AreFit, IsFit, Given, Meaning, Stand, after_dashes, after_part, after_word, asked, asks, at_end, behind}
 use Rattle.dob_words.proofs.Common.{between, call, dashes, ended, fits, flag, has_topic, help, is_clear, is_dashes, is_help_flag, is_text, kept, label_of}
 use Rattle.dob_words.proofs.Common.{meaning_of, meaning_of_command, meaning_of_form, meaning_of_other, meaning_of_topic, name_in, named_part, option}
-use Rattle.dob_words.proofs.Common.{part_named, placed, settled, takes_lines, text, text_behind, texts_of, unknown, usage, valued, version, wants}
+use Rattle.dob_words.proofs.Common.{part_named, placed, without_conflict, takes_lines, text, text_behind, texts_of, unknown, usage, valued, version, wants}
 use Rattle.dob_words.proofs.Common.{writes_stream, Reading, chars}
 use Rattle.dob_words.specs.Forms.{is_among, is_needed, Form, Text, forms, labels, no_form}
 use Rattle.dob_words.specs.Lines.{AreNew, Behind, Gives, IsAmong, IsCommandLine, by_dashes, by_flag, by_option, by_place, by_value, next, none, nothing}
@@ -310,7 +310,7 @@ unfolding chars
 all_spelled = search rules
 
 abbrev IsMeant : Form → Type 0
-IsMeant f = (rest : List Text) → meaning_of (f.name ∷ rest) ≡ settled (meaning_of_form f rest)
+IsMeant f = (rest : List Text) → meaning_of (f.name ∷ rest) ≡ without_conflict (meaning_of_form f rest)
 
 abbrev IsKnown : Form → Type 0
 IsKnown f = IsSpelled f × IsMeant f
@@ -325,10 +325,10 @@ among_known (g ∷ fs) f each (inr more) = among_known fs f each.1 more
 
 -- a line asks for its texts, where these are clear
 pub line_means : (f : Form) (words : List Text) (texts : List (Option Text)) → IsAmong f forms → IsCommandLine f words texts
-    → meaning_of words ≡ settled (asks f.name texts)
+    → meaning_of words ≡ without_conflict (asks f.name texts)
 line_means f words texts among line =
     let known : IsKnown f = among_known forms f all_known among in
-    ap meaning_of line.named ∙ (known.1 line.rest ∙ ap settled (line_asked f known.0 line.rest texts line.given line.gives line.new line.complete))
+    ap meaning_of line.named ∙ (known.1 line.rest ∙ ap without_conflict (line_asked f known.0 line.rest texts line.given line.gives line.new line.complete))
 
 -- and where something is asked for, the words are a line of it
 
@@ -343,14 +343,14 @@ form_line f rest name texts e =
     texts_asked None e = not_usage f name texts e
     texts_asked (Some ts) e = (ap asked_name e, ap (λ m. Some (asked_texts m)) e)
 
-settled_asks : (m : Meaning) (name : Text) (texts : List (Option Text)) → settled m ≡ asks name texts → m ≡ asks name texts
-settled_asks (asks n ts) name texts e = go (writes_stream n ts) (takes_lines n && not (is_clear ts)) e
+without_conflict_asks : (m : Meaning) (name : Text) (texts : List (Option Text)) → without_conflict m ≡ asks name texts → m ≡ asks name texts
+without_conflict_asks (asks n ts) name texts e = go (writes_stream n ts) (takes_lines n && not (is_clear ts)) e
   where
     go : (a b : Bool) → cond a usage (cond b usage (asks n ts)) ≡ asks name texts → asks n ts ≡ asks name texts
     go true b e = not_usage no_form name texts e
     go false true e = not_usage no_form name texts e
     go false false e = e
-settled_asks m name texts e = e
+without_conflict_asks m name texts e = e
 
 pub line_of : (words : List Text) (name : Text) (texts : List (Option Text)) → meaning_of words ≡ asks name texts → SomeLine words name texts
 line_of [] name texts e = not_usage no_form name texts e
@@ -379,11 +379,11 @@ line_of (word ∷ rest) name texts e = first (bytes_eq (codes "--version") word)
         by false is e later = later e
 
     first : (v t : Bool)
-        → cond v version (cond t (meaning_of_topic (word ∷ rest)) (settled (meaning_of_command (word ∷ rest)))) ≡ asks name texts
+        → cond v version (cond t (meaning_of_topic (word ∷ rest)) (without_conflict (meaning_of_command (word ∷ rest)))) ≡ asks name texts
         → SomeLine (word ∷ rest) name texts
     first true t e = not_version e
     first false true e = no_order (has_topic (word ∷ rest)) e
-    first false false e = go forms (λ f h. h) (settled_asks (meaning_of_command (word ∷ rest)) name texts e)
+    first false false e = go forms (λ f h. h) (without_conflict_asks (meaning_of_command (word ∷ rest)) name texts e)
 
 -- an order is read only where the words are a line of it
 pub order_from_line : (words : List Text) (r : Reading) → IsReadingOf (meaning_of words) r → ComesFromLine words r
@@ -399,5 +399,5 @@ order_from_line words r h = tt
 -- and at each line it is read
 pub reading_at_line : (words : List Text) (f : Form) (texts : List (Option Text)) (r : Reading) → IsAmong f forms → IsCommandLine f words texts
     → IsReadingOf (meaning_of words) r
-    → IsReadingOf (settled (asks f.name texts)) r
+    → IsReadingOf (without_conflict (asks f.name texts)) r
 reading_at_line words f texts r among line h = subst (λ m. IsReadingOf m r) (line_means f words texts among line) h

@@ -2,7 +2,7 @@
 use Rattle.dob_words.proofs.Common.{◌∙◌, ◌∷◌, ◌≡◌, List, None, Option, Some, [], ap, ap₂, arith, codes, false, inl, inr, length, map, refl, rules, subst, suc}
 use Rattle.dob_words.proofs.Common.{sym, true, true≢false, ℕ, Ok-from_Ok_iff, bytes_eq-Decides, Bor, list_any, option_map, unwrap_or, bytes_eq}
 use Rattle.dob_words.proofs.Common.{first_value-rows, first_of, subcommand_rows_of, IsReadFor, Finds, HasFit, IsMet, IsMetBySome, IsNamed, is_stream_in, texts_in}
-use Rattle.dob_words.proofs.Common.{asks, cleared, is_number, number_in, settled, Order}
+use Rattle.dob_words.proofs.Common.{asks, cleared, is_number, number_in, without_conflict, Order}
 use Rattle.std.specs.Prelude.{Err, is_err, Result}
 use Rattle.std.specs.Str.Parse.{ParsesUnsigned}
 use Rattle.clap.specs.Words.{Row, first_value, found_of, rows_of, subcommand_name_of}
@@ -91,14 +91,14 @@ module _ (m inner : ArgMatches) (name : Text) (named : Some name ≡ subcommand_
   has_fit = rw (form_is, texts_are) found.3
 
   -- what is read for them is what is asked for
-  pub reads : (o : Option Order) → IsReadFor (settled (asks name (texts_in (form_named name) inner))) o → IsReadFor (settled (asks form.name texts)) o
+  pub reads : (o : Option Order) → IsReadFor (without_conflict (asks name (texts_in (form_named name) inner))) o → IsReadFor (without_conflict (asks form.name texts)) o
   reads o is = rw name_is (rw (form_is, texts_are) at is)
 
 -- ---- the subcommand of a name
 
 -- where no file is to be written to a stream, it is enough that it is clear
 pub settled_clear : (name : Text) (inner : ArgMatches) (o : Option Order) → IsNamed name forms → list_any (is_stream_in name inner) rows ≡ false
-    → IsReadFor (cleared (asks name (texts_in (form_named name) inner))) o → IsReadFor (settled (asks name (texts_in (form_named name) inner))) o
+    → IsReadFor (cleared (asks name (texts_in (form_named name) inner))) o → IsReadFor (without_conflict (asks name (texts_in (form_named name) inner))) o
 settled_clear name inner o named none is = search rules
 
 -- ---- what is asked of each line

@@ -1,7 +1,7 @@
 -- What the matches and the errors of the program's command come to.
 use Rattle.dob_words.proofs.Common.{◌∙◌, ◌∷◌, ◌≡◌, Bool, List, Option, [], ap, false, inl, inr, refl, subst, sym, true, true≢false, not-true, both}
 use Rattle.dob_words.proofs.Common.{false_from_ne_true, app_of, subcommand_rows_of, IsReadingOf, Finds, IsMet, dobutsu_app, Meaning, asks, help}
-use Rattle.dob_words.proofs.Common.{is_topic, is_version, meaning_of, meaning_of_command, settled, usage, version, Reading}
+use Rattle.dob_words.proofs.Common.{is_topic, is_version, meaning_of, meaning_of_command, without_conflict, usage, version, Reading}
 use Rattle.std.proofs.Common.{◌⊎◌, not, arith}
 use Rattle.clap.specs.Words.{HasKind, IsAmong, Kinds, Row, fault_of, is_simple, is_simple_and_free, kind_of, subcommand_of}
 use Rattle.clap.specs.declared.Error.{Error}
@@ -35,20 +35,20 @@ asked_for words (asks name texts) met plain e fits = record { name = name; texts
 asked_for words m met plain e fits = absurd (grind arith)
 
 -- words that ask neither for the version nor by `help` mean what the command makes of them
-command_meaning : (words : List Text) → is_version words ≡ false → is_topic words ≡ false → settled (meaning_of_command words) ≡ meaning_of words
+command_meaning : (words : List Text) → is_version words ≡ false → is_topic words ≡ false → without_conflict (meaning_of_command words) ≡ meaning_of words
 command_meaning words v t = rw (v, t) refl
 
 -- what holds of what the form that was met asks for holds of what the words ask for
 pub order_is_meant : (P : Meaning → Type 0) (words : List Text) (met : Option (Text × List Row)) → IsAsked words met → is_version words ≡ false
-    → ((form : Form) (texts : List (Option Text)) → IsAmongForms form forms → Finds form texts met → P (settled (asks form.name texts)))
+    → ((form : Form) (texts : List (Option Text)) → IsAmongForms form forms → Finds form texts met → P (without_conflict (asks form.name texts)))
     → P (meaning_of words)
-order_is_meant P words met is v each = subst P (ap settled (sym is.meant) ∙ command_meaning words v is.plain) (go forms each is.found)
+order_is_meant P words met is v each = subst P (ap without_conflict (sym is.meant) ∙ command_meaning words v is.plain) (go forms each is.found)
   where
     go : (fs : List Form)
-        → ((form : Form) (texts : List (Option Text)) → IsAmongForms form fs → Finds form texts met → P (settled (asks form.name texts)))
-        → IsMet fs is.name is.texts met → P (settled (asks is.name is.texts))
+        → ((form : Form) (texts : List (Option Text)) → IsAmongForms form fs → Finds form texts met → P (without_conflict (asks form.name texts)))
+        → IsMet fs is.name is.texts met → P (without_conflict (asks is.name is.texts))
     go [] each found = absurd found
-    go (f ∷ fs) each (inl h) = subst (λ (n : Text). P (settled (asks n is.texts))) h.0 (each f is.texts (inl refl) h.1)
+    go (f ∷ fs) each (inl h) = subst (λ (n : Text). P (without_conflict (asks n is.texts))) h.0 (each f is.texts (inl refl) h.1)
     go (f ∷ fs) each (inr h) = go fs (λ form texts among. each form texts (inr among)) h
 
 -- ---- clap's errors
@@ -78,7 +78,7 @@ usage_read r h = grind arith
 -- an error comes to what the words ask for
 error_is_meant : (m : Meaning) (kinds : Kinds) (met : Option (Text × List Row)) (k : ErrorKind) (r : Reading) → Fits m kinds met
     → (k ≡ kind.OutOfMemory) ⊎ IsAmong k kinds
-    → IsReadingOfKind k r → IsReadingOf (settled m) r
+    → IsReadingOfKind k r → IsReadingOf (without_conflict m) r
 error_is_meant m kinds met k r fits (inl e) h = absurd (subst (λ x. IsReadingOfKind x r) e h)
 error_is_meant (asks name texts) kinds met k r fits (inr among) h = absurd (subst (IsAmong k) fits.0 among)
 error_is_meant help kinds met k r fits (inr among) h = elim (subst (IsAmong k) fits among) [

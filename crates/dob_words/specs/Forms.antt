@@ -2,10 +2,10 @@
 use Rattle.std.specs.Prelude.{ℕ, Bool, true, false, not, List, [], ◌++◌, map, find, unwrap_or}
 use Rattle.std.specs.List.{filter, list_any}
 use Rattle.std.specs.Str.{bytes_eq}
-use Rattle.dob_words.specs.declared.table.Kind.{Kind}
-use Rattle.dob_words.specs.declared.table.Kind.TheVariants as kind
-use Rattle.dob_words.specs.declared.table.Need.{Need}
-use Rattle.dob_words.specs.declared.table.Need.TheVariants as need
+use Rattle.dob_words.specs.declared.table.ArgumentKind.{ArgumentKind}
+use Rattle.dob_words.specs.declared.table.ArgumentKind.TheVariants as kind
+use Rattle.dob_words.specs.declared.table.Presence.{Presence}
+use Rattle.dob_words.specs.declared.table.Presence.TheVariants as need
 use Rattle.dob_words.specs.declared.rows.TheConstants.{FIRST_ROWS, LAST_ROWS, LATER_ROWS, MIDDLE_ROWS}
 
 abbrev pub Text : Type 0
@@ -42,16 +42,16 @@ is_needed form label = not (is_among (form.optional ++ form.flags) label)
 -- ---- rows of the table, without what the help says of them
 
 -- a text: what it is called, what it has to be, and whether it may be left out
-abbrev pub Place : Type 0
-Place = Text × Kind × Need
+abbrev pub Argument : Type 0
+Argument = Text × ArgumentKind × Presence
 
 -- an option: the name behind `--`, and its text
-abbrev pub Choice : Type 0
-Choice = Text × Place
+abbrev pub OptionArgument : Type 0
+OptionArgument = Text × Argument
 
 -- a subcommand: its name, its options, its flags, and the texts that come with no option
 abbrev pub Row : Type 0
-Row = Text × List Choice × List Text × List Place
+Row = Text × List OptionArgument × List Text × List Argument
 
 -- those of src/rows.rt
 abbrev pub rows : List Row
@@ -62,28 +62,28 @@ rows = map (λ r. (
   map (λ p. (p.0.now, p.1, p.2)) r.5.now,
 )) (FIRST_ROWS.now ++ MIDDLE_ROWS.now ++ LATER_ROWS.now ++ LAST_ROWS.now)
 
-abbrev pub is_number_kind : Kind → Bool
+abbrev pub is_number_kind : ArgumentKind → Bool
 is_number_kind kind.Number = true
 is_number_kind _ = false
 
-abbrev pub is_profile_kind : Kind → Bool
+abbrev pub is_profile_kind : ArgumentKind → Bool
 is_profile_kind kind.Profile = true
 is_profile_kind _ = false
 
-abbrev pub is_output_kind : Kind → Bool
+abbrev pub is_output_kind : ArgumentKind → Bool
 is_output_kind kind.Output = true
 is_output_kind _ = false
 
-abbrev pub is_may : Need → Bool
+abbrev pub is_may : Presence → Bool
 is_may need.May = true
 is_may need.Must = false
 
 -- the texts of a row, those of its options first
-abbrev pub places_of : Row → List Place
+abbrev pub places_of : Row → List Argument
 places_of row = map (λ c. c.1) row.1 ++ row.3
 
 -- what those are called that pass
-abbrev pub labels_where : (Place → Bool) → Row → List Text
+abbrev pub labels_where : (Argument → Bool) → Row → List Text
 labels_where passes row = map (λ p. p.0) (filter passes (places_of row))
 
 abbrev pub form_of : Row → Form

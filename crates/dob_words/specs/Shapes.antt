@@ -11,10 +11,10 @@ use Rattle.clap.specs.Words.{App, Row as FoundRow, Rule, app_of, first_of, first
 use Rattle.clap.specs.declared.builder.action.ArgAction.TheVariants.{Set}
 use Rattle.clap.specs.declared.builder.value_parser.ValueParser.{ValueParser}
 use Rattle.clap.specs.declared.builder.value_parser.ValueParser.TheVariants.{Names, Unsigned}
-use Rattle.dob_words.specs.declared.table.Need.{Need}
-use Rattle.dob_words.specs.declared.table.Kind.{Kind}
-use Rattle.dob_words.specs.declared.table.Kind.TheVariants as kind
-use Rattle.dob_words.specs.Forms.{Choice, Form, Place, Row, Text, forms, is_among, is_may, is_needed, labels, rows}
+use Rattle.dob_words.specs.declared.table.Presence.{Presence}
+use Rattle.dob_words.specs.declared.table.ArgumentKind.{ArgumentKind}
+use Rattle.dob_words.specs.declared.table.ArgumentKind.TheVariants as kind
+use Rattle.dob_words.specs.Forms.{OptionArgument, Form, Argument, Row, Text, forms, is_among, is_may, is_needed, labels, rows}
 use Rattle.dob_words.specs.Words.{fits, is_misplaced}
 
 -- the command is read so, and none of its arguments is one of each subcommand too
@@ -71,16 +71,16 @@ form_app profiles form = record (new_app form.name) {
 -- ---- what is made of rows of the table
 
 -- what a text of this kind is read as
-abbrev pub kind_parser : ProfileNames → Kind → Option ValueParser
+abbrev pub kind_parser : ProfileNames → ArgumentKind → Option ValueParser
 kind_parser profiles kind.Any = None
 kind_parser profiles kind.Number = Some (Unsigned 0 18446744073709551615)
 kind_parser profiles kind.Profile = Some (Names profiles)
 kind_parser profiles kind.Output = None
 
-abbrev pub place_rule : ProfileNames → Place → Rule
+abbrev pub place_rule : ProfileNames → Argument → Rule
 place_rule profiles p = record (new_rule p.0) { required = not (is_may p.2); parser = kind_parser profiles p.1 }
 
-abbrev pub choice_rule : ProfileNames → Choice → Rule
+abbrev pub choice_rule : ProfileNames → OptionArgument → Rule
 choice_rule profiles c = record (place_rule profiles c.1) { long = Some c.0 }
 
 -- an application with these further arguments
@@ -95,10 +95,10 @@ abbrev pub row_app : ProfileNames → Row → App
 row_app profiles row = with_rules (app_without_places profiles row) (map (place_rule profiles) row.3)
 
 -- what rows of the table say, as the code reads them
-abbrev pub place_said : Bor Text × Kind × Need × Bor Text → Place
+abbrev pub place_said : Bor Text × ArgumentKind × Presence × Bor Text → Argument
 place_said p = (p.0.now, p.1, p.2)
 
-abbrev pub choice_said : Bor Text × (Bor Text × Kind × Need × Bor Text) → Choice
+abbrev pub choice_said : Bor Text × (Bor Text × ArgumentKind × Presence × Bor Text) → OptionArgument
 choice_said c = (c.0.now, place_said c.1)
 
 abbrev pub flag_said : Bor Text × Bor Text → Text
@@ -107,8 +107,8 @@ flag_said f = f.0.now
 -- a row, as the code reads it
 abbrev pub ReadRow : Type 0
 ReadRow =
-    Bor Text × Bor Text × Bor Text × Bor (List (Bor Text × (Bor Text × Kind × Need × Bor Text))) × Bor (List (Bor Text × Bor Text))
-    × Bor (List (Bor Text × Kind × Need × Bor Text))
+    Bor Text × Bor Text × Bor Text × Bor (List (Bor Text × (Bor Text × ArgumentKind × Presence × Bor Text))) × Bor (List (Bor Text × Bor Text))
+    × Bor (List (Bor Text × ArgumentKind × Presence × Bor Text))
 
 abbrev pub row_said : ReadRow → Row
 row_said r = (r.0.now, map choice_said r.3.now, map flag_said r.4.now, map place_said r.5.now)
@@ -175,7 +175,7 @@ abbrev pub HasFit : Form → ArgMatches → Type 0
 HasFit form matches = AreFit form (labels form) (texts_in form matches)
 
 -- they have a stream for this option, where it has to have the name of a file that is written
-abbrev pub is_stream_for : ArgMatches → Choice → Bool
+abbrev pub is_stream_for : ArgMatches → OptionArgument → Bool
 is_stream_for matches choice = is_misplaced choice (first_value (found_of matches) choice.1.0)
 
 -- so for an option of this row, which is of this name

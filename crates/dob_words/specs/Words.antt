@@ -10,7 +10,7 @@ use Rattle.std.specs.Str.Parse.{digits_value, without_leading_plus}
 use Rattle.dob_pieces.specs.Bytes.{hyphen, equals_sign, lower_h}
 use Rattle.dob_pieces.specs.declared.profile.Profile.{Profile}
 use Rattle.dob_pieces.specs.declared.profile.Profile.TheVariants.{A, B}
-use Rattle.dob_words.specs.Forms.{Choice, Form, forms, is_among, is_needed, is_output_kind, labels, rows}
+use Rattle.dob_words.specs.Forms.{OptionArgument, Form, forms, is_among, is_needed, is_output_kind, labels, rows}
 pub use Rattle.dob_words.specs.Forms.{Text}
 
 -- ---- what one word is
@@ -260,11 +260,11 @@ is_stream t =
     || (starts_with ◌==◌ t (codes "/dev/fd/") || starts_with ◌==◌ t (codes "/proc/self/fd/"))
 
 -- so is the one that is given for this option, where a file is written by that name
-abbrev pub is_misplaced : Choice → Option Text → Bool
+abbrev pub is_misplaced : OptionArgument → Option Text → Bool
 is_misplaced choice t = is_output_kind choice.1.1 && option_map_or is_stream t false
 
 -- so is one of the texts, which begin with those of these options
-abbrev pub is_some_misplaced : List Choice → List (Option Text) → Bool
+abbrev pub is_some_misplaced : List OptionArgument → List (Option Text) → Bool
 is_some_misplaced (choice ∷ more) (t ∷ texts) = is_misplaced choice t || is_some_misplaced more texts
 is_some_misplaced _ _ = false
 
@@ -273,18 +273,18 @@ abbrev pub writes_stream : Text → List (Option Text) → Bool
 writes_stream name texts = list_any (λ row. bytes_eq row.0 name && is_some_misplaced row.1 texts) rows
 
 -- what is asked for, where that can be
-abbrev pub settled : Meaning → Meaning
-settled (asks name texts) = if writes_stream name texts then usage else cleared (asks name texts)
-settled help = help
-settled version = version
-settled usage = usage
+abbrev pub without_conflict : Meaning → Meaning
+without_conflict (asks name texts) = if writes_stream name texts then usage else cleared (asks name texts)
+without_conflict help = help
+without_conflict version = version
+without_conflict usage = usage
 
 -- of all the words
 abbrev pub meaning_of : List Text → Meaning
 meaning_of words =
     if is_version words then version
     else if is_topic words then meaning_of_topic words
-    else settled (meaning_of_command words)
+    else without_conflict (meaning_of_command words)
 
 -- ---- what is asked for, by name, where a law speaks of it
 

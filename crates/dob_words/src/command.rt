@@ -14,7 +14,7 @@ ghost use Rattle.std.specs.Str.{bytes_eq};
 ghost use Rattle.clap.specs.Words.{App, kind_of, new_app, subcommand_rows_of};
 ghost use Rattle.dob_words.specs.Forms.{Form, Text, form_named, forms, rows};
 ghost use Rattle.dob_words.specs.Lines.{IsAmong, IsCommandLine};
-ghost use Rattle.dob_words.specs.Words.{Meaning, asks, has_topic, is_topic, is_version, meaning_of, meaning_of_topic, names_subcommand, settled};
+ghost use Rattle.dob_words.specs.Words.{Meaning, asks, has_topic, is_topic, is_version, meaning_of, meaning_of_topic, names_subcommand, without_conflict};
 ghost use Rattle.dob_words.specs.Shapes.{AreProfiles, Finds, HasCommandShape, HasFit, IsMetBySome, IsNamed, IsProgram, IsRead, bare_app, choice_rule, choice_said, app_without_places, first_app, flag_rule, flag_said, is_stream_in, place_rule, place_said, row_app, row_said, texts_in, with_rows, with_rules};
 ghost use Rattle.dob_words.specs.Readings.{ComesFromLine, IsReadFor, IsReadingOf, IsReadingOfKind};
 
@@ -22,7 +22,9 @@ mod misplaced;
 mod orders;
 
 use crate::rows::{FIRST_ROWS, LAST_ROWS, LATER_ROWS, MIDDLE_ROWS, PROGRAM};
-use crate::table::{Choice, Flag, Kind, Need, PROFILES, Place, Row};
+use crate::table::{
+    Argument, ArgumentKind, Flag, OptionArgument, PROFILES, Presence, SubcommandRow,
+};
 use clap::error::ErrorKind;
 use clap::{Arg, ArgAction, ArgMatches, Command, Error, value_parser};
 use misplaced::Misplaced;
@@ -56,7 +58,7 @@ pub fn read_words<'a>(alloc: Global, words: &'a [&'a str]) -> Result<Reading<'a>
     ensures meaning { IfOk result (IsReadingOf (meaning_of (map (λ w. w.now) words.now))) }
     ensures sound { IfOk result (ComesFromLine (map (λ w. w.now) words.now)) }
     ensures complete { (form : Form) (texts : List (Option Text)) → IsAmong form forms
-        → IsCommandLine form (map (λ w. w.now) words.now) texts → IfOk result (IsReadingOf (settled (asks form.name texts))) }
+        → IsCommandLine form (map (λ w. w.now) words.now) texts → IfOk result (IsReadingOf (without_conflict (asks form.name texts))) }
 {
     read_meant(alloc, words)
 }
@@ -130,7 +132,7 @@ fn names_subcommand(name: &str) -> bool
 }
 
 // The row of that name, if there is one.
-fn row_named<'a>(name: &str) -> Option<&'a Row>
+fn row_named<'a>(name: &str) -> Option<&'a SubcommandRow>
     ensures { is_some result ≡ list_any (λ n. bytes_eq n name.now) (map (λ r. r.0) rows) }
 {
     row_among(first_rows(), name)
@@ -140,7 +142,7 @@ fn row_named<'a>(name: &str) -> Option<&'a Row>
 }
 
 // The row of that name, if it is one of these.
-fn row_among<'a>(rows: &'a [Row], name: &str) -> Option<&'a Row>
+fn row_among<'a>(rows: &'a [SubcommandRow], name: &str) -> Option<&'a SubcommandRow>
     ensures { is_some result ≡ list_any (λ n. bytes_eq n name.now) (map (λ r. r.0) (map row_said rows.now)) }
 {
     for row in rows {
@@ -180,28 +182,28 @@ fn first_command<'a>(alloc: Global, profiles: Profiles<'a>) -> Result<Command<'a
 }
 
 // The first six subcommands.
-fn first_rows<'a>() -> &'a [Row]
+fn first_rows<'a>() -> &'a [SubcommandRow]
     ensures { map row_said result.now ≡ take 6 rows }
 {
     FIRST_ROWS
 }
 
 // The six behind them.
-fn middle_rows<'a>() -> &'a [Row]
+fn middle_rows<'a>() -> &'a [SubcommandRow]
     ensures { map row_said result.now ≡ take 6 (drop 6 rows) }
 {
     MIDDLE_ROWS
 }
 
 // The three behind those.
-fn later_rows<'a>() -> &'a [Row]
+fn later_rows<'a>() -> &'a [SubcommandRow]
     ensures { map row_said result.now ≡ take 3 (drop 12 rows) }
 {
     LATER_ROWS
 }
 
 // The others.
-fn last_rows<'a>() -> &'a [Row]
+fn last_rows<'a>() -> &'a [SubcommandRow]
     ensures { map row_said result.now ≡ drop 15 rows }
 {
     LAST_ROWS
@@ -212,7 +214,7 @@ fn add_subcommands<'a>(
     alloc: Global,
     mut command: Command<'a>,
     profiles: Profiles<'a>,
-    rows: &[Row],
+    rows: &[SubcommandRow],
 ) -> Result<Command<'a>, AllocError>
     ensures { (app : App) → HasCommandShape app command.entry → IfOk result (HasCommandShape (with_rows profiles.entry.names app (map row_said rows.now))) }
 {
@@ -226,7 +228,7 @@ fn add_subcommands<'a>(
 fn row_command<'a>(
     alloc: Global,
     profiles: Profiles<'a>,
-    row: &Row,
+    row: &SubcommandRow,
 ) -> Result<Command<'a>, AllocError>
     ensures { IfOk result (HasCommandShape (row_app profiles.entry.names (row_said row.now))) }
 {
@@ -239,7 +241,7 @@ fn row_command<'a>(
 fn command_without_places<'a>(
     alloc: Global,
     profiles: Profiles<'a>,
-    row: &Row,
+    row: &SubcommandRow,
 ) -> Result<Command<'a>, AllocError>
     ensures { IfOk result (HasCommandShape (app_without_places profiles.entry.names (row_said row.now))) }
 {
@@ -261,7 +263,7 @@ fn add_options<'a>(
     alloc: Global,
     mut command: Command<'a>,
     profiles: Profiles<'a>,
-    options: &[Choice],
+    options: &[OptionArgument],
 ) -> Result<Command<'a>, AllocError>
     ensures { (app : App) → HasCommandShape app command.entry
         → IfOk result (HasCommandShape (with_rules app (map (choice_rule profiles.entry.names) (map choice_said options.now)))) }
@@ -291,7 +293,7 @@ fn add_places<'a>(
     alloc: Global,
     mut command: Command<'a>,
     profiles: Profiles<'a>,
-    places: &[Place],
+    places: &[Argument],
 ) -> Result<Command<'a>, AllocError>
     ensures { (app : App) → HasCommandShape app command.entry
         → IfOk result (HasCommandShape (with_rules app (map (place_rule profiles.entry.names) (map place_said places.now)))) }
@@ -322,7 +324,7 @@ fn bare_command<'a>(alloc: Global) -> Result<Command<'a>, AllocError>
 }
 
 // An option.
-fn choice_argument<'a>(alloc: Global, profiles: Profiles<'a>, choice: &Choice) -> Arg<'a>
+fn choice_argument<'a>(alloc: Global, profiles: Profiles<'a>, choice: &OptionArgument) -> Arg<'a>
     ensures { IsRead (choice_rule profiles.entry.names (choice_said choice.now)) result }
 {
     let (name, place) = choice;
@@ -343,20 +345,20 @@ fn flag_argument<'a>(alloc: Global, flag: &Flag) -> Arg<'a>
 }
 
 // A text by its place.
-fn place_argument<'a>(alloc: Global, profiles: Profiles<'a>, place: &Place) -> Arg<'a>
+fn place_argument<'a>(alloc: Global, profiles: Profiles<'a>, place: &Argument) -> Arg<'a>
     ensures { IsRead (place_rule profiles.entry.names (place_said place.now)) result }
 {
     let (label, kind, need, help) = *place;
     let argument = Arg::new(alloc, label)
-        .required(matches!(need, Need::Must))
+        .required(matches!(need, Presence::Must))
         .help(help);
     match kind {
-        Kind::Any | Kind::Output => argument,
-        Kind::Number => {
+        ArgumentKind::Any | ArgumentKind::Output => argument,
+        ArgumentKind::Number => {
             let number = value_parser!(u64);
             argument.value_parser(number)
         }
-        Kind::Profile => argument.value_parser(profiles.names),
+        ArgumentKind::Profile => argument.value_parser(profiles.names),
     }
 }
 
@@ -364,7 +366,7 @@ fn place_argument<'a>(alloc: Global, profiles: Profiles<'a>, place: &Place) -> A
 fn read_matches<'a>(alloc: Global, matches: &ArgMatches<'a>) -> Result<Reading<'a>, AllocError>
     requires { IsMetBySome (subcommand_rows_of matches.now) }
     ensures { (form : Form) (texts : List (Option Text)) → IsAmong form forms → Finds form texts (subcommand_rows_of matches.now)
-        → IfOk result (IsReadingOf (settled (asks form.name texts))) }
+        → IfOk result (IsReadingOf (without_conflict (asks form.name texts))) }
 {
     match matches.subcommand() {
         Some((name, inner)) => read_order(alloc, order_by(name, inner), name, inner),
@@ -376,7 +378,7 @@ fn read_matches<'a>(alloc: Global, matches: &ArgMatches<'a>) -> Result<Reading<'
 fn order_by<'a>(name: &str, inner: &ArgMatches<'a>) -> Option<Order<'a>>
     requires named { IsNamed name.now forms }
     requires fit { HasFit (form_named name.now) inner.now }
-    ensures { IsReadFor (settled (asks name.now (texts_in (form_named name.now) inner.now))) result }
+    ensures { IsReadFor (without_conflict (asks name.now (texts_in (form_named name.now) inner.now))) result }
 {
     match misplaced_in(name, inner) {
         Some(_) => None,

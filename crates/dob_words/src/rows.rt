@@ -1,11 +1,12 @@
 // The subcommands of the program, a row each: from here come `clap`'s command, the help and what words mean (specs/Forms.antt). Below the rows stands what
 // the program and each subcommand say of themselves where help is asked for, behind what `clap` writes of their words.
 use crate::table::{
-    CERT, DB, EACH, JSON, Kind, LONE_POSITION, Need, POSITION, PROGRESS, RULES, Row, SET,
+    ArgumentKind, CERT, DB, EACH, JSON, LONE_POSITION, POSITION, PROGRESS, Presence, RULES, SET,
+    SubcommandRow,
 };
 
 /// The first six subcommands, in the order of the help. A constant of all rows takes far longer to prove than four.
-pub const FIRST_ROWS: &[Row] = &[
+pub const FIRST_ROWS: &[SubcommandRow] = &[
     (
         "value",
         "Prints the value of a position",
@@ -31,8 +32,8 @@ pub const FIRST_ROWS: &[Row] = &[
                 "db",
                 (
                     "FILE",
-                    Kind::Any,
-                    Need::May,
+                    ArgumentKind::Any,
+                    Presence::May,
                     "A database file, for how many of them are won, lost and drawn; its rules count",
                 ),
             ),
@@ -57,8 +58,8 @@ pub const FIRST_ROWS: &[Row] = &[
                 "nodes",
                 (
                     "N",
-                    Kind::Number,
-                    Need::May,
+                    ArgumentKind::Number,
+                    Presence::May,
                     "The number of nodes, 1 to 16; as many as there are processors, 16 at most, where it is left out",
                 ),
             ),
@@ -66,8 +67,8 @@ pub const FIRST_ROWS: &[Row] = &[
                 "out",
                 (
                     "FILE",
-                    Kind::Output,
-                    Need::Must,
+                    ArgumentKind::Output,
+                    Presence::Must,
                     "The database file, made anew or overwritten",
                 ),
             ),
@@ -103,7 +104,7 @@ pub const FIRST_ROWS: &[Row] = &[
 ];
 
 /// The six behind them.
-pub const MIDDLE_ROWS: &[Row] = &[
+pub const MIDDLE_ROWS: &[SubcommandRow] = &[
     (
         "check",
         "Checks that a database file is right, whoever made it",
@@ -129,8 +130,8 @@ pub const MIDDLE_ROWS: &[Row] = &[
                 "db",
                 (
                     "FILE",
-                    Kind::Any,
-                    Need::May,
+                    ArgumentKind::Any,
+                    Presence::May,
                     "A database file, for the value and the best play",
                 ),
             ),
@@ -138,8 +139,8 @@ pub const MIDDLE_ROWS: &[Row] = &[
                 "svg",
                 (
                     "OUT",
-                    Kind::Output,
-                    Need::May,
+                    ArgumentKind::Output,
+                    Presence::May,
                     "A file for the board as a picture, made anew or overwritten",
                 ),
             ),
@@ -180,7 +181,7 @@ pub const MIDDLE_ROWS: &[Row] = &[
 ];
 
 /// The three behind those.
-pub const LATER_ROWS: &[Row] = &[
+pub const LATER_ROWS: &[SubcommandRow] = &[
     (
         "zugzwangs",
         "Prints how many positions there are in which neither side wants to move, and the deepest",
@@ -191,8 +192,8 @@ pub const LATER_ROWS: &[Row] = &[
                 "list",
                 (
                     "N",
-                    Kind::Number,
-                    Need::May,
+                    ArgumentKind::Number,
+                    Presence::May,
                     "The first N of them, a line each, after the others",
                 ),
             ),
@@ -210,21 +211,26 @@ pub const LATER_ROWS: &[Row] = &[
                 "plies",
                 (
                     "D",
-                    Kind::Number,
-                    Need::Must,
+                    ArgumentKind::Number,
+                    Presence::Must,
                     "In how many plies they are won: an odd number of at least 3",
                 ),
             ),
             (
                 "count",
-                ("N", Kind::Number, Need::Must, "How many of them at most"),
+                (
+                    "N",
+                    ArgumentKind::Number,
+                    Presence::Must,
+                    "How many of them at most",
+                ),
             ),
             (
                 "from",
                 (
                     "CLASS",
-                    Kind::Number,
-                    Need::May,
+                    ArgumentKind::Number,
+                    Presence::May,
                     "Only those after the class of this number, which itself isn't printed",
                 ),
             ),
@@ -232,8 +238,8 @@ pub const LATER_ROWS: &[Row] = &[
                 "random",
                 (
                     "SEED",
-                    Kind::Number,
-                    Need::May,
+                    ArgumentKind::Number,
+                    Presence::May,
                     "In an order that this number makes, each as likely as any other, and no two alike",
                 ),
             ),
@@ -254,8 +260,8 @@ pub const LATER_ROWS: &[Row] = &[
                 "out",
                 (
                     "OUT",
-                    Kind::Output,
-                    Need::Must,
+                    ArgumentKind::Output,
+                    Presence::Must,
                     "The database file to be written, made anew or overwritten; it may be the one that is read",
                 ),
             ),
@@ -266,7 +272,7 @@ pub const LATER_ROWS: &[Row] = &[
 ];
 
 /// The others.
-pub const LAST_ROWS: &[Row] = &[
+pub const LAST_ROWS: &[SubcommandRow] = &[
     (
         "certify",
         "Makes a certificate of a position's value by a database file",
@@ -277,8 +283,8 @@ pub const LAST_ROWS: &[Row] = &[
                 "out",
                 (
                     "CERT",
-                    Kind::Output,
-                    Need::Must,
+                    ArgumentKind::Output,
+                    Presence::Must,
                     "The certificate, made anew or overwritten",
                 ),
             ),
@@ -286,8 +292,8 @@ pub const LAST_ROWS: &[Row] = &[
                 "most",
                 (
                     "N",
-                    Kind::Number,
-                    Need::May,
+                    ArgumentKind::Number,
+                    Presence::May,
                     "How many entries the certificate has at most; as many as it takes, where it is left out",
                 ),
             ),
@@ -325,8 +331,8 @@ pub const LAST_ROWS: &[Row] = &[
         &[JSON],
         &[(
             "FILE",
-            Kind::Any,
-            Need::Must,
+            ArgumentKind::Any,
+            Presence::Must,
             "The database file, or the certificate",
         )],
     ),

@@ -4,7 +4,7 @@
 
 /// What a text has to be.
 #[derive(Clone, Copy)]
-pub enum Kind {
+pub enum ArgumentKind {
     /// Anything.
     Any,
     /// A number below 2^64.
@@ -17,29 +17,29 @@ pub enum Kind {
 
 /// Whether a text may be left out.
 #[derive(Clone, Copy)]
-pub enum Need {
+pub enum Presence {
     Must,
     May,
 }
 
 /// A text: what it is called, what it has to be, whether it may be left out, and what the help says of it.
-pub type Place = (&'static str, Kind, Need, &'static str);
+pub type Argument = (&'static str, ArgumentKind, Presence, &'static str);
 
 /// An option: the name behind `--`, and its text.
-pub type Choice = (&'static str, Place);
+pub type OptionArgument = (&'static str, Argument);
 
 /// A flag: the name behind `--`, by which it is called too, and what the help says of it.
 pub type Flag = (&'static str, &'static str);
 
 /// A row: a subcommand's name, what it does, what it says of itself where its help is asked for, its options, its flags, and the texts that come with no
 /// option, in the order of their places.
-pub type Row = (
+pub type SubcommandRow = (
     &'static str,
     &'static str,
     &'static str,
-    &'static [Choice],
+    &'static [OptionArgument],
     &'static [Flag],
-    &'static [Place],
+    &'static [Argument],
 );
 
 /// The names of the profiles, which `--rules` takes.
@@ -47,33 +47,49 @@ pub const PROFILES: &[&str] = &["A", "B"];
 
 // ---- options, flags and places that rows share
 
-pub(crate) const RULES: Choice = (
+pub(crate) const RULES: OptionArgument = (
     "rules",
     (
         "PROFILE",
-        Kind::Profile,
-        Need::May,
+        ArgumentKind::Profile,
+        Presence::May,
         "The rules: B lets no chick be dropped on its far row, A does; A where it is left out",
     ),
 );
 
-pub(crate) const SET: Choice = (
+pub(crate) const SET: OptionArgument = (
     "set",
     (
         "CEG",
-        Kind::Any,
-        Need::Must,
+        ArgumentKind::Any,
+        Presence::Must,
         "The piece set, as three digits",
     ),
 );
 
-pub(crate) const DB: Choice = ("db", ("FILE", Kind::Any, Need::Must, "The database file"));
+pub(crate) const DB: OptionArgument = (
+    "db",
+    (
+        "FILE",
+        ArgumentKind::Any,
+        Presence::Must,
+        "The database file",
+    ),
+);
 
-pub(crate) const CERT: Choice = ("cert", ("CERT", Kind::Any, Need::Must, "The certificate"));
+pub(crate) const CERT: OptionArgument = (
+    "cert",
+    ("CERT", ArgumentKind::Any, Presence::Must, "The certificate"),
+);
 
 pub(crate) const PROGRESS: Flag = ("progress", "Says on standard error how far it is");
 
-pub(crate) const POSITION: Place = ("POSITION", Kind::Any, Need::Must, "The position, as text");
+pub(crate) const POSITION: Argument = (
+    "POSITION",
+    ArgumentKind::Any,
+    Presence::Must,
+    "The position, as text",
+);
 
 pub(crate) const EACH: Flag = (
     "each",
@@ -82,9 +98,9 @@ pub(crate) const EACH: Flag = (
 
 pub(crate) const JSON: Flag = ("json", "Answers as JSON, an object on a line");
 
-pub(crate) const LONE_POSITION: Place = (
+pub(crate) const LONE_POSITION: Argument = (
     "POSITION",
-    Kind::Any,
-    Need::May,
+    ArgumentKind::Any,
+    Presence::May,
     "The position, as text, where `--each` isn't given",
 );

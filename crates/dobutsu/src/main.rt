@@ -5,7 +5,7 @@
 //   stored, of a position, since a crate has one and a test can't call `main`.
 #![tactic(auto)]
 
-use dob_cli::{DiskShelf, Heard, Note, Place, run_given};
+use dob_cli::{Device, DiskShelf, ErrorRecorder, LastError, run_given};
 use dob_device::Std;
 use std::fs::OpenOptions;
 use std::io::IsTerminal;
@@ -20,13 +20,13 @@ fn main(rt: HostRuntime) -> ExitCode {
         how.open(&rt, "/dev/null"),
         how.open(&rt, "/dev/null"),
     ];
-    let note = Note::new();
+    let note = LastError::new();
     ExitCode::from(run_given(
         &rt,
         rt.alloc(),
         std::env::args(&rt),
         &mut DiskShelf::new(&rt, rt.alloc(), rt.stdin(), &note),
-        &mut Std::new(Heard::new(rt.stdout(), Place::Output, &note)),
+        &mut Std::new(ErrorRecorder::new(rt.stdout(), Device::Output, &note)),
         &mut Std::new(rt.stderr()),
         rt.stderr().is_terminal(),
     ))

@@ -3,8 +3,8 @@ use Rattle.dobutsu_c.proofs.Common.{◌≡◌, List, inl, inr, refl, ℕ, Family
 use Rattle.dobutsu_c.proofs.Common.{IsGiven, IsMovesFault, ByFault, Numbering}
 use Rattle.dob_probe.proofs.ByValue.{said_valued}
 use Rattle.dob_probe.specs.Said.{IsGapOfMoves}
-use Rattle.dob_probe.specs.declared.gap.Gap.{Gap}
-use Rattle.dob_probe.specs.declared.gap.Gap.TheVariants.{Unsaid, Inconsistent, Memory}
+use Rattle.dob_probe.specs.declared.gap.LookupFault.{LookupFault}
+use Rattle.dob_probe.specs.declared.gap.LookupFault.TheVariants.{NoValue, Inconsistent, Memory}
 use Rattle.dobutsu_c.proofs.Exact.{one_given}
 use Rattle.dobutsu_c.proofs.Indexed.{given_by}
 use Rattle.dobutsu_c.specs.declared.by_index.ByFault.TheVariants as by_fault
@@ -19,9 +19,9 @@ module _ (file : List ℕ) (by : Numbering) (format : Format) (family : Family) 
       (λ q value given. given_by file by format family classes q value index_is given) (λ q v w inside a b. one_given file format family q v w a b)
       setup member list are
 
-  pub gap_told : (text : List ℕ) (gap : Gap ByFault) → IsAskedBy file text by format family classes setup
+  pub gap_told : (text : List ℕ) (gap : LookupFault ByFault) → IsAskedBy file text by format family classes setup
       → IsGapOfMoves family.profile (λ q fault. (fault ≡ by_fault.Index) × ¬ IsRight by family) setup gap → IsMovesFault file text by (gap_number gap)
-  gap_told text (Unsaid fault) asked lacks =
+  gap_told text (NoValue fault) asked lacks =
       inr (
         by_fault.Index,
         (format, family, setup, asked.named, inr (lacks.2.1, inr (classes, asked.held, asked.member))),

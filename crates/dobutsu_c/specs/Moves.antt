@@ -11,8 +11,8 @@ use Rattle.dob_dbfile.specs.Format.{IsFile}
 use Rattle.dob_foreign.specs.declared.moves.DobutsuStep.{DobutsuStep}
 use Rattle.dob_foreign.specs.Moves.{shown_step}
 use Rattle.dob_probe.specs.declared.by_value.ValuedMove.{ValuedMove}
-use Rattle.dob_probe.specs.declared.gap.Gap.{Gap}
-use Rattle.dob_probe.specs.declared.gap.Gap.TheVariants.{Unsaid, Inconsistent, Memory}
+use Rattle.dob_probe.specs.declared.gap.LookupFault.{LookupFault}
+use Rattle.dob_probe.specs.declared.gap.LookupFault.TheVariants.{NoValue, Inconsistent, Memory}
 use Rattle.dob_probe.specs.ValuedMoves.{AreSaidMoves, AreValuedMoves}
 use Rattle.dobutsu_c.specs.declared.moves.DobutsuMove.{DobutsuMove}
 use Rattle.dobutsu_c.specs.declared.by_index.ByFault.{ByFault}
@@ -57,8 +57,8 @@ IsMovesFault file text by number = ((number ≡ 23) × (format : Format) × (fam
     × IsAskedBy file text by format family classes setup) ⊎ ((fault : ByFault) × HasByFault file text by fault × (number ≡ number_by fault))
 
 -- why moves aren't told, as a fault's number
-abbrev pub gap_number : Gap ByFault → ℕ
-gap_number (Unsaid fault) = number_by fault
+abbrev pub gap_number : LookupFault ByFault → ℕ
+gap_number (NoValue fault) = number_by fault
 gap_number (Inconsistent class) = 21
 gap_number Memory = 23
 

@@ -10,7 +10,7 @@ use crate::moves::{DobutsuMove, write_moves};
 use crate::numbering::Numbering;
 use crate::numbers::{INCONSISTENT, MEMORY};
 use dob_pieces::Position;
-use dob_probe::{Gap, ValuedMove, Values, moves_by};
+use dob_probe::{LookupFault, ValuedMove, Values, moves_by};
 use dob_value::Value;
 use std::alloc::Global;
 
@@ -88,14 +88,14 @@ fn told_moves(
 }
 
 // The number of the fault.
-fn number_of(gap: Gap<ByFault>) -> u32
+fn number_of(gap: LookupFault<ByFault>) -> u32
     ensures number { result ≡ gap_number gap }
     ensures positive { result ≢ 0 }
 {
     match gap {
-        Gap::Unsaid(fault) => fault.number(),
-        Gap::Inconsistent(_class) => INCONSISTENT,
-        Gap::Memory => MEMORY,
+        LookupFault::NoValue(fault) => fault.number(),
+        LookupFault::Inconsistent(_class) => INCONSISTENT,
+        LookupFault::Memory => MEMORY,
     }
 }
 

@@ -9,7 +9,7 @@ ghost use Rattle.dob_rank.specs.Placing.{put, AreChoices, AreFree, ArePlaces};
 ghost use Rattle.dob_classes.specs.Views.{seen_by, seen_square, seen_hands, seen_owner};
 
 use dob_pieces::{Board, Hands, Side};
-use dob_rank::block::{DIGITS, EachKind};
+use dob_rank::block::{DIGITS, PerKind};
 use dob_rank::forms::base_of;
 use dob_rank::layers::Layer;
 use dob_rank::placing::{Places, among, past, wide};
@@ -18,7 +18,7 @@ use dob_rank::placing::{Places, among, past, wide};
 #[inline(always)]
 pub(crate) fn bits_by(
     side: Side,
-    on_board: &EachKind,
+    on_board: &PerKind,
     digits: &[u64; DIGITS],
     places: &Places,
     hands: Hands,

@@ -4,7 +4,7 @@ ghost use Rattle.std.specs.Prelude.{◌<◌};
 ghost use Rattle.dob_safra.specs.Laws.{IsSize};
 
 use super::{HELD, HoldsBackOne, Meeting, PATIENT, is_done, is_table_of_lions, lions};
-use dob_run::{Built, Free, Gate, run_nodes};
+use dob_run::{AlwaysOpen, Built, Gate, run_nodes};
 use std::alloc::Global;
 use std::process::Abort;
 use std::sync::Wait;
@@ -15,7 +15,7 @@ use std::thread::Threads;
 fn builds(rt: &(impl Threads + Wait + Abort + Sync), alloc: Global, n: usize, batch: usize)
     requires { IsSize n }
 {
-    let built = run_nodes(rt, alloc, lions(rt), n, batch, 1, &Free).expect(rt, "a table");
+    let built = run_nodes(rt, alloc, lions(rt), n, batch, 1, &AlwaysOpen).expect(rt, "a table");
     assert!(rt;
         is_table_of_lions(&built.table) && is_done(&built, n),
         "by {n} nodes"

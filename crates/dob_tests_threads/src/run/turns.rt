@@ -9,7 +9,7 @@ use dob_board::{Board, Halt};
 use dob_classes::Classes;
 use dob_node::Cause;
 use dob_pieces::Memory;
-use dob_run::{Built, Fault, Free, Gate, Runner, crew, finish};
+use dob_run::{AlwaysOpen, Built, Fault, Gate, Runner, crew, finish};
 use std::alloc::Global;
 use std::process::Abort;
 use std::sync::Wait;
@@ -75,12 +75,12 @@ fn turn_to_the_end(
     ensures going { OnOk result (first.new.failed ≡ None) }
 {
     for _ in 0..20_000 {
-        let halt = turn_once(rt, first, classes, &Free);
+        let halt = turn_once(rt, first, classes, &AlwaysOpen);
         if halt == Ok(Halt::Ended) {
             return halt;
         }
         assert!(rt; halt == Ok(Halt::Running));
-        assert!(rt; turn_once(rt, second, classes, &Free) == Ok(Halt::Running));
+        assert!(rt; turn_once(rt, second, classes, &AlwaysOpen) == Ok(Halt::Running));
     }
     Err(Cause::Held)
 }
@@ -111,7 +111,7 @@ fn has_sent(built: &Built) -> bool {
 fn turned_by_hand(rt: HostRuntime) {
     let (classes, board, mut first, mut second) = two_runners(&rt, rt.alloc());
     turn_to_the_end(&rt, &mut first, &mut second, &classes).expect(&rt, "an end");
-    let last = turn_once(&rt, &mut second, &classes, &Free).expect(&rt, "a turn");
+    let last = turn_once(&rt, &mut second, &classes, &AlwaysOpen).expect(&rt, "a turn");
     assert!(rt; last == Halt::Ended);
     let built = close_both(&rt, rt.alloc(), classes, board, first, second).expect(&rt, "a table");
     assert!(rt; is_done(&built, 2) && is_table_of_lions(&built.table) && has_sent(&built));
@@ -192,7 +192,7 @@ fn sees_the_hold(
     answers(rt, second, classes, gate, Err(Cause::Held));
     assert!(rt; gate.counts() == (4, 3));
     assert!(rt; second.stopped());
-    answers(rt, first, classes, &Free, Ok(Halt::Failed(1)));
+    answers(rt, first, classes, &AlwaysOpen, Ok(Halt::Failed(1)));
 }
 
 #[test]

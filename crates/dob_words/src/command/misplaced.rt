@@ -5,7 +5,7 @@ ghost use Rattle.dob_words.specs.Forms.{is_output_kind};
 ghost use Rattle.dob_words.specs.Shapes.{choice_said, is_stream_for, is_stream_in, row_said};
 ghost use Rattle.dob_words.specs.Words.{is_stream};
 
-use crate::table::{Choice, Kind, Row};
+use crate::table::{ArgumentKind, OptionArgument, SubcommandRow};
 use clap::ArgMatches;
 use std::alloc::{AllocError, Global};
 
@@ -34,7 +34,7 @@ For more information, try '--help'.
 
 /// The option of the subcommand of that name, one of these rows, for which its matches have a stream, if there is one.
 pub(super) fn stream_of<'a>(
-    rows: &[Row],
+    rows: &[SubcommandRow],
     name: &str,
     inner: &ArgMatches<'a>,
 ) -> Option<Misplaced<'a>>
@@ -49,7 +49,7 @@ pub(super) fn stream_of<'a>(
 }
 
 // The same of one row.
-fn stream_in<'a>(row: Row, name: &str, inner: &ArgMatches<'a>) -> Option<Misplaced<'a>>
+fn stream_in<'a>(row: SubcommandRow, name: &str, inner: &ArgMatches<'a>) -> Option<Misplaced<'a>>
     ensures { is_some result ≡ is_stream_in name.now inner.now (row_said row.entry) }
 {
     let (own, _, _, options, _, _) = row;
@@ -61,7 +61,7 @@ fn stream_in<'a>(row: Row, name: &str, inner: &ArgMatches<'a>) -> Option<Misplac
 }
 
 // The first of these options for which the matches have a stream, if there is one.
-fn first_stream<'a>(options: &[Choice], inner: &ArgMatches<'a>) -> Option<Misplaced<'a>>
+fn first_stream<'a>(options: &[OptionArgument], inner: &ArgMatches<'a>) -> Option<Misplaced<'a>>
     ensures { is_some result ≡ list_any (λ choice. is_stream_for inner.now choice) (map choice_said options.now) }
 {
     for choice in options {
@@ -73,7 +73,7 @@ fn first_stream<'a>(options: &[Choice], inner: &ArgMatches<'a>) -> Option<Mispla
 }
 
 // This option, if the matches have a stream for it where it has to have the name of a file.
-fn stream_for<'a>(choice: Choice, inner: &ArgMatches<'a>) -> Option<Misplaced<'a>>
+fn stream_for<'a>(choice: OptionArgument, inner: &ArgMatches<'a>) -> Option<Misplaced<'a>>
     ensures { is_some result ≡ is_stream_for inner.now (choice_said choice.entry) }
 {
     let (name, place) = choice;
@@ -87,12 +87,12 @@ fn stream_for<'a>(choice: Choice, inner: &ArgMatches<'a>) -> Option<Misplaced<'a
 }
 
 // Whether it is the name of a file that is written.
-fn is_output(kind: Kind) -> bool
+fn is_output(kind: ArgumentKind) -> bool
     ensures { result ≡ is_output_kind kind }
 {
     match kind {
-        Kind::Output => true,
-        Kind::Any | Kind::Number | Kind::Profile => false,
+        ArgumentKind::Output => true,
+        ArgumentKind::Any | ArgumentKind::Number | ArgumentKind::Profile => false,
     }
 }
 

@@ -1,6 +1,6 @@
 -- A read keeps the rule and closes the view, and one word more is as the stands of all nodes say.
 use Rattle.std.proofs.Common.{rules, arith, ℕ, List, length, ap, subst, ◌∙◌}
-use Rattle.dob_board.proofs.Names.{Stand, IsWord}
+use Rattle.dob_board.proofs.Names.{SeatState, IsWord}
 use Rattle.dob_board.proofs.Allowed.{Seated}
 use Rattle.dob_board.proofs.Done.{goes_on}
 use Rattle.dob_board.proofs.Ends.{reads_call, read_more}
@@ -12,14 +12,14 @@ load-requires c =
       search rules,
       rw (c.deref.ensures, c.requires.board) (omega (arith, inv.long, c.requires.room)),
       reads_call _ c.args.nodes c.loop-word.word _ _ c.loop-word.rest.me (search rules) inv.size inv.from
-          (ap (λ (stands : List Stand). length stands) inv.stands ∙ c.requires.all),
+          (ap (λ (stands : List SeatState). length stands) inv.stands ∙ c.requires.all),
     )
 
 pub loop-word-preserved : goal.loop-word-preserved
 loop-word-preserved c =
     let inv = c.loop-word.invariant in
     let witnessed = c.load.ensures.2 in
-    let here = subst (λ (p : ℕ × List Stand). IsWord p.0 p.1 c.load.new.seat.me.0.witnessed c.loop-word.word c.load.result)
+    let here = subst (λ (p : ℕ × List SeatState). IsWord p.0 p.1 c.load.new.seat.me.0.witnessed c.loop-word.word c.load.result)
     (λ q. (inv.size q, inv.stands q)) witnessed.3 in
     record {
       of_board = c.load.ensures.0 ∙ inv.of_board;

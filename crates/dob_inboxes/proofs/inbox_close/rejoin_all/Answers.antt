@@ -20,8 +20,8 @@ rejoin_one-requires g c =
     c.requires.inboxes c.loop-row.invariant.done _ _ (next_at c.loop-row.invariant.senders c.in-Some.ensures.steps.0.0)
     (next_at c.loop-row.invariant.takers c.in-Some.ensures.steps.1.0)
 
-pub deal-requires : goal.deal-requires
-deal-requires g c =
+pub push_each-requires : goal.push_each-requires
+push_each-requires g c =
     let on = c.loop-row.invariant in
     let links : length c.in_ok-links.links.items ≡ vec_len c.args.takes =
     c.in_ok-links.ensures.0 ∙ c.requires.senders.each on.done _ (next_at on.senders c.in-Some.ensures.steps.0.0) in
@@ -36,14 +36,14 @@ loop-row-preserved g c =
     let at = next_at on.senders c.in-Some.ensures.steps.0.0 in
     let long : length links.items ≡ n = c.in_ok-links.ensures.0 ∙ c.requires.senders.each on.done _ at in
     let many : vec_len links ≡ n = search rules in
-    let dealt : AreDealt n links.items c.loop-row.rows.items c.deal.new.rows.items =
-    subst (λ (k : ℕ). AreDealt k links.items c.loop-row.rows.items c.deal.new.rows.items) many c.in_ok-deal.ensures in
+    let dealt : AreDealt n links.items c.loop-row.rows.items c.push_each.new.rows.items =
+    subst (λ (k : ℕ). AreDealt k links.items c.loop-row.rows.items c.push_each.new.rows.items) many c.in_ok-push_each.ensures in
     record {
       done = on.done + 1;
       senders = one_gone on.senders c.in-Some.ensures.steps.0.0 refl;
       takers = one_gone on.takers c.in-Some.ensures.steps.1.0 refl;
-      rows_are = rows_longer on.done c.loop-row.rows.items c.deal.new.rows.items links.items on.rows_are dealt;
-      links_are = links_more c.requires on.done c.loop-row.rows.items c.deal.new.rows.items c.in-Some.row c.in-Some.take links.items on.rows_are
+      rows_are = rows_longer on.done c.loop-row.rows.items c.push_each.new.rows.items links.items on.rows_are dealt;
+      links_are = links_more c.requires on.done c.loop-row.rows.items c.push_each.new.rows.items c.in-Some.row c.in-Some.take links.items on.rows_are
           on.links_are
           at (next_at on.takers c.in-Some.ensures.steps.1.0) c.in_ok-links.ensures dealt;
     }

@@ -1,6 +1,6 @@
 -- Once all seats are joined, the words that are read are those that the seats of all nodes counted, and that the events made.
 use Rattle.std.proofs.Common.{map, ap, sym, subst, ◌∙◌, List, length}
-use Rattle.dob_board.proofs.Names.{Stand, View, stand_of, AreRead, AreAsWitnessed, length-map}
+use Rattle.dob_board.proofs.Names.{SeatState, View, stand_of, AreRead, AreAsWitnessed, length-map}
 use Rattle.dob_board.proofs.Allowed.{Seated}
 use Rattle.dob_board.proofs.Ends.{are_words, are_as_witnessed, is_history}
 use Rattle.dob_board.proofs.board.Board.close.Goals as goal
@@ -12,7 +12,7 @@ read_all-words-requires-clause-all c =
 
 read : (c : After-read_all-words) →
     AreRead c.args.self.nodes (map stand_of c.args.seats.items) c.read_all-words.new.rest.me.0.witnessed c.read_all-words.result.items
-read c = subst (λ (stands : List Stand). AreRead c.args.self.nodes stands c.read_all-words.new.rest.me.0.witnessed c.read_all-words.result.items)
+read c = subst (λ (stands : List SeatState). AreRead c.args.self.nodes stands c.read_all-words.new.rest.me.0.witnessed c.read_all-words.result.items)
     (ap (λ (me : Seated). me.0.stands) c.join_all.ensures.rest) c.read_all-words.ensures.read
 
 pub invariant_of-result : goal.invariant_of-result

@@ -1,6 +1,6 @@
 -- The accepted batch is one more of its sender's worked ones and of the seat's count, and the outlets are kept.
 use Rattle.dob_endpoint.proofs.Common.{◌++◌, ◌<◌, ◌∙◌, ◌∷◌, ◌≡◌, List, Option, Some, [], ap, arith, refl, rules, subst, sym, ℕ, IfSome, BatchView, TakesOne}
-use Rattle.dob_endpoint.proofs.Common.{Stand, senders_of, AreBatchesTaken, AreCounts, AreOwn, KeepsOutlet, offered, worked, in_slot, Inlet}
+use Rattle.dob_endpoint.proofs.Common.{SeatState, senders_of, AreBatchesTaken, AreCounts, AreOwn, KeepsOutlet, offered, worked, in_slot, Inlet}
 use Rattle.dob_endpoint.proofs.Links.{taken_rises}
 use Rattle.dob_endpoint.proofs.Keeping.{outlet_same, inlet_kept, each_same}
 use Rattle.dob_endpoint.proofs.endpoint.Endpoint.accept.Goals as goal
@@ -18,8 +18,8 @@ invariant_of-self-2 c =
     let endpoint = c.args.self.now in
     let held = c.requires.held in
     let one : TakesOne endpoint.seat c.take.new.self c.args.from = search rules in
-    let taken_is = ap (λ (s : Stand). s.taken) one.counted in
-    let posted_is = ap (λ (s : Stand). s.posted) one.counted in
+    let taken_is = ap (λ (s : SeatState). s.taken) one.counted in
+    let posted_is = ap (λ (s : SeatState). s.posted) one.counted in
     let within : c.args.from < endpoint.seat.nodes = subst (λ (k : ℕ). c.args.from < k) endpoint.senders (subst (λ (k : ℕ). k < senders_of endpoint.inlet.end) held.2 (endpoint.inlet.within held.0 held.1)) in
     let counted = taken_rises endpoint.seat.nodes endpoint.seat.stand.taken endpoint.inlet c.release.new.self c.args.from held.0 endpoint.taken
     (omega (arith, endpoint.seat.taken_len, within)) held.2 (one_more endpoint.inlet c.release.new.self held.0 held.1 c.release.ensures.worked) in

@@ -1,6 +1,6 @@
 -- The posted batch is one more of the outlet's offered ones and of the seat's count, and the other links are kept.
 use Rattle.dob_endpoint.proofs.Common.{◌∙◌, ◌∷◌, ◌≡◌, List, Some, [], ap, arith, length, length-append, refl, rules, subst, suc, sym, ℕ, slice_get, slice_set}
-use Rattle.dob_endpoint.proofs.Common.{read_there, Stand, place_of, SendEnd, AreBatchesTaken, AreCounts, AreOwn, KeepsOutlet, offered}
+use Rattle.dob_endpoint.proofs.Common.{read_there, SeatState, place_of, SendEnd, AreBatchesTaken, AreCounts, AreOwn, KeepsOutlet, offered}
 use Rattle.dob_endpoint.proofs.Links.{counts_rise, own_set}
 use Rattle.dob_endpoint.proofs.Keeping.{outlet_same, outlet_kept, inlet_same, one_kept}
 use Rattle.dob_endpoint.proofs.endpoint.Endpoint.post.Goals as goal
@@ -21,8 +21,8 @@ invariant_of-self c =
     let at = there (goal.at.invariant_of-self c).After-index_mut in
     let more : length (offered c.hold.new.self) ≡ suc (length (offered old)) =
     omega (arith, ap length c.hold.ensures.offered, length-append (offered old) (c.args.batch ∷ [])) in
-    let posted_is = ap (λ (s : Stand). s.posted) c.post.ensures.counted in
-    let taken_is = ap (λ (s : Stand). s.taken) c.post.ensures.counted in
+    let posted_is = ap (λ (s : SeatState). s.posted) c.post.ensures.counted in
+    let taken_is = ap (λ (s : SeatState). s.taken) c.post.ensures.counted in
     record {
       outlets_len = endpoint.outlets_len ∙ sym c.post.ensures.same.nodes;
       senders = endpoint.senders ∙ sym c.post.ensures.same.nodes;

@@ -1,6 +1,6 @@
 -- A slot is filled just where it is empty and there is something to send. A node that cuts a batch was black and had cut fewer than 2^40; with the batch in the slot the runner is lawful.
 use Rattle.dob_runner.proofs.Common.{◌^◌, ◌∙◌, ◌≡◌, ◌≤◌, Err, None, Ok, Option, Result, Some, ap, arith, false, inl, refl, subst, sym, true, both_ways, IfSome}
-use Rattle.dob_runner.proofs.Common.{some_at, BatchView, OutboxView, Cause, HasCut, outbox_to, token_moves_of, Stand, IsToFill}
+use Rattle.dob_runner.proofs.Common.{some_at, BatchView, OutboxView, Cause, HasCut, outbox_to, token_moves_of, SeatState, IsToFill}
 use Rattle.dob_runner.proofs.Keeping.{goes_by, broken_for, cut_reason, outbox_still, node_goes, agrees_going, noted_agrees, noted_failed}
 use Rattle.dob_endpoint.proofs.Keeping.{own_still}
 use Rattle.dob_runner.proofs.Lawfuls.{busy_black, cut_one, unchanged_failed}
@@ -71,10 +71,10 @@ invariant_of-self-2 c =
     record {
       going = λ _. c.requires.unfailed;
       own = λ found. r.own (own_still r.endpoint.seat c.post.new.self.seat
-          (ap (λ (s : Stand). s.halt) c.post.ensures.counted) c.post.ensures.keeps.seat.node found);
+          (ap (λ (s : SeatState). s.halt) c.post.ensures.counted) c.post.ensures.keeps.seat.node found);
       agrees = agrees_going c.cut_for.new.self.failed _ c.in-Ok.ensures.keeps.going;
       lawful = λ _. cut_one r.family r.batch_size c.args.to c.in-Some.batch r.node c.cut_for.new.self r.endpoint c.post.new.self law c.requires.other cut c.in-Ok.ensures.keeps.sound
-          c.post.ensures.keeps.seat.node c.post.ensures.keeps.seat.nodes (ap (λ (s : Stand). s.black) c.post.ensures.counted ∙ was_black) c.post.ensures.offered
+          c.post.ensures.keeps.seat.node c.post.ensures.keeps.seat.nodes (ap (λ (s : SeatState). s.black) c.post.ensures.counted ∙ was_black) c.post.ensures.offered
           c.post.ensures.inlet;
     }
 
@@ -92,7 +92,7 @@ returns c =
     fills_of c.args.to c.args.small r _ (Ok true) (fills (goal.at.returns c).After-has_to_send c.if-not-has_to_send.false)
     (cut_more c.args.to r.batch_size c.in-Some.batch r _
     (goes_by c.post.ensures.keeps refl refl refl c.requires.unfailed
-    (ap (λ (s : Stand). s.halt) c.post.ensures.counted)
+    (ap (λ (s : SeatState). s.halt) c.post.ensures.counted)
     (ap (token_moves_of r.endpoint.seat.node) c.post.ensures.event.is_next ∙ c.post.ensures.event.alone))
     cut c.post.ensures.offered c.post.ensures.inlet
     (λ empty. cut_none c.in-Ok.cut c.in-Some.batch c.in-Some.is (c.in-Ok.ensures.step.none.1 empty)))

@@ -1,7 +1,7 @@
 -- The runner is lawful whether no batch came or one was applied; a refused one blackened its seat before any end, and one for which
 -- there is no memory lies in the slot.
 use Rattle.dob_runner.proofs.Common.{◌++◌, ◌∙◌, ◌≡◌, ◌≢◌, Err, None, ap, arith, inl, inr, refl, subst, sym, Memory, IsSound, IsUnchanged, Node, IsSameSeat}
-use Rattle.dob_runner.proofs.Common.{TakesOne, NodeSeat, Stand, KeepsEndpoint, IsLawfulRunner, HoldsFor, KeepsInlet, KeepsOutlet, worked, no_gate, Endpoint}
+use Rattle.dob_runner.proofs.Common.{TakesOne, NodeSeat, SeatState, KeepsEndpoint, IsLawfulRunner, HoldsFor, KeepsInlet, KeepsOutlet, worked, no_gate, Endpoint}
 use Rattle.dob_runner.proofs.Common.{Runner, Inlet}
 use Rattle.dob_endpoint.proofs.Links.{taken_still}
 use Rattle.dob_runner.proofs.Taking.{takes_none, takes_one, of_other, fits_node, unchanged_same}
@@ -82,7 +82,7 @@ invariant_of-self-in-Err-apply_batch-clause-lawful g c =
     let why = c.in-Err-apply_batch.why in
     let before = c.in-Err-apply_batch.ensures.step.before in
     let fails = c.fail_for-in-Err-apply_batch.ensures.fails in
-    failed_first _ why c.fail_for-in-Err-apply_batch.new.endpoint.seat.stand.halt fails.cause (fails.black (ap (λ (s : Stand). s.black) taken.counted))
+    failed_first _ why c.fail_for-in-Err-apply_batch.new.endpoint.seat.stand.halt fails.cause (fails.black (ap (λ (s : SeatState). s.black) taken.counted))
     (unspared_reason before.item c.apply_batch.new.self.share why before.reason
     (not_memory g (goal.at.invariant_of-self-in-Err-apply_batch-clause-lawful g c).In-Err-apply_batch))
 
@@ -103,7 +103,7 @@ invariant_of-self-in-Ok-apply_batch g c =
           c.in-Some-accept.ensures.within (of_other c.in-Some.ensures c.in-Some-accept.ensures.held)
           (fits_node c.in-Some.ensures c.in-Some-accept.ensures.held).entries
           c.in-Ok-apply_batch.ensures.step.taken c.in-Ok-apply_batch.ensures.keeps.sound c.accept.ensures.keeps.seat.node c.accept.ensures.keeps.seat.nodes
-          (ap (λ (s : Stand). s.black) taken.counted) (ap (λ v. v.items) c.accept.ensures.outlets)
+          (ap (λ (s : SeatState). s.black) taken.counted) (ap (λ v. v.items) c.accept.ensures.outlets)
           (λ k other. worked_else inlet c.accept.new.self.inlet batch more k other ∙ worked_again r.endpoint.inlet inlet c.receive.ensures.worked k)
           (worked_more inlet c.accept.new.self.inlet batch more ∙ ap (λ xs. xs ++ batch.items) (worked_again r.endpoint.inlet inlet c.receive.ensures.worked batch.from));
     }

@@ -2,7 +2,7 @@
 use Rattle.dob_inboxes.proofs.Common.{◌+◌, ◌<◌, ◌∙◌, ◌≡◌, Some, ap, arith, length, rules, set, subst, sym, ℕ, slice_get, read_there, AreDealt}
 use Rattle.dob_endpoint.proofs.Places.{gone_all, next_at, one_gone, place_left}
 use Rattle.dob_inboxes.proofs.Inboxes.{dealt_one}
-use Rattle.dob_inboxes.proofs.rows.deal.Goals as goal
+use Rattle.dob_inboxes.proofs.rows.push_each.Goals as goal
 
 pub loop-place-preserved : goal.loop-place-preserved
 loop-place-preserved g c =
