@@ -44,7 +44,7 @@ impl Board {
     ///
     /// # Errors
     ///
-    /// That no memory is left.
+    /// `AllocError` if memory runs out.
     pub fn open_for(alloc: Global, count: NodeCount) -> Result<(Board, Vec<NodeSeat>), AllocError>
         ensures nodes { IfOk result (λ opened. opened.0.nodes ≡ count) }
         ensures seats { IfOk result (λ opened. AreSeats opened.0.rest.table_id count opened.1.items) }

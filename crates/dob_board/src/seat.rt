@@ -24,7 +24,7 @@ pub struct NodeSeat {
     pub node: usize,
     /// How many nodes the board has.
     pub nodes: usize,
-    /// What it knows of the node.
+    /// What the seat's node has posted and taken, what it has seen of the others, and whether it was told to halt.
     pub stand: SeatState,
     pub ghost size: { nodes ≤ most_nodes },
     pub ghost within: { node < nodes },

@@ -72,10 +72,6 @@ pub(crate) enum Stop {
 }
 
 /// A search that is full has a list, as one that is done has.
-///
-/// # Errors
-///
-/// `Memory`.
 pub(crate) fn ended(searched: Result<(), Stop>) -> Result<(), Memory> {
     match searched {
         Ok(()) | Err(Stop::Full) => Ok(()),

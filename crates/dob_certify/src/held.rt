@@ -46,10 +46,6 @@ struct Search<'a> {
 
 /// The entries of the classes, which by the table aren't lost within `plies`, and those that they need; where they are more than `most`, those that were
 /// found until they were. Where the lion can be caught a class needs no entry, and none needs one within 1 ply. The watch is called for each two plies.
-///
-/// # Errors
-///
-/// `Memory`.
 pub(crate) fn held_entries<W: Watch>(
     alloc: Global,
     table: &Table,

@@ -62,10 +62,6 @@ struct Search<'a> {
 
 /// The entry of the class, which by the table is lost in `plies`, and those that it needs; where they are more than `most`, those that were found until they
 /// were. The watch is called for each two plies.
-///
-/// # Errors
-///
-/// `Memory`.
 pub(crate) fn lost_entries<W: Watch>(
     alloc: Global,
     table: &Table,

@@ -45,10 +45,6 @@ impl Members {
     }
 
     /// The members by ascending class, as entries of such a list, where the table says of them what the list does, as it does of all that a search finds.
-    ///
-    /// # Errors
-    ///
-    /// `Memory`.
     pub(crate) fn entries(
         &self,
         alloc: Global,

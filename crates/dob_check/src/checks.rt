@@ -25,7 +25,7 @@ pub trait Watch {
         ensures { told self.now classes };
 }
 
-/// Nobody learns how far it is.
+/// A `Watch` that ignores how far a check is.
 #[derive(Clone, Copy)]
 pub struct Unwatched;
 

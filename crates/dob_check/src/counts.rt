@@ -24,10 +24,6 @@ struct Part {
 /// The groups of the table's classes that have one value: the draws first, if there are any, and then by ascending distance, so
 /// odd ones of wins and even ones of losses. The last win and the last loss are the longest. Parts of the classes are counted by as
 /// many threads as there are processors, and added up in their order.
-///
-/// # Errors
-///
-/// `Memory`.
 pub fn statistics(
     rt: &(impl Threads + Sync),
     alloc: Global,

@@ -53,10 +53,6 @@ pub(crate) struct BlockClasses {
 
 impl BlockClasses {
     /// Opens the classes of the block of that number, with `before` classes before it.
-    ///
-    /// # Errors
-    ///
-    /// `Memory`.
     pub(crate) fn open(
         alloc: Global,
         family: Family,

@@ -31,10 +31,6 @@ pub struct Classes {
 
 impl Classes {
     /// Opens the classes of a family.
-    ///
-    /// # Errors
-    ///
-    /// `Memory`.
     pub fn open(alloc: Global, family: Family) -> Result<Classes, Memory>
         ensures family { IfOk result (λ classes. classes.family ≡ family) }
     {

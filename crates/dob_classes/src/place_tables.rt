@@ -10,10 +10,6 @@ use dob_rank::radix;
 use std::alloc::Global;
 
 /// The places of each choice of the squares of all kinds, by its number.
-///
-/// # Errors
-///
-/// `Memory`.
 pub(crate) fn all_places(
     alloc: Global,
     on_board: &PerKind,

@@ -9,23 +9,23 @@ ghost use Rattle.dob_rank.specs.Runs.{runs_in, run_start};
 
 use dob_rank::runs::LIONS;
 
-/// How many numbers a block's row has: by its lions for each run of the first hand how many classes stand in the block before it, ..
+/// How many numbers a block's row has. The first 99 say for each run of the first hand how many classes stand before it in the block.
 pub const ROW_LEN: usize = 101;
 
-/// .. behind these how many in all of a hand's runs, ..
+/// The place in a row of how many classes stand in all of a hand's runs.
 pub const HAND_PLACE: usize = 99;
 
-/// .. and last how many before the block.
+/// The place in a row of how many classes stand before the block.
 pub const BEFORE_PLACE: usize = 100;
 
 /// What a block's row says of one of its runs.
 #[derive(Clone, Copy)]
 pub struct Row {
-    /// How many classes stand before the block, ..
+    /// How many classes stand before the block.
     pub before: u64,
-    /// .. in all runs of a hand, ..
+    /// How many classes stand in all runs of one hand.
     pub hand: u64,
-    /// .. and in a hand's runs before the one with the same lions as the run.
+    /// How many classes stand in a hand's runs before the one with the same lions as the run.
     pub run: u64,
 }
 

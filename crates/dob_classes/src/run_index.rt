@@ -18,10 +18,6 @@ pub(crate) struct RunIndex {
 
 impl RunIndex {
     /// The index of runs of `size` places, for the classes from one to before another.
-    ///
-    /// # Errors
-    ///
-    /// `Memory`.
     pub(crate) fn open(
         alloc: Global,
         runs: &Vec<Run>,

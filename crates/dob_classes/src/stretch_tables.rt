@@ -31,10 +31,6 @@ pub(crate) struct StretchTable {
 
 impl StretchTable {
     /// The stretches of a run whose lions both stand on column b.
-    ///
-    /// # Errors
-    ///
-    /// `Memory`.
     pub(crate) fn open(
         alloc: Global,
         family: Family,

@@ -51,10 +51,6 @@ pub fn crew(
 }
 
 /// A board and the runners of its nodes as above, of these sizes.
-///
-/// # Errors
-///
-/// `Memory`.
 pub fn crew_of(
     rt: &(impl Threads + Sync),
     alloc: Global,

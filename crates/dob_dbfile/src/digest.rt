@@ -27,10 +27,6 @@ impl FileHasher {
     ghost use Rattle.dob_dbfile.specs.Digests.{HasTaken};
 
     /// For the file of a table of the family, which has that many classes. It has taken no code.
-    ///
-    /// # Errors
-    ///
-    /// `Memory`.
     pub fn begin(alloc: Global, family: Family, count: u64) -> Result<FileHasher, Memory>
         ensures { IfOk result (λ begun. HasTaken begun family count []) }
     {
@@ -71,10 +67,6 @@ impl FileHasher {
 }
 
 /// The digest that ends the table's file.
-///
-/// # Errors
-///
-/// `Memory`.
 pub fn digest_of(alloc: Global, table: &Table) -> Result<[u8; 32], Memory>
     ensures { IfOk result (λ digest. digest ≡ digest_of table.now) }
 {

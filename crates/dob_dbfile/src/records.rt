@@ -16,7 +16,7 @@ pub(crate) const RECORD_LEN: usize = 2;
 /// How many bytes of records are read or written at a time.
 pub(crate) const PIECE_LEN: usize = 4096;
 
-/// How many records those are.
+/// How many records are read or written at a time.
 pub(crate) const PIECE_RECORDS: u64 = 2048;
 
 /// Room for the records that are read at a time.

@@ -36,7 +36,7 @@ pub fn position_named(text: &str) -> Result<Position, TextFault>
     read_position(Profile::A, text)
 }
 
-/// The same of a line of bytes.
+/// The position that a line of bytes names, by the rules of A.
 pub fn position_in_line(line: &[u8]) -> Result<Position, TextFault>
     ensures { MatchResult result (λ position. IsTextOf line.now position.setup) (HasTextFault A line.now) }
 {

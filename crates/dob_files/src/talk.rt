@@ -28,7 +28,7 @@ pub trait Answerer {
     // Whether a device that it reads has failed.
     ghost has_failed: { Self → Bool };
 
-    /// What is told of the line.
+    /// The lines that answer a line of standard input.
     ///
     /// # Errors
     ///

@@ -48,10 +48,6 @@ struct Parts {
 }
 
 /// The table of the values that the nodes' shares show, with the digest of its file. Threads gather its parts.
-///
-/// # Errors
-///
-/// `Memory`.
 pub fn gather(
     rt: &(impl Threads + Sync),
     alloc: Global,

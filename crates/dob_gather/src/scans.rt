@@ -16,10 +16,6 @@ use std::thread::Threads;
 
 /// The status and the number of moves of each class, in the order of the classes: the list that `opening` gives, made by as
 /// many threads as there are processors.
-///
-/// # Errors
-///
-/// `Memory`.
 pub fn scan(
     rt: &(impl Threads + Sync),
     alloc: Global,

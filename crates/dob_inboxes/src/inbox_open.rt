@@ -12,10 +12,6 @@ use std::alloc::Global;
 
 /// The outlets of `nodes` nodes, in rows, and their inlets: the outlet of node i for node j sends to the inbox from which
 /// the inlet of node j takes, as the sender i. Each inbox holds at most `capacity` batches.
-///
-/// # Errors
-///
-/// `Memory`.
 pub fn open_inboxes(
     alloc: Global,
     nodes: NodeCount,

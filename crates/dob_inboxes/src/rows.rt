@@ -6,10 +6,6 @@ use dob_pieces::Memory;
 use std::alloc::Global;
 
 /// `count` rows without things.
-///
-/// # Errors
-///
-/// `Memory`.
 pub fn empty_rows<T: Drop>(alloc: Global, count: usize) -> Result<Vec<Vec<T>>, Memory>
     ensures { IfOk result (λ rows. AreRows count 0 rows.items) }
 {

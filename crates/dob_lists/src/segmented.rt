@@ -74,10 +74,6 @@ impl<T> Segments<T> {
 
 impl<T: Copy> Segments<T> {
     /// A list of that many items, each the given one, in segments of that length, which are filled as a whole.
-    ///
-    /// # Errors
-    ///
-    /// `Memory`.
     pub fn filled(
         alloc: Global,
         segment_length: SegmentLength,

@@ -53,10 +53,6 @@ impl Node {
 
     /// The node of owner `id`, one of `nodes`, before its first step. Its history has a settlement for each own
     /// class that is caught, tried or stuck, in the order of the classes. Its lists have segments as long as those of the openings.
-    ///
-    /// # Errors
-    ///
-    /// `Memory`.
     pub fn open(
         alloc: Global,
         openings: &Segments<Opening>,
@@ -74,10 +70,6 @@ impl Node {
     }
 
     /// The node as above, which finds the openings of its own classes itself, those of no others. Its lists have the longest segments.
-    ///
-    /// # Errors
-    ///
-    /// `Memory`.
     pub fn open_own(
         alloc: Global,
         classes: &Classes,

@@ -19,10 +19,6 @@ pub struct Group {
 
 /// What is counted of each code among the classes from `first` on, before `end`, as a list in their order: nothing, or the group of its classes, whose
 /// first one is given by its place in that list. It takes some 32 bytes for each distance up to the greatest.
-///
-/// # Errors
-///
-/// `Memory`.
 pub fn slots_between(
     alloc: Global,
     table: &Table,
@@ -132,10 +128,6 @@ fn both_slots(slot: Option<Group>, more: Option<Group>, classes: u64) -> Option<
 
 /// The groups of the slots that have one: the draws first, if there are any, and then by ascending distance, so odd ones of wins and even ones
 /// of losses. The last win and the last loss are the longest.
-///
-/// # Errors
-///
-/// `Memory`.
 pub fn groups_of(alloc: Global, slots: &[Option<Group>]) -> Result<Vec<Group>, Memory>
     ensures { IfOk result (λ groups. (values : List Valued) → All IsEntry values → AreSlots values slots.now → AreGroups values groups.items) }
 {

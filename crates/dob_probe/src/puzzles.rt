@@ -29,10 +29,6 @@ pub struct Puzzle {
 /// move leads to a position lost in one ply less, each with that move, in the walk's order. If a seed makes the order, no two of them are of
 /// one block with the lions on the same squares: the first of such classes is listed. The classes are looked at up to the last one listed, and
 /// all of the walk if there are fewer.
-///
-/// # Errors
-///
-/// `Memory`.
 pub fn first_puzzles(
     alloc: Global,
     table: &Table,

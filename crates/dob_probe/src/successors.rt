@@ -28,7 +28,7 @@ pub(crate) struct Successors {
 }
 
 impl Successors {
-    // Of no values.
+    // The sum of no values, where a position has no move.
     fn none() -> Successors
         ensures { AreSummed [] result }
     {
@@ -39,7 +39,7 @@ impl Successors {
         }
     }
 
-    // Of one value more.
+    // The sum with the value of one more successor.
     fn with(self, value: Value) -> Successors
         ensures { (values : List Valued) → AreSummed values self → AreSummed (values ++ value ∷ []) result }
     {

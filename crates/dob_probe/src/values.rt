@@ -1,4 +1,4 @@
-// What says the values of a family's positions: a table, the records of a file, bytes in memory. Moves and lines are found by what it says.
+// Where the values of a family's positions come from: a table, the records of a file, or bytes in memory.
 ghost use Rattle.std.specs.Prelude.{◌≡◌, ◌||◌, Bool, false, IfErr, IfOk};
 ghost use Rattle.dob_pieces.specs.declared.profile.Family.{Family};
 ghost use Rattle.dob_pieces.specs.declared.setup.Setup.{Setup};
@@ -13,7 +13,7 @@ use crate::fault::Fault;
 use dob_pieces::Position;
 use dob_value::{Table, Value};
 
-/// What says the values of a family's positions, by a source that it reads.
+/// A source of the values of a family's positions, which reads what it is given: nothing, a file or bytes.
 pub trait Values<S> {
     /// Why it says no value.
     type Fault: Copy;

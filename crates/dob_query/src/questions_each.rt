@@ -101,7 +101,7 @@ fn tell_by_records<S: Shelf, O: Sink>(
     told
 }
 
-// The same by a source that is new, which is given back.
+// Answers each line by the records of a source that was just opened, and gives the source back.
 fn told_by<S: Shelf, O: Sink>(
     alloc: Global,
     shelf: &mut S,

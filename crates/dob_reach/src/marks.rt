@@ -13,10 +13,6 @@ pub(crate) struct Marks {
 
 impl Marks {
     /// None of `count` numbers.
-    ///
-    /// # Errors
-    ///
-    /// `Memory`.
     pub(crate) fn none(alloc: Global, count: u64) -> Result<Marks, Memory>
         requires { count < 2 ^ 32 }
         ensures room { IfOk result (λ marks. HasBits marks.words.items count) }

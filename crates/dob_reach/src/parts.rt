@@ -36,10 +36,6 @@ pub(crate) fn part_count(front: &[u32]) -> usize
 
 /// What is found of the parts from the first place on, before the end, in their order. They are looked at by as many threads as
 /// there are processors.
-///
-/// # Errors
-///
-/// `Memory`.
 pub(crate) fn parts_between(
     rt: &(impl Threads + Sync),
     alloc: Global,

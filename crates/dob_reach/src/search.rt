@@ -46,10 +46,6 @@ pub trait Watch {
 /// Which classes can be reached from that of the position, a class at a time: each class of the family has one bit, and a round goes
 /// over the classes of one distance, whose moves as many threads as there are processors look at and one thread marks. It reports
 /// to the watch how many classes each distance has.
-///
-/// # Errors
-///
-/// `Memory`.
 pub fn reach<R: Threads + Sync, W: Watch>(
     rt: &R,
     alloc: Global,

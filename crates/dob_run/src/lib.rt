@@ -4,8 +4,6 @@
 //
 // The files: `crew_turns` opens a crew and lets it make its turns; `build*` is a whole build; `laws` says that a crew at its end holds the value table.
 //
-// What all runners know of the halt is read before the crew is closed, which takes memory: a failure is told where none is left.
-//
 // Choices:
 // - `finish` looks for a failure before it takes memory: what each runner knows of the halt names the node, so `Memory` comes only if no node has failed
 //   (`AreFailureless`).

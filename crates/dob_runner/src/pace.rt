@@ -20,10 +20,6 @@ impl Pace {
     ghost use Rattle.dob_runner.specs.Paces.{IsLimitOf, member_of};
 
     /// That of the first of `nodes` nodes, each on the first level.
-    ///
-    /// # Errors
-    ///
-    /// `Memory`.
     pub fn open(alloc: Global, nodes: usize) -> Result<Pace, Memory>
         ensures { IfOk result (λ pace. member_of pace ≡ (0, nodes)) }
     {
@@ -41,10 +37,6 @@ impl Pace {
     }
 
     /// That of a node of the same crew, of `nodes` nodes as it was opened for.
-    ///
-    /// # Errors
-    ///
-    /// `Memory`.
     pub fn of(&self, alloc: Global, node: usize, nodes: usize) -> Result<Pace, Memory>
         ensures { IfOk result (λ pace. member_of pace ≡ (node, nodes)) }
     {

@@ -87,7 +87,7 @@ impl Runner {
     }
 
     // Cuts a batch for the node `to`, another one, if none lies in the slot for it and a whole one is left to send, or anything
-    // where small ones are asked for; counts it on the board and puts it into the slot. Whether it did.
+    // where small ones are asked for; counts it on the board and puts it into the slot. It says whether it did.
     fn cut_for(&mut self, to: usize, small: bool) -> Result<bool, Cause>
         requires unfailed { self.old.failed ≡ None }
         requires node { to < self.old.endpoint.seat.nodes }

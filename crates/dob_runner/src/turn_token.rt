@@ -16,7 +16,7 @@ impl Runner {
         self.endpoint.has_empty_slots()
     }
 
-    // Moves the token if it is idle and its node has it. Whether it has.
+    // Moves the token where the runner is idle and its node has it, and says whether it did.
     pub(crate) fn seek_token(&mut self) -> bool
         requires { self.old.failed ≡ None }
         ensures goes { GoesRound self.old self.new }

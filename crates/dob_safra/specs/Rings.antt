@@ -47,9 +47,9 @@ AllWhite n ring = (i : ℕ) → i < n → ring.black i ≡ false
 abbrev pub AllTaken : ℕ → Ring → Type 0
 AllTaken n ring = (i j : ℕ) → i < n → j < n → ring.posted i j ≡ ring.taken i j
 
--- Why an end isn't announced too early, where the ring has that token, at t: the nodes above t are white and their
--- counters add up to the sum; or the counters of 0 to t and the sum are positive together; or one of 0 to t is black;
--- or the token is.
+-- Why an end isn't announced too early, where the ring has that token, at t (P1 to P4 of EWD998): the nodes above t are
+-- white and their counters add up to the sum (P1); or the counters of 0 to t and the sum are positive together (P2); or one
+-- of 0 to t is black (P3); or the token is (P4).
 pub data Reason (n : ℕ) (ring : Ring) (token : Token) : Type 0 where
   counted : ((i : ℕ) → token.at < i → i < n → ring.black i ≡ false) → token.sum ≡ counters_from n ring (suc token.at) → Reason n ring token
   positive : pos 0 <ℤ (counters_below n ring (suc token.at) +ℤ token.sum) → Reason n ring token

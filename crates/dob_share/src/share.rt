@@ -136,10 +136,6 @@ impl Share {
     }
 
     /// The statuses of its classes, which it goes on to hold too.
-    ///
-    /// # Errors
-    ///
-    /// `Memory`.
     pub fn statuses(&self) -> Result<Statuses, Memory>
         ensures { IfOk result (λ statuses. statuses ≡ self.now.statuses) }
     {

@@ -45,10 +45,6 @@ impl Model for Statuses {
 
 impl Statuses {
     /// Those that are listed of the classes of owner `id` among `nodes`.
-    ///
-    /// # Errors
-    ///
-    /// `Memory`.
     pub(crate) fn open(
         alloc: Global,
         openings: &Segments<Opening>,
@@ -67,11 +63,7 @@ impl Statuses {
         Ok(Statuses { places, words })
     }
 
-    /// The same statuses, for one more who holds them.
-    ///
-    /// # Errors
-    ///
-    /// `Memory`.
+    /// A second handle to these statuses, which takes no further memory for them.
     pub(crate) fn share(&self) -> Result<Statuses, Memory>
         ensures { IfOk result (λ statuses. statuses ≡ self.now) }
     {

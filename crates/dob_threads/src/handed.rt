@@ -1,5 +1,4 @@
-// What a thread is handed: a runner, over a ring for one, which the thread was started with. So a runner for which no thread can be
-// made never left its place.
+// What a thread is handed: a runner, over a ring for one, which the thread was started with.
 ghost use Rattle.std.specs.Prelude.{◌≡◌, ◌∷◌, ◌++◌, []};
 ghost use Rattle.rtrb.specs.Ring.{received, SameConsumer};
 ghost use Rattle.dob_runner.specs.TurnLoop.{Suits};

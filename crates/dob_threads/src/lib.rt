@@ -1,8 +1,5 @@
 // A thread for each of several runners, in which it makes its turns.
 //
-// A thread is started first and then handed its runner over a ring for one, so a runner for which no thread can be made never left its
-// place.
-//
 // The files: `threads` starts the threads and waits for them; `handed` is what goes over the ring.
 //
 // Choices:

@@ -137,10 +137,6 @@ impl Batch {
     }
 
     /// The items, in order.
-    ///
-    /// # Errors
-    ///
-    /// `Memory`.
     pub fn items(&self, alloc: Global) -> Result<Vec<Item>, Memory>
         ensures { IfOk result (λ list. list.items ≡ self.now.items) }
     {

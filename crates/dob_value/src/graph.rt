@@ -61,10 +61,6 @@ fn push_successors(
 }
 
 /// The graph of the classes.
-///
-/// # Errors
-///
-/// `Memory`.
 pub(crate) fn graph_of(alloc: Global, classes: &Classes) -> Result<Graph, Memory>
     ensures family { IfOk result (λ graph. graph.family ≡ classes.now.family) }
     ensures graph { IfOk result (λ graph. IsGraph graph) }

@@ -41,10 +41,6 @@ impl Table {
 
     /// The table of those classes with the value that is given for each, which is asked for once, in the order of their
     /// numbers.
-    ///
-    /// # Errors
-    ///
-    /// `Memory`.
     pub fn from_fn<F: Fn(u64) -> Value>(
         alloc: Global,
         classes: Classes,

@@ -63,7 +63,7 @@ pub fn read_words<'a>(alloc: Global, words: &'a [&'a str]) -> Result<Reading<'a>
     read_meant(alloc, words)
 }
 
-// The same, by what the words mean.
+// Reads the words, as their meaning says.
 fn read_meant<'a>(alloc: Global, words: &'a [&'a str]) -> Result<Reading<'a>, AllocError>
     ensures { IfOk result (IsReadingOf (meaning_of (map (λ w. w.now) words.now))) }
 {
@@ -188,21 +188,21 @@ fn first_rows<'a>() -> &'a [SubcommandRow]
     FIRST_ROWS
 }
 
-// The six behind them.
+// The seventh to the twelfth subcommand.
 fn middle_rows<'a>() -> &'a [SubcommandRow]
     ensures { map row_said result.now ≡ take 6 (drop 6 rows) }
 {
     MIDDLE_ROWS
 }
 
-// The three behind those.
+// The thirteenth to the fifteenth subcommand.
 fn later_rows<'a>() -> &'a [SubcommandRow]
     ensures { map row_said result.now ≡ take 3 (drop 12 rows) }
 {
     LATER_ROWS
 }
 
-// The others.
+// The subcommands from the sixteenth on.
 fn last_rows<'a>() -> &'a [SubcommandRow]
     ensures { map row_said result.now ≡ drop 15 rows }
 {

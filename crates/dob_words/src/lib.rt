@@ -1,5 +1,4 @@
-// The words of the command line: what they ask for, and how `clap` reads them. Zugzwangs are a subcommand, and no flag of `stats`: so no two flags exclude each
-// other, and each contract says what one thing prints.
+// The words of the command line: what they ask for, and how `clap` reads them.
 //
 // Choices:
 // - A flag is an option without a text to `clap` (`num_args(0)`), not a `SetTrue`, so what words give is one list.

@@ -103,7 +103,7 @@ pub const FIRST_ROWS: &[SubcommandRow] = &[
     ),
 ];
 
-/// The six behind them.
+/// The seventh to the twelfth subcommand.
 pub const MIDDLE_ROWS: &[SubcommandRow] = &[
     (
         "check",
@@ -180,7 +180,7 @@ pub const MIDDLE_ROWS: &[SubcommandRow] = &[
     ),
 ];
 
-/// The three behind those.
+/// The thirteenth to the fifteenth subcommand.
 pub const LATER_ROWS: &[SubcommandRow] = &[
     (
         "zugzwangs",
@@ -271,7 +271,7 @@ pub const LATER_ROWS: &[SubcommandRow] = &[
     ),
 ];
 
-/// The others.
+/// The subcommands from the sixteenth on.
 pub const LAST_ROWS: &[SubcommandRow] = &[
     (
         "certify",

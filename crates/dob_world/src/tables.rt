@@ -17,10 +17,6 @@ use dob_value::{Table, Value};
 impl World {
     /// The present values of all classes. Where nothing is left to do, and so where the end is announced, it is the value
     /// table.
-    ///
-    /// # Errors
-    ///
-    /// `Memory`.
     pub fn gather(&self) -> Result<Table, Memory>
         requires standing { IsStanding self.now }
         ensures family { IfOk result (λ table. table.family ≡ self.now.classes.family) }

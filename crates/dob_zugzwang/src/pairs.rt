@@ -27,10 +27,6 @@ pub struct Zugzwang {
 
 /// All such pairs by the table, each once, by ascending class number. The classes are looked at by themselves, in as many threads as
 /// there are processors.
-///
-/// # Errors
-///
-/// `Memory`.
 pub fn zugzwangs(
     rt: &(impl Threads + Sync),
     alloc: Global,
