@@ -22,7 +22,7 @@ returns-in-Err-Unsupported-clause-refused c = λ other.
     let is : c.verify_file.result ≡ Err (refusal.Unsupported c.in-Err-Unsupported.broken) = search rules in
     by_entry c.args.file.now (content c.in-Ok.certificate) c.verify_file.result c.in-Err-Unsupported.broken c.in-Ok.ensures.found.1 is c.verify_file.ensures.refusal
 
-pub returns-in-Err-Claim-clause-refused : goal.returns-in-Err-Claim-clause-refused
-returns-in-Err-Claim-clause-refused c = λ other.
+pub returns-clause-refused : goal.returns-clause-refused
+returns-clause-refused c = λ other.
     let is : c.verify_file.result ≡ Err refusal.Claim = search rules in
     by_claim c.args.file.now (content c.in-Ok.certificate) c.verify_file.result c.args.class.now c.in-Ok.ensures.found.1 is c.verify_file.ensures.refusal
