@@ -2,7 +2,7 @@
 // files are the system's, with a list of the calls on them; one fails if that is asked for.
 use crate::shelves::{has, put, removes};
 use crate::typed::silent;
-use dob_cli::{Claim, DiskShelf, Note};
+use dob_cli::{Claim, DiskShelf, LastError};
 use std::alloc::{Allocator, Global};
 use std::cell::RefCell;
 use std::fs::{self, Metadata, OpenFile, OpenOptions, Permissions};
@@ -264,7 +264,7 @@ where
 {
     let log = Log::new(rt.alloc(), failing);
     let files = Listed { rt, log: &log };
-    let note = Note::new();
+    let note = LastError::new();
     let mut shelf = DiskShelf::new(&files, rt.alloc(), silent(), &note);
     let kept = put(&mut shelf, name, bytes);
     assert!(rt; log.says(calls));
@@ -276,7 +276,7 @@ fn stands<R: Files + AllocGlobal>(rt: &R, name: &str, bytes: &[u8]) -> bool
 where
     R::File: Claim,
 {
-    let note = Note::new();
+    let note = LastError::new();
     let mut shelf = DiskShelf::new(rt, rt.alloc(), silent(), &note);
     has(&mut shelf, name, bytes)
 }

@@ -3,7 +3,7 @@ use crate::lions;
 use crate::program::{Told, run_on};
 use crate::shelves::{put, removes};
 use crate::typed::Typed;
-use dob_cli::{Claim, Console, DiskShelf, Note};
+use dob_cli::{Claim, Console, DiskShelf, LastError};
 use std::process::Abort;
 use std::rt::Files;
 use std::sync::Wait;
@@ -20,7 +20,7 @@ fn told_of_pieces<R: Abort + AllocGlobal + Files + Threads + Wait + Sync + Conso
 where
     R::File: Claim,
 {
-    let note = Note::new();
+    let note = LastError::new();
     let typed = Typed { left, longest };
     let mut shelf = DiskShelf::new(rt, rt.alloc(), typed, &note);
     assert!(rt; put(&mut shelf, FILE, lions::FILE));
