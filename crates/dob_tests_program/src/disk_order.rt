@@ -153,9 +153,23 @@ impl<'a, R: Files> Files for Listed<'a, R> {
         })
     }
 
+    fn open_dir(&self, path: &str) -> io::Result<R::Dir> {
+        self.rt.open_dir(path)
+    }
+
+    fn metadata(&self, path: &str) -> io::Result<Metadata> {
+        self.log.note("look behind", called(path))?;
+        self.rt.metadata(path)
+    }
+
     fn symlink_metadata(&self, path: &str) -> io::Result<Metadata> {
         self.log.note("look at", called(path))?;
         self.rt.symlink_metadata(path)
+    }
+
+    fn copy(&self, from: &str, to: &str) -> io::Result<u64> {
+        self.log.note("copy", called(from))?;
+        self.rt.copy(from, to)
     }
 
     fn rename(&self, from: &str, to: &str) -> io::Result<()> {
@@ -168,35 +182,22 @@ impl<'a, R: Files> Files for Listed<'a, R> {
         self.rt.remove_file(path)
     }
 
-    // No file comes onto a disk by these.
-    fn open_dir(&self, _path: &str) -> io::Result<R::Dir> {
-        Err(ErrorKind::Unsupported.into())
+    fn create_dir(&self, path: &str) -> io::Result<()> {
+        self.rt.create_dir(path)
     }
 
-    fn metadata(&self, _path: &str) -> io::Result<Metadata> {
-        Err(ErrorKind::Unsupported.into())
+    fn remove_dir(&self, path: &str) -> io::Result<()> {
+        self.rt.remove_dir(path)
     }
 
-    fn copy(&self, _from: &str, _to: &str) -> io::Result<u64> {
-        Err(ErrorKind::Unsupported.into())
-    }
-
-    fn create_dir(&self, _path: &str) -> io::Result<()> {
-        Err(ErrorKind::Unsupported.into())
-    }
-
-    fn remove_dir(&self, _path: &str) -> io::Result<()> {
-        Err(ErrorKind::Unsupported.into())
-    }
-
-    fn remove_dir_all<B: Allocator>(&self, _alloc: B, _path: &str) -> io::Result<()> {
-        Err(ErrorKind::Unsupported.into())
+    fn remove_dir_all<B: Allocator>(&self, alloc: B, path: &str) -> io::Result<()> {
+        self.rt.remove_dir_all(alloc, path)
     }
 }
 
 impl<F: Read> Read for ListedFile<'_, F> {
-    fn read(&mut self, _room: &mut [u8]) -> io::Result<usize> {
-        Err(ErrorKind::Unsupported.into())
+    fn read(&mut self, room: &mut [u8]) -> io::Result<usize> {
+        self.file.read(room)
     }
 }
 
@@ -213,8 +214,8 @@ impl<F: Write> Write for ListedFile<'_, F> {
 }
 
 impl<F: Seek> Seek for ListedFile<'_, F> {
-    fn seek(&mut self, _to: SeekFrom) -> io::Result<u64> {
-        Err(ErrorKind::Unsupported.into())
+    fn seek(&mut self, to: SeekFrom) -> io::Result<u64> {
+        self.file.seek(to)
     }
 }
 
@@ -234,13 +235,13 @@ impl<F: OpenFile> OpenFile for ListedFile<'_, F> {
         self.file.sync_all()
     }
 
-    // Nor by these.
-    fn set_permissions(&self, _permissions: Permissions) -> io::Result<()> {
-        Err(ErrorKind::Unsupported.into())
+    fn set_permissions(&self, permissions: Permissions) -> io::Result<()> {
+        self.file.set_permissions(permissions)
     }
 
     fn sync_data(&self) -> io::Result<()> {
-        Err(ErrorKind::Unsupported.into())
+        self.log.note("sync the bytes of", self.path)?;
+        self.file.sync_data()
     }
 }
 
