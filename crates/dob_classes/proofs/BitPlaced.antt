@@ -1,13 +1,13 @@
 -- Sets of squares with a piece more, as either side sees them.
-use Rattle.dob_classes.proofs.Common.{◌%◌, ◌*◌, ◌-◌, ◌/◌, ◌<◌, ◌^◌, ◌∙◌, ◌∷◌, ◌≡◌, ◌≢◌, Bool, List, None, [], ap, arith, bit_or, cond, false, length, refl}
+use Rattle.dob_classes.proofs.Common.{◌%◌, ◌-◌, ◌/◌, ◌<◌, ◌∙◌, ◌∷◌, ◌≡◌, ◌≢◌, List, None, [], ap, arith, false, length, refl}
 use Rattle.dob_classes.proofs.Common.{replicate, rules, set, slice_index_or, suc, true, zero, ℕ, get_or-set_other, length-set, at-turned, one_if, Cell, at}
 use Rattle.dob_classes.proofs.Common.{setup_of, turned_cell, turned, Hands, Side, Enemy, Mover, Setup, base_of, cell_of, enemy_squares, order, own_squares, put}
 use Rattle.dob_classes.proofs.Common.{Chicks, Elephants, Empty, Giraffes, IsBoardOf, is_chick, is_elephant, is_enemy, is_enemy_lion, is_giraffe, is_hen}
 use Rattle.dob_classes.proofs.Common.{is_own_lion, IsWith, seen_by, seen_hands, seen_owner, seen_square, Board}
-use Rattle.std.specs.Int.Bits.{or_zero_r}
 use Rattle.dob_rank.specs.Placing.{past, AreFree}
 use Rattle.dob_rank.proofs.Boards.EmptySquares.{past-upto}
-use Rattle.dob_pieces.proofs.BoardChanges.{all_grown, bit, nothing_added, with_one}
+use Rattle.dob_pieces.specs.Masks.{IsMarked, with_square}
+use Rattle.dob_pieces.proofs.BoardChanges.{all_grown, nothing_added, with_one}
 
 -- ---- what a side sees of a change
 
@@ -43,35 +43,24 @@ abbrev pub HasFlags : Cell → ℕ → ℕ → ℕ → ℕ → ℕ → ℕ → �
 HasFlags cell own_lion enemy_lion chick elephant giraffe hen enemy =
     (own_lion ∷ enemy_lion ∷ chick ∷ elephant ∷ giraffe ∷ hen ∷ enemy ∷ []) ≡ flags_of cell
 
--- a set to which the bit comes, or nothing
-abbrev pub marked : ℕ → ℕ → ℕ → ℕ
-marked zero p mask = mask
-marked (suc n) p mask = bit_or mask (suc n * 2 ^ p % 2 ^ 16)
+pub unmarked : (set place : ℕ) → IsMarked 0 place set set
+unmarked set place true e = absurd (omega (arith, e))
+unmarked set place false e = refl
 
-pub mark_is : (mask mark given flag p : ℕ) → mark ≡ given * 2 ^ p % 2 ^ 16 → given ≡ flag → bit_or mask mark ≡ marked flag p mask
-mark_is mask mark given zero p e f = (let none : mark ≡ 0 = e ∙ ap (λ (n : ℕ). n * 2 ^ p % 2 ^ 16) f ∙ no_bits p in ap (bit_or mask) none ∙ or_zero_r mask)
-  where
-    no_bits : (p : ℕ) → 0 * 2 ^ p % 2 ^ 16 ≡ 0
-    no_bits p = omega arith
-mark_is mask mark given (suc n) p e f = ap (bit_or mask) (e ∙ ap (λ (n : ℕ). n * 2 ^ p % 2 ^ 16) f)
-
-by_flag : (mask flag new p : ℕ) (is : Bool) → flag ≡ one_if is → new ≡ marked flag p mask → new ≡ cond is (bit_or mask (bit p)) mask
-by_flag mask flag new p true f e = e ∙ ap (λ (n : ℕ). marked n p mask) f
-by_flag mask flag new p false f e = e ∙ ap (λ (n : ℕ). marked n p mask) f
+pub marked_on : (set place new : ℕ) → new ≡ with_square set place → IsMarked 1 place set new
+marked_on set place new is true e = is
+marked_on set place new is false e = absurd (omega (arith, e))
 
 pub piece_marked : (side : Side) (before after : Setup) (square : ℕ) (cell : Cell) → square < 12 → IsWith before after square cell
-    → at before square ≡ None → (b new : Board) (o e c l g h x : ℕ) → IsBoardOf (seen_by side before) b → HasFlags (seen_cell side cell) o e c l g h x
-    → let p = seen_square side square in
-    new.own_lion ≡ marked o p b.own_lion → new.enemy_lion ≡ marked e p b.enemy_lion → new.chicks ≡ marked c p b.chicks
-    → new.elephants ≡ marked l p b.elephants → new.giraffes ≡ marked g p b.giraffes → new.hens ≡ marked h p b.hens → new.enemies ≡ marked x p b.enemies
-    → new.hands ≡ b.hands → IsBoardOf (seen_by side after) new
-piece_marked side before after square cell lt w empty b new o e c l g h x are flags is_o is_e is_c is_l is_g is_h is_x is_hands =
-    all_grown (seen_by side before) (seen_by side after) (seen_square side square) (seen_cell side cell) (seen_below side square lt)
-    (seen_with side before after square cell lt w) (seen_empty side before square lt empty) b new are
-    (by_flag b.own_lion o new.own_lion _ _ (flag 0) is_o) (by_flag b.enemy_lion e new.enemy_lion _ _ (flag 1) is_e)
-    (by_flag b.chicks c new.chicks _ _ (flag 2) is_c) (by_flag b.elephants l new.elephants _ _ (flag 3) is_l)
-    (by_flag b.giraffes g new.giraffes _ _ (flag 4) is_g) (by_flag b.hens h new.hens _ _ (flag 5) is_h)
-    (by_flag b.enemies x new.enemies _ _ (flag 6) is_x) is_hands
+    → at before square ≡ None → (place : ℕ) → place ≡ seen_square side square → (b new : Board) (o e c l g h x : ℕ) → IsBoardOf (seen_by side before) b
+    → HasFlags (seen_cell side cell) o e c l g h x
+    → IsMarked o place b.own_lion new.own_lion → IsMarked e place b.enemy_lion new.enemy_lion → IsMarked c place b.chicks new.chicks
+    → IsMarked l place b.elephants new.elephants → IsMarked g place b.giraffes new.giraffes → IsMarked h place b.hens new.hens
+    → IsMarked x place b.enemies new.enemies → new.hands ≡ b.hands → IsBoardOf (seen_by side after) new
+piece_marked side before after square cell lt w empty place same b new o e c l g h x are flags is_o is_e is_c is_l is_g is_h is_x is_hands =
+    all_grown (seen_by side before) (seen_by side after) place (seen_cell side cell) (rw same (seen_below side square lt))
+    (rw same (seen_with side before after square cell lt w)) (rw same (seen_empty side before square lt empty)) b new are
+    (is_o _ (flag 0)) (is_e _ (flag 1)) (is_c _ (flag 2)) (is_l _ (flag 3)) (is_g _ (flag 4)) (is_h _ (flag 5)) (is_x _ (flag 6)) is_hands
   where
     flag : (k : ℕ) → slice_index_or (o ∷ e ∷ c ∷ l ∷ g ∷ h ∷ x ∷ []) k 0 ≡ slice_index_or (flags_of (seen_cell side cell)) k 0
     flag k = ap (λ (xs : List ℕ). slice_index_or xs k 0) flags

@@ -7,7 +7,7 @@ use Rattle.dob_lawful.proofs.Common.{known, last_now, le-ltb, length, length-app
 use Rattle.dob_lawful.proofs.Common.{owner_of, predecessors, refl, suc, sym, times-predecessors, zero, ℕ}
 use Rattle.std.proofs.lemmas.List.Sums.{sum_by-cons}
 use Rattle.dob_pieces.specs.Setups.{turned}
-use Rattle.dob_pieces.proofs.MaskWalks.{length-each}
+use Rattle.dob_pieces.proofs.Lists.{length-each}
 use Rattle.dob_moves.specs.Outcomes.{moved}
 use Rattle.dob_moves.proofs.ProfileMoves.{Goes-moved}
 use Rattle.dob_rank.specs.Numbers.{sum_below}

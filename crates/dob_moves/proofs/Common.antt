@@ -3,7 +3,7 @@ pub use Rattle.std.proofs.Common.{if◌then◌else◌, ◌&&◌, ◌*◌, ◌++�
 pub use Rattle.std.proofs.Common.{MatchOption, None, Option, Some, [], ap, append_assoc, arith, bit_and, cond, count_ones, eqb, false}
 pub use Rattle.std.proofs.Common.{get_or, inl, inr, length, nat_lt, not, option_to_list, refl, rules, set, slice_index_or, subst, suc, sym, true}
 pub use Rattle.std.proofs.Common.{true≢false, zero, ℕ, ⊎_elim}
-pub use Rattle.std.proofs.lemmas.Bool.{and_parts, cases_eq, cases_lt, eqb-false, lt-ltb, ltb-true, not-true}
+pub use Rattle.std.proofs.lemmas.Bool.{and_parts, cases_eq, cases_lt, eqb-false, false_from_ne_true, lt-ltb, ltb-true, not-true, not_from_false}
 pub use Rattle.std.proofs.lemmas.List.{append-nil, get_or-set_other, get_or-set_same, get_or_past, length-append, length-set}
 pub use Rattle.std.proofs.lemmas.List.Elements.{Contains-append_cases, Contains-append_left, Contains-append_right, filter-append, filter_map-append}
 pub use Rattle.std.specs.List.{cons_option, count_by, filter, filter_map}
@@ -14,12 +14,14 @@ pub use Rattle.dob_pieces.proofs.Boards.{board_by-from_cells, count-moved, count
 pub use Rattle.dob_pieces.proofs.Boards.{one_lion, total-turned, within-from_piece}
 pub use Rattle.dob_pieces.proofs.Lists.{Rising, cond_sound, cond_whole, cons_cases, each_sound, each_whole, head_in, none_in_empty, rising-after, rising-append}
 pub use Rattle.dob_pieces.proofs.Lists.{rising-cond, rising-each, rising-lower, rising-pairs}
-pub use Rattle.dob_pieces.proofs.MaskBits.{IsLowest, IsMask-and, lowest_is, next_left, none_passes, without}
-pub use Rattle.dob_pieces.proofs.MaskWalks.{IsCounted, IsCounting, IsQuiet, IsWalked, counted_ones, walk_end, walk_less, walk_next, walk_next_at, walk_start}
+pub use Rattle.dob_pieces.proofs.MaskBits.{IsLowest, lowest_is, none_passes, passes_somewhere}
+pub use Rattle.dob_pieces.proofs.MaskWalks.{IsCounting, IsQuiet, IsWalked, counted_items, walk_end, walk_few, walk_most, walk_next, walk_passes, walk_room}
+pub use Rattle.dob_pieces.proofs.MaskWalks.{walk_room_one, walk_start}
 pub use Rattle.dob_pieces.specs.Lists.{each_below, one_if}
 pub use Rattle.dob_pieces.specs.Boards.{IsBoardOf, is_enemy}
-pub use Rattle.dob_pieces.specs.Masks.{AreSquares, IsMask, attacks, is_empty, is_end, is_own, own_kind}
+pub use Rattle.dob_pieces.specs.Masks.{AreSquares, IsFirst, IsMask, attacks, is_empty, is_end, is_own, own_kind}
 pub use Rattle.dob_pieces.specs.Pieces.{kind_in_hand, kind_on_board, other_side}
+unfoldable pub use Rattle.dob_pieces.specs.Masks.{squares_in}
 unfoldable pub use Rattle.dob_pieces.specs.Pieces.{leads}
 pub use Rattle.dob_pieces.specs.Profiles.{IsAllowed, is_far, may_stand}
 pub use Rattle.dob_pieces.specs.Setups.{Cell, HasFewPieces, HasLionOffFarRow, HasLions, IsLegal, at, board_by, held, holds_kind, holds_lion, piece_of, turned}

@@ -5,7 +5,7 @@ use Rattle.dob_moves.proofs.Common.{all_steps, drops_of, put_if, steps_by, steps
 use Rattle.dob_moves.proofs.Common.{rules, append_assoc, holds_lion, total, HandKind, Kind, Lion, Mover, Enemy, Profile, Setup, Elsewhere, Move}
 use Rattle.dob_moves.proofs.Listed.{drops_all, drops_none, puts_on}
 use Rattle.dob_moves.specs.MoveLists.{can_catch, has_tried, moves_of}
-use Rattle.dob_pieces.proofs.MaskWalks.{length-each}
+use Rattle.dob_pieces.proofs.Lists.{length-each}
 use Rattle.dob_pieces.specs.Lists.{sum_below}
 use Rattle.dob_pieces.specs.Pieces.{steps_of}
 use Rattle.dob_pieces.specs.declared.kind.HandKind.TheVariants as hand

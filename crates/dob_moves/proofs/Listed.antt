@@ -1,6 +1,6 @@
--- The steps and drops that masks give are those of the walk over all squares.
-use Rattle.dob_moves.proofs.Common.{◌&&◌, ◌<◌, ◌∙◌, ◌∷◌, ◌≡◌, Bool, List, None, Some, [], ap, bit_and, cond, false, length, nat_lt, option_to_list, refl, true}
-use Rattle.dob_moves.proofs.Common.{ℕ, lt-ltb, is_some, IsMask-and, one_if, IsCounting, IsQuiet, each_below, IsMask, is_empty, is_end, is_enemy, is_own, own_kind, leads}
+-- The steps and drops that sets of squares give are those of the walk over all squares.
+use Rattle.dob_moves.proofs.Common.{◌&&◌, ◌<◌, ◌∙◌, ◌∷◌, ◌≡◌, Bool, List, None, Some, [], ap, cond, false, length, nat_lt, option_to_list, refl, true}
+use Rattle.dob_moves.proofs.Common.{ℕ, lt-ltb, is_some, one_if, IsCounting, IsQuiet, each_below, is_empty, is_end, is_enemy, is_own, own_kind, leads}
 use Rattle.dob_moves.proofs.Common.{Cell, at, held, piece_of, HandKind, Kind, Mover, Profile, Setup, grows_at, may_put, drops_of, put_if, put_on, steps_by, steps_from, steps_if}
 use Rattle.dob_moves.proofs.Common.{Elsewhere, Move, Put, Step}
 use Rattle.dob_moves.proofs.Masked.{end_is}
@@ -46,10 +46,6 @@ length_if false move = refl
 
 pub steps_counting : (p : Setup) (kind : Kind) (from : ℕ) → IsCounting (may_step p kind from) (steps_to p kind from)
 steps_counting p kind from to = ap length (steps_to-is p kind from to) ∙ length_if (may_step p kind from to) (the_step p kind from to)
-
-pub may_step_mask : (p : Setup) (kind : Kind) (from targets ends : ℕ) → IsMask (leads kind from) targets → IsMask (λ square. is_end (at p square)) ends
-    → IsMask (may_step p kind from) (bit_and targets ends)
-may_step_mask p kind from targets ends are may = IsMask-and (leads kind from) (λ square. is_end (at p square)) targets ends are may
 
 -- ---- the steps from a square
 
@@ -97,10 +93,6 @@ put_there profile p kind to is = puts_on-is profile p kind to ∙ ap (λ (b : Bo
 
 pub puts_counting : (profile : Profile) (p : Setup) (kind : HandKind) → IsCounting (can_put profile p kind) (puts_on profile p kind)
 puts_counting profile p kind to = ap length (puts_on-is profile p kind to) ∙ length_if (can_put profile p kind to) (Put kind to)
-
-pub can_put_mask : (profile : Profile) (p : Setup) (kind : HandKind) (empty squares : ℕ) → IsMask (λ square. is_empty (at p square)) empty
-    → IsMask (may_put profile kind) squares → IsMask (can_put profile p kind) (bit_and empty squares)
-can_put_mask profile p kind empty squares are may = IsMask-and (λ square. is_empty (at p square)) (may_put profile kind) empty squares are may
 
 pub drops_none : (profile : Profile) (p : Setup) (kind : HandKind) → held p.hands.mover kind ≡ 0 → drops_of profile p kind ≡ []
 unfolding drops_of

@@ -1,10 +1,10 @@
--- What the masks of a position say of its status.
-use Rattle.dob_moves.proofs.Common.{◌&&◌, ◌/◌, ◌<◌, ◌∙◌, ◌≡◌, ◌≢◌, ◌≤◌, Bool, None, Some, arith, bit_and, false, inl, inr, length, refl, sym, true, subst}
-use Rattle.dob_moves.proofs.Common.{true≢false, ℕ, and_parts, cases_lt, is_some, attacks_piece, own_attacks, one_lion, within-from_piece, IsLowest, IsMask-and}
-use Rattle.dob_moves.proofs.Common.{lowest_is, none_passes, IsMask, attacks, is_end, leads, Cell, HasLions, at, piece_of, Kind, Lion, Enemy, Mover, A, Setup}
+-- What the sets of squares of a position say of its status.
+use Rattle.dob_moves.proofs.Common.{◌&&◌, ◌/◌, ◌<◌, ◌∙◌, ◌≡◌, ◌≢◌, ◌≤◌, Bool, None, Some, arith, false, inl, inr, length, refl, sym, true, subst}
+use Rattle.dob_moves.proofs.Common.{true≢false, ℕ, and_parts, cases_lt, is_some, attacks_piece, own_attacks, one_lion, within-from_piece, IsFirst, IsLowest}
+use Rattle.dob_moves.proofs.Common.{lowest_is, none_passes, passes_somewhere, IsMask, attacks, is_end, leads, Cell, HasLions, at, piece_of, Kind, Lion, Enemy}
+use Rattle.dob_moves.proofs.Common.{Mover, A, Setup}
 use Rattle.dob_moves.proofs.Common.{CanGo, CatchesLion, grows_at, place, CanCatch, HasTried, IsFirstCatch, may_end, step_onto, Elsewhere, Move, Put, Step}
 use Rattle.dob_moves.proofs.Common.{Option, MatchOption, AtLion}
-use Rattle.std.specs.Int.{trailing_zeros, w16}
 use Rattle.dob_moves.specs.AtPlaces.{step_between}
 use Rattle.dob_moves.proofs.Reach.{IsStep, step_sound}
 use Rattle.dob_moves.proofs.ByPlace.{found_there}
@@ -38,15 +38,14 @@ no_attack p lion mask twelve lions stands are none (Put kind to, h) = h
 pub some_attack : (p : Setup) (lion mask : ℕ) → at p lion ≡ Some (piece_of Enemy Lion)
     → IsMask (λ from. attacks p from lion) mask → mask ≢ 0 → CanCatch p
 some_attack p lion mask stands are some =
-    let it = lowest_is (λ from. attacks p from lion) mask (trailing_zeros w16 mask) are (omega (arith, some)) refl in
-    catch_by p (trailing_zeros w16 mask) lion stands it.passes
+    let attacker = passes_somewhere (λ from. attacks p from lion) mask are some in catch_by p attacker.0 lion stands attacker.2
 
 -- the catch from the lowest square is the first
 pub first_attack : (p : Setup) (lion mask from : ℕ) (o : Option Move) → length p.board ≡ 12 → HasLions p → at p lion ≡ Some (piece_of Enemy Lion)
-    → IsMask (λ from. attacks p from lion) mask → mask ≢ 0 → from ≡ trailing_zeros w16 mask → o ≡ step_between AtLion p from lion
+    → IsMask (λ from. attacks p from lion) mask → IsFirst mask from → o ≡ step_between AtLion p from lion
     → MatchOption o (¬ CanCatch p) (λ m. IsFirstCatch p m)
-first_attack p lion mask from o twelve lions stands are some e looked_for =
-    let it = lowest_is (λ from. attacks p from lion) mask from are (omega (arith, some)) e in
+first_attack p lion mask from o twelve lions stands are lowest looked_for =
+    let it = lowest_is (λ from. attacks p from lion) mask from are lowest in
     let piece = attacks_piece (at p from) from lion it.passes in
     let step = Step piece.0 from lion true (grows_at piece.0 lion) in
     let found = found_there AtLion p piece.0 from lion step (record { step = record { own = piece.1; leads = piece.2 }; found = rw stands refl }) in
@@ -81,13 +80,9 @@ ends_step p kind from to step is =
     let found : step_onto Elsewhere (at p to) kind from to ≡ Some move = rw (sym (end_is (at p to)), is) refl in
     (move, step_sound Elsewhere p kind from to (at p to) move step refl found)
 
-pub some_step : (p : Setup) (kind : Kind) (from targets ends : ℕ) → at p from ≡ Some (piece_of Mover kind) → IsMask (leads kind from) targets
-    → IsMask (λ square. is_end (at p square)) ends → bit_and targets ends ≢ 0 → (move : Move) × CanGo A p move
-some_step p kind from targets ends own to are some =
-    let test : ℕ → Bool = λ square. leads kind from square && is_end (at p square) in
-    let mask = bit_and targets ends in
-    let it = lowest_is test mask (trailing_zeros w16 mask) (IsMask-and (leads kind from) (λ square. is_end (at p square)) targets ends to are)
-    (omega (arith, some)) refl in
-    let t = trailing_zeros w16 mask in
-    let parts = and_parts (leads kind from t) (is_end (at p t)) it.passes in
-    ends_step p kind from t (record { own = own; leads = parts.0 }) parts.1
+pub some_step : (p : Setup) (kind : Kind) (from mask : ℕ) → at p from ≡ Some (piece_of Mover kind)
+    → IsMask (λ square. leads kind from square && is_end (at p square)) mask → mask ≢ 0 → (move : Move) × CanGo A p move
+some_step p kind from mask own are some =
+    let to = passes_somewhere (λ square. leads kind from square && is_end (at p square)) mask are some in
+    let parts = and_parts (leads kind from to.0) (is_end (at p to.0)) to.2 in
+    ends_step p kind from to.0 (record { own = own; leads = parts.0 }) parts.1

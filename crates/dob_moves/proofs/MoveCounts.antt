@@ -1,12 +1,9 @@
 -- Moves counted piece by piece.
-use Rattle.dob_moves.proofs.Common.{if◌then◌else◌, ◌*◌, ◌++◌, ◌+◌, ◌<◌, ◌||◌, ◌∙◌, ◌∷◌, ◌≡◌, ◌≢◌, ◌≤◌, Bool, Contains, List, None, Option, Some, [], ap, arith}
-use Rattle.dob_moves.proofs.Common.{bit_and, count_ones, false, length, refl, true, ℕ, length-append, is_some, head_in, next_left, without, IsCounted, IsWalked}
-use Rattle.dob_moves.proofs.Common.{counted_ones, walk_end, walk_next_at, walk_start, IsMask, is_empty, is_end, leads, at, held, HandKind, Kind, Profile, Setup}
-use Rattle.dob_moves.proofs.Common.{may_put, HasStatus, all_drops, all_steps, drops_of, first, steps_by, steps_from, AtLion, Elsewhere, Move, Status, Open}
-use Rattle.std.specs.Int.{trailing_zeros, w16}
-use Rattle.dob_moves.proofs.Listed.{own_at, can_put, may_step, steps_to, puts_on, from_quiet, steps_counting, puts_counting, may_step_mask, can_put_mask}
-use Rattle.dob_moves.proofs.Listed.{drops_all}
-use Rattle.dob_moves.proofs.Tables.{steps_by-squares}
+use Rattle.dob_moves.proofs.Common.{if◌then◌else◌, ◌*◌, ◌++◌, ◌+◌, ◌||◌, ◌∙◌, ◌∷◌, ◌≡◌, ◌≢◌, ◌≤◌, Bool, Contains, List, None, Option, Some, [], ap, arith}
+use Rattle.dob_moves.proofs.Common.{false, length, refl, true, ℕ, length-append, is_some, head_in, IsWalked, squares_in, walk_end, walk_few, walk_most}
+use Rattle.dob_moves.proofs.Common.{walk_next, walk_passes, walk_start, IsMask, Profile, Setup, HasStatus, all_drops, all_steps, first, steps_from}
+use Rattle.dob_moves.proofs.Common.{AtLion, Elsewhere, Move, Status, Open}
+use Rattle.dob_moves.proofs.Listed.{own_at, from_quiet}
 use Rattle.dob_moves.specs.MoveLists.{has_tried, moves_of}
 use Rattle.dob_moves.proofs.Cases.{one_status}
 use Rattle.dob_moves.proofs.MoveLists.{tried_at, AreMoves-moves_of}
@@ -41,57 +38,33 @@ other_count profile p s twelve is other =
     nothing_there (HasStatus profile p Open) (moves_of profile p) (λ m there. ((AreMoves-moves_of profile p twelve).sound m there).0)
     (λ is_open. other (one_status profile p s Open is is_open))
 
--- ---- by masks
+-- ---- by sets
 
-pub counted_steps : (p : Setup) (kind : Kind) (from targets ends : ℕ) → from < 12
-    → IsMask (leads kind from) targets → IsMask (λ square. is_end (at p square)) ends
-    → IsCounted (length (steps_by Elsewhere p kind from)) (count_ones (bit_and targets ends))
-counted_steps p kind from targets ends lt are may =
-    rw (steps_by-squares Elsewhere p kind from lt)
-    (counted_ones (may_step p kind from) (steps_to p kind from) (bit_and targets ends) (steps_counting p kind from)
-    (may_step_mask p kind from targets ends are may))
-
-pub counted_drops : (profile : Profile) (p : Setup) (kind : HandKind) (empty squares : ℕ) → 0 < held p.hands.mover kind
-    → IsMask (λ square. is_empty (at p square)) empty → IsMask (may_put profile kind) squares
-    → IsCounted (length (drops_of profile p kind)) (count_ones (bit_and empty squares))
-counted_drops profile p kind empty squares some are may =
-    rw (drops_all profile p kind some)
-    (counted_ones (can_put profile p kind) (puts_on profile p kind) (bit_and empty squares) (puts_counting profile p kind)
-    (can_put_mask profile p kind empty squares are may))
-
--- Steps counted while the squares of a mask are gone over: the items are those whose number is known.
-pub record AreCounted (p : Setup) (left count : ℕ) : Type 0 where
+-- Steps counted while the squares of a set are gone over: the items are those whose number is known.
+pub record AreCounted (p : Setup) (left : ℕ) (walked : List ℕ) (count : ℕ) : Type 0 where
   pub items : List Move
-  pub walk : IsWalked (own_at p) (steps_from Elsewhere p) left [] items
+  pub walk : IsWalked (own_at p) (steps_from Elsewhere p) left walked [] items
   pub number : count ≡ length items
-  pub few : count ≤ 12 * walk.upto
+  pub few : count ≤ 12 * length walked
 
-pub count_start : (p : Setup) (own : ℕ) → IsMask (own_at p) own → AreCounted p own 0
+pub count_start : (p : Setup) (own : ℕ) → IsMask (own_at p) own → AreCounted p own [] 0
 count_start p own are = record { items = []; walk = walk_start (own_at p) (steps_from Elsewhere p) own [] are; number = refl; few = omega arith }
 
--- one more square
-pub record CountsOn (p : Setup) (left after count new : ℕ) : Type 0 where
-  pub small : new ≤ 12 * 12
-  pub less : after < left
-  pub next : AreCounted p after new
+module _ {p : Setup} {left count : ℕ} {walked : List ℕ} (w : AreCounted p left walked count) where
+  -- one more square
+  module _ {place : ℕ} {others : List ℕ} (next : squares_in left ≡ place ∷ others) where
+    pub count_small : {steps : ℕ} → steps ≤ 12 → count + steps ≤ 12 * 12
+    count_small few = omega (arith, w.few, walk_few w.walk next, few)
 
-pub count_next : (p : Setup) (left place after count steps : ℕ) → AreCounted p left count → 0 < left
-    → place ≡ trailing_zeros w16 left → after ≡ without left place
-    → (own_at p place ≡ true → steps ≡ length (steps_from Elsewhere p place)) → steps ≤ 12 → CountsOn p left after count (count + steps)
-count_next p left place after count steps w some e gone is few =
-    let it = next_left (own_at p) w.walk.upto left place w.walk.left_are some e in
-    let next = walk_next_at w.walk some e gone {new = w.items ++ steps_from Elsewhere p place} (from_quiet p) (λ passes. refl) in
-    record {
-      small = omega (arith, it.on_board, it.not_before, w.few, few);
-      less = omega (arith, gone, it.less);
-      next = record {
-        items = w.items ++ steps_from Elsewhere p place;
-        walk = next.0;
-        number = omega (arith, length-append w.items (steps_from Elsewhere p place), is it.passes, w.number);
-        few = omega (arith, next.1, it.not_before, w.few, few);
-      };
+    pub count_next : {after steps : ℕ} → others ≡ squares_in after → (own_at p place ≡ true → steps ≡ length (steps_from Elsewhere p place)) → steps ≤ 12
+        → AreCounted p after (walked ++ place ∷ []) (count + steps)
+    count_next same is few = record {
+      items = w.items ++ steps_from Elsewhere p place;
+      walk = walk_next w.walk next same (λ passes. refl);
+      number = omega (arith, length-append w.items (steps_from Elsewhere p place), is (walk_passes w.walk next), w.number);
+      few = omega (arith, length-append walked (place ∷ []), w.few, few);
     }
 
-pub count_end : (p : Setup) (left count : ℕ) → AreCounted p left count → left ≡ 0 → (count ≡ length (all_steps Elsewhere p)) × (count ≤ 12 * 12)
-unfolding all_steps
-count_end p left count w none = (w.number ∙ ap length (walk_end w.walk (from_quiet p) none), omega (arith, w.few, w.walk.bound))
+  pub count_end : squares_in left ≡ [] → (count ≡ length (all_steps Elsewhere p)) × (count ≤ 12 * 12)
+  unfolding all_steps
+  count_end none = (w.number ∙ ap length (walk_end w.walk (from_quiet p) none), omega (arith, w.few, walk_most w.walk))

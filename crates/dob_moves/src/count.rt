@@ -16,16 +16,14 @@ ghost use Rattle.dob_moves.specs.declared.game_move.Move.{Move as Moved};
 use crate::droppable::squares_for;
 use crate::position_status::Status;
 use crate::status_of::status_by;
-use dob_pieces::{
-    Board, Hand, HandKind, Kind, Position, Profile, Square, lowest_square, without_square,
-};
+use dob_pieces::{Board, Hand, HandKind, Kind, Position, Profile, Square, SquareSet};
 
 // The number of steps of a piece of that kind on that square that end on one of these squares.
-fn count_steps_by(ends: u16, kind: Kind, from: Square) -> u8
+fn count_steps_by(ends: SquareSet, kind: Kind, from: Square) -> u8
     ensures number { (setup : Setup) → AreSquares setup is_end ends → result ≡ length (steps_by Elsewhere setup kind from) }
     ensures few { result ≤ 12 }
 {
-    (kind.targets(from) & ends).count_ones() as u8
+    kind.targets(from).and(ends).count()
 }
 
 // The number of the mover's steps.
@@ -36,24 +34,21 @@ fn count_steps(board: &Board) -> u8
 {
     let ends = board.ends();
     let mut count = 0;
-    let mut left = board.own();
-    while left != 0 {
-        let from = lowest_square(left);
+    for from in board.own() {
         count += count_steps_by(ends, board.own_kind(from), from);
-        left = without_square(left, from);
     }
     count
 }
 
 // The number of drops of that kind from the hand on one of these squares.
-fn count_drops_of(profile: Profile, hand: Hand, empty: u16, kind: HandKind) -> u8
+fn count_drops_of(profile: Profile, hand: Hand, empty: SquareSet, kind: HandKind) -> u8
     ensures number { (setup : Setup) → AreSquares setup is_empty empty → hand ≡ setup.hands.mover → result ≡ length (drops_of profile setup kind) }
     ensures few { result ≤ 12 }
 {
     if hand.count(kind) == 0 {
         return 0;
     }
-    (empty & squares_for(profile, kind)).count_ones() as u8
+    empty.and(squares_for(profile, kind)).count()
 }
 
 // The number of drops.

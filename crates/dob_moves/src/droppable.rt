@@ -2,17 +2,16 @@
 ghost use Rattle.dob_pieces.specs.Masks.{IsMask};
 ghost use Rattle.dob_moves.specs.Moves.{may_put};
 
-use dob_pieces::{ALL_SQUARES, HandKind, Profile};
+use dob_pieces::{HandKind, Profile, SquareSet};
 
-// The squares below row 4.
-const BELOW_FAR_ROW: u16 = 511;
-
-/// The squares on which the profile lets a piece of that kind be dropped, empty or not, as a mask.
-pub(crate) fn squares_for(profile: Profile, kind: HandKind) -> u16
+/// The squares on which the profile lets a piece of that kind be dropped, empty or not: a chick below row 4 in profile B, and any other anywhere.
+pub(crate) fn squares_for(profile: Profile, kind: HandKind) -> SquareSet
     ensures { IsMask (may_put profile kind) result }
 {
     match (profile, kind) {
-        (Profile::B, HandKind::Chick) => BELOW_FAR_ROW,
-        _ => ALL_SQUARES,
+        (Profile::A, _) => SquareSet::ALL,
+        (Profile::B, HandKind::Chick) => SquareSet::ALL.but_not(SquareSet::FAR_ROW),
+        (Profile::B, HandKind::Elephant) => SquareSet::ALL,
+        (Profile::B, HandKind::Giraffe) => SquareSet::ALL,
     }
 }

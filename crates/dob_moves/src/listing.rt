@@ -1,4 +1,4 @@
-// The list of a position's moves: the squares of masks, from the lowest on, which is the move order. The position's board says all that is asked.
+// The list of a position's moves: the squares of sets, from the first on, which is the move order. The position's board says all that is asked.
 ghost use Rattle.std.specs.Prelude.{◌≡◌, ◌+◌, ◌≤◌, ◌++◌, IfOk, length};
 ghost use Rattle.dob_pieces.specs.Boards.{IsBoardOf};
 ghost use Rattle.dob_pieces.specs.Masks.{AreSquares, is_empty, is_end};
@@ -14,33 +14,27 @@ use crate::game_move::Move;
 use crate::position_status::Status;
 use crate::status_of::status_by;
 use arrayvec::ArrayVec;
-use dob_pieces::{
-    Board, Hand, HandKind, Kind, Memory, Position, Profile, Square, has_square, lowest_square,
-    without_square,
-};
+use dob_pieces::{Board, Hand, HandKind, Kind, Memory, Position, Profile, Square, SquareSet};
 use std::alloc::Global;
 
 /// The moves of a position, which are 63 at most (`laws::moves_are_few`): a list that takes no memory.
 pub type MoveList = ArrayVec<Move, 63>;
 
 // Appends the steps of a piece of that kind on that square that end on one of these squares.
-fn push_steps_by(moves: &mut MoveList, board: &Board, ends: u16, kind: Kind, from: Square)
+fn push_steps_by(moves: &mut MoveList, board: &Board, ends: SquareSet, kind: Kind, from: Square)
     requires { (setup : Setup) × IsBoardOf setup board.now × AreSquares setup is_end ends
         × (length moves.old.items + length (steps_by Elsewhere setup kind from) ≤ most_moves) }
     ensures { (setup : Setup) → IsBoardOf setup board.now → AreSquares setup is_end ends
         → moves.new.items ≡ moves.old.items ++ steps_by Elsewhere setup kind from }
 {
-    let mut left = kind.targets(from) & ends;
-    while left != 0 {
-        let to = lowest_square(left);
+    for to in kind.targets(from).and(ends) {
         moves.push(Move::Step {
             kind,
             from,
             to,
-            catch: has_square(board.enemies, to),
+            catch: board.enemies.has(to),
             grows: grows_at(kind, to),
         });
-        left = without_square(left, to);
     }
 }
 
@@ -50,16 +44,19 @@ fn push_steps(moves: &mut MoveList, board: &Board)
     ensures { (setup : Setup) → IsBoardOf setup board.now → moves.new.items ≡ moves.old.items ++ all_steps Elsewhere setup }
 {
     let ends = board.ends();
-    let mut left = board.own();
-    while left != 0 {
-        let from = lowest_square(left);
+    for from in board.own() {
         push_steps_by(moves, board, ends, board.own_kind(from), from);
-        left = without_square(left, from);
     }
 }
 
 // Appends the drops of that kind from the hand on one of these squares.
-fn push_drops_of(moves: &mut MoveList, profile: Profile, hand: Hand, empty: u16, kind: HandKind)
+fn push_drops_of(
+    moves: &mut MoveList,
+    profile: Profile,
+    hand: Hand,
+    empty: SquareSet,
+    kind: HandKind,
+)
     requires { (setup : Setup) × AreSquares setup is_empty empty × (hand ≡ setup.hands.mover)
         × (length moves.old.items + length (drops_of profile setup kind) ≤ most_moves) }
     ensures { (setup : Setup) → AreSquares setup is_empty empty → hand ≡ setup.hands.mover
@@ -68,11 +65,8 @@ fn push_drops_of(moves: &mut MoveList, profile: Profile, hand: Hand, empty: u16,
     if hand.count(kind) == 0 {
         return;
     }
-    let mut left = empty & squares_for(profile, kind);
-    while left != 0 {
-        let to = lowest_square(left);
+    for to in empty.and(squares_for(profile, kind)) {
         moves.push(Move::Put { kind, to });
-        left = without_square(left, to);
     }
 }
 

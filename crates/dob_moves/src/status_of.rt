@@ -13,7 +13,7 @@ use crate::count::has_move;
 use crate::first_moves::{Aim, step_between};
 use crate::game_move::Move;
 use crate::position_status::Status;
-use dob_pieces::{Board, Kind, Position, Profile, Square, lowest_square};
+use dob_pieces::{Board, Kind, Position, Profile, Square};
 
 /// The first step in the move order that catches the enemy lion, or `None` if no step does.
 pub fn first_catch(position: &Position) -> Option<Move>
@@ -22,18 +22,17 @@ pub fn first_catch(position: &Position) -> Option<Move>
     let board = Board::of(&position.setup);
     let to = board.enemy_lion_square();
     let attackers = board.attackers(to);
-    if attackers == 0 {
-        return None;
+    match attackers.first() {
+        None => None,
+        Some(from) => step_between(&position.setup, Aim::AtLion, from, to),
     }
-    let from = lowest_square(attackers);
-    step_between(&position.setup, Aim::AtLion, from, to)
 }
 
 // Whether some step of the mover ends on the enemy lion, which stands on that square.
 fn can_catch(board: &Board, lion: Square) -> bool
     ensures { (p : Setup) → IsLegal p → IsBoardOf p board.now → at p lion ≡ Some (piece_of Enemy Kind.Lion) → (IsTrue result ↔ CanCatch p) }
 {
-    board.attackers(lion) != 0
+    !board.attackers(lion).is_empty()
 }
 
 // Whether the mover's lion has a step, other than onto the enemy lion. Most positions that have a move have one.
@@ -41,7 +40,8 @@ fn lion_can_step(board: &Board) -> bool
     requires { (p : Setup) × IsLegal p × IsBoardOf p board.now }
     ensures { (p : Setup) → IsLegal p → IsBoardOf p board.now → IsTrue result → (move : Moved) × CanGo A p move }
 {
-    Kind::Lion.targets(board.own_lion_square()) & board.ends() != 0
+    let targets = Kind::Lion.targets(board.own_lion_square());
+    !targets.and(board.ends()).is_empty()
 }
 
 // Whether the mover has a move while its steps onto the enemy lion aren't counted.

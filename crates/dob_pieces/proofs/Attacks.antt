@@ -1,10 +1,10 @@
 -- Who attacks a square, and where the lions stand, by masks.
-use Rattle.dob_pieces.proofs.Common.{◌&&◌, ◌<◌, ◌||◌, ◌∙◌, ◌∷◌, ◌≡◌, Bool, List, None, Some, [], ap, arith, bit_or, cond, get_or, inl, inr, length}
-use Rattle.dob_pieces.proofs.Common.{refl, suc, sym, true, ℕ, cases_Bool, sum_by-cons, trailing_zeros, w16, count_by, AreSquares, IsMask, attacks}
+use Rattle.dob_pieces.proofs.Common.{◌&&◌, ◌<◌, ◌||◌, ◌∙◌, ◌∷◌, ◌≡◌, Bool, List, None, Some, [], ap, arith, cond, get_or, inl, inr, length}
+use Rattle.dob_pieces.proofs.Common.{refl, suc, sym, true, ℕ, cases_Bool, sum_by-cons, count_by, AreSquares, IsFirst, IsMask, attacks}
 use Rattle.dob_pieces.proofs.Common.{attacks_by, is_piece, is_lion, is_side, leads, Cell, HasLions, at, holds_lion, piece_of, Kind, Chick, Elephant, Giraffe}
 use Rattle.dob_pieces.proofs.Common.{Hen, Lion, Piece, Side, Enemy, Mover, Setup}
 use Rattle.std.proofs.Math.Bool.{or-false}
-use Rattle.dob_pieces.proofs.MaskBits.{IsMask-or, IsMask-same, lowest_is, some_passes}
+use Rattle.dob_pieces.proofs.MaskBits.{IsMask-same, lowest_is, some_passes}
 
 -- ---- the lions
 
@@ -44,19 +44,19 @@ lion_mask p side mask twelve lions are =
     some_passes (λ square. is_piece side Lion (at p square)) mask w.0 are (rw twelve at w.1) (cell_lion side (at p w.0) ∙ w.2)
 
 -- which says where it stands
-pub lion_at : (p : Setup) (side : Side) (mask place : ℕ) → length p.board ≡ 12 → HasLions p → AreSquares p (is_piece side Lion) mask
-    → place ≡ trailing_zeros w16 mask → at p place ≡ Some (piece_of side Lion)
-lion_at p side mask place twelve lions are e =
-    let it = lowest_is (λ square. is_piece side Lion (at p square)) mask place are (lion_mask p side mask twelve lions are) e in
+pub lion_at : (p : Setup) (side : Side) (mask place : ℕ) → AreSquares p (is_piece side Lion) mask → IsFirst mask place
+    → at p place ≡ Some (piece_of side Lion)
+lion_at p side mask place are first =
+    let it = lowest_is (λ square. is_piece side Lion (at p square)) mask place are first in
     is_that_lion side (at p place) (sym (cell_lion side (at p place)) ∙ it.passes)
 
 -- ---- attackers
 
 -- the pieces of the kind that step by the test
-abbrev of_kind : Cell → Kind → Bool → Bool
+abbrev pub of_kind : Cell → Kind → Bool → Bool
 of_kind cell kind steps = is_piece Mover kind cell && steps
 
-abbrev any_kind : Cell → (Kind → Bool) → Bool
+abbrev pub any_kind : Cell → (Kind → Bool) → Bool
 any_kind cell steps =
     of_kind cell Lion (steps Lion) || of_kind cell Giraffe (steps Giraffe) || of_kind cell Elephant (steps Elephant)
     || of_kind cell Chick (steps Chick) || of_kind cell Hen (steps Hen)
@@ -70,16 +70,9 @@ any_attacks : (cell : Cell) (from to : ℕ) → any_kind cell (λ kind. leads ki
 any_attacks None from to = refl
 any_attacks (Some piece) from to = any_piece piece.side piece.kind (λ kind. leads kind from to)
 
--- of each kind those that step to the target
-abbrev AreOf : Setup → ℕ → Kind → ℕ → Type 0
-AreOf p target kind = IsMask (λ from. of_kind (at p from) kind (leads kind from target))
-
-pub attackers_are : (p : Setup) (target lion giraffe elephant chick hen : ℕ) → AreOf p target Lion lion → AreOf p target Giraffe giraffe
-    → AreOf p target Elephant elephant → AreOf p target Chick chick → AreOf p target Hen hen
-    → IsMask (λ from. attacks p from target) (bit_or (bit_or (bit_or (bit_or lion giraffe) elephant) chick) hen)
-attackers_are p target lion giraffe elephant chick hen lions giraffes elephants chicks hens =
-    IsMask-same _ (λ from. attacks p from target) _ (λ from lt. any_attacks (at p from) from target)
-    (IsMask-or _ _ _ _ (IsMask-or _ _ _ _ (IsMask-or _ _ _ _ (IsMask-or _ _ _ _ lions giraffes) elephants) chicks) hens)
+pub attackers_are : (p : Setup) (target mask : ℕ) → IsMask (λ from. any_kind (at p from) (λ kind. leads kind from target)) mask
+    → IsMask (λ from. attacks p from target) mask
+attackers_are p target mask are = IsMask-same _ (λ from. attacks p from target) mask (λ from lt. any_attacks (at p from) from target) are
 
 -- ---- who attacks
 

@@ -1,27 +1,16 @@
 -- Sets of squares when one square of the setup changes.
-use Rattle.dob_pieces.proofs.Common.{◌%◌, ◌<◌, ◌^◌, ◌∙◌, ◌≡◌, ◌≤◌, Bool, None, Some, ap, arith, bit_and, bit_or, cond, false, inl, inr, length, refl}
-use Rattle.dob_pieces.proofs.Common.{rules, set, subst, sym, true, w16, ℕ, cases_Bool, cases_eq, bit_at, bit_not, one_if, AreSquares, Cell, at}
+use Rattle.dob_pieces.proofs.Common.{◌&&◌, ◌<◌, ◌==◌, ◌||◌, ◌∙◌, ◌≡◌, eq-eqb, ne_eqb, not, Bool, None, Some, ap, arith, cond, false, inl, inr, length, refl}
+use Rattle.dob_pieces.proofs.Common.{rules, set, subst, sym, true, ℕ, cases_Bool, cases_eq, AreSquares, Cell, at}
 use Rattle.dob_pieces.proofs.Common.{piece_of, Hands, Kind, Lion, Side, Enemy, Mover, Setup}
-use Rattle.std.proofs.Common.{◌*◌}
-use Rattle.std.proofs.lemmas.Nat.{and_le_l, or_lt}
-use Rattle.std.proofs.lemmas.Nat.Bits.{bit_at_clear_other, bit_at_clear_same, bit_at_set_other, bit_at_set_same}
+use Rattle.std.proofs.Math.Bool.{and-false, and-true, or-false, or-true}
 use Rattle.dob_pieces.proofs.MaskBits.{IsMask-same}
+use Rattle.dob_pieces.proofs.Targets.{IsMask-less, IsMask-more}
+use Rattle.dob_pieces.specs.Masks.{with_square, without_square}
 use Rattle.dob_pieces.specs.Boards.{IsBoardOf, is_chick, is_elephant, is_enemy, is_enemy_lion, is_giraffe, is_hen, is_own_lion}
 use Rattle.dob_pieces.specs.Changes.{IsWith, with_enemy, with_own}
 use Rattle.dob_pieces.specs.declared.board.Board.{Board}
-use Rattle.std.proofs.Math.Pow.{pow_mono}
 
 -- ---- one set
-
--- the bit of a square
-abbrev pub bit : ℕ → ℕ
-bit square = 1 * 2 ^ square % 2 ^ 16
-
-bit-small : (square : ℕ) → square < 12 → bit square < 2 ^ 12
-bit-small square lt =
-    let le : square ≤ 11 = omega (arith, lt) in
-    let low : 2 ^ square ≤ 2 ^ 11 = pow_mono le in
-    omega (arith, low)
 
 module _ (before after : Setup) (square : ℕ) (cell : Cell) (lt : square < 12) (w : IsWith before after square cell) (test : Cell → Bool) (mask : ℕ)
     (are : AreSquares before test mask) where
@@ -34,46 +23,38 @@ module _ (before after : Setup) (square : ℕ) (cell : Cell) (lt : square < 12) 
       ]) are
 
   -- the new cell passes the test
-  pub added : test cell ≡ true → AreSquares after test (bit_or mask (bit square))
-  added passes = record {
-    within = or_lt 12 mask (bit square) are.within (bit-small square lt);
-    bits = λ s below. elim (cases_eq s square) [
-      | inl e ↦ subst (λ (n : ℕ). bit_at (bit_or mask (bit square)) n ≡ one_if (test (at after n))) (sym e)
-          (bit_at_set_same w16 mask square (omega (arith, lt)) ∙ sym (ap one_if (ap test w.here ∙ passes)))
-      | inr apart ↦ bit_at_set_other w16 mask square (omega (arith, lt)) s apart ∙ are.bits s below
-          ∙ ap (λ (c : Cell). one_if (test c)) (sym (w.there s below apart))
-    ];
-  }
+  pub added : test cell ≡ true → AreSquares after test (with_square mask square)
+  added passes = IsMask-same (λ s. test (at before s) || (s == square)) (λ s. test (at after s)) (with_square mask square)
+      (λ s below. elim (cases_eq s square) [
+        | inl e ↦ rw (e, eq-eqb square square refl, w.here, passes) (or-true (test (at before square)))
+        | inr apart ↦ rw (ne_eqb s square apart, w.there s below apart) (or-false (test (at before s)))
+      ]) (IsMask-more (λ s. test (at before s)) mask square lt are)
 
   -- it doesn't
-  pub gone : test cell ≡ false → AreSquares after test (bit_and mask (bit_not w16 (bit square)))
-  gone fails = record {
-    within = let le = and_le_l mask (bit_not w16 (bit square)) in let low = are.within in omega (arith, le, low);
-    bits = λ s below. elim (cases_eq s square) [
-      | inl e ↦ subst (λ (n : ℕ). bit_at (bit_and mask (bit_not w16 (bit square))) n ≡ one_if (test (at after n))) (sym e)
-          (bit_at_clear_same w16 mask square (omega (arith, lt)) ∙ sym (ap one_if (ap test w.here ∙ fails)))
-      | inr apart ↦ bit_at_clear_other w16 mask square (omega (arith, lt)) s (omega (arith, below)) apart ∙ are.bits s below
-          ∙ ap (λ (c : Cell). one_if (test c)) (sym (w.there s below apart))
-    ];
-  }
+  pub gone : test cell ≡ false → AreSquares after test (without_square mask square)
+  gone fails = IsMask-same (λ s. test (at before s) && not (s == square)) (λ s. test (at after s)) (without_square mask square)
+      (λ s below. elim (cases_eq s square) [
+        | inl e ↦ rw (e, eq-eqb square square refl, w.here, fails) (and-false (test (at before square)))
+        | inr apart ↦ rw (ne_eqb s square apart, w.there s below apart) (and-true (test (at before s)))
+      ]) (IsMask-less (λ s. test (at before s)) mask square lt are)
 
 -- ---- all sets
 
 -- the sets with that piece on an empty square
 abbrev pub with_piece : Side → Kind → ℕ → Board → Board
-with_piece Mover kind k b = with_own kind (bit k) b
-with_piece Enemy kind k b = with_enemy kind (bit k) b
+with_piece Mover kind k b = with_own kind k b
+with_piece Enemy kind k b = with_enemy kind k b
 
 -- on an empty square each set gets the bit where the new cell passes its test
 module _ (before after : Setup) (square : ℕ) (cell : Cell) (lt : square < 12) (w : IsWith before after square cell) (empty : at before square ≡ None) where
-  abbrev grown : (Cell → Bool) → ℕ → ℕ
-  grown test mask = cond (test cell) (bit_or mask (bit square)) mask
+  abbrev pub grown : (Cell → Bool) → ℕ → ℕ
+  grown test mask = cond (test cell) (with_square mask square) mask
 
   test_grown : (test : Cell → Bool) (mask new : ℕ) → test None ≡ false → AreSquares before test mask → new ≡ grown test mask → AreSquares after test new
   test_grown test mask new none are e = elim (cases_Bool (test cell)) [
-    | inl on ↦ subst (AreSquares after test) (sym (e ∙ ap (λ (is : Bool). cond is (bit_or mask (bit square)) mask) on))
+    | inl on ↦ subst (AreSquares after test) (sym (e ∙ ap (λ (is : Bool). cond is (with_square mask square) mask) on))
         (added before after square cell lt w test mask are on)
-    | inr off ↦ subst (AreSquares after test) (sym (e ∙ ap (λ (is : Bool). cond is (bit_or mask (bit square)) mask) off))
+    | inr off ↦ subst (AreSquares after test) (sym (e ∙ ap (λ (is : Bool). cond is (with_square mask square) mask) off))
         (kept before after square cell lt w test mask are (off ∙ sym (ap test empty ∙ none)))
   ]
 
@@ -93,13 +74,13 @@ module _ (before after : Setup) (square : ℕ) (cell : Cell) (lt : square < 12) 
 
 module _ (before after : Setup) (square : ℕ) (lt : square < 12) (b : Board) (are : IsBoardOf before b) where
   pub without_piece : IsWith before after square None → (new : Board)
-      → new.own_lion ≡ bit_and b.own_lion (bit_not w16 (bit square))
-      → new.enemy_lion ≡ bit_and b.enemy_lion (bit_not w16 (bit square))
-      → new.chicks ≡ bit_and b.chicks (bit_not w16 (bit square))
-      → new.elephants ≡ bit_and b.elephants (bit_not w16 (bit square))
-      → new.giraffes ≡ bit_and b.giraffes (bit_not w16 (bit square))
-      → new.hens ≡ bit_and b.hens (bit_not w16 (bit square))
-      → new.enemies ≡ bit_and b.enemies (bit_not w16 (bit square))
+      → new.own_lion ≡ without_square b.own_lion square
+      → new.enemy_lion ≡ without_square b.enemy_lion square
+      → new.chicks ≡ without_square b.chicks square
+      → new.elephants ≡ without_square b.elephants square
+      → new.giraffes ≡ without_square b.giraffes square
+      → new.hens ≡ without_square b.hens square
+      → new.enemies ≡ without_square b.enemies square
       → new.hands ≡ b.hands → IsBoardOf after new
   without_piece w new a i c d e f g h = record {
     own_lion_is = rw a (gone before after square None lt w is_own_lion b.own_lion are.own_lion_is refl);

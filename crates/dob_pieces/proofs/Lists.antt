@@ -1,6 +1,6 @@
 -- Lists made piece by piece: what they contain, their parts, their order, and whether two are the same.
 use Rattle.dob_pieces.proofs.Common.{◌++◌, ◌<◌, ◌∙◌, ◌∷◌, ◌≡◌, ◌≤◌, ◌⊎◌, Bool, Contains, List, [], ap, arith, cond, drop, false, inl, inr, length, refl, subst}
-use Rattle.dob_pieces.proofs.Common.{suc, sym, true, zero, ℕ, cases_eq, cases_lt, drop_at, take_at, each_below}
+use Rattle.dob_pieces.proofs.Common.{suc, sym, true, zero, ℕ, cases_eq, cases_lt, drop_at, length-append, take_at, each_below, sum_below}
 use Rattle.std.proofs.Common.{◌&&◌, nat_eq, take, All, AllPairs}
 use Rattle.std.proofs.lemmas.Bool.Decides.{nat_tests}
 use Rattle.std.proofs.lemmas.List.Elements.{Contains-append_left, Contains-append_right, Contains-append_cases, All-nil, All-cons}
@@ -14,6 +14,11 @@ module _ {X : Type 0} where
 
   pub head_in : (x : X) (xs : List X) → Contains (x ∷ xs) x
   head_in x xs = (0, omega arith, refl)
+
+  -- the lists of each number are as long as the sum of their lengths
+  pub length-each : (g : ℕ → List X) (n : ℕ) → length (each_below g n) ≡ sum_below (λ k. length (g k)) n
+  length-each g zero = refl
+  length-each g (suc n) = omega (arith, length-append (each_below g n) (g n), length-each g n)
 
   -- an element of a longer list is its first one or stands in the rest
   pub cons_cases : (x : X) (xs : List X) (y : X) → Contains (x ∷ xs) y → (x ≡ y) ⊎ Contains xs y

@@ -1,10 +1,15 @@
 -- Sets of squares as masks: what the operations on bits make of them.
-use Rattle.dob_pieces.proofs.Common.{◌%◌, ◌&&◌, ◌-◌, ◌<◌, ◌^◌, ◌||◌, ◌∙◌, ◌≡◌, ◌≢◌, ◌≤◌, Bool, ap, arith, bit_and, bit_or, false, inl, inr, not, refl, one_if}
-use Rattle.dob_pieces.proofs.Common.{suc, sym, true, ℕ, and_parts, cases_eq, cases_lt, le-leb, leb-true, lt-leb, bit_at, bit_not, trailing_zeros, IsMask}
-use Rattle.std.proofs.Common.{◌*◌, min, max, nat_le, rules, w16}
+use Rattle.dob_pieces.proofs.Common.{◌%◌, ◌&&◌, ◌-◌, ◌<◌, ◌==◌, ◌^◌, ◌||◌, ◌∙◌, ◌≡◌, ◌≢◌, ◌≤◌, Bool, ap, arith, bit_and, bit_or, false, inl, inr, not, refl}
+use Rattle.dob_pieces.proofs.Common.{one_if}
+use Rattle.dob_pieces.proofs.Common.{suc, sym, true, ℕ, cases_eq, cases_lt, bit_not, trailing_zeros, IsMask, IsFirst, bit, cond, with_square, zero}
+use Rattle.std.proofs.Common.{◌*◌, min, max, rules, w16}
 use Rattle.std.proofs.lemmas.Nat.{and_le_l, or_lt}
-use Rattle.std.proofs.lemmas.Nat.Bits.{bit_at_and, bit_at_or, bit_at_not, bit_at-trailing_zeros, bit_at_clear_same, bit_at_clear_other, bit_at_above}
-use Rattle.std.proofs.lemmas.Nat.Bits.{bit_at-zero}
+use Rattle.std.proofs.lemmas.Nat.Bits.{bit_at_and, bit_at_or, bit_at_not, bit_at-trailing_zeros, bit_at_above, bit_at-lt, bit_at-zero, same_from_bits_below}
+use Rattle.std.proofs.lemmas.Bool.Decides.{nat_tests}
+use Rattle.std.specs.Simd.Lanes.{mask_l}
+use Rattle.dob_pieces.proofs.Common.{true≢false, bit_at, bit_mask_l, get_or-map-range_with_len, map, mask_l-lt, range_with_len}
+use Rattle.std.proofs.Math.Pow.{pow_mono}
+use Rattle.std.specs.Int.Bits.{or_zero_r}
 
 min-bits : (a b : Bool) → min (one_if a) (one_if b) ≡ one_if (a && b)
 min-bits true true = refl
@@ -71,8 +76,8 @@ lowest-lt mask some within =
       | inr ge ↦ let no = bit_at_above mask 12 (trailing_zeros w16 mask) (omega (arith, within)) ge in absurd (omega (arith, no, found.1))
     ]
 
-pub lowest_is : (test : ℕ → Bool) (mask place : ℕ) → IsMask test mask → 0 < mask → place ≡ trailing_zeros w16 mask → IsLowest test mask place
-lowest_is test mask place is some e =
+pub lowest_is : (test : ℕ → Bool) (mask place : ℕ) → IsMask test mask → IsFirst mask place → IsLowest test mask place
+lowest_is test mask place is (some, e) =
     let within = is.within in
     let t = trailing_zeros w16 mask in
     let found = bit_at-trailing_zeros w16 mask some (omega (arith, within)) in
@@ -88,68 +93,43 @@ lowest_is test mask place is some e =
 pub some_passes : (test : ℕ → Bool) (mask square : ℕ) → IsMask test mask → square < 12 → test square ≡ true → 0 < mask
 some_passes test mask square is lt passes = grind (arith, none_passes)
 
--- without a square
-abbrev pub without : ℕ → ℕ → ℕ
-without mask place = bit_and mask (bit_not w16 (1 * 2 ^ place % 2 ^ 16))
+pub passes_somewhere : (test : ℕ → Bool) (mask : ℕ) → IsMask test mask → mask ≢ 0 → (square : ℕ) × (square < 12) × (test square ≡ true)
+passes_somewhere test mask is some =
+    let it = lowest_is test mask (trailing_zeros w16 mask) is (omega (arith, some), refl) in (trailing_zeros w16 mask, it.on_board, it.passes)
 
--- ---- the squares of a mask, one after the other
+-- and one in which none passes is
+pub empty_mask : (test : ℕ → Bool) (mask : ℕ) → IsMask test mask → ((square : ℕ) → square < 12 → test square ≡ false) → mask ≡ 0
+empty_mask test mask is none = elim (cases_eq mask 0) [
+  | inl e ↦ e
+  | inr some ↦ let it = passes_somewhere test mask is some in absurd (true≢false (sym it.2 ∙ none it.0 it.1))
+]
 
--- the squares from a place on that pass the test
-abbrev pub IsLeft : (ℕ → Bool) → ℕ → ℕ → Type 0
-IsLeft test from = IsMask (λ square. nat_le from square && test square)
+-- a set by its own bits
+pub own_mask : (mask : ℕ) → mask < 4096 → IsMask (λ square. bit_at mask square == 1) mask
+own_mask mask within = record { within = within; bits = λ s lt. grind (arith, nat_tests, bit_at-lt mask s) }
 
--- the next of them, and what is left then
-pub record IsNext (test : ℕ → Bool) (from mask place : ℕ) : Type 0 where
-  pub not_before : from ≤ place
-  pub on_board : place < 12
-  pub passes : test place ≡ true
-  pub between : (square : ℕ) → from ≤ square → square < place → test square ≡ false
-  pub left : IsLeft test (suc place) (without mask place)
-  pub less : without mask place < mask
+pub mask_by_bits : (test : ℕ → Bool) (mask : ℕ) → IsMask test mask → mask ≡ mask_l (map test (range_with_len 0 12))
+mask_by_bits test mask is = grind (arith, mask_l-lt, same_from_bits_below, bit_mask_l, get_or-map-range_with_len)
 
-pub all_left : (test : ℕ → Bool) (mask : ℕ) → IsMask test mask → IsLeft test 0 mask
-all_left test mask is = IsMask-same test (λ square. nat_le 0 square && test square) mask
-    (λ square lt. ap (λ (b : Bool). b && test square) (sym (le-leb 0 square (omega arith)))) is
+-- ---- one square more
 
--- nothing passes from there on where no square is left
-pub none_left : (test : ℕ → Bool) (from mask : ℕ) → IsLeft test from mask → mask ≡ 0 → (square : ℕ) → from ≤ square → square < 12 → test square ≡ false
-none_left test from mask is e square le lt = grind (arith, none_passes)
+pub bit-small : (square : ℕ) → square < 12 → bit square < 2 ^ 12
+bit-small square lt =
+    let le : square ≤ 11 = omega (arith, lt) in
+    let low : 2 ^ square ≤ 2 ^ 11 = pow_mono le in
+    omega (arith, low)
 
-cleared : (test : ℕ → Bool) (from place square : ℕ) → from ≤ place → square ≢ place
-    → ((s : ℕ) → from ≤ s → s < place → test s ≡ false) → (nat_le from square && test square) ≡ (nat_le (suc place) square && test square)
-cleared test from place square le apart between = grind arith
+-- by a flag
+pub marked_small : (mask flag square : ℕ) → flag ≤ 1 → square < 12 → mask < 4096 → bit_or mask (flag * 2 ^ square % 2 ^ 16) < 4096
+marked_small mask zero square le lt within = or_lt 12 mask _ within (omega arith)
+marked_small mask (suc zero) square le lt within = or_lt 12 mask _ within (bit-small square lt)
+marked_small mask (suc (suc n)) square le lt within = absurd (omega arith)
 
-pub next_left : (test : ℕ → Bool) (from mask place : ℕ) → IsLeft test from mask → 0 < mask → place ≡ trailing_zeros w16 mask → IsNext test from mask place
-next_left test from mask place is some e =
-    let it = lowest_is (λ square. nat_le from square && test square) mask place is some e in
-    let parts = and_parts (nat_le from place) (test place) it.passes in
-    let le = leb-true from place parts.0 in
-    let lt = it.on_board in
-    let here : place < 16 = omega (arith, lt) in
-    let between : (s : ℕ) → from ≤ s → s < place → test s ≡ false =
-    λ s ge below. ap (λ (b : Bool). b && test s) (sym (le-leb from s ge)) ∙ it.lowest s below in
-    let smaller : without mask place ≤ mask = and_le_l mask (bit_not w16 (1 * 2 ^ place % 2 ^ 16)) in
-    let off = bit_at_clear_same w16 mask place here in
-    let on = is.bits place lt ∙ ap one_if it.passes in
-    let low = is.within in
-    record {
-      not_before = le;
-      on_board = lt;
-      passes = parts.1;
-      between = between;
-      left = record {
-        within = omega (arith, smaller, low);
-        bits = λ square below.
-            elim (cases_eq square place) [
-              | inl same ↦ rw same (off ∙ sym (ap (λ (b : Bool). one_if (b && test place)) (lt-leb (suc place) place (omega arith))))
-              | inr apart ↦ bit_at_clear_other w16 mask place here square (omega (arith, below)) apart ∙ is.bits square below
-                  ∙ ap one_if (cleared test from place square le apart between)
-            ];
-      };
-      less = elim (cases_lt (without mask place) mask) [
-        | inl less ↦ less
-        | inr ge ↦
-            let same : without mask place ≡ mask = omega (arith, smaller, ge) in
-            let wrong = sym off ∙ ap (λ (n : ℕ). bit_at n place) same ∙ on in absurd (omega (arith, wrong))
-      ];
-    }
+pub marked_is : (mask flag square : ℕ) (is : Bool) → flag ≡ one_if is → bit_or mask (flag * 2 ^ square % 2 ^ 16) ≡ cond is (with_square mask square) mask
+marked_is mask flag square true e = ap (λ (n : ℕ). bit_or mask (n * 2 ^ square % 2 ^ 16)) e
+marked_is mask flag square false e =
+    let none : 0 * 2 ^ square % 2 ^ 16 ≡ 0 = omega arith in
+    ap (λ (n : ℕ). bit_or mask (n * 2 ^ square % 2 ^ 16)) e ∙ ap (bit_or mask) none ∙ or_zero_r mask
+
+-- what one function for each operation on sets is proved by
+pub ruleset set_laws = (or_lt, bit-small, lowest-lt, marked_small, marked_is)

@@ -1,15 +1,13 @@
--- Sets made in one pass over the board: several in one word, twelve bits each, which no sum carries over. Sets of two others.
-use Rattle.dob_pieces.proofs.Common.{◌%◌, ◌&&◌, ◌+◌, ◌/◌, ◌<◌, ◌^◌, ◌||◌, ◌∷◌, ◌≡◌, ◌≤◌, Bool, List, None, Some, [], arith, bit_and, bit_or, drop, false}
-use Rattle.dob_pieces.proofs.Common.{length, map, not, refl, slice_index_or, sym, true, ℕ, get_or-map, length-drop, length-map, bit_mask_l, mask_l-lt}
-use Rattle.dob_pieces.proofs.Common.{bit_not, AreSquares, IsMask, kind_place, side_place, Cell, at, piece_of, Kind, Chick}
-use Rattle.dob_pieces.proofs.Common.{Elephant, Giraffe, Hen, Lion, Side, Enemy, Mover, ALL_SQUARES, Setup}
-use Rattle.std.proofs.Common.{◌*◌, w16}
+-- Sets made in one pass over the board: several in one word, twelve bits each, which no sum carries over. Sets by what they say of each cell.
+use Rattle.dob_pieces.proofs.Common.{◌%◌, ◌+◌, ◌/◌, ◌<◌, ◌^◌, ◌∷◌, ◌≡◌, ◌≤◌, Bool, List, None, Some, [], arith, drop, false}
+use Rattle.dob_pieces.proofs.Common.{length, map, refl, slice_index_or, sym, true, ℕ, get_or-map, length-drop, length-map, bit_mask_l, mask_l-lt}
+use Rattle.dob_pieces.proofs.Common.{AreSquares, IsMask, kind_place, side_place, Cell, at, piece_of, Kind, Chick}
+use Rattle.dob_pieces.proofs.Common.{Elephant, Giraffe, Hen, Lion, Side, Enemy, Mover, Setup}
+use Rattle.std.proofs.Common.{◌*◌}
 use Rattle.std.specs.Simd.Lanes.{mask_l}
 use Rattle.std.proofs.Math.Pow.{pow_mono}
-use Rattle.dob_pieces.proofs.MaskBits.{IsMask-and, IsMask-or, IsMask-without, IsMask-same}
+use Rattle.dob_pieces.proofs.MaskBits.{IsMask-same}
 use Rattle.dob_pieces.proofs.Targets.{is_mask}
-use Rattle.dob_pieces.specs.Boards.{IsBoardOf, is_chick, is_elephant, is_giraffe}
-use Rattle.dob_pieces.specs.declared.board.Board.{Board}
 
 -- ---- one mask
 
@@ -64,7 +62,7 @@ pub record IsRead (word next bound : ℕ) (after : ℕ) : Type 0 where
   pub small_next : next < bound
   pub next_is : next ≡ after
 
--- ---- what two sets say of each cell
+-- ---- what a set says of each cell
 
 abbrev pub all_cells : List Cell
 all_cells =
@@ -94,44 +92,11 @@ told_cell test (Some piece) = told_piece test piece.side piece.kind
 pub same_test : (f g : Cell → Bool) → map f all_cells ≡ map g all_cells → (cell : Cell) → f cell ≡ g cell
 same_test f g e cell = grind (arith, told_cell)
 
+pub squares_same : (setup : Setup) (f test : Cell → Bool) (mask : ℕ) → map f all_cells ≡ map test all_cells → AreSquares setup f mask
+    → AreSquares setup test mask
+squares_same setup f test mask e are =
+    IsMask-same (λ square. f (at setup square)) (λ square. test (at setup square)) mask (λ square lt. same_test f test e (at setup square)) are
+
 -- every square of the board
-pub everywhere : (test : ℕ → Bool) → ((square : ℕ) → test square ≡ true) → IsMask test ALL_SQUARES
-everywhere test all = IsMask-same (λ square. true) test ALL_SQUARES (λ square lt. sym (all square)) (is_mask (λ square. true) ALL_SQUARES refl)
-
-pub all_are : (setup : Setup) → AreSquares setup (λ cell. true) ALL_SQUARES
-all_are setup = everywhere (λ square. true) (λ square. refl)
-
--- the squares of two sets
-pub of_both : (setup : Setup) (f g test : Cell → Bool) (a b : ℕ) → map (λ cell. f cell && g cell) all_cells ≡ map test all_cells
-    → AreSquares setup f a → AreSquares setup g b → AreSquares setup test (bit_and a b)
-of_both setup f g test a b e is are =
-    IsMask-same (λ square. f (at setup square) && g (at setup square)) (λ square. test (at setup square)) (bit_and a b)
-    (λ square lt. same_test (λ cell. f cell && g cell) test e (at setup square))
-    (IsMask-and (λ square. f (at setup square)) (λ square. g (at setup square)) a b is are)
-
--- those of the first without the second
-pub of_first : (setup : Setup) (f g test : Cell → Bool) (a b : ℕ) → map (λ cell. f cell && not (g cell)) all_cells ≡ map test all_cells
-    → AreSquares setup f a → AreSquares setup g b → AreSquares setup test (bit_and a (bit_not w16 b))
-of_first setup f g test a b e is are =
-    IsMask-same (λ square. f (at setup square) && not (g (at setup square))) (λ square. test (at setup square)) (bit_and a (bit_not w16 b))
-    (λ square lt. same_test (λ cell. f cell && not (g cell)) test e (at setup square))
-    (IsMask-without (λ square. f (at setup square)) (λ square. g (at setup square)) a b is are)
-
-abbrev pub either : (Cell → Bool) → (Cell → Bool) → Cell → Bool
-either f g cell = f cell || g cell
-
--- and those of either
-pub of_either : (setup : Setup) (f g test : Cell → Bool) (a b : ℕ) → map (either f g) all_cells ≡ map test all_cells → AreSquares setup f a
-    → AreSquares setup g b → AreSquares setup test (bit_or a b)
-of_either setup f g test a b e is are =
-    IsMask-same (λ s. f (at setup s) || g (at setup s)) (λ s. test (at setup s)) (bit_or a b) (λ s lt. same_test (either f g) test e (at setup s))
-    (IsMask-or (λ s. f (at setup s)) (λ s. g (at setup s)) a b is are)
-
--- a piece other than a lion
-abbrev pub is_other : Cell → Bool
-is_other = either (either is_chick is_elephant) is_giraffe
-
-pub others_are : (setup : Setup) (b : Board) → IsBoardOf setup b → AreSquares setup is_other (bit_or (bit_or b.chicks b.elephants) b.giraffes)
-others_are setup b are =
-    of_either setup (either is_chick is_elephant) is_giraffe is_other _ b.giraffes refl
-    (of_either setup is_chick is_elephant (either is_chick is_elephant) b.chicks b.elephants refl are.chicks_are are.elephants_are) are.giraffes_are
+pub everywhere : (test : ℕ → Bool) → ((square : ℕ) → test square ≡ true) → IsMask test 4095
+everywhere test all = IsMask-same (λ square. true) test 4095 (λ square lt. sym (all square)) (is_mask (λ square. true) 4095 refl)

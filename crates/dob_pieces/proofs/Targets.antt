@@ -1,8 +1,10 @@
 -- The masks of the tables are the steps of the kinds: computed for each kind and each two squares.
-use Rattle.dob_pieces.proofs.Common.{◌&&◌, ◌<◌, ◌≡◌, Bool, List, [], cond, eqb, get_or, ltb, refl, slice_index_or, subst, true, ℕ, and_parts, eqb-true}
-use Rattle.dob_pieces.proofs.Common.{ltb-true, bit_at, IsMask, kind_place, leads, Kind, Lion}
+use Rattle.dob_pieces.proofs.Common.{◌&&◌, ◌<◌, ◌==◌, ◌||◌, ◌≡◌, Bool, List, [], cond, eqb, get_or, ltb, not, refl, slice_index_or, subst, true, ℕ, and_parts}
+use Rattle.dob_pieces.proofs.Common.{eqb-true}
+use Rattle.dob_pieces.proofs.Common.{ltb-true, bit, bit_at, IsMask, kind_place, leads, with_square, without_square, Kind, Lion}
 use Rattle.dob_pieces.specs.declared.steps.TheConstants.{TARGETS, SOURCES}
 use Rattle.dob_pieces.proofs.Boards.{all_below, all_below-at}
+use Rattle.dob_pieces.proofs.MaskBits.{IsMask-or, IsMask-without, bit-small}
 
 -- the mask has just the squares that pass the test
 abbrev pub has_bits : (ℕ → Bool) → ℕ → Bool
@@ -17,6 +19,23 @@ is_mask test mask h =
           eqb-true (bit_at mask square) (cond (test square) 1 0)
           (all_below-at (λ square. eqb (bit_at mask square) (cond (test square) 1 0)) 12 square parts.1 lt);
     }
+
+-- the set of one square
+abbrev alone_test : ℕ → Bool
+alone_test square = has_bits (λ s. s == square) (bit square)
+
+all_alone : all_below alone_test 12 ≡ true
+all_alone = refl
+
+pub alone : (square : ℕ) → square < 12 → IsMask (λ s. s == square) (bit square)
+alone square lt = is_mask (λ s. s == square) (bit square) (all_below-at alone_test 12 square all_alone lt)
+
+-- a set with a square more, and one without a square
+pub IsMask-more : (test : ℕ → Bool) (mask square : ℕ) → square < 12 → IsMask test mask → IsMask (λ s. test s || (s == square)) (with_square mask square)
+IsMask-more test mask square lt is = IsMask-or test (λ s. s == square) mask (bit square) is (alone square lt)
+
+pub IsMask-less : (test : ℕ → Bool) (mask square : ℕ) → square < 12 → IsMask test mask → IsMask (λ s. test s && not (s == square)) (without_square mask square)
+IsMask-less test mask square lt is = IsMask-without test (λ s. s == square) mask (bit square) is (alone square lt)
 
 -- a kind's row
 abbrev row_of : List (List ℕ) → Kind → List ℕ
@@ -50,3 +69,7 @@ target_read kind row from index is at low = rw is (table_mask (leads kind) (row_
 pub source_read : (kind : Kind) (row to index : ℕ) → row ≡ kind_place kind → index ≡ to → index < 12
     → IsMask (λ from. leads kind from to) (slice_index_or (slice_index_or SOURCES row []) index 0)
 source_read kind row to index is at low = rw is (table_mask (λ k from. leads kind from k) (row_of SOURCES kind) to index (sources_computed kind) at low)
+
+pub ruleset alone_laws = (alone, bit-small)
+
+pub ruleset rows = (target_read, source_read)

@@ -1,13 +1,14 @@
 -- A setup as sets of squares, with no list of cells.
-use Rattle.std.specs.Prelude.{◌≡◌, ℕ, ◌/◌, ◌%◌, ◌||◌, Bool, false, Some, None, length}
+use Rattle.std.specs.Prelude.{◌≡◌, ℕ, ◌/◌, ◌%◌, ◌&&◌, ◌||◌, Bool, false, Some, None, length}
 use Rattle.dob_pieces.specs.declared.board.Board.{Board}
 use Rattle.dob_pieces.specs.declared.kind.HandKind.TheVariants as hand
+use Rattle.dob_pieces.specs.declared.kind.Kind.{Kind}
 use Rattle.dob_pieces.specs.declared.kind.Kind.TheVariants.{Lion, Hen}
 use Rattle.dob_pieces.specs.declared.kind.Side.TheVariants.{Mover, Enemy}
 use Rattle.dob_pieces.specs.declared.setup.Setup.{Setup}
-use Rattle.dob_pieces.specs.Masks.{AreSquares, is_piece, is_prey}
-use Rattle.dob_pieces.specs.Pieces.{is_side}
-use Rattle.dob_pieces.specs.Setups.{Cell, HasLions, holds_kind}
+use Rattle.dob_pieces.specs.Masks.{AreSquares, IsMask, is_piece, is_prey}
+use Rattle.dob_pieces.specs.Pieces.{is_side, leads}
+use Rattle.dob_pieces.specs.Setups.{Cell, HasLions, at, holds_kind}
 
 abbrev pub is_own_lion : Cell → Bool
 is_own_lion = is_piece Mover Lion
@@ -43,6 +44,14 @@ pub record IsBoardOf (setup : Setup) (board : Board) : Type 0 where
   pub hens_are : AreSquares setup is_hen board.hens
   pub enemies_are : AreSquares setup is_enemy board.enemies
   pub hands_are : board.hands ≡ setup.hands
+
+-- a piece other than a lion
+abbrev pub is_other : Cell → Bool
+is_other cell = (is_chick cell || is_elephant cell) || is_giraffe cell
+
+-- the mover's pieces of that kind which step to the target
+abbrev pub AreAttackersOf : Setup → ℕ → Kind → ℕ → Type 0
+AreAttackersOf setup target kind = IsMask (λ from. is_piece Mover kind (at setup from) && leads kind from target)
 
 -- twelve squares, on which each side has one lion
 abbrev pub HasTwoLions : Setup → Type 0

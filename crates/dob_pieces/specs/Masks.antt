@@ -1,6 +1,8 @@
 -- Sets of squares as the bits of a number, square 0 as the lowest.
-use Rattle.std.specs.Prelude.{◌≡◌, ℕ, ◌+◌, ◌<◌, ◌&&◌, Bool, true, false, cond, List, [], Option, Some, None, slice_index_or}
-use Rattle.std.specs.Int.{bit_at}
+use Rattle.std.specs.Prelude.{◌≡◌, ℕ, ◌+◌, ◌*◌, ◌%◌, ◌^◌, ◌<◌, ◌&&◌, ◌==◌, bit_and, bit_or, Bool, true, false, cond, List, [], Option, Some, None}
+use Rattle.std.specs.Prelude.{slice_index_or}
+use Rattle.std.specs.List.{filter, range_with_len}
+use Rattle.std.specs.Int.{bit_at, bit_not, trailing_zeros, w16}
 use Rattle.dob_pieces.specs.declared.kind.Kind.{Kind}
 use Rattle.dob_pieces.specs.declared.kind.Kind.TheVariants.{Lion, Giraffe, Elephant, Chick, Hen}
 use Rattle.dob_pieces.specs.declared.kind.Side.{Side}
@@ -13,6 +15,29 @@ use Rattle.dob_pieces.specs.Setups.{Cell, at}
 pub record IsMask (test : ℕ → Bool) (mask : ℕ) : Type 0 where
   pub within : mask < 4096
   pub bits : (square : ℕ) → square < 12 → bit_at mask square ≡ cond (test square) 1 0
+
+-- the bit of a square
+abbrev pub bit : ℕ → ℕ
+bit square = 1 * 2 ^ square % 2 ^ 16
+
+-- with that square, and without it
+abbrev pub with_square : ℕ → ℕ → ℕ
+with_square mask square = bit_or mask (bit square)
+
+abbrev pub without_square : ℕ → ℕ → ℕ
+without_square mask square = bit_and mask (bit_not w16 (bit square))
+
+-- with the square where the flag is 1, and as it was where it is 0
+abbrev pub IsMarked : ℕ → ℕ → ℕ → ℕ → Type 0
+IsMarked flag square old new = (is : Bool) → flag ≡ cond is 1 0 → new ≡ cond is (with_square old square) old
+
+-- the first square of a set that has one
+abbrev pub IsFirst : ℕ → ℕ → Type 0
+IsFirst mask square = (0 < mask) × (square ≡ trailing_zeros w16 mask)
+
+-- the squares of a set, from the first on
+unfoldable pub squares_in : ℕ → List ℕ
+squares_in mask = filter (λ square. bit_at mask square == 1) (range_with_len 0 12)
 
 abbrev pub is_kind : Kind → Kind → Bool
 is_kind Lion Lion = true

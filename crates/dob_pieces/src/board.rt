@@ -1,41 +1,34 @@
 // What stands on the board as sets of squares by side and kind, with no list of cells: what must be fast reads these. A setup's sets come from one pass over
 // its cells, without a branch on what stands there.
-ghost use Rattle.std.specs.Prelude.{◌≡◌, ℕ, Bool, true};
-ghost use Rattle.dob_pieces.specs.Boards.{IsBoardOf, HasPlanes, HasTwoLions};
+ghost use Rattle.std.specs.Prelude.{◌≡◌, Some, true};
+ghost use Rattle.dob_pieces.specs.Boards.{IsBoardOf, HasPlanes, HasTwoLions, AreAttackersOf, is_other};
 ghost use Rattle.dob_pieces.specs.Masks.{AreSquares, IsMask, attacks, is_empty, is_end, is_own, is_piece};
 ghost use Rattle.dob_pieces.specs.Setups.{at, mirrored, piece_of, turned};
-ghost use Rattle.dob_pieces.specs.Squares.{mirrored_square};
 ghost use Rattle.dob_pieces.specs.declared.kind.Side.TheVariants.{Mover, Enemy};
 ghost use Rattle.dob_pieces.specs.declared.setup.Setup.{Setup};
 
+use crate::cell_tables::{CellTable, entry_of, plane};
 use crate::hand::Hands;
 use crate::kind::Kind;
-use crate::masks::{ALL_SQUARES, CellTable, entry_of, has_square, lowest_square, plane};
 use crate::setup::Setup;
 use crate::square::Square;
+use crate::square_set::SquareSet;
 
-/// What stands on the board, as sets of squares with a bit for each square, that of square 0 as the lowest; and what lies in the hands.
+/// What stands on the board, as sets of squares; and what lies in the hands.
 #[derive(Clone, Copy)]
 pub struct Board {
-    pub own_lion: u16,
-    pub enemy_lion: u16,
+    pub own_lion: SquareSet,
+    pub enemy_lion: SquareSet,
     /// Chicks and hens of both sides.
-    pub chicks: u16,
-    pub elephants: u16,
-    pub giraffes: u16,
+    pub chicks: SquareSet,
+    pub elephants: SquareSet,
+    pub giraffes: SquareSet,
     /// Hens of both sides.
-    pub hens: u16,
+    pub hens: SquareSet,
     /// The enemy's pieces other than the lion.
-    pub enemies: u16,
+    pub enemies: SquareSet,
     pub hands: Hands,
 }
-
-// The squares of each column: of the three bits of a row the lowest is that of column a.
-const COLUMN_A: u16 = 0b001_001_001_001;
-
-const COLUMN_B: u16 = 0b010_010_010_010;
-
-const COLUMN_C: u16 = 0b100_100_100_100;
 
 // The lowest bits of five planes of a word: the lions of both, ..
 const LIONS: u64 = 1;
@@ -122,13 +115,13 @@ impl Board {
         let elephants = plane(planes, ELEPHANTS);
         let giraffes_and_hens = plane(planes, GIRAFFES_AND_HENS);
         Board {
-            own_lion: lions & !enemies,
-            enemy_lion: lions & enemies,
+            own_lion: lions.but_not(enemies),
+            enemy_lion: lions.and(enemies),
             chicks,
             elephants,
-            giraffes: giraffes_and_hens & !chicks,
-            hens: giraffes_and_hens & chicks,
-            enemies: enemies & !lions,
+            giraffes: giraffes_and_hens.but_not(chicks),
+            hens: giraffes_and_hens.and(chicks),
+            enemies: enemies.but_not(lions),
             hands,
         }
     }
@@ -138,13 +131,13 @@ impl Board {
         ensures { (setup : Setup) → IsBoardOf setup self.now → IsBoardOf (mirrored setup) result }
     {
         Board {
-            own_lion: mirrored_mask(self.own_lion),
-            enemy_lion: mirrored_mask(self.enemy_lion),
-            chicks: mirrored_mask(self.chicks),
-            elephants: mirrored_mask(self.elephants),
-            giraffes: mirrored_mask(self.giraffes),
-            hens: mirrored_mask(self.hens),
-            enemies: mirrored_mask(self.enemies),
+            own_lion: self.own_lion.mirrored(),
+            enemy_lion: self.enemy_lion.mirrored(),
+            chicks: self.chicks.mirrored(),
+            elephants: self.elephants.mirrored(),
+            giraffes: self.giraffes.mirrored(),
+            hens: self.hens.mirrored(),
+            enemies: self.enemies.mirrored(),
             hands: self.hands,
         }
     }
@@ -152,75 +145,91 @@ impl Board {
     /// Whether the lions say that the mirror image is the earlier one: the own one stands on column c, or on b and the enemy's on c. It is a hint, on which
     /// nothing rests but time.
     pub fn is_later_image(&self) -> bool {
-        let aside = if self.own_lion & COLUMN_B == 0 {
+        let aside = if self.own_lion.and(SquareSet::COLUMN_B).is_empty() {
             self.own_lion
         } else {
             self.enemy_lion
         };
-        aside & COLUMN_C != 0
+        !aside.and(SquareSet::COLUMN_C).is_empty()
     }
 
     /// The mover's pieces.
     #[inline(always)]
-    pub fn own(&self) -> u16
+    pub fn own(&self) -> SquareSet
         ensures { (setup : Setup) → IsBoardOf setup self.now → AreSquares setup is_own result }
     {
-        self.own_lion | (self.chicks | self.elephants | self.giraffes) & !self.enemies
+        self.own_lion.or(self.others().but_not(self.enemies))
+    }
+
+    // All pieces other than lions.
+    #[inline(always)]
+    fn others(&self) -> SquareSet
+        ensures { (setup : Setup) → IsBoardOf setup self.now → AreSquares setup is_other result }
+    {
+        self.chicks.or(self.elephants).or(self.giraffes)
     }
 
     // The mover's pieces of that kind.
     #[inline(always)]
-    fn own_of(&self, kind: Kind) -> u16
+    fn own_of(&self, kind: Kind) -> SquareSet
         ensures { (setup : Setup) → IsBoardOf setup self.now → AreSquares setup (is_piece Mover kind) result }
     {
         match kind {
             Kind::Lion => self.own_lion,
-            Kind::Giraffe => self.giraffes & !self.enemies,
-            Kind::Elephant => self.elephants & !self.enemies,
-            Kind::Chick => self.chicks & !(self.hens | self.enemies),
-            Kind::Hen => self.hens & !self.enemies,
+            Kind::Giraffe => self.giraffes.but_not(self.enemies),
+            Kind::Elephant => self.elephants.but_not(self.enemies),
+            Kind::Chick => self.chicks.but_not(self.hens.or(self.enemies)),
+            Kind::Hen => self.hens.but_not(self.enemies),
         }
     }
 
     /// The empty squares.
     #[inline(always)]
-    pub fn empty(&self) -> u16
+    pub fn empty(&self) -> SquareSet
         ensures { (setup : Setup) → IsBoardOf setup self.now → AreSquares setup is_empty result }
     {
-        let pieces = self.chicks | self.elephants | self.giraffes;
-        ALL_SQUARES & !(self.own_lion | self.enemy_lion | pieces)
+        let lions = self.own_lion.or(self.enemy_lion);
+        SquareSet::ALL.but_not(lions.or(self.others()))
     }
 
     /// Where a step of the mover may end: empty squares, and enemy pieces other than the lion.
     #[inline(always)]
-    pub fn ends(&self) -> u16
+    pub fn ends(&self) -> SquareSet
         ensures { (setup : Setup) → IsBoardOf setup self.now → AreSquares setup is_end result }
     {
-        self.empty() | self.enemies
+        self.empty().or(self.enemies)
     }
 
     /// The mover's pieces that attack the square.
-    pub fn attackers(&self, target: Square) -> u16
+    pub fn attackers(&self, target: Square) -> SquareSet
         ensures { (setup : Setup) → IsBoardOf setup self.now → IsMask (λ from. attacks setup from target) result }
     {
-        self.own_of(Kind::Lion) & Kind::Lion.sources(target)
-            | self.own_of(Kind::Giraffe) & Kind::Giraffe.sources(target)
-            | self.own_of(Kind::Elephant) & Kind::Elephant.sources(target)
-            | self.own_of(Kind::Chick) & Kind::Chick.sources(target)
-            | self.own_of(Kind::Hen) & Kind::Hen.sources(target)
+        self.attackers_of(Kind::Lion, target)
+            .or(self.attackers_of(Kind::Giraffe, target))
+            .or(self.attackers_of(Kind::Elephant, target))
+            .or(self.attackers_of(Kind::Chick, target))
+            .or(self.attackers_of(Kind::Hen, target))
+    }
+
+    // Those of that kind.
+    #[inline(always)]
+    fn attackers_of(&self, kind: Kind, target: Square) -> SquareSet
+        ensures { (setup : Setup) → IsBoardOf setup self.now → AreAttackersOf setup target kind result }
+    {
+        self.own_of(kind).and(kind.sources(target))
     }
 
     /// The kind of the mover's piece on the square, on which one stands.
     pub fn own_kind(&self, square: Square) -> Kind
         ensures { (setup : Setup) → IsBoardOf setup self.now → is_own (at setup square) ≡ true → at setup square ≡ Some (piece_of Mover result) }
     {
-        if has_square(self.own_lion, square) {
+        if self.own_lion.has(square) {
             Kind::Lion
-        } else if has_square(self.giraffes, square) {
+        } else if self.giraffes.has(square) {
             Kind::Giraffe
-        } else if has_square(self.elephants, square) {
+        } else if self.elephants.has(square) {
             Kind::Elephant
-        } else if has_square(self.hens, square) {
+        } else if self.hens.has(square) {
             Kind::Hen
         } else {
             Kind::Chick
@@ -232,7 +241,7 @@ impl Board {
         requires { (setup : Setup) × HasTwoLions setup × IsBoardOf setup self.now }
         ensures { (setup : Setup) → HasTwoLions setup → IsBoardOf setup self.now → at setup result ≡ Some (piece_of Mover Kind.Lion) }
     {
-        lowest_square(self.own_lion)
+        self.own_lion.lowest()
     }
 
     /// The square of the enemy's lion.
@@ -240,13 +249,6 @@ impl Board {
         requires { (setup : Setup) × HasTwoLions setup × IsBoardOf setup self.now }
         ensures { (setup : Setup) → HasTwoLions setup → IsBoardOf setup self.now → at setup result ≡ Some (piece_of Enemy Kind.Lion) }
     {
-        lowest_square(self.enemy_lion)
+        self.enemy_lion.lowest()
     }
-}
-
-// The mask with columns a and c exchanged.
-fn mirrored_mask(mask: u16) -> u16
-    ensures { (test : ℕ → Bool) → IsMask test mask → IsMask (λ square. test (mirrored_square square)) result }
-{
-    (COLUMN_A & mask) << 2 | COLUMN_B & mask | COLUMN_A & (mask >> 2)
 }

@@ -8,7 +8,6 @@ ghost use Rattle.dob_pieces.specs.declared.setup.Setup.{Setup};
 
 use crate::board::Board;
 use crate::kind::Kind;
-use crate::masks::without_square;
 use crate::square::Square;
 
 impl Board {
@@ -17,13 +16,13 @@ impl Board {
         ensures { (before after : Setup) → IsWith before after square None → IsBoardOf before self → IsBoardOf after result }
     {
         Board {
-            own_lion: without_square(self.own_lion, square),
-            enemy_lion: without_square(self.enemy_lion, square),
-            chicks: without_square(self.chicks, square),
-            elephants: without_square(self.elephants, square),
-            giraffes: without_square(self.giraffes, square),
-            hens: without_square(self.hens, square),
-            enemies: without_square(self.enemies, square),
+            own_lion: self.own_lion.without(square),
+            enemy_lion: self.enemy_lion.without(square),
+            chicks: self.chicks.without(square),
+            elephants: self.elephants.without(square),
+            giraffes: self.giraffes.without(square),
+            hens: self.hens.without(square),
+            enemies: self.enemies.without(square),
             hands: self.hands,
         }
     }
@@ -33,7 +32,7 @@ impl Board {
         ensures { (before after : Setup) → at before square ≡ None → IsWith before after square (Some (piece_of Mover kind)) → IsBoardOf before self
             → IsBoardOf after result }
     {
-        own_added(self, 1 << square.index(), kind)
+        own_added(self, square, kind)
     }
 
     /// The board with the enemy's piece of that kind on an empty square.
@@ -41,51 +40,51 @@ impl Board {
         ensures { (before after : Setup) → at before square ≡ None → IsWith before after square (Some (piece_of Enemy kind)) → IsBoardOf before self
             → IsBoardOf after result }
     {
-        enemy_added(self, 1 << square.index(), kind)
+        enemy_added(self, square, kind)
     }
 }
 
-// The sets with the mover's piece of that kind, by the bit of an empty square.
-fn own_added(board: Board, bit: u16, kind: Kind) -> Board
-    ensures { result ≡ with_own kind bit board }
+// The sets with the mover's piece of that kind on an empty square.
+fn own_added(board: Board, square: Square, kind: Kind) -> Board
+    ensures { result ≡ with_own kind square board }
 {
     match kind {
         Kind::Lion => Board {
-            own_lion: board.own_lion | bit,
+            own_lion: board.own_lion.with(square),
             ..board
         },
         Kind::Giraffe => Board {
-            giraffes: board.giraffes | bit,
+            giraffes: board.giraffes.with(square),
             ..board
         },
         Kind::Elephant => Board {
-            elephants: board.elephants | bit,
+            elephants: board.elephants.with(square),
             ..board
         },
         Kind::Chick => Board {
-            chicks: board.chicks | bit,
+            chicks: board.chicks.with(square),
             ..board
         },
         Kind::Hen => Board {
-            chicks: board.chicks | bit,
-            hens: board.hens | bit,
+            chicks: board.chicks.with(square),
+            hens: board.hens.with(square),
             ..board
         },
     }
 }
 
 // The sets with the enemy's piece: but for the lion it is in the set of all enemies too.
-fn enemy_added(board: Board, bit: u16, kind: Kind) -> Board
-    ensures { result ≡ with_enemy kind bit board }
+fn enemy_added(board: Board, square: Square, kind: Kind) -> Board
+    ensures { result ≡ with_enemy kind square board }
 {
     match kind {
         Kind::Lion => Board {
-            enemy_lion: board.enemy_lion | bit,
+            enemy_lion: board.enemy_lion.with(square),
             ..board
         },
         Kind::Giraffe | Kind::Elephant | Kind::Chick | Kind::Hen => Board {
-            enemies: board.enemies | bit,
-            ..own_added(board, bit, kind)
+            enemies: board.enemies.with(square),
+            ..own_added(board, square, kind)
         },
     }
 }

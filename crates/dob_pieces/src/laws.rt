@@ -1,16 +1,13 @@
-// Laws of turning and mirroring, and of all squares. Each function does nothing; its contract is the law.
-ghost use Rattle.std.specs.Prelude.{◌≡◌, ◌<◌, ℕ, true, length};
+// Laws of turning and mirroring. Each function does nothing; its contract is the law.
+ghost use Rattle.std.specs.Prelude.{◌≡◌, ◌<◌, ℕ, length};
 ghost use Rattle.dob_pieces.specs.declared.kind.Kind.{Kind};
 ghost use Rattle.dob_pieces.specs.declared.kind.HandKind.{HandKind};
 ghost use Rattle.dob_pieces.specs.declared.setup.Setup.{Setup};
 ghost use Rattle.dob_pieces.specs.declared.profile.Profile.{Profile};
-ghost use Rattle.dob_pieces.specs.Masks.{IsMask};
 ghost use Rattle.dob_pieces.specs.Pieces.{leads};
 ghost use Rattle.dob_pieces.specs.Profiles.{IsAllowed};
 ghost use Rattle.dob_pieces.specs.Squares.{mirrored_square};
 ghost use Rattle.dob_pieces.specs.Setups.{IsLegal, total, turned, mirrored};
-
-use crate::masks::ALL_SQUARES;
 
 /// Turning a board of twelve squares twice gives the setup back.
 #[tactic(auto, using(crate::proofs::Symmetries::laws))]
@@ -63,9 +60,4 @@ pub fn mirrored_step()
         → from < 12
         → to < 12
         → leads kind (mirrored_square from) (mirrored_square to) ≡ leads kind from to }
-{}
-
-/// The mask of all squares has each.
-pub fn all_squares()
-    ensures { IsMask (λ square. true) ALL_SQUARES }
 {}

@@ -7,7 +7,8 @@
 //   its mover's lion on row 4.
 // - The steps of a kind stand in one table, columns and rows each with one added, in the order of the squares stepped to; the bits that `leads` reads are
 //   proved against it.
-// - Masks are numbers of sixteen bits, not a type: `IsMask` says which squares one has, and `&` and `|` stay what they are.
+// - A `SquareSet` is a number in contracts, and `IsMask` says which squares it has. Nothing outside of its own methods knows of bits; only ranks ask for
+//   its number, to count squares below others.
 // - A table by what stands on a cell has two indices, kind and owner (`entry_of`), in rows of four whose last entry is padding, so that the index is an
 //   address. The seven sets of a `Board` come from five planes of one word.
 // - A position has two forms. A `Setup` is twelve cells and the hands: definitions, texts and other languages speak of it. A `Board` is sets of squares by
@@ -19,29 +20,30 @@
 #![tactic(auto)]
 
 mod board;
+mod cell_tables;
 mod changes;
 mod fault;
 mod hand;
 mod kind;
 pub mod laws;
-mod masks;
 mod memory;
 mod piece_set;
 mod position;
 mod profile;
 mod setup;
 mod square;
+mod square_set;
 mod steps;
 
 pub use board::Board;
 pub use fault::PositionFault;
 pub use hand::{Hand, Hands};
 pub use kind::{HandKind, Kind, Piece, Side};
-pub use masks::{ALL_SQUARES, has_square, lowest_square, without_square};
 pub use memory::Memory;
 pub use piece_set::{PieceSet, SetText};
 pub use position::Position;
 pub use profile::{Family, FarChick, Profile};
 pub use setup::Setup;
 pub use square::Square;
+pub use square_set::{SquareSet, Squares};
 pub use steps::Step;

@@ -5,6 +5,7 @@ ghost use Rattle.dob_pieces.specs.Masks.{IsMask, kind_place};
 
 use crate::kind::Kind;
 use crate::square::Square;
+use crate::square_set::SquareSet;
 
 /// A step's columns and rows for the side to move, each with one added, so that (1, 2) is a step straight ahead.
 pub type Step = (u8, u8);
@@ -89,25 +90,27 @@ impl Kind {
         }
     }
 
-    /// The squares to which the kind's steps lead from the square, as a mask: square 0 is the lowest bit.
-    pub fn targets(self, from: Square) -> u16
+    /// The squares to which the kind's steps lead from the square.
+    #[tactic(auto, using(crate::proofs::Targets::rows))]
+    pub fn targets(self, from: Square) -> SquareSet
         ensures { IsMask (leads self from) result }
     {
-        TARGETS[self.place()][from.index()]
+        SquareSet::of_bits(TARGETS[self.place()][from.index()])
     }
 
-    /// The squares from which the kind's steps lead to the square, as a mask.
-    pub fn sources(self, to: Square) -> u16
+    /// The squares from which the kind's steps lead to the square.
+    #[tactic(auto, using(crate::proofs::Targets::rows))]
+    pub fn sources(self, to: Square) -> SquareSet
         ensures { IsMask (λ from. leads self from to) result }
     {
-        SOURCES[self.place()][to.index()]
+        SquareSet::of_bits(SOURCES[self.place()][to.index()])
     }
 
     /// Whether one of the kind's steps leads from the one square to the other.
     pub fn leads(self, from: Square, to: Square) -> bool
         ensures { result ≡ leads self from to }
     {
-        self.targets(from) >> to.index() & 1 == 1
+        self.targets(from).has(to)
     }
 }
 

@@ -11,10 +11,10 @@ ghost use Rattle.dob_rank.specs.Order.{form};
 
 use crate::forms::base_of;
 use crate::layers::Layer;
-use dob_pieces::{ALL_SQUARES, Board};
+use dob_pieces::{Board, SquareSet};
 
 /// All squares of the board.
-pub(crate) const ALL: u64 = ALL_SQUARES as u64;
+pub(crate) const ALL: u64 = 0b111_111_111_111;
 
 /// How many squares a mask has.
 pub(crate) fn count(mask: u64) -> u64
@@ -71,16 +71,16 @@ pub(crate) fn form_at(board: &Board, of_layer: Layer, square: u32) -> u64
 {
     let enemy = bit_of(board.enemies, square);
     match of_layer {
-        Layer::Chicks => u64::from(2 * enemy + bit_of(board.hens, square)),
-        _ => u64::from(enemy),
+        Layer::Chicks => 2 * enemy + bit_of(board.hens, square),
+        _ => enemy,
     }
 }
 
 // The bit of a square.
-fn bit_of(mask: u16, square: u32) -> u16
+fn bit_of(set: SquareSet, square: u32) -> u64
     requires { square < 12 }
-    ensures value { result ≡ bit_at mask square }
+    ensures value { result ≡ bit_at set square }
     ensures bound { result ≤ 1 }
 {
-    mask >> square & 1
+    u64::from(set) >> square & 1
 }

@@ -10,19 +10,21 @@ pub use Rattle.std.proofs.lemmas.List.Kept.{AllPairs-cons, AllPairs-filter}
 pub use Rattle.std.proofs.lemmas.List.Sorted.{IsNonDecreasingBy-from_sort}
 pub use Rattle.std.proofs.lemmas.List.Sums.{length-filter, sum_by-append, sum_by-cons, sum_by_push}
 pub use Rattle.std.proofs.lemmas.Result.{on_ok_weaker}
-pub use Rattle.std.specs.Int.{trailing_zeros, w16}
 pub use Rattle.std.specs.List.{count_by, filter}
 pub use Rattle.std.specs.Option.{MatchOption, is_some}
-pub use Rattle.dob_pieces.proofs.Attacks.{attacks_piece, cell_lion, is_that_lion, lion_at, own_attacks}
+pub use Rattle.dob_pieces.proofs.Attacks.{attacks_piece, cell_lion, is_that_lion, lion_mask, own_attacks}
 pub use Rattle.dob_pieces.proofs.Boards.{HasFewPieces-turned, HasLions-turned, all_below, all_below-at, at-mirrored, at-turned, leads-apart}
 pub use Rattle.dob_pieces.proofs.Boards.{leads-to_board, length-mirrored, length-turned, one_lion, own_lion, total-mirrored, within-from_piece}
 pub use Rattle.dob_pieces.proofs.Lists.{cond_sound, cons_cases, each_sound, head_in, none_in_empty}
-pub use Rattle.dob_pieces.proofs.MaskBits.{IsLeft, IsMask-and, IsMask-or, IsMask-same, IsMask-without, all_left, next_left, none_left, none_passes, without}
+pub use Rattle.dob_pieces.proofs.MaskBits.{IsLowest, IsMask-same, empty_mask, lowest_is, none_passes, passes_somewhere}
+pub use Rattle.dob_pieces.proofs.MaskWalks.{IsWalked, each_range, walk_next, walk_passes, walk_start, walk_whole}
+unfoldable pub use Rattle.dob_pieces.proofs.MaskWalks.{passing}
 pub use Rattle.dob_pieces.proofs.Planes.{everywhere}
 pub use Rattle.dob_pieces.proofs.Symmetries.{at-image, turned-mirrored, turned-turned}
-pub use Rattle.dob_pieces.proofs.Targets.{has_bits, is_mask}
+pub use Rattle.dob_pieces.proofs.Targets.{IsMask-less, is_mask}
 pub use Rattle.dob_pieces.specs.Lists.{each_below, one_if}
-pub use Rattle.dob_pieces.specs.Masks.{AreSquares, IsMask, attacks, attacks_by, is_empty, is_kind, is_own, is_piece, kind_place}
+pub use Rattle.dob_pieces.specs.Masks.{AreSquares, IsFirst, IsMask, attacks, attacks_by, is_empty, is_kind, is_own, is_piece, kind_place, without_square}
+unfoldable pub use Rattle.dob_pieces.specs.Masks.{squares_in}
 pub use Rattle.dob_pieces.specs.Pieces.{kind_in_hand, kind_on_board}
 unfoldable pub use Rattle.dob_pieces.specs.Pieces.{leads}
 pub use Rattle.dob_pieces.specs.Profiles.{IsAllowed, is_far, may_stand}
@@ -37,7 +39,6 @@ pub use Rattle.dob_pieces.specs.declared.kind.Kind.{Kind}
 pub use Rattle.dob_pieces.specs.declared.kind.Kind.TheVariants.{Chick, Elephant, Giraffe, Hen, Lion}
 pub use Rattle.dob_pieces.specs.declared.kind.Side.{Side}
 pub use Rattle.dob_pieces.specs.declared.kind.Side.TheVariants.{Enemy, Mover}
-pub use Rattle.dob_pieces.specs.declared.masks.TheConstants.{ALL_SQUARES}
 pub use Rattle.dob_pieces.specs.declared.profile.Family.{Family}
 pub use Rattle.dob_pieces.specs.declared.profile.Profile.{Profile}
 pub use Rattle.dob_pieces.specs.declared.profile.Profile.TheVariants.{A, B}
@@ -77,4 +78,3 @@ pub use Rattle.dob_unmove.specs.declared.attackers.Attackers.TheVariants.{Nobody
 pub use Rattle.dob_unmove.specs.declared.attackers.Threat.{Threat}
 pub use Rattle.dob_unmove.specs.declared.undo.RetroMove.{RetroMove}
 pub use Rattle.dob_unmove.specs.declared.undo.RetroMove.TheVariants.{Unput, Unstep}
-pub use Rattle.dob_unmove.specs.declared.ways.TheConstants.{BESIDE_B, HOMES_ON_A, HOMES_ON_A_AND_B}

@@ -2,7 +2,7 @@
 -- the mover's lion stood off row 4.
 use Rattle.dob_unmove.proofs.Common.{rules, if◌then◌else◌, ◌&&◌, ◌<◌, ◌||◌, ◌∙◌, ◌∷◌, ◌≡◌, ◌≢◌, ◌≤◌, ◌⊎◌, Bool, List, None, Option, Some, [], ap, arith, false}
 use Rattle.dob_unmove.proofs.Common.{inl, inr, not, cases_eq, one_lion, side_of, HasLions, HasLionHome, HasLionOffFarRow, TellsHome, enemy_cell, refl, subst}
-use Rattle.dob_unmove.proofs.Common.{sym, true, true≢false, ℕ, and_parts, cases_Bool, not-true, trailing_zeros, w16, lion_at, is_empty, is_own, is_piece}
+use Rattle.dob_unmove.proofs.Common.{sym, true, true≢false, ℕ, and_parts, cases_Bool, not-true, lion_mask, passes_somewhere, is_empty, is_own, is_piece}
 use Rattle.dob_unmove.proofs.Common.{kind_of, leads, Cell, IsLegal, at, piece_of, Kind, Chick, Elephant, Giraffe, Hen, Lion, Enemy, Mover, Family, Setup}
 use Rattle.dob_unmove.proofs.Common.{IsSeenTurned, CanWalk, Gathers, elsewhere, stood_before, CanUndo, CanUnstep, arrives_at, earlier, stands, uncatch}
 use Rattle.dob_unmove.proofs.Common.{undoes_at, unsteps_between, unsteps_from, comes_home, is_home, may_come, may_have_ended, Threat, RetroMove, Unput, Unstep, setup_after}
@@ -95,11 +95,17 @@ module _ (walk : Walk) (w : CanWalk walk) where
 
   -- ---- where the move can't have ended
 
+  lion_there : (square : ℕ) × (square < 12) × (is_piece Mover Lion (at after square) ≡ true)
+  lion_there =
+      let are = w.ways_are.board_is.own_lion_is in
+      let some = lion_mask after Mover walk.ways.now.board.own_lion (turned_squares after legal) (turned_lions after legal) are in
+      passes_somewhere (λ square. is_piece Mover Lion (at after square)) walk.ways.now.board.own_lion are (λ none. omega (arith, some, none))
+
   abbrev lion_now : ℕ
-  lion_now = trailing_zeros w16 walk.ways.now.board.own_lion
+  lion_now = lion_there.0
 
   lion_is_now : at after lion_now ≡ own_lion
-  lion_is_now = lion_at after Mover walk.ways.now.board.own_lion lion_now (turned_squares after legal) (turned_lions after legal) w.ways_are.board_is.own_lion_is refl
+  lion_is_now = lion_passes Mover (at after lion_now) lion_there.2
 
   pub ends_dead : AreDead (RepresentsClass family) after (may_have_ended after threat w.ways_are.stays) (undoes_at after)
   ends_dead k lt off u inside =

@@ -1,7 +1,9 @@
 -- What the ways add, one list after the other: nothing where none can lead to an open representative.
-use Rattle.dob_unmove.proofs.Common.{◌++◌, ◌<◌, ◌∷◌, ◌≡◌, ◌≤◌, Bool, Contains, List, None, [], append-nil, arith, false, inl, inr, option_to_list, refl, subst}
-use Rattle.dob_unmove.proofs.Common.{suc, sym, true, zero, ℕ, cases_lt, Contains-append_right, trailing_zeros, w16, head_in, IsLeft, all_left, next_left}
-use Rattle.dob_unmove.proofs.Common.{none_left, without, each_below, IsMask, Setup, Gathers, IsOpenRepresentative, earlier, RetroMove, TakesAll, Adds}
+use Rattle.dob_unmove.proofs.Common.{◌++◌, ◌+◌, ◌<◌, ◌∷◌, ◌≡◌, ◌≤◌, Bool, Contains, List, None, [], append-nil, arith, cases_Bool, false, filter, inl, inr}
+use Rattle.dob_unmove.proofs.Common.{option_to_list, refl, subst, suc, sym, true, zero, ℕ, Contains-append_right, head_in, IsWalked, each_range, passing}
+use Rattle.dob_unmove.proofs.Common.{squares_in, walk_next, walk_passes, walk_start, walk_whole, each_below, IsMask, Setup, Gathers, IsOpenRepresentative}
+use Rattle.dob_unmove.proofs.Common.{earlier, RetroMove, TakesAll, Adds}
+use Rattle.std.specs.List.{flat_map, range_with_len}
 
 pub gathers_none : (Represents : Setup → ℕ → Type 0) (after : Setup) (xs : List ℕ) → Gathers Represents after [] xs xs
 gathers_none Represents after xs = refl
@@ -38,57 +40,60 @@ gathers_dead Represents after (u ∷ us) xs dead =
     let rest = gathers_dead Represents after us xs (λ v inside. dead v (Contains-append_right (u ∷ []) us v inside)) in
     (None, dead u (head_in u us), subst (λ (l : List ℕ). Gathers Represents after us l xs) (sym (append-nil xs)) rest)
 
--- ---- walks over the squares of a mask
+-- what the ways of two lists add
+gathers_split : (Represents : Setup → ℕ → Type 0) (after : Setup) (us vs : List RetroMove) (xs zs : List ℕ) → Gathers Represents after (us ++ vs) xs zs
+    → (ys : List ℕ) × Gathers Represents after us xs ys × Gathers Represents after vs ys zs
+gathers_split Represents after [] vs xs zs h = (xs, refl, h)
+gathers_split Represents after (u ∷ us) vs xs zs h =
+    let rest = gathers_split Represents after us vs (xs ++ option_to_list h.0) zs h.2 in (rest.0, (h.0, h.1, rest.1), rest.2)
+
+-- ---- walks over the squares of a set
 
 -- where the test fails the ways are dead
 abbrev pub AreDead : (Setup → ℕ → Type 0) → Setup → (ℕ → Bool) → (ℕ → List RetroMove) → Type 0
 AreDead Represents after test g = (k : ℕ) → k < 12 → test k ≡ false → (u : RetroMove) → Contains (g k) u → IsDead Represents after u
 
--- the squares that are left of a mask, and what was added so far
-pub record IsGathered (Represents : Setup → ℕ → Type 0) (after : Setup) (test : ℕ → Bool) (g : ℕ → List RetroMove) (left : ℕ) (before items : List ℕ) : Type 0 where
-  pub upto : ℕ
-  pub bound : upto ≤ 12
-  pub left_are : IsLeft test upto left
-  pub gathered : Gathers Represents after (each_below g upto) before items
+-- the squares of a set gone over, and what their ways added so far
+pub record IsGathered (Represents : Setup → ℕ → Type 0) (after : Setup) (test : ℕ → Bool) (g : ℕ → List RetroMove) (left : ℕ)
+    (walked before items : List ℕ) : Type 0 where
+  pub ways : List RetroMove
+  pub walk : IsWalked test g left walked [] ways
+  pub gathered : Gathers Represents after ways before items
 
 module _ (Represents : Setup → ℕ → Type 0) (after : Setup) (test : ℕ → Bool) (g : ℕ → List RetroMove) where
-  dead_between : AreDead Represents after test g → (from n : ℕ) (xs ys : List ℕ) → from ≤ n → n ≤ 12 → ((k : ℕ) → from ≤ k → k < n → test k ≡ false)
-      → Gathers Represents after (each_below g from) xs ys → Gathers Represents after (each_below g n) xs ys
-  dead_between dead from zero xs ys le within between h =
-      let e : from ≡ zero = omega arith in subst (λ (m : ℕ). Gathers Represents after (each_below g m) xs ys) e h
-  dead_between dead from (suc n) xs ys le within between h = elim (cases_lt n from) [
-    | inl last ↦ (let e : from ≡ suc n = omega arith in subst (λ (m : ℕ). Gathers Represents after (each_below g m) xs ys) e h)
-    | inr more ↦
-        gathers_append Represents after (each_below g n) (g n) xs ys ys
-        (dead_between dead from n xs ys more (omega arith) (λ k ge lt. between k ge (omega (arith, lt))) h)
-        (gathers_dead Represents after (g n) ys (dead n (omega arith) (between n more (omega arith))))
+  with_dead : AreDead Represents after test g → (a n : ℕ) (xs ys : List ℕ) → a + n ≤ 12
+      → Gathers Represents after (flat_map g (filter test (range_with_len a n))) xs ys → Gathers Represents after (flat_map g (range_with_len a n)) xs ys
+  with_dead dead a zero xs ys le h = h
+  with_dead dead a (suc n) xs ys le h = elim (cases_Bool (test a)) [
+    | inl is ↦
+        let parts = gathers_split Represents after (g a) (flat_map g (filter test (range_with_len (a + 1) n))) xs ys (rw is at h) in
+        gathers_append Represents after (g a) (flat_map g (range_with_len (a + 1) n)) xs parts.0 ys parts.1
+        (with_dead dead (a + 1) n parts.0 ys (omega (arith, le)) parts.2)
+    | inr isnt ↦
+        gathers_append Represents after (g a) (flat_map g (range_with_len (a + 1) n)) xs xs ys
+        (gathers_dead Represents after (g a) xs (dead a (omega (arith, le)) isnt)) (with_dead dead (a + 1) n xs ys (omega (arith, le)) (rw isnt at h))
   ]
 
-  pub gathered_start : (mask : ℕ) (before : List ℕ) → IsMask test mask → IsGathered Represents after test g mask before before
-  gathered_start mask before is = record { upto = 0; bound = omega arith; left_are = all_left test mask is; gathered = refl }
+  pub gathered_start : (mask : ℕ) (before : List ℕ) → IsMask test mask → IsGathered Represents after test g mask [] before before
+  gathered_start mask before is = record { ways = []; walk = walk_start test g mask [] is; gathered = refl }
 
-module _ {Represents : Setup → ℕ → Type 0} {after : Setup} {test : ℕ → Bool} {g : ℕ → List RetroMove} {left : ℕ} {before items : List ℕ}
-    (w : IsGathered Represents after test g left before items) where
-  -- the lowest square passes the test
-  pub passes_lowest : {place : ℕ} → 0 < left → place ≡ trailing_zeros w16 left → test place ≡ true
-  passes_lowest {place} some e = (next_left test w.upto left place w.left_are some e).passes
+module _ {Represents : Setup → ℕ → Type 0} {after : Setup} {test : ℕ → Bool} {g : ℕ → List RetroMove} {left : ℕ} {walked before items : List ℕ}
+    (w : IsGathered Represents after test g left walked before items) where
+  -- the next square passes the test
+  pub passes_next : {place : ℕ} {others : List ℕ} → squares_in left ≡ place ∷ others → test place ≡ true
+  passes_next next = walk_passes w.walk next
 
-  pub gathered_less : {place rest : ℕ} → 0 < left → place ≡ trailing_zeros w16 left → rest ≡ without left place → rest < left
-  gathered_less {place} some e gone = rw gone (next_left test w.upto left place w.left_are some e).less
+  pub gathered_next : {place rest : ℕ} {others new : List ℕ} → squares_in left ≡ place ∷ others → others ≡ squares_in rest
+      → Gathers Represents after (g place) items new → IsGathered Represents after test g rest (walked ++ place ∷ []) before new
+  gathered_next {place} {new = new} next same more = record {
+    ways = w.ways ++ g place;
+    walk = walk_next w.walk next same (λ passes. refl);
+    gathered = gathers_append Represents after w.ways (g place) before items new w.gathered more;
+  }
 
-  pub gathered_next : {place rest : ℕ} {new : List ℕ} → AreDead Represents after test g → 0 < left → place ≡ trailing_zeros w16 left
-      → rest ≡ without left place → Gathers Represents after (g place) items new → IsGathered Represents after test g rest before new
-  gathered_next {place} {new = new} dead some e gone more =
-      let it = next_left test w.upto left place w.left_are some e in
-      let lt = it.on_board in
-      rw gone (record {
-        upto = suc place;
-        bound = omega (arith, lt);
-        left_are = it.left;
-        gathered = gathers_append Represents after (each_below g place) (g place) before items new
-            (dead_between Represents after test g dead w.upto place before items it.not_before (omega (arith, lt)) it.between w.gathered) more;
-      })
-
-  pub gathered_end : AreDead Represents after test g → left ≡ 0 → Gathers Represents after (each_below g 12) before items
+  pub gathered_end : AreDead Represents after test g → squares_in left ≡ [] → Gathers Represents after (each_below g 12) before items
+  unfolding passing
   gathered_end dead none =
-      dead_between Represents after test g dead w.upto 12 before items w.bound (omega arith) (none_left test w.upto left w.left_are none) w.gathered
+      subst (λ (us : List RetroMove). Gathers Represents after us before items) (each_range g)
+      (with_dead Represents after test g dead 0 12 before items (omega arith)
+      (subst (λ (us : List RetroMove). Gathers Represents after us before items) (walk_whole w.walk none) w.gathered))

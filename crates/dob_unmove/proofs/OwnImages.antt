@@ -1,9 +1,9 @@
 -- Positions that are their own mirror images: their lions stand on column b.
-use Rattle.dob_unmove.proofs.Common.{◌&&◌, ◌<◌, ◌==◌, ◌||◌, ◌∙◌, ◌≡◌, Bool, Some, ap, bit_and, bit_or, false, not, refl, sym, true, ℕ, eq-eqb, all_below}
-use Rattle.dob_unmove.proofs.Common.{all_below-at, at-mirrored, one_lion, IsMask-and, IsMask-or, is_mask, is_piece, IsLegal, at, mirrored, piece_of}
-use Rattle.dob_unmove.proofs.Common.{column, mirrored_square, Lion, Side, Enemy, Mover, Setup, IsSeenTurned, BESIDE_B, not-true, Board, IsBoardOf}
+use Rattle.dob_unmove.proofs.Common.{◌&&◌, ◌<◌, ◌==◌, ◌||◌, ◌∙◌, ◌≡◌, Bool, Some, ap, false, not, refl, sym, true, ℕ, eq-eqb, all_below}
+use Rattle.dob_unmove.proofs.Common.{all_below-at, at-mirrored, one_lion, empty_mask, IsMask, is_piece, IsLegal, at, mirrored, piece_of}
+use Rattle.dob_unmove.proofs.Common.{column, mirrored_square, Lion, Side, Enemy, Mover, Setup, IsSeenTurned, not-true}
 use Rattle.dob_unmove.proofs.Undone.{turned_lions}
-use Rattle.dob_unmove.proofs.WayMasks.{empty_mask, lion_passes}
+use Rattle.dob_unmove.proofs.WayMasks.{lion_passes}
 
 -- of columns a and c
 abbrev is_beside_b : ℕ → Bool
@@ -30,10 +30,7 @@ module _ (p : Setup) (legal : IsSeenTurned IsLegal p) (own : mirrored p ≡ p) w
       let image : at p (mirrored_square s) ≡ Some (piece_of side Lion) = sym (at-mirrored p s lt) ∙ ap (λ (x : Setup). at x s) own ∙ there in
       fixed_on_b s lt (one_lion side p (mirrored_square s) s (turned_lions p legal) image there)
 
-  pub lions_on_b : (board : Board) → IsBoardOf p board → bit_and (bit_or board.own_lion board.enemy_lion) BESIDE_B ≡ 0
-  lions_on_b board are =
-      empty_mask (λ s. (is_piece Mover Lion (at p s) || is_piece Enemy Lion (at p s)) && is_beside_b s)
-      (bit_and (bit_or board.own_lion board.enemy_lion) BESIDE_B)
-      (IsMask-and _ _ (bit_or board.own_lion board.enemy_lion) BESIDE_B (IsMask-or _ _ board.own_lion board.enemy_lion are.own_lion_is are.enemy_lion_is)
-      (is_mask is_beside_b BESIDE_B refl))
+  pub lions_on_b : (mask : ℕ) → IsMask (λ s. (is_piece Mover Lion (at p s) || is_piece Enemy Lion (at p s)) && not (column s == 1)) mask → mask ≡ 0
+  lions_on_b mask are =
+      empty_mask (λ s. (is_piece Mover Lion (at p s) || is_piece Enemy Lion (at p s)) && is_beside_b s) mask are
       (λ s lt. either (is_piece Mover Lion (at p s)) (is_piece Enemy Lion (at p s)) (is_beside_b s) (lion_on_b Mover s lt) (lion_on_b Enemy s lt))

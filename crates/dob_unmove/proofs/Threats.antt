@@ -1,48 +1,47 @@
 -- Before a move some piece could catch the enemy lion exactly where one that didn't move attacks it, or the one that moved
 -- did from where it stood.
-use Rattle.dob_unmove.proofs.Common.{if◌then◌else◌, ◌-◌, ◌<◌, ◌∙◌, ◌≡◌, ◌≢◌, Bool, None, Option, Some, ap, arith, false, inl, inr, not, refl, suc, sym, true}
-use Rattle.dob_unmove.proofs.Common.{true≢false, ℕ, cases_Bool, cases_eq, cases_lt, eq-eqb, ne_eqb, trailing_zeros, w16, attacks_piece, own_attacks, at-turned}
-use Rattle.dob_unmove.proofs.Common.{one_lion, within-from_piece, all_left, next_left, none_left, none_passes, without, IsMask, attacks, attacks_by, Cell}
+use Rattle.dob_unmove.proofs.Common.{if◌then◌else◌, ◌&&◌, ◌-◌, ◌<◌, ◌==◌, ◌∙◌, ◌≡◌, ◌≢◌, Bool, None, Option, Some, ap, arith, false, inl, inr, not, refl, sym}
+use Rattle.dob_unmove.proofs.Common.{true}
+use Rattle.dob_unmove.proofs.Common.{true≢false, ℕ, and_parts, cases_Bool, cases_eq, eq-eqb, eqb-true, ne_eqb, attacks_piece, own_attacks, at-turned, IsLowest}
+use Rattle.dob_unmove.proofs.Common.{one_lion, within-from_piece, lowest_is, none_passes, passes_somewhere, without_square, IsFirst, IsMask, IsMask-less}
+use Rattle.dob_unmove.proofs.Common.{attacks, attacks_by, Cell}
 use Rattle.dob_unmove.proofs.Common.{HasLions, IsLegal, at, piece_of, Kind, Lion, Enemy, A, Setup, sides_apart, turned_lion, CanCatch, HasStatus, HasTried}
 use Rattle.dob_unmove.proofs.Common.{Step, Open, IsSeenTurned, AreAttackers, IsThreat, elsewhere, stood_before, CanUndo, choice, earlier, enemy_cell, Attackers}
 use Rattle.dob_unmove.proofs.Common.{Nobody, One, Several, Threat, RetroMove, Unput, Unstep}
+use Rattle.std.proofs.lemmas.Bool.{not-false}
 use Rattle.dob_moves.proofs.Masked.{catch_by}
 use Rattle.dob_unmove.proofs.Undone.{leaves, ends_on, came, arrived, given, IsBefore, is_before, turned_squares, goes_before, lions_before}
 use Rattle.dob_pieces.specs.declared.kind.Piece.{Piece}
 
--- ---- attackers by their mask
+-- ---- attackers by their set
 
--- none, where the mask is empty
+-- none, where the set is empty
 pub nobody : (p : Setup) (target mask : ℕ) → IsMask (λ from. attacks p from target) mask → mask ≡ 0 → AreAttackers p target 12 Nobody
 nobody p target mask are none = none_passes (λ from. attacks p from target) mask are none
 
--- one, where it has no other square than the lowest
-pub one_alone : (p : Setup) (target mask place : ℕ) → IsMask (λ from. attacks p from target) mask → mask ≢ 0 → place ≡ trailing_zeros w16 mask
-    → without mask place ≡ 0 → AreAttackers p target 12 (One place)
-one_alone p target mask place are some e alone =
-    let test : ℕ → Bool = λ from. attacks p from target in
-    let it = next_left test 0 mask place (all_left test mask are) (omega (arith, some)) e in (
-      it.on_board,
-      it.passes,
-      λ s lt is. elim (cases_lt s place) [
-        | inl before ↦ absurd (true≢false (sym is ∙ it.between s (omega arith) before))
-        | inr after ↦ elim (cases_eq s place) [
-          | inl same ↦ same
-          | inr apart ↦ absurd (true≢false (sym is ∙ none_left test (suc place) (without mask place) it.left alone s (omega (arith, after, apart)) lt))
-        ]
-      ],
-    )
+module _ (p : Setup) (target mask place : ℕ) (are : IsMask (λ from. attacks p from target) mask) (lowest : IsFirst mask place) where
+  first : IsLowest (λ from. attacks p from target) mask place
+  first = lowest_is (λ from. attacks p from target) mask place are lowest
 
--- and several else
-pub several : (p : Setup) (target mask place : ℕ) → IsMask (λ from. attacks p from target) mask → mask ≢ 0 → place ≡ trailing_zeros w16 mask
-    → without mask place ≢ 0 → AreAttackers p target 12 Several
-several p target mask place are some e more =
-    let test : ℕ → Bool = λ from. attacks p from target in
-    let it = next_left test 0 mask place (all_left test mask are) (omega (arith, some)) e in
-    let rest = without mask place in
-    let second = next_left test (suc place) rest (trailing_zeros w16 rest) it.left (omega (arith, more)) refl in
-    let after = second.not_before in
-    (place, trailing_zeros w16 rest, (λ same. omega (arith, after, same)), it.passes, second.passes)
+  others : IsMask (λ s. attacks p s target && not (s == place)) (without_square mask place)
+  others = IsMask-less (λ from. attacks p from target) mask place first.on_board are
+
+  -- one, where it has no other square than the lowest
+  pub one_alone : without_square mask place ≡ 0 → AreAttackers p target 12 (One place)
+  one_alone alone = (
+    first.on_board,
+    first.passes,
+    λ s lt is.
+        let off : (attacks p s target && not (s == place)) ≡ false = none_passes (λ s. attacks p s target && not (s == place)) _ others alone s lt in
+        eqb-true s place (not-false (s == place) (ap (λ (b : Bool). b && not (s == place)) (sym is) ∙ off)),
+  )
+
+  -- and several else
+  pub several : without_square mask place ≢ 0 → AreAttackers p target 12 Several
+  several more =
+      let second = passes_somewhere (λ s. attacks p s target && not (s == place)) (without_square mask place) others more in
+      let parts = and_parts (attacks p second.0 target) (not (second.0 == place)) second.2 in
+      (place, second.0, (λ same. true≢false (sym parts.1 ∙ ap not (eq-eqb second.0 place (sym same)))), first.passes, parts.0)
 
 -- ---- before the move
 

@@ -1,7 +1,7 @@
 // The mover's pieces that attack the enemy lion. Where one did before a move, the position was no open one: the lion could
 // have been caught. So most ways to take a move back are known from the attackers that stand there now, without the setup
 // that was before.
-ghost use Rattle.std.specs.Prelude.{◌≡◌, ◌<◌, ℕ};
+ghost use Rattle.std.specs.Prelude.{◌≡◌, ℕ};
 ghost use Rattle.dob_pieces.specs.declared.setup.Setup.{Setup};
 ghost use Rattle.dob_pieces.specs.Boards.{IsBoardOf};
 ghost use Rattle.dob_pieces.specs.Masks.{IsMask, attacks};
@@ -10,7 +10,7 @@ ghost use Rattle.dob_unmove.specs.Classes.{IsSeenTurned};
 ghost use Rattle.dob_unmove.specs.Threats.{elsewhere, stood_before, AreAttackers, IsThreat};
 
 use crate::undo::RetroMove;
-use dob_pieces::{Board, Square, lowest_square, without_square};
+use dob_pieces::{Board, Square, SquareSet};
 
 /// From which squares a square is attacked.
 #[derive(Clone, Copy)]
@@ -40,19 +40,19 @@ impl Attackers {
     }
 }
 
-// Who attacks the square, by the mask of the squares from which it is attacked.
-fn attackers_in(attackers: u16) -> Attackers
-    requires { attackers < 4096 }
+// Who attacks the square, by the squares from which it is attacked.
+fn attackers_in(attackers: SquareSet) -> Attackers
     ensures { (setup : Setup) (target : ℕ) → IsMask (λ from. attacks setup from target) attackers → AreAttackers setup target 12 result }
 {
-    if attackers == 0 {
-        return Attackers::Nobody;
-    }
-    let first = lowest_square(attackers);
-    if without_square(attackers, first) == 0 {
-        Attackers::One(first)
-    } else {
-        Attackers::Several
+    match attackers.first() {
+        None => Attackers::Nobody,
+        Some(first) => {
+            if attackers.without(first).is_empty() {
+                Attackers::One(first)
+            } else {
+                Attackers::Several
+            }
+        }
     }
 }
 

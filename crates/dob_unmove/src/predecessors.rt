@@ -24,7 +24,7 @@ use crate::earlier::may_give_back;
 use crate::undo::RetroMove;
 use crate::ways::Ways;
 use dob_classes::Classes;
-use dob_pieces::{Board, HandKind, Kind, Memory, Side, Square, lowest_square, without_square};
+use dob_pieces::{Board, HandKind, Kind, Memory, Side, Square};
 use std::alloc::Global;
 use std::snapshot::Snapshot;
 
@@ -51,12 +51,9 @@ impl Walk<'_> {
         requires { CanWalk self.now }
         ensures { OnOk result (Collects self.now (undoes (setup_after self.now)) found.old.items found.new.items) }
     {
-        let mut left = self.ways.ends;
-        while left != 0 {
-            let to = lowest_square(left);
+        for to in self.ways.ends {
             let end = End { walk: &*self, to };
             end.gather_all(found)?;
-            left = without_square(left, to);
         }
         Ok(())
     }
@@ -154,11 +151,8 @@ impl End<'_> {
         requires stands { stands (at (setup_after self.now.walk.now) self.now.to) (arrival kind self.now.to) ≡ true }
         ensures { OnOk result (Collects self.now.walk.now (unsteps (setup_after self.now.walk.now) kind self.now.to) found.old.items found.new.items) }
     {
-        let mut left = self.walk.ways.sources(kind, self.to);
-        while left != 0 {
-            let from = lowest_square(left);
+        for from in self.walk.ways.sources(kind, self.to) {
             self.gather_steps_from(kind, from, found)?;
-            left = without_square(left, from);
         }
         Ok(())
     }

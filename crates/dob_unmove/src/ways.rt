@@ -12,15 +12,7 @@ ghost use Rattle.dob_unmove.specs.Walks.{holds_caught};
 
 use crate::attackers::{Attackers, Threat};
 use crate::earlier::holds_caught;
-use dob_pieces::{ALL_SQUARES, Board, Kind, Square};
-
-// The squares of rows 1 to 3 on column a, and those on columns a and b.
-const HOMES_ON_A: u16 = 0b000_001_001_001;
-
-const HOMES_ON_A_AND_B: u16 = 0b000_011_011_011;
-
-// The squares of columns a and c.
-const BESIDE_B: u16 = 0b101_101_101_101;
+use dob_pieces::{Board, Kind, Square, SquareSet};
 
 /// What the board after a move shows, in which the side that made it is the mover.
 #[derive(Clone, Copy)]
@@ -28,32 +20,32 @@ pub(crate) struct Ways {
     pub(crate) board: Board,
     pub(crate) threat: Threat,
     /// The empty squares.
-    pub(crate) empty: u16,
+    pub(crate) empty: SquareSet,
     /// Where the mover's lion of a representative may stand.
-    pub(crate) homes: u16,
+    pub(crate) homes: SquareSet,
     /// Where the move may have ended.
-    pub(crate) ends: u16,
+    pub(crate) ends: SquareSet,
 }
 
 // Where the mover's lion of a representative may stand, by the square of the enemy's.
-fn homes_of(lion: Square) -> u16
+fn homes_of(lion: Square) -> SquareSet
     ensures { IsMask (is_home lion) result }
 {
     if lion.column() == 2 {
-        HOMES_ON_A
+        SquareSet::COLUMN_A.but_not(SquareSet::FAR_ROW)
     } else {
-        HOMES_ON_A_AND_B
+        SquareSet::ALL.but_not(SquareSet::COLUMN_C.or(SquareSet::FAR_ROW))
     }
 }
 
 // Where a move may have ended if no piece that didn't move attacks the enemy lion.
-fn calm_ends(attackers: Attackers) -> u16
+fn calm_ends(attackers: Attackers) -> SquareSet
     ensures { IsMask (λ square. not (elsewhere attackers square)) result }
 {
     match attackers {
-        Attackers::Nobody => ALL_SQUARES,
-        Attackers::One(attacker) => 1 << attacker.index(),
-        Attackers::Several => 0,
+        Attackers::Nobody => SquareSet::ALL,
+        Attackers::One(attacker) => SquareSet::of(attacker),
+        Attackers::Several => SquareSet::EMPTY,
     }
 }
 
@@ -65,9 +57,10 @@ impl Ways {
     {
         let threat = Threat::of(&board);
         let homes = homes_of(threat.lion);
-        let calm = board.own() & calm_ends(threat.attackers);
-        let ends = if board.own_lion & homes == 0 {
-            calm & board.own_lion
+        let calm = board.own().and(calm_ends(threat.attackers));
+        let moved = calm.and(board.own_lion);
+        let ends = if board.own_lion.and(homes).is_empty() {
+            moved
         } else {
             calm
         };
@@ -81,19 +74,22 @@ impl Ways {
     }
 
     /// From where a piece of that kind may have come to the square.
-    pub(crate) fn sources(&self, kind: Kind, to: Square) -> u16
+    pub(crate) fn sources(&self, kind: Kind, to: Square) -> SquareSet
         ensures { (after : Setup) → AreWays after self.now → IsMask (may_come after self.now.threat.lion kind to) result }
     {
-        kind.sources(to) & self.empty & !kind.sources(self.threat.lion) & self.homes_for(kind)
+        kind.sources(to)
+            .and(self.empty)
+            .but_not(kind.sources(self.threat.lion))
+            .and(self.homes_for(kind))
     }
 
     // Where a piece of that kind may have stood as far as the lions say: the lion at home, and any other everywhere.
-    fn homes_for(&self, kind: Kind) -> u16
+    fn homes_for(&self, kind: Kind) -> SquareSet
         ensures { (after : Setup) → AreWays after self.now → IsMask (comes_home kind self.now.threat.lion) result }
     {
         match kind {
             Kind::Lion => self.homes,
-            _ => ALL_SQUARES,
+            _ => SquareSet::ALL,
         }
     }
 
@@ -108,6 +104,7 @@ impl Ways {
     pub(crate) fn has_lions_on_b(&self) -> bool
         ensures { (after : Setup) → IsSeenTurned IsLegal after → AreWays after self.now → mirrored after ≡ after → IsTrue result }
     {
-        (self.board.own_lion | self.board.enemy_lion) & BESIDE_B == 0
+        let lions = self.board.own_lion.or(self.board.enemy_lion);
+        lions.but_not(SquareSet::COLUMN_B).is_empty()
     }
 }

@@ -8,7 +8,7 @@ use Rattle.dob_probe.specs.declared.gap.LookupFault.TheVariants.{NoValue, Incons
 use Rattle.dobutsu_c.proofs.Exact.{one_given}
 use Rattle.dobutsu_c.proofs.Indexed.{given_by}
 use Rattle.dobutsu_c.specs.declared.by_index.ByFault.TheVariants as by_fault
-use Rattle.dobutsu_c.specs.ByIndex.{IsAskedBy, number_by}
+use Rattle.dobutsu_c.specs.ByIndex.{IsAskedBy}
 use Rattle.dobutsu_c.specs.Moves.{gap_number}
 
 module _ (file : List ℕ) (by : Numbering) (format : Format) (family : Family) (classes : ℕ) (setup : Setup) where

@@ -1,7 +1,6 @@
 -- What is answered of the bytes of a certificate's file.
 use Rattle.std.specs.Prelude.{◌≡◌, ◌⊎◌, ℕ, List}
 use Rattle.dob_pieces.specs.declared.setup.Setup.{Setup}
-use Rattle.dob_distance.specs.declared.value.Value.{Value}
 use Rattle.dob_distance.specs.declared.value.Value.TheVariants.{Win, Loss, Draw}
 use Rattle.dob_foreign.specs.Profiles.{profile_number}
 use Rattle.dob_certificate.specs.declared.claim.Claim.{Claim}

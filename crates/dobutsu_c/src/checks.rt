@@ -38,6 +38,7 @@ pub extern "C" fn dobutsu_check(alloc: Global, file: &[u8], class: &mut u64) -> 
             *class = broken;
             INCONSISTENT
         }
+        // A check takes no memory, and tells no other fault.
         Err(_) => MEMORY,
     }
 }

@@ -2,7 +2,7 @@
 ghost use Rattle.std.specs.Prelude.{◌≡◌, ◌≢◌, false, IfErr, MatchResult};
 ghost use Rattle.dobutsu_c.specs.declared.numbering.Numbering.TheVariants.{Index};
 ghost use Rattle.dobutsu_c.specs.declared.by_index.ByFault.TheVariants as by_fault;
-ghost use Rattle.dobutsu_c.specs.ByIndex.{IsRight, IsHeldBy, IsGivenBy, number_by};
+ghost use Rattle.dobutsu_c.specs.ByIndex.{IsRight, IsHeldBy, IsGivenBy};
 ghost use Rattle.dobutsu_c.specs.Moves.{AreAnsweredMoves, AreToldMovesBy, IsMovesFault, gap_number};
 
 use crate::by_index::{ByFault, HeldBy, ask_by, value_by};

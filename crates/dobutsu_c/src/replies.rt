@@ -1,5 +1,5 @@
 // The move that the bytes of a certificate's file give for a position.
-ghost use Rattle.std.specs.Prelude.{◌≡◌, ◌≢◌, Some, IfOk, MatchResult};
+ghost use Rattle.std.specs.Prelude.{◌≡◌, ◌≢◌, Some, MatchResult};
 ghost use Rattle.dob_rank.specs.Families.{IsPositionOf};
 ghost use Rattle.dob_certfile.specs.Format.{content};
 ghost use Rattle.dob_certify.specs.declared.replies.Reply.{Reply as AnyReply};

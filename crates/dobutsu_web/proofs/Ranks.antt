@@ -6,16 +6,16 @@ use Rattle.std.specs.Prelude.{IfSome, None, Option, Some}
 use Rattle.std.specs.List.Sorted.{IsStrictlyIncreasing}
 use Rattle.std.proofs.lemmas.List.FromFn.{length-map-range_with_len, get_or-map-range_with_len}
 use Rattle.dob_rank.specs.ClassRows.{marked_place}
-use Rattle.dob_rank.specs.Families.{IsInClass, is_present, class_number, size_of, rank_of}
+use Rattle.dob_rank.specs.Families.{IsInClass, is_present, class_number, classes_of, size_of, rank_of}
 use Rattle.dob_rank.specs.Marks.{marks_below}
 use Rattle.dob_rank.specs.Numbers.{nth, rank_of_set, size_of_set}
 use Rattle.dob_rank.specs.Order.{IsFirstOfTwo, RepresentativeOf}
 use Rattle.dob_rank.proofs.Marked.Marks.{numbering}
 use Rattle.dob_rank.proofs.Marked.Representatives.{IsPlaceOf, place_found}
 use Rattle.dob_rank.proofs.OfFamilies.FamilyOrder.{rank_of-same}
-use Rattle.dob_rank.proofs.OfFamilies.Present.{allowed, HasClass-marked}
+use Rattle.dob_rank.proofs.OfFamilies.Present.{HasClasses-classes_of, allowed, HasClass-marked}
 use Rattle.dob_classes.proofs.OfFamilies.FamilyNumbers.{IsInClass-class_number, class_number-below, class_number-mirrored, class_number-representative}
-use Rattle.dob_classes.proofs.OfFamilies.FamilyRepresentatives.{one_class, one_of_class, same_representative}
+use Rattle.dob_classes.proofs.OfFamilies.FamilyRepresentatives.{class_setup_only, one_class, one_of_class, same_representative}
 use Rattle.dob_certificate.specs.Ascending.{listed_entry}
 use Rattle.dob_certificate.specs.Listed.{IsEntryFor, IsEntryOf}
 use Rattle.dob_certificate.specs.Lists.{IsFirstBroken}
@@ -128,11 +128,13 @@ module _ (family : Family) (ranks plies : List ℕ) (are : AreRanks family ranks
   pub stands_for : (place : ℕ) → place < length ranks →
       IsEntryOf family (listed_entry (entries_by family ranks plies) place) (ranked_setup family (slice_index ranks place)) (slice_index plies place)
   stands_for place within =
+      let p = ranked_setup family (slice_index ranks place) in
       let is = representative_at place within in
+      let below = class_number-below family p is.0 in
       rw (get_or-map-range_with_len (entry_by family ranks plies) 0 (length ranks) place place no_entry within (omega arith)) (record {
-        within = class_number-below family (ranked_setup family (slice_index ranks place)) is.0;
+        within = below;
         represents = is;
-        number = has_class family (ranked_setup family (slice_index ranks place)) is;
+        setup = class_setup_only family p (class_number family p) (classes_of family) (HasClasses-classes_of family) below is (has_class family p is);
         plies_are = refl;
       })
 

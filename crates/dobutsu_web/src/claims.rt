@@ -1,5 +1,5 @@
 // What is claimed of a position, by numbers.
-ghost use Rattle.std.specs.Prelude.{◌≡◌, ◌<◌, MatchOption};
+ghost use Rattle.std.specs.Prelude.{◌<◌, MatchOption};
 ghost use Rattle.dobutsu_web.specs.Certified.{IsClaimed};
 
 use dob_certificate::Claim;

@@ -1,6 +1,6 @@
 // A certificate's list of lost classes by the ranks of their representatives: a rank is found by arithmetic where a class number would need tables, so the
 // list is searched without memory of one's own.
-ghost use Rattle.std.specs.Prelude.{◌≡◌, ◌≢◌, ◌-◌, ◌<◌, ◌≤◌, ◌↔◌, ℕ, IsTrue, MatchOption, length, slice_index};
+ghost use Rattle.std.specs.Prelude.{◌≡◌, ◌≢◌, ◌-◌, ◌<◌, ◌↔◌, ℕ, IsTrue, MatchOption, length, slice_index};
 ghost use Rattle.std.specs.List.Sorted.{IsStrictlyIncreasing};
 ghost use Rattle.dob_rank.specs.Families.{IsPositionOf, size_of, rank_of};
 ghost use Rattle.dob_pieces.specs.declared.setup.Setup.{Setup as AnySetup};

@@ -1,7 +1,7 @@
 // Texts of moves and of what they lead to, written into a room of their own, since no memory is taken.
 ghost use Rattle.std.specs.Prelude.{◌≡◌, ◌≢◌, ◌≤◌, ◌+◌, ◌++◌};
 ghost use Rattle.arrayvec.specs.ArrayVec.{array_vec_len};
-ghost use Rattle.dob_text.specs.MoveText.{side_of, seen, square_text, move_text};
+ghost use Rattle.dob_text.specs.MoveText.{seen, square_text, move_text};
 ghost use Rattle.dob_foreign.specs.Texts.{IsText};
 ghost use Rattle.dobutsu_web.specs.Asked.{IsRefused};
 ghost use Rattle.dobutsu_web.specs.Steps.{HasNone, HasNoMove};

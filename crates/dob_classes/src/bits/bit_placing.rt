@@ -1,5 +1,5 @@
 // Placing pieces as sets of squares: what the board of the same numbers (dob_rank/src/placing.rt) has, as either side sees it, with no list of cells.
-ghost use Rattle.std.specs.Prelude.{◌≡◌, ◌<◌, ◌≤◌, ◌*◌, ◌%◌, ◌^◌, ℕ, None, length, slice_index};
+ghost use Rattle.std.specs.Prelude.{◌≡◌, ◌<◌, ◌≤◌, ℕ, None, length, slice_index};
 ghost use Rattle.dob_pieces.specs.Setups.{at, setup_of};
 ghost use Rattle.dob_pieces.specs.declared.setup.Setup.{Setup};
 ghost use Rattle.dob_pieces.specs.Boards.{IsBoardOf};
@@ -8,7 +8,7 @@ ghost use Rattle.dob_rank.specs.Numbers.{order, base_of, cell_of, board_of, numb
 ghost use Rattle.dob_rank.specs.Placing.{put, AreChoices, AreFree, ArePlaces};
 ghost use Rattle.dob_classes.specs.Views.{seen_by, seen_square, seen_hands, seen_owner};
 
-use dob_pieces::{Board, Hands, Side};
+use dob_pieces::{Board, Hands, Side, Square, SquareSet};
 use dob_rank::block::{DIGITS, PerKind};
 use dob_rank::forms::base_of;
 use dob_rank::layers::Layer;
@@ -77,13 +77,13 @@ fn no_pieces(hands: Hands) -> Board
     ensures { (setup : Setup) → ((square : ℕ) → square < 12 → at setup square ≡ None) → setup.hands ≡ hands → IsBoardOf setup result }
 {
     Board {
-        own_lion: 0,
-        enemy_lion: 0,
-        chicks: 0,
-        elephants: 0,
-        giraffes: 0,
-        hens: 0,
-        enemies: 0,
+        own_lion: SquareSet::EMPTY,
+        enemy_lion: SquareSet::EMPTY,
+        chicks: SquareSet::EMPTY,
+        elephants: SquareSet::EMPTY,
+        giraffes: SquareSet::EMPTY,
+        hens: SquareSet::EMPTY,
+        enemies: SquareSet::EMPTY,
         hands,
     }
 }
@@ -123,24 +123,24 @@ fn with_piece(side: Side, board: Board, layer: Layer, square: u64, form: u64) ->
     ensures { (before after : Setup) → at before square ≡ None → IsWith before after square (cell_of (order layer) form)
         → IsBoardOf (seen_by side before) board → IsBoardOf (seen_by side after) result }
 {
-    let bit = mark(side, 1, square);
+    let seen = seen_square(side, square);
     match layer {
         Layer::OwnLion => with_lion(side, board, 0, square),
         Layer::EnemyLion => with_lion(side, board, 1, square),
         Layer::Chicks => Board {
-            chicks: board.chicks | bit,
-            hens: board.hens | mark(side, form % 2, square),
-            enemies: board.enemies | mark(side, seen_owner(side, form / 2), square),
+            chicks: board.chicks.with(seen),
+            hens: board.hens.marked(form % 2, seen),
+            enemies: board.enemies.marked(seen_owner(side, form / 2), seen),
             ..board
         },
         Layer::Elephants => Board {
-            elephants: board.elephants | bit,
-            enemies: board.enemies | mark(side, seen_owner(side, form), square),
+            elephants: board.elephants.with(seen),
+            enemies: board.enemies.marked(seen_owner(side, form), seen),
             ..board
         },
         Layer::Giraffes => Board {
-            giraffes: board.giraffes | bit,
-            enemies: board.enemies | mark(side, seen_owner(side, form), square),
+            giraffes: board.giraffes.with(seen),
+            enemies: board.enemies.marked(seen_owner(side, form), seen),
             ..board
         },
         Layer::Empty => board,
@@ -155,10 +155,11 @@ fn with_lion(side: Side, board: Board, owner: u64, square: u64) -> Board
     ensures { (before after : Setup) → at before square ≡ None → IsWith before after square (cell_of owner 0)
         → IsBoardOf (seen_by side before) board → IsBoardOf (seen_by side after) result }
 {
+    let seen = seen_square(side, square);
     let foreign = seen_owner(side, owner);
     Board {
-        own_lion: board.own_lion | mark(side, 1 - foreign, square),
-        enemy_lion: board.enemy_lion | mark(side, foreign, square),
+        own_lion: board.own_lion.marked(1 - foreign, seen),
+        enemy_lion: board.enemy_lion.marked(foreign, seen),
         ..board
     }
 }
@@ -175,14 +176,14 @@ fn seen_owner(side: Side, owner: u64) -> u64
     }
 }
 
-// The bit of a square as the side sees it, times a flag of 0 or 1.
-fn mark(side: Side, flag: u64, square: u64) -> u16
-    requires flag { flag ≤ 1 }
-    requires square { square < 12 }
-    ensures { result ≡ flag * 2 ^ seen_square side square % 2 ^ 16 }
+// The square as the side sees it.
+#[inline(always)]
+fn seen_square(side: Side, square: u64) -> Square
+    requires { square < 12 }
+    ensures { result ≡ seen_square side square }
 {
     match side {
-        Side::Mover => (flag as u16) << square,
-        Side::Enemy => (flag as u16) << (11 - square),
+        Side::Mover => Square::new(square as usize),
+        Side::Enemy => Square::new(11 - square as usize),
     }
 }

@@ -3,9 +3,6 @@ use Rattle.dob_moves.proofs.Common.{IsBoardOf, IsWalked, steps_from, Elsewhere, 
 use Rattle.dob_moves.proofs.Listed.{own_at}
 use Rattle.dob_moves.proofs.listing.push_steps.Given as goal
 
-abbrev pub invariant-loop-left : goal.invariant-loop-left
-invariant-loop-left l = (setup : Setup) → IsBoardOf setup l.board
-    → IsWalked (own_at setup) (steps_from Elsewhere setup) l.left l.initial.moves.items l.moves.items
-
-abbrev pub decreases-loop-left : goal.decreases-loop-left
-decreases-loop-left l = l.left
+abbrev pub invariant-loop-from : goal.invariant-loop-from
+invariant-loop-from l = (setup : Setup) → IsBoardOf setup l.board
+    → IsWalked (own_at setup) (steps_from Elsewhere setup) l.from-iterator.left l.yielded l.initial.moves.items l.moves.items

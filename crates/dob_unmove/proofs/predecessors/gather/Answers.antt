@@ -1,5 +1,5 @@
 -- The walks over the representative and over its mirror image count the edges.
-use Rattle.dob_unmove.proofs.Common.{◌<◌, ◌∙◌, refl, sym, true≢false, ℕ, classes_of, mirrored, turned, Family, IsBoardOf, IsPositionOf, IsSeenTurned}
+use Rattle.dob_unmove.proofs.Common.{◌<◌, ◌∙◌, sym, true≢false, ℕ, classes_of, mirrored, turned, Family, IsBoardOf, IsPositionOf, IsSeenTurned}
 use Rattle.dob_unmove.proofs.Common.{◌≡◌, Bool, ap, false, subst, true, RepresentsClass, Setup, AreWays, seen_after}
 use Rattle.dob_rank.specs.Families.{class_setup}
 use Rattle.dob_unmove.proofs.Classes.{IsNumbering-classes}

@@ -1,13 +1,12 @@
 -- Of each kind those that step to the target.
-use Rattle.dob_pieces.proofs.MaskBits.{IsMask-and}
 use Rattle.dob_pieces.proofs.Attacks.{attackers_are}
 use Rattle.dob_pieces.proofs.board.Board.attackers.Goals as goal
 
 pub returns : goal.returns
 returns c = λ setup are.
-    attackers_are setup c.args.target _ _ _ _ _
-    (IsMask-and _ _ _ _ (c.own_of.ensures setup are) c.sources.ensures)
-    (IsMask-and _ _ _ _ (c.own_of-2.ensures setup are) c.sources-2.ensures)
-    (IsMask-and _ _ _ _ (c.own_of-3.ensures setup are) c.sources-3.ensures)
-    (IsMask-and _ _ _ _ (c.own_of-4.ensures setup are) c.sources-4.ensures)
-    (IsMask-and _ _ _ _ (c.own_of-5.ensures setup are) c.sources-5.ensures)
+    attackers_are setup c.args.target _
+    (c.or-4.ensures _ _
+    (c.or-3.ensures _ _
+    (c.or-2.ensures _ _
+    (c.or.ensures _ _ (c.attackers_of.ensures setup are) (c.attackers_of-2.ensures setup are)) (c.attackers_of-3.ensures setup are))
+    (c.attackers_of-4.ensures setup are)) (c.attackers_of-5.ensures setup are))

@@ -1,11 +1,11 @@
 -- All squares but those of lions and other pieces.
-use Rattle.dob_pieces.proofs.Common.{refl, true, is_empty, ALL_SQUARES}
-use Rattle.dob_pieces.specs.Boards.{is_any_lion, is_enemy_lion, is_own_lion}
-use Rattle.dob_pieces.proofs.Planes.{all_are, either, of_either, of_first, is_other, others_are}
+use Rattle.dob_pieces.proofs.Common.{◌&&◌, ◌||◌, ℕ, not, refl, true, is_empty}
+use Rattle.dob_pieces.specs.Boards.{is_enemy_lion, is_other, is_own_lion}
+use Rattle.dob_pieces.proofs.Planes.{everywhere, squares_same}
 use Rattle.dob_pieces.proofs.board.Board.empty.Goals as goal
 
 pub returns : goal.returns
 returns c = λ setup are.
-    of_first setup (λ cell. true) (either is_any_lion is_other) is_empty ALL_SQUARES _ refl (all_are setup)
-    (of_either setup is_any_lion is_other (either is_any_lion is_other) _ _ refl
-    (of_either setup is_own_lion is_enemy_lion is_any_lion _ _ refl are.own_lion_is are.enemy_lion_is) (others_are setup c.args.self.now are))
+    squares_same setup (λ cell. true && not ((is_own_lion cell || is_enemy_lion cell) || is_other cell)) is_empty _ refl
+    (c.but_not.ensures (λ (s : ℕ). true) _ (everywhere (λ (s : ℕ). true) (λ s. refl))
+    (c.or.ensures _ _ (c.or-lions.ensures _ _ are.own_lion_is are.enemy_lion_is) (c.others.ensures setup are)))

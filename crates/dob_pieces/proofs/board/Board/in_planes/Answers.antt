@@ -1,6 +1,6 @@
 -- Each set is a plane, what two planes have, or what one has without the other.
-use Rattle.dob_pieces.proofs.Common.{refl, AreSquares}
-use Rattle.dob_pieces.proofs.Planes.{of_both, of_first}
+use Rattle.dob_pieces.proofs.Common.{◌&&◌, not, refl, AreSquares}
+use Rattle.dob_pieces.proofs.Planes.{squares_same}
 use Rattle.dob_pieces.specs.Boards.{is_any_lion, is_chick, is_elephant, is_enemy, is_enemy_lion, is_foe, is_giraffe, is_giraffe_or_hen, is_hen, is_own_lion}
 use Rattle.dob_pieces.proofs.board.Board.in_planes.Goals as goal
 
@@ -12,12 +12,12 @@ returns c = λ setup has hands.
     let elephants : AreSquares setup is_elephant c.plane-elephants.result = rw c.plane-elephants.ensures has.elephants_are in
     let long : AreSquares setup is_giraffe_or_hen c.plane-giraffes_and_hens.result = rw c.plane-giraffes_and_hens.ensures has.giraffes_and_hens_are in
     record {
-      own_lion_is = of_first setup is_any_lion is_foe is_own_lion c.plane-lions.result c.plane-enemies.result refl lions foes;
-      enemy_lion_is = of_both setup is_any_lion is_foe is_enemy_lion c.plane-lions.result c.plane-enemies.result refl lions foes;
+      own_lion_is = squares_same setup (λ cell. is_any_lion cell && not (is_foe cell)) is_own_lion _ refl (c.but_not.ensures _ _ lions foes);
+      enemy_lion_is = squares_same setup (λ cell. is_any_lion cell && is_foe cell) is_enemy_lion _ refl (c.and.ensures _ _ lions foes);
       chicks_are = chicks;
       elephants_are = elephants;
-      giraffes_are = of_first setup is_giraffe_or_hen is_chick is_giraffe c.plane-giraffes_and_hens.result c.plane-chicks.result refl long chicks;
-      hens_are = of_both setup is_giraffe_or_hen is_chick is_hen c.plane-giraffes_and_hens.result c.plane-chicks.result refl long chicks;
-      enemies_are = of_first setup is_foe is_any_lion is_enemy c.plane-enemies.result c.plane-lions.result refl foes lions;
+      giraffes_are = squares_same setup (λ cell. is_giraffe_or_hen cell && not (is_chick cell)) is_giraffe _ refl (c.but_not-2.ensures _ _ long chicks);
+      hens_are = squares_same setup (λ cell. is_giraffe_or_hen cell && is_chick cell) is_hen _ refl (c.and-2.ensures _ _ long chicks);
+      enemies_are = squares_same setup (λ cell. is_foe cell && not (is_any_lion cell)) is_enemy _ refl (c.but_not-3.ensures _ _ foes lions);
       hands_are = hands;
     }

@@ -6,12 +6,12 @@ use Rattle.dob_pieces.proofs.board.Board.mirrored.Goals as goal
 
 pub returns : goal.returns
 returns c = λ setup are. record {
-  own_lion_is = AreSquares-mirrored setup is_own_lion _ _ c.mirrored_mask.ensures are.own_lion_is;
-  enemy_lion_is = AreSquares-mirrored setup is_enemy_lion _ _ c.mirrored_mask-2.ensures are.enemy_lion_is;
-  chicks_are = AreSquares-mirrored setup is_chick _ _ c.mirrored_mask-3.ensures are.chicks_are;
-  elephants_are = AreSquares-mirrored setup is_elephant _ _ c.mirrored_mask-4.ensures are.elephants_are;
-  giraffes_are = AreSquares-mirrored setup is_giraffe _ _ c.mirrored_mask-5.ensures are.giraffes_are;
-  hens_are = AreSquares-mirrored setup is_hen _ _ c.mirrored_mask-6.ensures are.hens_are;
-  enemies_are = AreSquares-mirrored setup is_enemy _ _ c.mirrored_mask-7.ensures are.enemies_are;
+  own_lion_is = AreSquares-mirrored setup is_own_lion _ _ c.mirrored.ensures are.own_lion_is;
+  enemy_lion_is = AreSquares-mirrored setup is_enemy_lion _ _ c.mirrored-2.ensures are.enemy_lion_is;
+  chicks_are = AreSquares-mirrored setup is_chick _ _ c.mirrored-3.ensures are.chicks_are;
+  elephants_are = AreSquares-mirrored setup is_elephant _ _ c.mirrored-4.ensures are.elephants_are;
+  giraffes_are = AreSquares-mirrored setup is_giraffe _ _ c.mirrored-5.ensures are.giraffes_are;
+  hens_are = AreSquares-mirrored setup is_hen _ _ c.mirrored-6.ensures are.hens_are;
+  enemies_are = AreSquares-mirrored setup is_enemy _ _ c.mirrored-7.ensures are.enemies_are;
   hands_are = are.hands_are ∙ sym (hands-mirrored setup);
 }

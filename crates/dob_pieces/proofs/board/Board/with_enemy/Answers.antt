@@ -7,4 +7,4 @@ use Rattle.dob_pieces.proofs.board.Board.with_enemy.Goals as goal
 pub returns : goal.returns
 returns c = λ before after empty w are.
     subst (IsBoardOf after) (sym c.enemy_added.ensures)
-    (rw c.index.ensures.value (piece_added before after c.args.square (search rules) c.args.self are empty Enemy c.args.kind w))
+    (piece_added before after c.args.square (search rules) c.args.self are empty Enemy c.args.kind w)

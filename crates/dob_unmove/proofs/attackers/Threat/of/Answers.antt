@@ -7,9 +7,6 @@ enemy_lion_square-lion-requires c =
     let legal = c.requires.1 in
     (c.requires.0, (turned_squares c.requires.0 legal, turned_lions c.requires.0 legal), c.requires.2)
 
-pub attackers_in-requires : goal.attackers_in-requires
-attackers_in-requires c = (c.attackers.ensures c.requires.0 c.requires.2).within
-
 pub returns : goal.returns
 returns c = λ after legal are. record {
   lion = c.enemy_lion_square-lion.ensures after (turned_squares after legal, turned_lions after legal) are;

@@ -1,7 +1,10 @@
 -- no lion stands beside column b
-use Rattle.std.proofs.Common.{nat_eq, ap}
+use Rattle.dob_unmove.proofs.Common.{◌==◌, refl, ℕ, column, is_mask}
 use Rattle.dob_unmove.proofs.OwnImages.{lions_on_b}
 use Rattle.dob_unmove.proofs.ways.Ways.has_lions_on_b.Goals as goal
 
 pub returns : goal.returns
-returns c = λ after legal are own. ap (λ n. nat_eq n 0) (lions_on_b after legal own c.args.self.now.board are.board_is)
+returns c = λ after legal are own.
+    c.is_empty.ensures.1 (lions_on_b after legal own c.but_not.result
+    (c.but_not.ensures _ (λ (s : ℕ). column s == 1) (c.or-lions.ensures _ _ are.board_is.own_lion_is are.board_is.enemy_lion_is)
+    (is_mask (λ s. column s == 1) 1170 refl)))
