@@ -1,8 +1,8 @@
 -- What lists say of a position, by its status.
 use Rattle.dob_certificate.proofs.Common.{◌<◌, ◌↔◌, ◌∙◌, ◌≡◌, ◌≤◌, ◌⊎◌, Bool, IsTrue, List, ap, arith, false, inl, inr, leb, not, refl, subst, sym, true, ℕ}
-use Rattle.dob_certificate.proofs.Common.{nat_tests, Family, Profile, Setup, HasStatus, Caught, Open, Stuck, Tried, HasClass, IsRepresentative, classes_of}
-use Rattle.dob_certificate.proofs.Common.{lost_not_caught, lost_not_open, HasLost, IsHoldSupported, IsSaidHeld, IsEntryFor, IsEntryOf, HasPlies}
-use Rattle.dob_certificate.proofs.Common.{IsLossSupported, IsSaidLost, SaysLost, Entry, Supports, None, Option, Some}
+use Rattle.dob_certificate.proofs.Common.{nat_tests, Family, Profile, Setup, HasStatus, Caught, Open, Stuck, Tried, class_setup, classes_of}
+use Rattle.dob_certificate.proofs.Common.{lost_not_caught, lost_not_open, HasLost, IsSaidHeld, IsEntryFor, IsEntryOf, HasPlies}
+use Rattle.dob_certificate.proofs.Common.{IsSaidLost, SaysLost, Entry, Supports, None, Option, Some}
 use Rattle.dob_moves.specs.declared.position_status.Status.{Status}
 use Rattle.dob_certificate.specs.declared.list_kind.ListKind.{ListKind}
 use Rattle.dob_certificate.specs.declared.list_kind.ListKind.TheVariants.{Lost, Held}
@@ -10,7 +10,6 @@ use Rattle.dob_certificate.specs.Asked.{FindsLost, FindsWon, TakesForLost, plies
 use Rattle.dob_certificate.specs.Lists.{IsSupported}
 use Rattle.dob_certificate.specs.Walks.{AllLead, SomeLeads}
 use Rattle.std.specs.Prelude.{MatchBool, MatchOption}
-use Rattle.dob_certificate.proofs.Representatives.{at_class, of_class}
 
 -- ---- answers
 
@@ -31,13 +30,6 @@ at_most m n = (λ shown. grind (arith, nat_tests, shown), λ is. grind (arith, n
 -- of two claims neither holds
 neither : {P Q : Type 0} → ¬ P → ¬ Q → IsTrue false ↔ (P ⊎ Q)
 neither not_p not_q = said_no (λ either. elim either [ inl p ↦ not_p p | inr q ↦ not_q q ])
-
--- where a test's answer is known
-pub on_true : (P Q : Type 0) (b : Bool) → b ≡ true → MatchBool b P Q → P
-on_true P Q b is given = subst (λ (x : Bool). MatchBool x P Q) is given
-
-pub on_false : (P Q : Type 0) (b : Bool) → b ≡ false → MatchBool b P Q → Q
-on_false P Q b is given = subst (λ (x : Bool). MatchBool x P Q) is given
 
 -- the answer by a list of either kind, and what the list shows
 pub lost_told : (P : Type 0) (b : Bool) → IsTrue b ↔ P → MatchBool b P (¬ P)
@@ -186,25 +178,18 @@ module _ (family : Family) (entries : List Entry) (n : ℕ) (p : Setup) {s : Sta
 
 -- ---- entries
 
--- an entry is supported where its representative shows what it has to
-pub supports_by : (kind : ListKind) (family : Family) (entries : List Entry) (entry : Entry) (p : Setup) → entry.class < classes_of family →
-    IsRepresentative family p → HasClass family p entry.class → (b : Bool) → IsTrue b ↔ IsSupported kind family entries entry.plies p →
-    IsTrue b ↔ Supports kind family entries entry
-supports_by Lost family lost entry p within is number b given = (
-  λ shown. record { within = within; supported = at_class family (IsLossSupported family lost entry.plies) p entry.class within is number (given.0 shown) },
-  λ supported. given.1 (of_class family (IsLossSupported family lost entry.plies) p entry.class within is number supported.supported),
-)
-supports_by Held family held entry p within is number b given = (
-  λ shown. record { within = within; supported = at_class family (IsHoldSupported family held entry.plies) p entry.class within is number (given.0 shown) },
-  λ supported. given.1 (of_class family (IsHoldSupported family held entry.plies) p entry.class within is number supported.supported),
-)
+-- an entry is supported where its class's setup shows what it has to
+supports_by : (kind : ListKind) (family : Family) (entries : List Entry) (entry : Entry) → entry.class < classes_of family → (b : Bool)
+    → IsTrue b ↔ IsSupported kind family entries entry.plies (class_setup family entry.class) → IsTrue b ↔ Supports kind family entries entry
+supports_by Lost family lost entry within b given = (λ shown. record { within = within; supported = given.0 shown }, λ supports. given.1 supports.supported)
+supports_by Held family held entry within b given = (λ shown. record { within = within; supported = given.0 shown }, λ supports. given.1 supports.supported)
 
 -- the same of what is found lost, by the representative that stands for the entry
 pub supported_by : (kind : ListKind) (family : Family) (entries : List Entry) (entry : Entry) (p : Setup) (plies : ℕ) → IsEntryOf family entry p plies →
     (b : Bool) → IsTrue b ↔ IsSupported kind family entries plies p → IsTrue b ↔ Supports kind family entries entry
 supported_by kind family entries entry p plies is b given =
-    supports_by kind family entries entry p is.within is.represents is.number b
-    (subst (λ (n : ℕ). IsTrue b ↔ IsSupported kind family entries n p) (sym is.plies_are) given)
+    let Fits : ℕ → Setup → Type 0 = λ n s. IsTrue b ↔ IsSupported kind family entries n s in
+    supports_by kind family entries entry is.within b (subst (λ (n : ℕ). Fits n (class_setup family entry.class)) (sym is.plies_are) (subst (Fits plies) is.setup given))
 
 -- and an entry of no class isn't
 pub beyond : (kind : ListKind) (family : Family) (entries : List Entry) (entry : Entry) → classes_of family ≤ entry.class → ¬ Supports kind family entries entry

@@ -2,7 +2,7 @@
 use Rattle.std.specs.Prelude.{◌≡◌, ◌<◌, ℕ, List, Contains}
 use Rattle.dob_pieces.specs.declared.profile.Family.{Family}
 use Rattle.dob_pieces.specs.declared.setup.Setup.{Setup}
-use Rattle.dob_rank.specs.Families.{HasClass, IsInClass, IsRepresentative, classes_of}
+use Rattle.dob_rank.specs.Families.{IsInClass, IsRepresentative, class_setup, classes_of}
 use Rattle.dob_certificate.specs.declared.entry.Entry.{Entry}
 
 -- the entry stands in the list, and the position is in its class
@@ -21,5 +21,5 @@ pub record HasPlies (family : Family) (entries : List Entry) (q : Setup) (plies 
 pub record IsEntryOf (family : Family) (entry : Entry) (p : Setup) (plies : ℕ) : Type 0 where
   pub within : entry.class < classes_of family
   pub represents : IsRepresentative family p
-  pub number : HasClass family p entry.class
+  pub setup : p ≡ class_setup family entry.class
   pub plies_are : entry.plies ≡ plies

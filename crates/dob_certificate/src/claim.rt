@@ -1,5 +1,5 @@
 // What a certificate claims of a position, and whether its lists show it.
-ghost use Rattle.std.specs.Prelude.{◌≡◌, ◌↔◌, IsTrue};
+ghost use Rattle.std.specs.Prelude.{◌↔◌, IsTrue};
 ghost use Rattle.dob_rank.specs.Families.{IsPositionOf};
 ghost use Rattle.dob_certificate.specs.Claims.{ShowsWon, ShowsLoss, ShowsWin, ShowsDraw, ShowsValue, Show};
 

@@ -179,22 +179,24 @@ fn held_list<W: Watch>(
 ) -> Result<Entries, Memory>
     ensures { IfOk result (All (IsByTable table.now ListKind.Held)) }
 {
-    let mut roots = Vec::new(alloc);
-    let plies = match claim {
-        Claim::LostWithin(_) | Claim::WonWithin(_) => 0,
-        Claim::Exactly(Value::Loss(plies)) => {
-            roots.push(class)?;
-            plies.saturating_sub(1)
-        }
-        Claim::Exactly(Value::Win(plies)) => {
-            list_outcomes(table, class, Listed::Uncaught, &mut roots)?;
-            plies.saturating_sub(2)
-        }
-        Claim::Exactly(Value::Draw) => {
-            list_outcomes(table, class, Listed::Uncaught, &mut roots)?;
-            roots.push(class)?;
-            EVER
-        }
+    let Claim::Exactly(value) = claim else {
+        return Ok(Entries::new(alloc));
     };
-    held_entries(alloc, table, &roots, plies, most, watch)
+    let mut roots = Vec::new(alloc);
+    if !matches!(value, Value::Loss(_)) {
+        list_outcomes(table, class, Listed::Uncaught, &mut roots)?;
+    }
+    if !matches!(value, Value::Win(_)) {
+        roots.push(class)?;
+    }
+    held_entries(alloc, table, &roots, plies_held(value), most, watch)
+}
+
+// For how many plies those have to hold that show that a value is exact.
+fn plies_held(value: Value) -> u16 {
+    match value {
+        Value::Loss(plies) => plies.saturating_sub(1),
+        Value::Win(plies) => plies.saturating_sub(2),
+        Value::Draw => EVER,
+    }
 }

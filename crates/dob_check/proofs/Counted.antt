@@ -4,6 +4,7 @@ use Rattle.dob_check.proofs.Common.{range_with_len, slice_get, each_is, AreSlots
 use Rattle.std.proofs.lemmas.List.{length-take, take_all, take_min}
 use Rattle.dob_distance.specs.declared.value.Value.{Value}
 use Rattle.dob_probe.proofs.Slotted.{part_joins, slots_none}
+use Rattle.dob_check.proofs.Places.{part_begins}
 
 -- the one at a place
 pub part_at : {Y : Type 0} → (R : ℕ → Y → Type 0) (count : ℕ) (ys : List Y) → AllZip R (range_with_len 0 count) ys → (k : ℕ) (y : Y) → slice_get ys k ≡ Some y → R k y
@@ -21,14 +22,10 @@ module _ (values : List Value) where
   all_first place slots all are =
       subst (λ (xs : List Value). AreSlots xs slots) (take_all (place * 65536) values (omega (arith, all))) are
 
-  -- a part begins at or before the end
-  pub part_begins : (place : ℕ) → place < part_count values → place * 65536 ≤ length values
-  part_begins place below = omega (arith, below)
-
   next_part : (place : ℕ) → place < part_count values
       → take (place * 65536) values ++ part_of values (place * 65536) (part_size values place) ≡ take ((place + 1) * 65536) values
   next_part place below =
-      let from = part_begins place below in
+      let from = part_begins values place below in
       let end : place * 65536 + part_size values place ≡ min ((place + 1) * 65536) (length values) = omega (arith, from) in
       part_joins values (place * 65536) (part_size values place) ∙ (ap (λ (n : ℕ). take n values) end ∙ take_min ((place + 1) * 65536) values)
 
@@ -38,7 +35,7 @@ module _ (values : List Value) where
       → ((xs rest : List Value) → length xs ≡ place * 65536 → length (xs ++ rest) < 2 ^ 64 → AreSlots xs old → AreSlots rest more → AreSlots (xs ++ rest) new)
       → AreFirst values (place + 1) new
   one_more place old more new few below are part added =
-      let from = part_begins place below in
+      let from = part_begins values place below in
       let next = next_part place below in
       let cut = length-take (place * 65536) values in
       let whole = length-take ((place + 1) * 65536) values in

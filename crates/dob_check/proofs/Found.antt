@@ -1,12 +1,12 @@
--- The first fault among the verdicts of all classes, or of all entries, as a search over them finds it.
-use Rattle.dob_check.proofs.Common.{◌+◌, ◌<◌, ◌∙◌, ◌∷◌, ◌≡◌, ◌≤◌, Bool, Err, List, None, Ok, Option, Result, Some, [], ap, arith, false, inl, inr, length}
-use Rattle.dob_check.proofs.Common.{subst, suc, sym, true, zero, ℕ, Bor, cases_lt, AllZip, range_with_len, unwrap_or, IfErr, IfOk, is_err, slice_get}
-use Rattle.dob_check.proofs.Common.{filter_by_mask, Verdict, fault_holds}
-use Rattle.dob_value.specs.Follows.{ClassTable, IsTable, IsConsistent, IsValueTable}
-use Rattle.dob_value.proofs.Consistency.{consistent_is_right}
-use Rattle.dob_probe.specs.Checks.{ClassFollows}
-use Rattle.dob_probe.specs.Faults.{IsVerdict, IsFaultOfCheck}
-use Rattle.dob_probe.proofs.Following.{consistent_of_all}
+-- The first fault among the verdicts of all parts of a table, or of all entries, as a search over them finds it.
+use Rattle.dob_check.proofs.Common.{◌*◌, ◌+◌, ◌<◌, ◌∙◌, ◌∷◌, ◌≡◌, ◌≤◌, Bool, Err, List, None, Ok, Option, Result, Some, [], ap, arith, false, inl, inr, length}
+use Rattle.dob_check.proofs.Common.{subst, suc, sym, true, zero, ℕ, Bor, cases_lt, AllZip, range_with_len, unwrap_or, is_err, slice_get, filter_by_mask, Verdict}
+use Rattle.dob_check.proofs.Common.{part_count, part_end}
+use Rattle.dob_value.specs.Follows.{ClassTable}
+use Rattle.dob_probe.specs.Checks.{AllFollow, ClassFollows}
+use Rattle.dob_probe.specs.Faults.{IsVerdict}
+use Rattle.dob_probe.specs.declared.fault.Fault.TheVariants.{Inconsistent}
+use Rattle.dob_check.proofs.Places.{placed}
 
 -- what holds of each number for which there is something in a list
 pub each_has : {Y : Type 0} (P : ℕ → Type 0) (from count : ℕ) (ys : List Y) → AllZip (λ (k : ℕ) (y : Y). P k) (range_with_len from count) ys → (k : ℕ) →
@@ -64,28 +64,43 @@ module _ {E : Type 0} (Fits : ℕ → Type 0) (Says : ℕ → Result (Unit {0}) 
         one_more from count (slice_get (filter_by_mask verdicts answers) 0) (passed from v are.0 (sym (told.0.2 ∙ ap is_err told.0.1)))
         (first_found (from + 1) count verdicts answers are.1 told.1)
 
--- ---- what is answered of a table
+-- ---- what is answered of a table, by the verdicts of its parts
 
--- the first fault of its classes
-abbrev pub IsFirstFault : ClassTable → Option Verdict → Type 0
-IsFirstFault table found = IsFirst (ClassFollows table) (IsVerdict table) 0 (length table.values) found
+module _ (table : ClassTable) where
+  abbrev pub PartFollows : ℕ → Type 0
+  PartFollows place = AllFollow table (place * 65536) (part_end table.values place)
 
-module _ (table : ClassTable) (whole : IsTable table.family table.values) where
-  pub consistent_answered : (found : Option Verdict) (result : Verdict) → result ≡ unwrap_or found (Ok tt) → IsFirstFault table found
-      → IfOk result (λ _. IsConsistent table.family table.values)
-  consistent_answered None result is first =
-      subst (λ (v : Verdict). IfOk v (λ _. IsConsistent table.family table.values)) (sym is)
-      (consistent_of_all table whole (λ class within. first class (omega arith) (omega arith)))
-  consistent_answered (Some (Ok x)) result is first = absurd (cc (first.3))
-  consistent_answered (Some (Err fault)) result is first = subst (λ (v : Verdict). IfOk v (λ _. IsConsistent table.family table.values)) (sym is) tt
+  abbrev pub IsPartVerdict : ℕ → Verdict → Type 0
+  IsPartVerdict place verdict = IsVerdict table (place * 65536) (part_end table.values place) verdict
 
-  pub fault_answered : (found : Option Verdict) (result : Verdict) → result ≡ unwrap_or found (Ok tt) → IsFirstFault table found
-      → IfErr result (IsFaultOfCheck table)
-  fault_answered None result is first = subst (λ (v : Verdict). IfErr v (IsFaultOfCheck table)) (sym is) tt
-  fault_answered (Some verdict) result is first =
-      subst (λ (v : Verdict). IfErr v (IsFaultOfCheck table)) (sym is) (fault_holds table whole verdict first)
+  -- the first fault of its parts
+  abbrev pub IsFirstFault : Option Verdict → Type 0
+  IsFirstFault found = IsFirst PartFollows IsPartVerdict 0 (part_count table.values) found
 
-pub right_answered : (table : ClassTable) (verdict : Verdict) → IfOk verdict (λ _. IsConsistent table.family table.values)
-    → IfOk verdict (λ _. IsValueTable table.family table.values)
-right_answered table (Ok _) consistent = consistent_is_right table.family table.values consistent
-right_answered table (Err fault) consistent = tt
+  -- where the parts before one follow, the classes before its own do
+  before_part : (place : ℕ) → ((other : ℕ) → other < place → PartFollows other) → (class : ℕ) → class < place * 65536 → class < length table.values →
+      ClassFollows table class
+  before_part place parts class below within =
+      let at = placed table.values class within in parts at.0 (omega (arith, below, at.2)) class at.2 at.3
+
+  verdict_of_all : (found : Option Verdict) → IsFirstFault found → IsVerdict table 0 (length table.values) (unwrap_or found (Ok tt))
+  verdict_of_all None parts = λ class low within.
+      before_part (part_count table.values) (λ place below. parts place (omega arith) (omega (arith, below))) class (omega (arith, within)) within
+  verdict_of_all (Some (Ok x)) first = absurd (cc (first.3))
+  verdict_of_all (Some (Err (Inconsistent class))) first =
+      let place : ℕ = first.0 in
+      let broken = first.2 in
+      let within : class < length table.values = omega (arith, broken.low, broken.high) in record {
+        low = omega arith;
+        high = within;
+        breaks = broken.breaks;
+        before = λ other low below. elim (cases_lt other (place * 65536)) [
+          | inl earlier ↦ before_part place (λ k. first.4 k (omega arith)) other earlier (omega arith)
+          | inr from ↦ broken.before other from below
+        ];
+      }
+  verdict_of_all (Some (Err _)) first = absurd first.2
+
+  pub table_answered : (found : Option Verdict) (result : Verdict) → result ≡ unwrap_or found (Ok tt) → IsFirstFault found
+      → IsVerdict table 0 (length table.values) result
+  table_answered found result is first = subst (IsVerdict table 0 (length table.values)) (sym is) (verdict_of_all found first)

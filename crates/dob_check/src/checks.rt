@@ -1,11 +1,12 @@
 // Whether a table is consistent, looked at by as many threads as there are processors.
-ghost use Rattle.std.specs.Prelude.{◌≡◌, ℕ, ◌⊎◌, ◌<◌, ◌≤◌, ◌+◌, length, IfOk, IfErr, is_err};
+ghost use Rattle.std.specs.Prelude.{◌≡◌, ℕ, ◌⊎◌, ◌<◌, ◌≤◌, ◌+◌, ◌*◌, length, IfOk, IfErr, is_err};
 ghost use Rattle.dob_value.specs.Follows.{IsConsistent, IsValueTable};
 ghost use Rattle.dob_probe.specs.Faults.{IsFaultOfCheck, IsVerdict};
-ghost use Rattle.dob_check.specs.Watching.{told_of, IsToldAt};
+ghost use Rattle.dob_check.specs.Parts.{IsPlace, part_end};
+ghost use Rattle.dob_check.specs.Watching.{told_of, IsToldAt, IsToldIn};
 
-use dob_moves::MoveList;
-use dob_probe::{Fault, check_class};
+use crate::parts::{part_bounds, part_count};
+use dob_probe::{Fault, check_classes};
 use dob_value::Table;
 use rayon::prelude::*;
 use std::thread::Threads;
@@ -36,8 +37,7 @@ impl Watch for Unwatched {
 }
 
 /// Passes the table exactly if each class's value follows from its status and its successors' values, so only if it
-/// is the value table. The classes are looked at by themselves, in as many threads as there are processors, each thread with
-/// one room for lists of moves.
+/// is the value table. The classes are looked at in parts of 65,536, each by itself, in as many threads as there are processors.
 ///
 /// # Errors
 ///
@@ -46,7 +46,7 @@ pub fn check(rt: &(impl Threads + Sync), table: &Table) -> Result<(), Fault>
     ensures consistent { IfOk result (λ _. IsConsistent table.now.family table.now.values) }
     ensures right { IfOk result (λ _. IsValueTable table.now.family table.now.values) }
     ensures fault { IfErr result (IsFaultOfCheck table.now) }
-    ensures passed { IsConsistent table.now.family table.now.values → (result ≡ Ok tt) ⊎ (result ≡ Err Fault.Memory) }
+    ensures passed { IsConsistent table.now.family table.now.values → result ≡ Ok tt }
 {
     check_watched(rt, table, &Unwatched)
 }
@@ -65,23 +65,20 @@ pub fn check_watched<R: Threads + Sync, W: Watch + Sync>(
     ensures consistent { IfOk result (λ _. IsConsistent table.now.family table.now.values) }
     ensures right { IfOk result (λ _. IsValueTable table.now.family table.now.values) }
     ensures fault { IfErr result (IsFaultOfCheck table.now) }
-    ensures passed { IsConsistent table.now.family table.now.values → (result ≡ Ok tt) ⊎ (result ≡ Err Fault.Memory) }
+    ensures passed { IsConsistent table.now.family table.now.values → result ≡ Ok tt }
     ensures told { (class : ℕ) → class < length table.now.values → IsToldAt (W.told watch.now) (length table.now.values) class }
 {
     // That the table has an entry for each class is known from here on.
     let _family = table.family();
-    let first_fault = (0..table.class_count())
+    let first_fault = (0..part_count(table))
         .into_par_iter()
-        .map_init(
-            || -> MoveList { MoveList::new() },
-            |room: &mut MoveList, class: u64| -> Result<(), Fault>
-                requires { class < length table.now.values }
-                ensures verdict { IsVerdict table.entry.now class result }
-                ensures told { IsToldAt (W.told watch.entry.now) (length table.entry.now.values) class }
-            {
-                tell(watch, table.class_count(), class);
-                check_class(room, table, class)
-            },
+        .with_min_len(1)
+        .map(
+            |place: u64| -> Result<(), Fault>
+                requires { IsPlace table.now.values place }
+                ensures verdict { IsVerdict table.entry.now (place * 65536) (part_end table.entry.now.values place) result }
+                ensures told { IsToldIn (W.told watch.entry.now) table.entry.now.values place }
+            { check_part(table, watch, place) },
         )
         .find_first(
             rt,
@@ -92,15 +89,33 @@ pub fn check_watched<R: Threads + Sync, W: Watch + Sync>(
     first_fault.unwrap_or(Ok(()))
 }
 
+// Passes the part of that place exactly if the value of each of its classes follows, and reports it to the watch.
+fn check_part<W: Watch>(table: &Table, watch: &W, place: u64) -> Result<(), Fault>
+    requires { IsPlace table.now.values place }
+    ensures verdict { IsVerdict table.now (place * 65536) (part_end table.now.values place) result }
+    ensures told { IsToldIn (W.told watch.now) table.now.values place }
+{
+    let (first, end) = part_bounds(table, place);
+    let verdict = check_classes(table, first, end);
+    report(watch, end - first);
+    verdict
+}
+
+// Reports so many further classes to the watch, if there are any.
+fn report<W: Watch>(watch: &W, classes: u64)
+    ensures { (classes ≡ 0) ⊎ W.told watch.now classes }
+{
+    if classes > 0 {
+        watch.passed(classes);
+    }
+}
+
 /// Calls the watch at the class, one of `count`, if a call is due.
 pub(crate) fn tell<W: Watch>(watch: &W, count: u64, class: u64)
     requires { class < count }
     ensures { IsToldAt (W.told watch.now) count class }
 {
-    let news = news_at(count, class);
-    if news > 0 {
-        watch.passed(news);
-    }
+    report(watch, news_at(count, class));
 }
 
 // How many more classes are reported to the watch at that one of `count`.

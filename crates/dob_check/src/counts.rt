@@ -1,19 +1,17 @@
 // How many classes of a table have which value, counted in parts by as many threads as there are processors.
-ghost use Rattle.std.specs.Prelude.{◌≡◌, IfOk};
+ghost use Rattle.std.specs.Prelude.{IfOk};
 ghost use Rattle.std.specs.List.{AllZip, range_with_len};
 ghost use Rattle.dob_probe.specs.Slots.{AreSlots};
 ghost use Rattle.dob_probe.specs.Statistics.{AreGroups};
 ghost use Rattle.dob_check.specs.Parts.{IsPart, IsPlace, part_count};
 
+use crate::parts::{PART, part_bounds, part_count};
 use dob_pieces::Memory;
 use dob_probe::{Group, add_slots, groups_of, slots_between};
 use dob_value::Table;
 use rayon::prelude::*;
 use std::alloc::Global;
 use std::thread::Threads;
-
-// How many classes are counted by themselves. What is counted of them takes some 32 bytes for each distance that they have.
-const PART: u64 = 65_536;
 
 // What is counted of each code in a part of the classes.
 #[derive(Drop)]
@@ -56,22 +54,13 @@ fn slots_of_parts(
         .collect::<Result<Vec<Part>, Memory>>(rt, alloc)?
 }
 
-// How many parts there are.
-fn part_count(table: &Table) -> u64
-    ensures { result ≡ part_count table.now.values }
-{
-    table.class_count() / PART + 1
-}
-
 // What is counted of the part of that place.
 fn slots_of_part(alloc: Global, table: &Table, place: u64) -> Result<Part, Memory>
     requires { IsPlace table.now.values place }
     ensures { IfOk result (IsPart table.now.values place) }
 {
-    let count = table.class_count();
-    let first = place * PART;
-    let size = PART.min(count - first);
-    let slots = slots_between(alloc, table, first, first + size)?;
+    let (first, end) = part_bounds(table, place);
+    let slots = slots_between(alloc, table, first, end)?;
     Ok(Part { slots })
 }
 

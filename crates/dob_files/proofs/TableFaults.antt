@@ -4,22 +4,16 @@ use Rattle.dob_files.proofs.Common.{FailsWhere, ShelfChange, ShelfFault, Answers
 use Rattle.dob_files.proofs.Common.{HasValueFile, IsFileOf, IsOpeningFault, IsPositionFault, IsShut, IsTextOf, Fault, Table}
 use Rattle.dob_dbfile.proofs.Written.{same_files}
 use Rattle.dob_probe.specs.declared.fault.Fault as probing
-use Rattle.dob_probe.specs.declared.fault.Fault.TheVariants as table_fault
 use Rattle.dob_shelf.specs.declared.shelf.ShelfFault.TheVariants as shelf_fault
 use Rattle.dob_files.specs.Owed.{AnswersOwed, OfTable, table_owed}
-use Rattle.dob_files.specs.Tables.{IsProbingFault, IsRightFileOf}
+use Rattle.dob_files.specs.Tables.{IsRightFileOf}
 use Rattle.std.proofs.Common.{arith}
 
 module _ (Has : List ℕ → Type 0) (table : ClassTable) (file : IsFileOf Has table) where
   -- a position that the table refuses
-  pub refusal_probes : (position : Setup) (fault : probing.Fault) → IsRefusal table.family position fault → IsProbingFault Has position (Table fault)
-  refusal_probes position (table_fault.Inconsistent class) refused = absurd refused
-  refusal_probes position table_fault.Memory refused = tt
-  refusal_probes position fault refused = (table, file, refused)
-
   pub refusal_holds : (words : List ℕ) (position : Setup) (fault : probing.Fault) → IsTextOf words position
       → IsRefusal table.family position fault → IsPositionFault Has words (Table fault)
-  refusal_holds words position fault named refused = (position, named, refusal_probes position fault refused)
+  refusal_holds words position fault named refused = (position, named, (table, file, refused))
 
 -- where a file that a shelf has isn't opened for lack of memory alone, it isn't there where the cause is another one
 pub is_shut : (Has : List ℕ → Type 0) → ((bytes : List ℕ) → Has bytes → shelf_fault.Failed ≡ shelf_fault.Memory) → IsShut Has

@@ -12,7 +12,6 @@ use Rattle.dob_dbfile.specs.declared.fault.Fault.TheVariants as file_fault
 use Rattle.dob_device.specs.Devices.{whole}
 use Rattle.dob_dbfile.specs.Faults as reading
 use Rattle.dob_dbfile.specs.Format.{IsFile}
-use Rattle.dob_probe.specs.declared.fault.Fault.TheVariants as table_fault
 use Rattle.dob_probe.specs.Faults.{IsRefusal}
 use Rattle.dob_files.specs.declared.fault.Fault.{Fault}
 use Rattle.dob_files.specs.declared.fault.Fault.TheVariants.{Text, File, Table, Memory, Io}
@@ -67,8 +66,6 @@ IsOpeningFault Has _ = ⊥
 -- a fault of asking a file for a position: the file's, or the table's, E26 before E7; or memory failed, or the file couldn't be opened
 abbrev pub IsProbingFault : (List ℕ → Type 0) → Setup → Fault → Type 0
 IsProbingFault Has position (File fault) = HasFileFault Has fault
-IsProbingFault Has position (Table (table_fault.Inconsistent class)) = ⊥
-IsProbingFault Has position (Table table_fault.Memory) = Unit {0}
 IsProbingFault Has position (Table fault) = (table : ClassTable) × IsFileOf Has table × IsRefusal table.family position fault
 IsProbingFault Has position Memory = Unit {0}
 IsProbingFault Has position Io = IsShut Has

@@ -9,6 +9,7 @@ use dob_probe::{Group, ValuedMove};
 use dob_text::{write_move, write_position};
 use dob_value::Value;
 use std::alloc::Global;
+use std::fmt::Write;
 
 /// The object of a position and its value.
 pub fn value_object(alloc: Global, position: &Position, value: Value) -> Result<String, Memory>
@@ -62,8 +63,8 @@ fn valued_objects(alloc: Global, moves: &[ValuedMove]) -> Result<String, Memory>
     let mut left = moves;
     while let Some((first, rest)) = left.split_first() {
         let object = valued_object(alloc, *first)?;
-        text.push_str(object.as_str())?;
-        text.push_str(comma_before(rest))?;
+        let comma = comma_before(rest);
+        write!(text, "{object}{comma}")?;
         left = rest;
     }
     Ok(text)
@@ -87,9 +88,8 @@ fn played_objects(alloc: Global, moves: &[Move]) -> Result<String, Memory>
     let mut left = moves;
     while let Some((first, rest)) = left.split_first() {
         let fields = move_fields(alloc, *first, second)?;
-        let object = format!(in alloc; "{{{fields}}}")?;
-        text.push_str(object.as_str())?;
-        text.push_str(comma_before(rest))?;
+        let comma = comma_before(rest);
+        write!(text, "{{{fields}}}{comma}")?;
         second = !second;
         left = rest;
     }

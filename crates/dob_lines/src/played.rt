@@ -10,6 +10,7 @@ use dob_pieces::{Memory, Position};
 use dob_text::{draw_position, write_line, write_move};
 use dob_value::Value;
 use std::alloc::Global;
+use std::fmt::Write;
 
 /// The lines that give the moves of a position of that value.
 pub fn moves_lines(
@@ -111,8 +112,6 @@ pub fn played_drawing(
     let mut lines = draw_position(alloc, position)?;
     let told = line_of(alloc, value)?;
     let played = write_line(alloc, moves)?;
-    lines.push_str("\n")?;
-    lines.push_str(told.as_str())?;
-    lines.push_str(played.as_str())?;
+    write!(lines, "\n{told}{played}")?;
     Ok(lines)
 }

@@ -8,6 +8,7 @@ use dob_pieces::Memory;
 use dob_probe::ValuedMove;
 use dob_text::write_move;
 use std::alloc::Global;
+use std::fmt::Write;
 
 /// The lines of the moves, or that there is none.
 pub fn move_lines(alloc: Global, legal: &[ValuedMove]) -> Result<String, Memory>
@@ -43,7 +44,6 @@ fn valued_move_line(alloc: Global, valued: ValuedMove) -> Result<String, Memory>
 {
     let mut line = write_move(alloc, valued.played, false)?;
     let value = line_of(alloc, valued.value)?;
-    line.push_str(" ")?;
-    line.push_str(value.as_str())?;
+    write!(line, " {value}")?;
     Ok(line)
 }

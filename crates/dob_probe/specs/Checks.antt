@@ -1,5 +1,5 @@
 -- Of which classes of a table the value follows, and which is the first whose value doesn't.
-use Rattle.std.specs.Prelude.{◌≡◌, ℕ, ◌<◌, length, Some, slice_get}
+use Rattle.std.specs.Prelude.{◌≡◌, ℕ, ◌<◌, ◌≤◌, length, Some, slice_get}
 use Rattle.dob_pieces.specs.declared.setup.Setup.{Setup}
 use Rattle.dob_rank.specs.Families.{IsRepresentative, HasClass}
 use Rattle.dob_distance.specs.declared.value.Value.{Value}
@@ -23,8 +23,17 @@ pub record ClassBreaks (table : ClassTable) (class : ℕ) : Type 0 where
   pub has : HasEntry table class representative value
   pub breaks : ¬ Follows table.family.profile (GivenBy table) representative value
 
--- the least class whose entry doesn't follow
-pub record IsFirstBroken (table : ClassTable) (class : ℕ) : Type 0 where
-  pub within : class < length table.values
+-- the entries of the classes from one on up to an end follow
+abbrev pub AllFollow : ClassTable → ℕ → ℕ → Type 0
+AllFollow table first end = (class : ℕ) → first ≤ class → class < end → ClassFollows table class
+
+-- the least of those classes whose entry doesn't
+pub record IsFirstBreak (table : ClassTable) (first end class : ℕ) : Type 0 where
+  pub low : first ≤ class
+  pub high : class < end
   pub breaks : ClassBreaks table class
-  pub before : (other : ℕ) → other < class → ClassFollows table other
+  pub before : AllFollow table first class
+
+-- the least class of all whose entry doesn't follow
+abbrev pub IsFirstBroken : ClassTable → ℕ → Type 0
+IsFirstBroken table class = IsFirstBreak table 0 (length table.values) class

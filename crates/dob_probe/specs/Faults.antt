@@ -1,7 +1,6 @@
 -- What each fault is called, and when it is given.
-use Rattle.std.specs.Prelude.{◌≡◌, List, ℕ, ◌++◌, codes}
+use Rattle.std.specs.Prelude.{List, ℕ, ◌++◌, MatchResult, codes, length}
 use Rattle.std.specs.declared.result.Result.{Result}
-use Rattle.std.specs.declared.result.Result.TheVariants.{Ok, Err}
 use Rattle.std.specs.Fmt.{decimal}
 use Rattle.dob_pieces.specs.Faults.{far_chick_text, memory_text}
 use Rattle.dob_pieces.specs.Profiles.{IsAllowed}
@@ -13,7 +12,7 @@ use Rattle.dob_value.specs.Follows.{ClassTable}
 use Rattle.dob_probe.specs.declared.fault.Fault.{Fault}
 use Rattle.dob_probe.specs.declared.fault.Fault.TheVariants.{FarChick, OtherSet, Inconsistent, Memory}
 use Rattle.dob_probe.specs.Lines.{BreaksAt}
-use Rattle.dob_probe.specs.Checks.{ClassFollows, ClassBreaks, IsFirstBroken}
+use Rattle.dob_probe.specs.Checks.{AllFollow, IsFirstBreak}
 
 -- the fault's number and name
 abbrev pub fault_text : Fault → List ℕ
@@ -40,17 +39,15 @@ abbrev pub IsFaultOfMoves : ClassTable → Setup → Fault → Type 0
 IsFaultOfMoves table p Memory = Unit {0}
 IsFaultOfMoves table p fault = IsRefusal table.family p fault
 
--- a fault of checking a table: that class is the first whose value doesn't follow, or memory failed
-abbrev pub IsFaultOfCheck : ClassTable → Fault → Type 0
-IsFaultOfCheck table FarChick = ⊥
-IsFaultOfCheck table OtherSet = ⊥
-IsFaultOfCheck table (Inconsistent class) = IsFirstBroken table class
-IsFaultOfCheck table Memory = Unit {0}
+-- a fault of checking the classes from one on up to an end: that one is the least whose value doesn't follow. No memory is taken, so `Memory` is never told.
+abbrev pub IsFaultBetween : ClassTable → ℕ → ℕ → Fault → Type 0
+IsFaultBetween table first end (Inconsistent class) = IsFirstBreak table first end class
+IsFaultBetween table first end _ = ⊥
 
--- what is found of one class alone
-abbrev pub IsVerdict : ClassTable → ℕ → Result Unit Fault → Type 0
-IsVerdict table class (Ok _) = ClassFollows table class
-IsVerdict table class (Err FarChick) = ⊥
-IsVerdict table class (Err OtherSet) = ⊥
-IsVerdict table class (Err (Inconsistent other)) = (other ≡ class) × ClassBreaks table class
-IsVerdict table class (Err Memory) = Unit {0}
+-- a fault of checking a table
+abbrev pub IsFaultOfCheck : ClassTable → Fault → Type 0
+IsFaultOfCheck table fault = IsFaultBetween table 0 (length table.values) fault
+
+-- what is found of the classes from one on up to an end
+abbrev pub IsVerdict : ClassTable → ℕ → ℕ → Result Unit Fault → Type 0
+IsVerdict table first end result = MatchResult result (λ _. AllFollow table first end) (IsFaultBetween table first end)

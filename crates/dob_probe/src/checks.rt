@@ -1,6 +1,7 @@
 // Whether a table is consistent: each class's value follows from its status and its successors' values.
-ghost use Rattle.std.specs.Prelude.{◌≡◌, ◌⊎◌, ◌<◌, length, IfOk, IfErr};
+ghost use Rattle.std.specs.Prelude.{◌≡◌, ◌<◌, ◌≤◌, true, false, length, IfOk, IfErr};
 ghost use Rattle.dob_value.specs.Follows.{IsConsistent, IsValueTable};
+ghost use Rattle.dob_probe.specs.Checks.{ClassBreaks, ClassFollows};
 ghost use Rattle.dob_probe.specs.Faults.{IsFaultOfCheck, IsVerdict};
 
 use crate::fault::Fault;
@@ -18,31 +19,38 @@ pub fn check(table: &Table) -> Result<(), Fault>
     ensures consistent { IfOk result (λ _. IsConsistent table.now.family table.now.values) }
     ensures right { IfOk result (λ _. IsValueTable table.now.family table.now.values) }
     ensures fault { IfErr result (IsFaultOfCheck table.now) }
-    ensures passed { IsConsistent table.now.family table.now.values → (result ≡ Ok tt) ⊎ (result ≡ Err Fault.Memory) }
+    ensures passed { IsConsistent table.now.family table.now.values → result ≡ Ok tt }
 {
     // That the table has an entry for each class is known from here on.
     let _family = table.family();
+    check_classes(table, 0, table.class_count())
+}
+
+/// Passes the classes from `first` on up to `end` exactly if the value of each follows from its status and its successors'
+/// values. One list of moves serves them all.
+///
+/// # Errors
+///
+/// `Inconsistent` with the least of them whose value doesn't follow.
+pub fn check_classes(table: &Table, first: u64, end: u64) -> Result<(), Fault>
+    requires { end ≤ length table.now.values }
+    ensures { IsVerdict table.now first end result }
+{
     let mut room = MoveList::new();
-    for class in 0..table.class_count() {
-        check_class(&mut room, table, class)?;
+    for class in first..end {
+        if !class_follows(&mut room, table, class) {
+            return Err(Fault::Inconsistent(class));
+        }
     }
     Ok(())
 }
 
-/// Passes the class exactly if its value follows from its status and its successors' values. The room is for lists of moves:
-/// what it holds before and after plays no part.
-///
-/// # Errors
-///
-/// `Inconsistent` with the class where its value doesn't follow.
-pub fn check_class(room: &mut MoveList, table: &Table, class: u64) -> Result<(), Fault>
+// Whether the value of the class follows. The room is for its moves: what it holds before and after plays no part.
+fn class_follows(room: &mut MoveList, table: &Table, class: u64) -> bool
     requires { class < length table.now.values }
-    ensures { IsVerdict table.now class result }
+    ensures follows { result ≡ true → ClassFollows table.now class }
+    ensures breaks { result ≡ false → ClassBreaks table.now class }
 {
     let position = table.classes().class_at(class);
-    if value_that_follows(room, table, &position) == table.value(class) {
-        Ok(())
-    } else {
-        Err(Fault::Inconsistent(class))
-    }
+    value_that_follows(room, table, &position) == table.value(class)
 }

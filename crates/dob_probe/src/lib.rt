@@ -2,7 +2,7 @@
 // value table, whoever made it.
 //
 // Choices:
-// - `check` answers the first fault of any kind in class order, so E23 at a lower class hides a broken class above.
+// - `check` answers the least class that doesn't follow, and never `Memory`, since it takes none; `check_classes` does it for a stretch of classes.
 // - A move's value fits 16 bits by any table, since a table's distances are at most 65,534 by its type.
 // - E26 comes before E7, also if both hold (`check_member`): it names what the profile doesn't allow, whatever the pieces.
 // - `first_puzzles` ends with the last one that was asked for. With a seed the classes come in the order of a `Shuffle`, each once, so no list of all
@@ -28,7 +28,7 @@ mod values;
 mod walks;
 
 pub use by_value::{ValuedMove, insert_by_value, moves_by, value_seen, valued_moves};
-pub use checks::{check, check_class};
+pub use checks::{check, check_classes};
 pub use fault::Fault;
 pub use gap::LookupFault;
 pub use groups::{Group, add_slots, groups_of, slots_between};

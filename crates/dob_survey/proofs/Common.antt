@@ -7,12 +7,6 @@ pub use Rattle.std.proofs.lemmas.Option.{slice_get_within}
 pub use Rattle.std.proofs.lemmas.Result.{err_from_is_err_and}
 pub use Rattle.std.specs.Fmt.{decimal}
 pub use Rattle.std.specs.Prelude.{Contains, IfSome, IsTrue, String}
-pub use Rattle.dob_pieces.specs.declared.profile.Family.{Family}
-pub use Rattle.dob_pieces.specs.declared.profile.Profile.{Profile}
-pub use Rattle.dob_pieces.specs.declared.setup.Setup.{Setup}
-pub use Rattle.dob_rank.proofs.OfFamilies.Present.{HasClasses-classes_of}
-pub use Rattle.dob_rank.specs.Families.{HasClass, IsRepresentative, class_setup, classes_of}
-pub use Rattle.dob_classes.proofs.OfFamilies.FamilyRepresentatives.{class_setup_only}
 pub use Rattle.dob_value.specs.Follows.{ClassTable}
 pub use Rattle.dob_probe.specs.Faults.{IsFaultOfCheck}
 pub use Rattle.dob_zugzwang.specs.Counts.{AreCounts, IsDeepest}
@@ -21,9 +15,8 @@ pub use Rattle.dob_zugzwang.specs.declared.pairs.Zugzwang.{Zugzwang}
 pub use Rattle.dob_shelf.proofs.Shelves.{others_kept}
 pub use Rattle.dob_shelf.specs.Shelves.{HasJust, SameFiles, ShelfChange, ShelfState, shelf_change}
 pub use Rattle.dob_lines.specs.Tallies.{count_line}
-pub use Rattle.dob_files.specs.Endings.{AnswersOver, Ending}
 pub use Rattle.dob_files.specs.Keeping.{AreThese, IsFillingFault, LeavesFiles}
-pub use Rattle.dob_files.specs.Tables.{HasValueFile, IsFileOf, IsOpeningFault, IsRightFileOf}
+pub use Rattle.dob_files.specs.Tables.{IsFileOf}
 pub use Rattle.dob_files.specs.declared.fault.Fault.{Fault}
 pub use Rattle.dob_files.specs.declared.fault.Fault.TheVariants.{Table}
 pub use Rattle.dob_survey.specs.Migrations.{AreMigrateLines, IsMigrateFault}

@@ -1,8 +1,7 @@
 -- The lines of puzzles, one after the other, and which classes these and pairs are of.
 use Rattle.dob_survey.proofs.Common.{◌++◌, ◌+◌, ◌<◌, ◌∙◌, ◌≡◌, List, ap, append-nil, flat_map, get_or, length, subst, sym, take, ℕ, take_more}
 use Rattle.dob_survey.proofs.Common.{Contains-append_left, Contains-get_or, slice_get_within, take-append-drop, Contains, ClassTable, IfSome, None, Option}
-use Rattle.dob_survey.proofs.Common.{Some, arith, drop, AreOfTable, ArePairs, IsDeepest, IsOfTable, Zugzwang, first_pairs, Family, Setup}
-use Rattle.dob_survey.proofs.Common.{HasClasses-classes_of, HasClass, IsRepresentative, class_setup, class_setup_only, classes_of}
+use Rattle.dob_survey.proofs.Common.{Some, arith, drop, AreOfTable, ArePairs, IsDeepest, IsOfTable, Zugzwang, first_pairs}
 use Rattle.std.proofs.lemmas.Grind.{flat_map-append}
 use Rattle.dob_zugzwang.proofs.Listing.{pair_within}
 use Rattle.dob_probe.specs.declared.puzzles.Puzzle.{Puzzle}
@@ -25,12 +24,6 @@ module _ (puzzles : List Puzzle) (i : ℕ) (puzzle : Puzzle) (within : i < lengt
       → new ≡ flat_map f (take (i + 1) puzzles)
   one_line_more f old new before grown =
       next_line f puzzles i puzzle old new within before (grown ∙ ap (λ (p : Puzzle). old ++ f p) here)
-
--- the representative of a class is the one that its number gives
-pub of_class : (own family : Family) (position : Setup) (class count : ℕ) → own ≡ family → classes_of family ≡ count → class < count
-    → IsRepresentative own position → HasClass own position class → position ≡ class_setup family class
-of_class own family position class count same all within is has =
-    class_setup_only family position class (classes_of family) (HasClasses-classes_of family) (rw all within) (rw same at is) (rw same at has)
 
 -- a puzzle of a table is of one of its classes
 pub puzzle_within : (table : ClassTable) (walk : Walk) (plies count : ℕ) (puzzles list : List Puzzle) (puzzle : Puzzle) → ArePuzzles table walk plies count puzzles → list ≡ puzzles

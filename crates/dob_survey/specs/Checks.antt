@@ -20,11 +20,10 @@ pub record IsCheckLine (Has : List ℕ → Type 0) (lines : List ℕ) : Type 0 w
   pub right : IsValueTable table.family table.values
   pub same : lines ≡ consistent_line
 
--- a fault of checking a file: the file's, or the table's; or memory failed, or the file couldn't be opened
+-- a fault of checking a file: the file's, or the table's, which takes no memory; or memory failed where the file is read, or it couldn't be opened
 abbrev pub IsCheckFault : (List ℕ → Type 0) → Fault → Type 0
 IsCheckFault Has (File fault) = HasFileFault Has fault
 IsCheckFault Has (Table (table_fault.Inconsistent class)) = (table : ClassTable) × IsFileOf Has table × IsFirstBroken table class
-IsCheckFault Has (Table table_fault.Memory) = Unit {0}
 IsCheckFault Has Memory = Unit {0}
 IsCheckFault Has Io = IsShut Has
 IsCheckFault Has _ = ⊥

@@ -1,64 +1,53 @@
--- The verdicts of the classes in order, and the first fault among them.
-use Rattle.dob_check.proofs.Common.{◌-◌, ◌<◌, ◌∙◌, ◌≡◌, List, ap, arith, length, subst, sym, ℕ, AllZip, range_with_len, IfErr, IfOk, AllZip-weaken}
-use Rattle.dob_check.proofs.Common.{nat_range-All, nat_range, Verdict, passed_answered, IsToldAt}
-use Rattle.dob_value.specs.Follows.{IsConsistent}
-use Rattle.dob_probe.specs.Checks.{ClassFollows}
-use Rattle.dob_probe.specs.Faults.{IsVerdict, IsFaultOfCheck}
-use Rattle.dob_check.proofs.Found.{IsFirstFault, first_found, each_has, consistent_answered, fault_answered, right_answered}
+-- The verdicts of the parts in order, and the first fault among them.
+use Rattle.dob_check.proofs.Common.{◌-◌, ◌<◌, ◌∙◌, ◌≡◌, List, ap, arith, subst, sym, ℕ, AllZip, range_with_len, AllZip-weaken, nat_range-All, nat_range}
+use Rattle.dob_check.proofs.Common.{Verdict, answered, IsPlace, IsToldIn, part_count}
+use Rattle.dob_check.proofs.Places.{part_begins, placed}
+use Rattle.dob_check.proofs.Found.{IsFirstFault, IsPartVerdict, PartFollows, each_has, first_found, table_answered}
 use Rattle.dob_check.proofs.checks.check_watched.Goals as goal
 
 pub find_first-first_fault-requires-clause-items : goal.find_first-first_fault-requires-clause-items
 find_first-first_fault-requires-clause-items g c = λ κs lives.
-    let inside = nat_range-All (λ i. i < length c.args.table.now.values) 0 c.class_count.result
-    (λ i low high. omega (arith, high, c.class_count.ensures.length)) in
-    rw (c.map_init.ensures.base, c.map_init.ensures.f, c.into_par_iter.ensures.0, c.into_par_iter.ensures.1)
-    (tt, λ k d lt. (λ p. inside k d lt, λ p q y e b same. tt))
+    let ends = c.into_par_iter.ensures in
+    let values = c.args.table.now.values in
+    let inside = nat_range-All (λ place. IsPlace values place) 0 c.part_count.result
+    (λ place low high. record { begins = part_begins values place (subst (λ (n : ℕ). place < n) c.part_count.ensures high) }) in
+    rw (c.map.ensures.base, c.map.ensures.f, c.with_min_len.ensures.base, ends.0, ends.1) (λ k d lt. (inside k d lt, λ y e b same. tt))
 
--- the verdict of each class, and what was told of it
-abbrev Says : (g : _) (c : goal.After-unwrap_or g) → ℕ → Verdict → Type 0
-Says g c class v = IsVerdict c.args.table.now class v × IsToldAt (g.W.Watch.told c.args.watch.now) (length c.args.table.now.values) class
+-- the verdict of each part, and what was told of it
+abbrev pub Says : (g : _) (c : goal.After-unwrap_or g) → ℕ → Verdict → Type 0
+Says g c place v = IsPartVerdict c.args.table.now place v × IsToldIn (g.W.Watch.told c.args.watch.now) c.args.table.now.values place
 
-all_say : (g : _) (c : goal.After-unwrap_or g) → AllZip (Says g c) (range_with_len 0 (length c.args.table.now.values)) c.find_first-first_fault.ensures.0
+all_say : (g : _) (c : goal.After-unwrap_or g) → AllZip (Says g c) (range_with_len 0 (part_count c.args.table.now.values)) c.find_first-first_fault.ensures.0
 all_say g c =
     let done = c.find_first-first_fault.ensures in
     let ends = c.into_par_iter.ensures in
-    let whole : c.class_count.result - 0 ≡ length c.args.table.now.values = omega (arith, c.class_count.ensures.length) in
-    let chain = rw (c.map_init.ensures.base, c.map_init.ensures.f) at done.2 in
-    let places = chain.1 ∙ (λ i. nat_range (ends.0 i) (ends.1 i)) ∙ ap (range_with_len 0) whole in
-    subst (λ (classes : List ℕ). AllZip (Says g c) classes done.0) places (AllZip-weaken _ (Says g c) (λ class verdict h. (h.2.0, h.2.1)) chain.0 done.0 chain.2)
+    let none : c.part_count.result - 0 ≡ c.part_count.result = omega arith in
+    let chain = rw (c.map.ensures.base, c.map.ensures.f, c.with_min_len.ensures.base) at done.2 in
+    let places = chain.1 ∙ (λ i. nat_range (ends.0 i) (ends.1 i)) ∙ ap (range_with_len 0) (none ∙ c.part_count.ensures) in
+    subst (λ (places : List ℕ). AllZip (Says g c) places done.0) places (AllZip-weaken _ (Says g c) (λ place verdict h. (h.0, h.1)) chain.0 done.0 chain.2)
 
 -- what was found
 found_is : (g : _) (c : goal.After-unwrap_or g) → IsFirstFault c.args.table.now c.find_first-first_fault.result
 found_is g c =
     let table = c.args.table.now in
     let done = c.find_first-first_fault.ensures in
-    let verdicts = AllZip-weaken _ (IsVerdict table) (λ class verdict h. h.0) (range_with_len 0 (length table.values)) done.0 (all_say g c) in
+    let verdicts = AllZip-weaken _ (IsPartVerdict table) (λ place verdict h. h.0) (range_with_len 0 (part_count table.values)) done.0 (all_say g c) in
     subst (IsFirstFault table) (sym done.4)
-    (first_found (ClassFollows table) (IsVerdict table) (λ class x is. is) 0 (length table.values) done.0 done.1 verdicts done.3)
+    (first_found (PartFollows table) (IsPartVerdict table) (λ place x is. is) 0 (part_count table.values) done.0 done.1 verdicts done.3)
 
-is_consistent : (g : _) (c : goal.After-unwrap_or g) → IfOk c.unwrap_or.result (λ _. IsConsistent c.args.table.now.family c.args.table.now.values)
-is_consistent g c =
-    consistent_answered c.args.table.now c.family-family.ensures.table c.find_first-first_fault.result c.unwrap_or.result c.unwrap_or.ensures (found_is g c)
-
-fault_is : (g : _) (c : goal.After-unwrap_or g) → IfErr c.unwrap_or.result (IsFaultOfCheck c.args.table.now)
-fault_is g c =
-    fault_answered c.args.table.now c.family-family.ensures.table c.find_first-first_fault.result c.unwrap_or.result c.unwrap_or.ensures (found_is g c)
-
-pub returns-clause-consistent : goal.returns-clause-consistent
-returns-clause-consistent g c = is_consistent g c
-
-pub returns-clause-right : goal.returns-clause-right
-returns-clause-right g c = right_answered c.args.table.now c.unwrap_or.result (is_consistent g c)
-
-pub returns-clause-fault : goal.returns-clause-fault
-returns-clause-fault g c = fault_is g c
-
-pub returns-clause-passed : goal.returns-clause-passed
-returns-clause-passed g c = λ consistent. passed_answered c.args.table.now c.unwrap_or.result (fault_is g c) consistent
-
-pub returns-clause-told : goal.returns-clause-told
-returns-clause-told g c = λ class low.
-    let many = length c.args.table.now.values in
-    let found = c.find_first-first_fault.ensures.0 in
-    each_has (IsToldAt (g.W.Watch.told c.args.watch.now) many) 0 many found
-    (AllZip-weaken _ _ (λ class verdict h. h.1) (range_with_len 0 many) found (all_say g c)) class (omega arith) (omega (arith, low))
+pub returns : goal.returns
+returns g c =
+    let table = c.args.table.now in
+    let verdict = table_answered table c.find_first-first_fault.result c.unwrap_or.result c.unwrap_or.ensures (found_is g c) in
+    let answer = answered table c.unwrap_or.result c.family-family.ensures.table verdict in record {
+      consistent = answer.consistent;
+      right = answer.right;
+      fault = answer.fault;
+      passed = answer.passed;
+      told = λ class within.
+          let at = placed table.values class within in
+          let found = c.find_first-first_fault.ensures.0 in
+          each_has (IsToldIn (g.W.Watch.told c.args.watch.now) table.values) 0 (part_count table.values) found
+          (AllZip-weaken _ _ (λ place verdict h. h.1) (range_with_len 0 (part_count table.values)) found (all_say g c)) at.0 (omega arith)
+          (omega (arith, at.1)) class at.2 at.3;
+    }

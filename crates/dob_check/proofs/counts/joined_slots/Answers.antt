@@ -1,7 +1,8 @@
 -- One part more each time, and then all of them.
 use Rattle.dob_check.proofs.Common.{◌<◌, ◌^◌, ◌≡◌, arith, length, ℕ, as_many, IsPart, part_count}
 use Rattle.std.proofs.lemmas.Option.{slice_get-get_or}
-use Rattle.dob_check.proofs.Counted.{all_first, none_first, one_more, part_at, part_begins}
+use Rattle.dob_check.proofs.Counted.{all_first, none_first, one_more, part_at}
+use Rattle.dob_check.proofs.Places.{part_begins}
 use Rattle.dob_check.proofs.counts.joined_slots.Goals as goal
 use Rattle.dob_check.proofs.counts.joined_slots.Goals.{After-class_count-count}
 

@@ -3,7 +3,7 @@ use Rattle.dob_check.proofs.Common.{◌-◌, ◌<◌, ◌∙◌, ◌≡◌, List
 use Rattle.dob_check.proofs.Common.{nat_range, made_all, IsPart, IsPlace, part_count}
 use Rattle.dob_pieces.specs.declared.memory.Memory.{Memory}
 use Rattle.dob_check.specs.declared.counts.Part.{Part}
-use Rattle.dob_check.proofs.Counted.{part_begins}
+use Rattle.dob_check.proofs.Places.{part_begins}
 use Rattle.dob_check.proofs.counts.slots_of_parts.Goals as goal
 
 pub collect-requires-clause-ready : goal.collect-requires-clause-ready

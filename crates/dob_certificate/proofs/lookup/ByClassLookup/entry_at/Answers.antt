@@ -6,7 +6,7 @@ pub returns-then-class-class_count : goal.returns-then-class-class_count
 returns-then-class-class_count c = rw (← c.as_slice.ensures.entries, ← c.requires.stands) (record {
   within = omega (arith, c.class_count.ensures.number, c.if-class-class_count.true);
   represents = c.class_at-position.ensures.representative;
-  number = c.class_at-position.ensures.class;
+  setup = c.class_at-position.ensures.setup;
   plies_are = refl;
 })
 
