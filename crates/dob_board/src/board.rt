@@ -11,6 +11,7 @@ use crate::seat::Words;
 use crate::view::View;
 use crate::words::{HALT, halt_of};
 use atomic_table::Seat;
+use dob_safra::NodeCount;
 use std::sync::Arc;
 
 /// A board: the words that the seats of its nodes share.
@@ -22,7 +23,7 @@ pub struct Board {
     // The words as they were at the start, and room for them as they are at the end.
     pub(crate) words: Vec<u64>,
     /// How many nodes the board has.
-    pub nodes: usize,
+    pub nodes: NodeCount,
     pub ghost some: { 0 < nodes },
     pub ghost few: { nodes ≤ most_nodes },
     pub ghost of_board: { rest.table_id ≡ (arc_value shared).shared.table_id },

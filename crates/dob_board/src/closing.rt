@@ -11,6 +11,7 @@ use crate::seat::Words;
 use crate::view::View;
 use crate::{Board, Closed, NodeSeat};
 use atomic_table::Seat;
+use dob_safra::NodeCount;
 use std::sync::Arc;
 
 impl Board {
@@ -34,7 +35,12 @@ impl Board {
 }
 
 // Joins the seats of all nodes into the rest.
-fn join_all(shared: &Arc<Words>, rest: &mut Seat<(), View>, mut seats: Vec<NodeSeat>, nodes: usize)
+fn join_all(
+    shared: &Arc<Words>,
+    rest: &mut Seat<(), View>,
+    mut seats: Vec<NodeSeat>,
+    nodes: NodeCount,
+)
     requires board { (arc_value shared.now).shared.table_id.words ≡ word_count nodes }
     requires key { (arc_value shared.now).shared.key ≡ nodes }
     requires of_board { rest.old.table_id ≡ (arc_value shared.now).shared.table_id }
@@ -50,7 +56,7 @@ fn join_all(shared: &Arc<Words>, rest: &mut Seat<(), View>, mut seats: Vec<NodeS
 }
 
 // Joins the seat of the node before the rest.
-fn join_last(shared: &Arc<Words>, rest: &mut Seat<(), View>, seat: NodeSeat, nodes: usize)
+fn join_last(shared: &Arc<Words>, rest: &mut Seat<(), View>, seat: NodeSeat, nodes: NodeCount)
     requires board { (arc_value shared.now).shared.table_id.words ≡ word_count nodes }
     requires key { (arc_value shared.now).shared.key ≡ nodes }
     requires of_board { rest.old.table_id ≡ (arc_value shared.now).shared.table_id }
@@ -70,7 +76,7 @@ fn read_all(
     shared: &Arc<Words>,
     rest: &mut Seat<(), View>,
     mut words: Vec<u64>,
-    nodes: usize,
+    nodes: NodeCount,
 ) -> Vec<u64>
     requires board { (arc_value shared.now).shared.table_id.words ≡ word_count nodes }
     requires key { (arc_value shared.now).shared.key ≡ nodes }

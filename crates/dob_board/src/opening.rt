@@ -45,16 +45,16 @@ impl Board {
     /// # Errors
     ///
     /// `AllocError` if memory runs out.
-    pub fn open_for(alloc: Global, count: NodeCount) -> Result<(Board, Vec<NodeSeat>), AllocError>
-        ensures nodes { IfOk result (λ opened. opened.0.nodes ≡ count) }
-        ensures seats { IfOk result (λ opened. AreSeats opened.0.rest.table_id count opened.1.items) }
-        ensures fresh { IfOk result (λ opened. map stand_of opened.1.items ≡ replicate count (fresh count)) }
+    pub fn open_for(alloc: Global, nodes: NodeCount) -> Result<(Board, Vec<NodeSeat>), AllocError>
+        ensures nodes { IfOk result (λ opened. opened.0.nodes ≡ nodes) }
+        ensures seats { IfOk result (λ opened. AreSeats opened.0.rest.table_id nodes opened.1.items) }
+        ensures fresh { IfOk result (λ opened. map stand_of opened.1.items ≡ replicate nodes (fresh nodes)) }
     {
-        let words = start_words(alloc, count)?;
-        let nodes = count.get();
-        let (table, mut rest) = Table::of_words(alloc, &words, &nodes)?;
+        let words = start_words(alloc, nodes)?;
+        let key = nodes.get();
+        let (table, mut rest) = Table::of_words(alloc, &words, &key)?;
         let shared = Arc::new(alloc, table)?;
-        let seats = all_seats(alloc, &shared, &mut rest, count)?;
+        let seats = all_seats(alloc, &shared, &mut rest, nodes)?;
         let board = Board {
             shared,
             rest,
@@ -119,10 +119,10 @@ fn next_seat(
     ensures fresh { IfOk result (λ seat. seat.stand ≡ fresh nodes) }
 {
     let board = Arc::try_clone(shared)?;
-    let nodes = nodes.get();
-    let posted = Counts::zeros(alloc, nodes)?;
-    let taken = Counts::zeros(alloc, nodes)?;
-    let seen = Counts::zeros(alloc, nodes)?;
+    let count = nodes.get();
+    let posted = Counts::zeros(alloc, count)?;
+    let taken = Counts::zeros(alloc, count)?;
+    let seen = Counts::zeros(alloc, count)?;
     let stand = SeatState {
         posted,
         taken,

@@ -9,6 +9,7 @@ ghost use Rattle.dob_safra.specs.Tokens.{most_nodes};
 use crate::rule::Order;
 use crate::view::{SeatState, View};
 use atomic_table::{Seat, Table};
+use dob_safra::NodeCount;
 use std::alloc::Global;
 use std::sync::Arc;
 
@@ -23,7 +24,7 @@ pub struct NodeSeat {
     /// The node's number.
     pub node: usize,
     /// How many nodes the board has.
-    pub nodes: usize,
+    pub nodes: NodeCount,
     /// What the seat's node has posted and taken, what it has seen of the others, and whether it was told to halt.
     pub stand: SeatState,
     pub ghost size: { nodes ≤ most_nodes },

@@ -66,7 +66,7 @@ impl NodeSeat {
         let Some(token) = self.stand.token else {
             unreachable!()
         };
-        let token = passed(token, self.counter(), self.stand.black, self.nodes);
+        let token = passed(token, self.counter(), self.stand.black, self.nodes.get());
         self.board
             .shared
             .store::<Passes>(&mut self.seat, TOKEN, pack(token));

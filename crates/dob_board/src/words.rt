@@ -42,7 +42,8 @@ impl NodeSeat {
         requires to { to < self.now.nodes }
         ensures { result ≡ posted_word self.now.nodes from to }
     {
-        COUNTS + (from * self.nodes + to)
+        let nodes = self.nodes.get();
+        COUNTS + (from * nodes + to)
     }
 
     // The word of what node `to` took of node `from` of the seat's board.
@@ -51,7 +52,8 @@ impl NodeSeat {
         requires to { to < self.now.nodes }
         ensures { result ≡ taken_word self.now.nodes from to }
     {
-        COUNTS + (self.nodes * self.nodes + (from * self.nodes + to))
+        let nodes = self.nodes.get();
+        COUNTS + (nodes * nodes + (from * nodes + to))
     }
 }
 

@@ -1,7 +1,7 @@
 -- The table that was built, the file that is filled by it, and why there is none.
 use Rattle.dob_build.proofs.Common.{◌∙◌, ◌≡◌, Bool, List, Option, ap, inl, inr, refl, subst, sym, ℕ, Err, IsTrue, Profile, family_of, bytes_of, Change, HasJust}
 use Rattle.dob_build.proofs.Common.{SameFiles, ShelfChange, ShelfState, Fault}
-use Rattle.std.specs.Prelude.{IfErr, IfOk, MatchResult, Ok, Result, String, string_bytes}
+use Rattle.std.specs.Prelude.{MatchResult, Ok, Result, Some, String, string_bytes}
 use Rattle.dob_safra.specs.Laws.{IsSize}
 use Rattle.dob_pieces.specs.declared.piece_set.PieceSet.{PieceSet}
 use Rattle.dob_pieces.specs.Sets.{set_text}
@@ -9,13 +9,10 @@ use Rattle.dob_pieces.specs.declared.profile.Family.{Family}
 use Rattle.dob_value.specs.Follows.{IsValueTable}
 use Rattle.dob_run.specs.declared.built_table.Built.{Built}
 use Rattle.dob_stops.specs.declared.fault.Fault.{Fault as RunFault}
-use Rattle.dob_stops.specs.declared.fault.Fault.TheVariants.{Nodes, Sizes}
-use Rattle.dob_crew.specs.declared.limits.CrewSizes.{CrewSizes}
+use Rattle.dob_stops.specs.declared.fault.Fault.TheVariants.{Nodes}
 use Rattle.dob_run.specs.Builds.{Builds}
-use Rattle.dob_crew.specs.CrewSizes.{AreThese as AreSizes}
-use Rattle.dob_crew.specs.Faults.{HasSizeFault}
 use Rattle.dob_files.specs.declared.fault.Fault.TheVariants.{Run, File, Memory}
-use Rattle.dob_build.specs.Builds.{AreBuildLines, AreBuilt, AreNodes, HasNoBuild, HaveBuilt, IsBuildFault, IsRunFault, IsTableFor, IsUnbuilt, IsUsualCrew, always_yes}
+use Rattle.dob_build.specs.Builds.{AreBuildLines, AreBuilt, AreNodes, HasNoBuild, HaveBuilt, IsBuildFault, IsRunFault, IsTableFor, IsUnbuilt, always_yes}
 use Rattle.dob_files.specs.Keeping.{AreThese, FillsSink, IsShelfFault, IsWritingFault, LeavesFiles}
 use Rattle.dob_lines.specs.Tallies.{class_lines}
 use Rattle.dob_files.proofs.Kept.{AreKept, of_shelf_fault, same_chain}
@@ -83,24 +80,13 @@ built_fills family nodes built is told (Err fault) c fills = record { whole = tt
     unwritten (File f) holds = (built, is, holds)
     unwritten fault holds = absurd holds
 
--- ---- sizes and runs
+-- ---- numbers of nodes, and runs
 
--- sizes for a number of nodes that is asked for
-pub sizes_for : (number : Option ℕ) (nodes : ℕ) → AreNodes number nodes → (result : Result CrewSizes RunFault) → IfOk result (AreSizes nodes 256 64) →
-    IfOk result (λ sizes. AreNodes number sizes.nodes × IsUsualCrew sizes)
-sizes_for number nodes asked (Ok sizes) these = (
-  subst (AreNodes number) (sym these.nodes) asked,
-  record { nodes = refl; batch_size = these.batch_size; capacity = these.capacity },
-)
-sizes_for number nodes asked (Err why) these = tt
-
--- and why there are none
-pub sizes_fault : (number : Option ℕ) (nodes : ℕ) → AreNodes number nodes → (result : Result CrewSizes RunFault) → IfErr result (HasSizeFault nodes 256 64) →
-    IfErr result (λ fault. (family : Family) → (count : ℕ) × AreNodes number count × IsRunFault family count fault)
-sizes_fault number nodes asked (Ok sizes) why = tt
-sizes_fault number nodes asked (Err Nodes) why = λ family. (nodes, asked, (why, tt, tt))
-sizes_fault number nodes asked (Err Sizes) why = λ family. (nodes, asked, (why, tt, tt))
-sizes_fault number nodes asked (Err fault) why = absurd why
+-- a number of nodes that is asked for, and that no build has, is why none is made
+pub refused_number : (asked : Option ℕ) (number : ℕ) → asked ≡ Some number → (¬ IsSize number) → (family : Family) →
+    (nodes : ℕ) × AreNodes asked nodes × IsRunFault family nodes Nodes
+refused_number asked number is outside family =
+    subst (λ (o : Option ℕ). (nodes : ℕ) × AreNodes o nodes × IsRunFault family nodes Nodes) (sym is) (number, refl, (outside, tt, tt))
 
 -- what a crew that was run gives
 pub built_or_not : (family : Family) (nodes : ℕ) (result : Result Built RunFault) → Builds always_yes family nodes 256 64 result →

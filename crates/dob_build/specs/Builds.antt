@@ -8,10 +8,8 @@ use Rattle.dob_rank.specs.Families.{family_of}
 use Rattle.dob_safra.specs.Laws.{IsSize}
 use Rattle.dob_value.specs.Follows.{ClassTable, IsValueTable}
 use Rattle.dob_run.specs.declared.built_table.Built.{Built}
-use Rattle.dob_crew.specs.declared.limits.CrewSizes.{CrewSizes}
 use Rattle.dob_run.specs.Built.{IsBuilt}
 use Rattle.dob_run.specs.Builds.{IsLeftByCrew}
-use Rattle.dob_crew.specs.CrewSizes.{AreThese}
 use Rattle.dob_run.specs.Faults.{HasBuildFault}
 use Rattle.dob_run.specs.BuildEnd.{IsFailureOf}
 use Rattle.dob_run.specs.CrewStops.{StopsSo, IsUnheld}
@@ -35,11 +33,7 @@ AreNodes None nodes = IsSize nodes
 abbrev pub always_yes : ℕ → Bool → Type 0
 always_yes node answer = answer ≡ true
 
--- a crew of so many nodes as the program builds with: its batches have at most 256 items, and its inboxes hold 64 batches
-abbrev pub IsUsualCrew : CrewSizes → Type 0
-IsUsualCrew sizes = AreThese sizes.nodes 256 64 sizes
-
--- so many nodes built it, and such a crew of them left it, which asked such a gate
+-- so many nodes built it, and a crew of them left it, with batches of 256 items and inboxes of 64 batches, which asked such a gate
 abbrev pub HaveBuilt : Family → ℕ → Built → Type 0
 HaveBuilt family nodes built = IsBuilt family nodes 256 built × IsLeftByCrew (says_no always_yes) family nodes 256 64 built
 

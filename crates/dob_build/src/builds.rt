@@ -5,14 +5,15 @@ ghost use Rattle.dob_pieces.specs.declared.profile.Family.{Family};
 ghost use Rattle.dob_files.specs.Keeping.{FillsSink};
 ghost use Rattle.dob_files.specs.Owed.{GivesOwed};
 ghost use Rattle.dob_safra.specs.Laws.{IsSize};
-ghost use Rattle.dob_build.specs.Builds.{AreBuilt, AreNodes, HaveBuilt, IsRunFault, IsUnbuilt, IsUsualCrew, build_owed};
+ghost use Rattle.dob_build.specs.Builds.{AreBuilt, AreNodes, HaveBuilt, IsRunFault, IsUnbuilt, build_owed};
 
 use dob_classes::count_classes;
 use dob_dbfile::Sink;
 use dob_files::{Answer, fill_with_table, keep_filled};
 use dob_lines::{Console, Progress, lines_of, tell_need};
 use dob_pieces::{Family, PieceSet};
-use dob_run::{BATCH, Built, CAPACITY, CrewSizes, Gate, build_by};
+use dob_run::{Built, CrewSizes, Gate, build_by};
+use dob_safra::NodeCount;
 use dob_shelf::Shelf;
 use dob_words::command::BuildOrder;
 use std::alloc::Global;
@@ -44,72 +45,66 @@ pub fn answer_build<R: Threads + Wait + Sync + Console, S: Shelf>(
     } = order;
     let set = PieceSet::read(set)?;
     let family = Family { set, profile };
-    let sizes = crew_sizes(rt, nodes)?;
+    let nodes = node_count(rt, nodes)?;
     let mut sink = shelf.make(file)?;
-    let filled = fill_built(rt, alloc, &mut sink, family, &sizes, is_watched);
+    let filled = fill_built(rt, alloc, &mut sink, family, nodes, is_watched);
     keep_filled(shelf, file, sink, filled)
 }
 
-// Builds the family's table by a crew of these sizes, and fills the sink with its file. The lines that say how many classes have which value.
+// Builds the family's table by so many nodes, and fills the sink with its file. The lines that say how many classes have which value.
 fn fill_built<R: Threads + Wait + Sync + Console, D: Sink>(
     rt: &R,
     alloc: Global,
     sink: &mut D,
     family: Family,
-    sizes: &CrewSizes,
+    nodes: NodeCount,
     is_watched: bool,
 ) -> Answer
-    requires sink { (D.state sink.old).has_failed ≡ false }
-    requires sizes { IsUsualCrew sizes.now }
-    ensures { FillsSink (AreBuilt family sizes.now.nodes) (IsUnbuilt family sizes.now.nodes) result (change (D.state sink.old) (D.state sink.new)) }
+    requires { (D.state sink.old).has_failed ≡ false }
+    ensures { FillsSink (AreBuilt family nodes) (IsUnbuilt family nodes) result (change (D.state sink.old) (D.state sink.new)) }
 {
-    let built = run_watched(rt, alloc, family, sizes, is_watched)?;
+    let built = run_watched(rt, alloc, family, nodes, is_watched)?;
     let lines = lines_of(rt, alloc, &built.table)?;
     fill_with_table(alloc, sink, &built.table, &built.digest, lines)
 }
 
-// A crew of as many nodes as are asked for, if there may be so many.
-fn crew_sizes(rt: &impl Threads, nodes: Option<u64>) -> Result<CrewSizes, dob_run::Fault>
-    ensures size { IfOk result (λ sizes. AreNodes nodes sizes.nodes × IsUsualCrew sizes) }
-    ensures fault { IfErr result (λ fault. (family : Family) → (count : ℕ) × AreNodes nodes count × IsRunFault family count fault) }
+// As many nodes as are asked for, if a build may have so many.
+fn node_count(rt: &impl Threads, asked: Option<u64>) -> Result<NodeCount, dob_run::Fault>
+    ensures size { IfOk result (λ nodes. AreNodes asked nodes × IsSize nodes) }
+    ensures fault { IfErr result (λ fault. (family : Family) → (nodes : ℕ) × AreNodes asked nodes × IsRunFault family nodes fault) }
 {
-    let count = nodes_for(rt, nodes);
-    CrewSizes::new(count, BATCH, CAPACITY)
+    let Some(number) = asked else {
+        return Ok(usual_nodes(rt));
+    };
+    let Some(nodes) = NodeCount::new(number as usize) else {
+        return Err(dob_run::Fault::Nodes);
+    };
+    Ok(nodes)
 }
 
-// As many nodes as are asked for.
-fn nodes_for(rt: &impl Threads, nodes: Option<u64>) -> usize
-    ensures { AreNodes nodes result }
-{
-    match nodes {
-        Some(nodes) => nodes as usize,
-        None => usual_nodes(rt),
-    }
-}
-
-// As many nodes as there are processors, at most as a ring may have; one if that isn't known.
-fn usual_nodes(rt: &impl Threads) -> usize
+// As many nodes as there are processors, at most as a build may have; one if that isn't known.
+fn usual_nodes(rt: &impl Threads) -> NodeCount
     ensures { IsSize result }
 {
-    match available_parallelism(rt) {
-        Ok(processors) => processors.get().clamp(1, MOST_NODES),
-        Err(_unknown) => 1,
-    }
+    let Ok(processors) = available_parallelism(rt) else {
+        return NodeCount::one();
+    };
+    NodeCount::new(processors.get().min(MOST_NODES)).unwrap_or(NodeCount::one())
 }
 
-// Builds the family's table by a crew of these sizes. If it is watched, the console reports it.
+// Builds the family's table by so many nodes. If it is watched, the console reports it.
 fn run_watched<R: Threads + Wait + Sync + Console>(
     rt: &R,
     alloc: Global,
     family: Family,
-    sizes: &CrewSizes,
+    nodes: NodeCount,
     is_watched: bool,
 ) -> Result<Built, dob_run::Fault>
-    requires { IsUsualCrew sizes.now }
-    ensures { MatchResult result (HaveBuilt family sizes.now.nodes) (IsRunFault family sizes.now.nodes) }
+    ensures { MatchResult result (HaveBuilt family nodes) (IsRunFault family nodes) }
 {
+    let sizes = CrewSizes::usual(nodes);
     let steps = Steps(progress_of(rt, family, is_watched));
-    let built = build_by(rt, alloc, family, sizes, &steps);
+    let built = build_by(rt, alloc, family, &sizes, &steps);
     steps.0.end();
     built
 }

@@ -50,63 +50,39 @@ pub fn close_runners<R: Wait>(
     ensures nodes { IfOk result (λ closed. closed.0.items ≡ map node_of runners.items) }
     ensures ended { IfOk result (λ closed. AreClosed board.nodes (map endpoint_of runners.items) closed.1) }
 {
-    let (nodes, endpoints) = part_runners(alloc, runners)?;
-    let ended = close_endpoints(rt, alloc, board, endpoints)?;
-    Ok((nodes, ended))
-}
-
-// The node and the endpoint of each runner. Out of memory the runners are given up.
-fn part_runners(alloc: Global, runners: Vec<Runner>) -> Result<(Vec<Node>, Vec<Endpoint>), Memory>
-    ensures nodes { IfOk result (λ parts. parts.0.items ≡ map node_of runners.items) }
-    ensures endpoints { IfOk result (λ parts. parts.1.items ≡ map endpoint_of runners.items) }
-{
-    let mut nodes = Vec::with_capacity(alloc, runners.len())?;
-    let mut endpoints = Vec::with_capacity(alloc, runners.len())?;
-    for runner in runners {
-        let Runner { node, endpoint, .. } = runner;
-        nodes.push(node)?;
-        endpoints.push(endpoint)?;
-    }
-    Ok((nodes, endpoints))
-}
-
-// Closes a crew's endpoints with its board. Out of memory the crew is given up.
-fn close_endpoints<R: Wait>(
-    rt: &R,
-    alloc: Global,
-    board: Board,
-    endpoints: Vec<Endpoint>,
-) -> Result<ClosedCrew, Memory>
-    requires { IsCrew board endpoints.items }
-    ensures { IfOk result (AreClosed board.nodes endpoints.items) }
-{
+    let (nodes, parts) = part_runners(alloc, runners)?;
     let Parts {
         seats,
         sends,
         takes,
         sending,
         taking,
-    } = part_endpoints(alloc, endpoints)?;
+    } = parts;
     let closed = board.close(seats);
     let links = rejoin_all(rt, alloc, sends, takes)?;
-    Ok(ClosedCrew {
+    let ended = ClosedCrew {
         closed,
         links,
         sending,
         taking,
-    })
+    };
+    Ok((nodes, ended))
 }
 
-// The endpoints, taken apart.
-fn part_endpoints(alloc: Global, endpoints: Vec<Endpoint>) -> Result<Parts, Memory>
-    requires { (k : ℕ) (endpoint : _) → slice_get endpoints.items k ≡ Some endpoint → endpoint.seat.nodes ≡ vec_len endpoints }
-    ensures { IfOk result (ArePartsOf (vec_len endpoints) endpoints.items) }
+// The node of each runner, and its endpoint taken apart. Out of memory the runners are given up.
+fn part_runners(alloc: Global, runners: Vec<Runner>) -> Result<(Vec<Node>, Parts), Memory>
+    requires { (k : ℕ) (runner : _) → slice_get runners.items k ≡ Some runner → runner.endpoint.seat.nodes ≡ vec_len runners }
+    ensures nodes { IfOk result (λ parted. parted.0.items ≡ map node_of runners.items) }
+    ensures parts { IfOk result (λ parted. ArePartsOf (vec_len runners) (map endpoint_of runners.items) parted.1) }
 {
-    let mut parts = no_parts(alloc, endpoints.len())?;
-    for endpoint in endpoints {
+    let mut parts = no_parts(alloc, runners.len())?;
+    let mut nodes = Vec::new(alloc);
+    for runner in runners {
+        let Runner { node, endpoint, .. } = runner;
+        nodes.push(node)?;
         parts.add(alloc, endpoint)?;
     }
-    Ok(parts)
+    Ok((nodes, parts))
 }
 
 // The parts of no endpoints of a crew of `count`.
@@ -115,11 +91,11 @@ fn no_parts(alloc: Global, count: usize) -> Result<Parts, Memory>
 {
     let sends = empty_rows(alloc, count)?;
     Ok(Parts {
-        seats: Vec::with_capacity(alloc, count)?,
+        seats: Vec::new(alloc),
         sends,
-        takes: Vec::with_capacity(alloc, count)?,
-        sending: Vec::with_capacity(alloc, count)?,
-        taking: Vec::with_capacity(alloc, count)?,
+        takes: Vec::new(alloc),
+        sending: Vec::new(alloc),
+        taking: Vec::new(alloc),
     })
 }
 

@@ -77,7 +77,7 @@ fn runners_of(
     requires nodes { (k : ℕ) (endpoint : _) → slice_get endpoints.items k ≡ Some endpoint → endpoint.seat.nodes ≡ nodes }
     ensures { IfOk result (λ runners. AllZip (IsRunnerOf classes.now.family batch_size) endpoints.items runners.items) }
 {
-    let pace = Pace::open(alloc, nodes.get())?;
+    let pace = Pace::open(alloc, nodes)?;
     let pace = &pace;
     endpoints
         .into_par_iter()
@@ -104,7 +104,7 @@ fn open_runner(
     requires nodes { endpoint.seat.nodes ≡ nodes }
     ensures { IfOk result (IsRunnerOf classes.now.family batch_size endpoint) }
 {
-    let pace = pace.of(alloc, endpoint.seat.node, nodes.get())?;
+    let pace = pace.of(alloc, endpoint.seat.node, nodes)?;
     let node = Node::open_own(alloc, classes, endpoint.seat.node, nodes)?;
     let mut runner = Runner::new(node, endpoint, classes.family, batch_size);
     runner.keep_pace(pace);
@@ -138,7 +138,7 @@ fn seat_all(
     requires { CanSeatAll seats.items rows.items inlets.items }
     ensures { IfOk result (λ endpoints. AreSeated (vec_len seats) seats.items rows.items inlets.items endpoints.items) }
 {
-    let mut endpoints = Vec::with_capacity(alloc, seats.len())?;
+    let mut endpoints = Vec::new(alloc);
     for ((seat, outlets), inlet) in seats.into_iter().zip(rows).zip(inlets) {
         endpoints.push(Endpoint::new(seat, outlets, inlet))?;
     }

@@ -52,4 +52,22 @@ impl CrewSizes {
             capacity,
         })
     }
+
+    /// Those by which the program builds with so many nodes.
+    pub fn usual(nodes: NodeCount) -> CrewSizes
+        ensures { AreThese nodes 256 64 result }
+    {
+        let _count = nodes.get();
+        let Some(batch_size) = BatchSize::new(BATCH) else {
+            unreachable!()
+        };
+        let Some(capacity) = Capacity::new(CAPACITY) else {
+            unreachable!()
+        };
+        CrewSizes {
+            nodes,
+            batch_size,
+            capacity,
+        }
+    }
 }

@@ -9,6 +9,7 @@ use crate::rows::{empty_rows, join, push_each};
 use dob_chan::{Rejoined, SendEnd, TakeEnd, rejoin_inbox};
 use dob_endpoint::Outlet;
 use dob_pieces::Memory;
+use dob_safra::NodeCount;
 use dob_update::Batch;
 use std::alloc::Global;
 use std::sync::Wait;
@@ -43,13 +44,14 @@ pub fn part_outlets(
 pub fn spread_slot(
     alloc: Global,
     slot: Option<Batch>,
-    nodes: usize,
+    nodes: NodeCount,
 ) -> Result<Vec<Option<Batch>>, Memory>
     ensures { IfOk result (λ slots. slots.items ≡ slot_row nodes slot) }
 {
+    let count = nodes.get();
     let mut left = slot;
-    let mut slots = Vec::with_capacity(alloc, nodes)?;
-    for from in 0..nodes {
+    let mut slots = Vec::with_capacity(alloc, count)?;
+    for from in 0..count {
         slots.push(take_of(&mut left, from))?;
     }
     Ok(slots)

@@ -38,9 +38,6 @@ node_goes (Some why) failed agrees none = absurd (let both = sym none ∙ agrees
 pub noted_agrees : (of_node own : Option Cause) (why : Cause) → of_node ≡ Some why → own ≡ Some why → (other : Cause) → of_node ≡ Some other → own ≡ Some other
 noted_agrees of_node own why failed noted other is = noted ∙ sym failed ∙ is
 
-pub noted_failed : (own : Option Cause) (why : Cause) → own ≡ Some why → own ≢ None
-noted_failed own why noted none = (let e : (let o : Option Cause = Some why in o) ≡ None = sym noted ∙ none in cc)
-
 -- a node that hasn't failed agrees with any
 pub agrees_going : (of_node failed : Option Cause) → of_node ≡ None → (why : Cause) → of_node ≡ Some why → failed ≡ Some why
 agrees_going of_node failed going why is = absurd (let both = sym going ∙ is in cc)

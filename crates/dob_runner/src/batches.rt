@@ -7,11 +7,17 @@ ghost use Rattle.dob_runner.specs.Batches.{IsBatchFor, HoldsFor};
 use dob_endpoint::Inlet;
 use dob_history::have_entries;
 use dob_pieces::{Family, PieceSet, Profile};
+use dob_safra::NodeCount;
 use dob_update::Batch;
 
 // The sender of the batch in the inlet's slot, if that is one that another node cut for the node `to` of that family, one of `nodes`,
 // with items that such a node can work in. Any other batch is none of the node's.
-pub(crate) fn sender_for(inlet: &Inlet, family: Family, nodes: usize, to: usize) -> Option<usize>
+pub(crate) fn sender_for(
+    inlet: &Inlet,
+    family: Family,
+    nodes: NodeCount,
+    to: usize,
+) -> Option<usize>
     ensures { MatchOption result ((from : ℕ) → ¬ HoldsFor family nodes from to inlet.now) (λ from. HoldsFor family nodes from to inlet.now) }
 {
     let Some(batch) = &inlet.slot else {
@@ -28,10 +34,10 @@ pub(crate) fn sender_for(inlet: &Inlet, family: Family, nodes: usize, to: usize)
 }
 
 // Whether the batch is one of the family among `nodes` nodes, for that node, with items that have such values as a table can have.
-fn is_for(batch: &Batch, family: Family, nodes: usize, to: usize) -> bool
+fn is_for(batch: &Batch, family: Family, nodes: NodeCount, to: usize) -> bool
     ensures { IsTrue result ↔ IsBatchFor family nodes to batch.now }
 {
-    if !is_one_family(batch.family(), family) || batch.nodes() != nodes || batch.to() != to {
+    if !is_one_family(batch.family(), family) || batch.nodes() != nodes.get() || batch.to() != to {
         return false;
     }
     has_entries(batch)

@@ -4,6 +4,7 @@
 ghost use Rattle.std.specs.Prelude.{◌≡◌, IfOk};
 
 use dob_pieces::Memory;
+use dob_safra::NodeCount;
 use std::alloc::Global;
 use std::sync::Arc;
 use std::sync::atomic::{AtomicU64, Ordering};
@@ -20,15 +21,16 @@ impl Pace {
     ghost use Rattle.dob_runner.specs.Paces.{IsLimitOf, member_of};
 
     /// That of the first of `nodes` nodes, each on the first level.
-    pub fn open(alloc: Global, nodes: usize) -> Result<Pace, Memory>
+    pub fn open(alloc: Global, nodes: NodeCount) -> Result<Pace, Memory>
         ensures { IfOk result (λ pace. member_of pace ≡ (0, nodes)) }
     {
-        let mut levels = Vec::with_capacity(alloc, nodes)?;
-        for _ in 0..nodes {
+        let count = nodes.get();
+        let mut levels = Vec::with_capacity(alloc, count)?;
+        for _ in 0..count {
             levels.push(AtomicU64::new(0))?;
         }
         let levels = Arc::new(alloc, levels)?;
-        let told = vec![in alloc; 0; nodes]?;
+        let told = vec![in alloc; 0; count]?;
         Ok(Pace {
             levels,
             node: 0,
@@ -37,11 +39,11 @@ impl Pace {
     }
 
     /// That of a node of the same crew, of `nodes` nodes as it was opened for.
-    pub fn of(&self, alloc: Global, node: usize, nodes: usize) -> Result<Pace, Memory>
+    pub fn of(&self, alloc: Global, node: usize, nodes: NodeCount) -> Result<Pace, Memory>
         ensures { IfOk result (λ pace. member_of pace ≡ (node, nodes)) }
     {
         let levels = Arc::try_clone(&self.levels)?;
-        let told = vec![in alloc; 0; nodes]?;
+        let told = vec![in alloc; 0; nodes.get()]?;
         Ok(Pace { levels, node, told })
     }
 

@@ -70,7 +70,7 @@ impl Runner {
         ensures { StepsBy (SendsAll small) self.old self.new result }
     {
         let mut sent = false;
-        for to in 0..self.endpoint.seat.nodes {
+        for to in 0..self.endpoint.seat.nodes.get() {
             sent |= self.send_to(rt, to, small)?;
         }
         Ok(sent)
@@ -81,7 +81,7 @@ impl Runner {
         requires { self.now.failed ≡ None }
         ensures { IsTrue result ↔ IsHeldUp self.now }
     {
-        for to in 0..self.endpoint.seat.nodes {
+        for to in 0..self.endpoint.seat.nodes.get() {
             if self.is_held_up_by(to) {
                 return true;
             }
@@ -106,7 +106,7 @@ impl Runner {
         requires { self.now.failed ≡ None }
     {
         let mut left = self.node.left_for_itself();
-        for to in 0..self.endpoint.seat.nodes {
+        for to in 0..self.endpoint.seat.nodes.get() {
             left = left.saturating_add(self.node.left_for(to));
         }
         left

@@ -15,7 +15,7 @@ ghost use Rattle.clap.specs.Words.{App, kind_of, new_app, subcommand_rows_of};
 ghost use Rattle.dob_words.specs.Forms.{Form, Text, form_named, forms, rows};
 ghost use Rattle.dob_words.specs.Lines.{IsAmong, IsCommandLine};
 ghost use Rattle.dob_words.specs.Words.{Meaning, asks, has_topic, is_topic, is_version, meaning_of, meaning_of_topic, names_subcommand, without_conflict};
-ghost use Rattle.dob_words.specs.Shapes.{AreProfiles, Finds, HasCommandShape, HasFit, IsMetBySome, IsNamed, IsProgram, IsRead, bare_app, choice_rule, choice_said, app_without_places, first_app, flag_rule, flag_said, is_stream_in, place_rule, place_said, row_app, row_said, texts_in, with_rows, with_rules};
+ghost use Rattle.dob_words.specs.Shapes.{AreProfiles, Finds, HasCommandShape, HasFit, IsMetBySome, IsNamed, IsProgram, IsRead, bare_app, choice_rule, choice_said, first_app, flag_rule, flag_said, is_stream_in, place_rule, place_said, row_app, row_said, texts_in, with_rows, with_rules};
 ghost use Rattle.dob_words.specs.Readings.{ComesFromLine, IsReadFor, IsReadingOf, IsReadingOfKind};
 
 mod misplaced;
@@ -232,23 +232,11 @@ fn row_command<'a>(
 ) -> Result<Command<'a>, AllocError>
     ensures { IfOk result (HasCommandShape (row_app profiles.entry.names (row_said row.now))) }
 {
-    let (_, _, _, _, _, places) = *row;
-    let command = command_without_places(alloc, profiles, row)?;
-    add_places(alloc, command, profiles, places)
-}
-
-// The subcommand of a row without its places: with its options and its flags alone.
-fn command_without_places<'a>(
-    alloc: Global,
-    profiles: Profiles<'a>,
-    row: &SubcommandRow,
-) -> Result<Command<'a>, AllocError>
-    ensures { IfOk result (HasCommandShape (app_without_places profiles.entry.names (row_said row.now))) }
-{
-    let (name, about, help, options, flags, _) = *row;
+    let (name, about, help, options, flags, places) = *row;
     let command = named_command(alloc, name, about, help);
     let command = add_options(alloc, command, profiles, options)?;
-    add_flags(alloc, command, flags)
+    let command = add_flags(alloc, command, flags)?;
+    add_places(alloc, command, profiles, places)
 }
 
 // A subcommand without its arguments.

@@ -6,7 +6,7 @@ use Rattle.dob_board.proofs.closing.read_all.Given as goal
 abbrev pub invariant-loop-word : goal.invariant-loop-word
 invariant-loop-word l = record {
   of_board : l.rest.table_id ≡ l.fn.rest.table_id;
-  size : l.rest.me.0.size ≡ l.nodes;
+  size : l.rest.me.0.size ≡ l.fn.nodes;
   from : l.rest.me.0.from ≡ 0;
   stands : l.rest.me.0.stands ≡ l.fn.rest.me.0.stands;
   no_slot : l.rest.me.1 ≡ [];
@@ -14,5 +14,5 @@ invariant-loop-word l = record {
   own : 0 < l.word → l.rest.me.0.own ≡ false;
   witnessed : IsLaterLog l.fn.rest.me.0.witnessed l.rest.me.0.witnessed;
   long : vec_len l.words ≡ vec_len l.fn.words;
-  read : (w : ℕ) → w < l.word → IsWord l.nodes l.fn.rest.me.0.stands l.rest.me.0.witnessed w (get_or l.words.items w 0);
+  read : (w : ℕ) → w < l.word → IsWord l.fn.nodes l.fn.rest.me.0.stands l.rest.me.0.witnessed w (get_or l.words.items w 0);
 }

@@ -6,11 +6,11 @@ use Rattle.dob_build.proofs.Building.{build_lines, building_holds, unkept}
 use Rattle.std.proofs.Math.Bool.{or-false}
 use Rattle.dob_build.proofs.builds.answer_build.Goals as goal
 
-pub returns-in_err-sizes : goal.returns-in_err-sizes
-returns-in_err-sizes g c =
-    let p = err_from_is_err_and c.from_residual-in_err-sizes.result c.from_residual-in_err-sizes.ensures.1 in
+pub returns-in_err-nodes : goal.returns-in_err-nodes
+returns-in_err-nodes g c =
+    let p = err_from_is_err_and c.from_residual-in_err-nodes.result c.from_residual-in_err-nodes.ensures.1 in
     let shelf = g.S.Shelf.state c.args.shelf.now in
-    let refused = c.in_err-sizes.ensures.fault (family_of c.in_ok-set.set c.args.order.profile) in
+    let refused = c.in_err-nodes.ensures.fault (family_of c.in_ok-set.set c.args.order.profile) in
     rw (p.1, p.2) (
       (
         ((c.in_ok-set.set, c.in_ok-set.ensures.ok, refused.0, refused.1, refused.2), unchanged shelf.has),
@@ -23,8 +23,8 @@ pub returns-in_err-sink : goal.returns-in_err-sink
 returns-in_err-sink g c =
     let p = err_from_is_err_and c.from_residual-in_err-sink.result c.from_residual-in_err-sink.ensures.1 in
     let made = c.in_err-sink.ensures in
-    let asked = c.in_ok-sizes.ensures.size.0 in
-    let size = c.in_ok-sizes.sizes.within.0 in
+    let asked = c.in_ok-nodes.ensures.size.0 in
+    let size = c.in_ok-nodes.ensures.size.1 in
     rw (p.1, p.2) (
       (
         (
@@ -40,8 +40,8 @@ returns-in_err-sink g c =
 pub returns : goal.returns
 returns g c =
     let made = c.in_ok-sink.ensures in
-    let asked = c.in_ok-sizes.ensures.size.0 in
-    let size = c.in_ok-sizes.sizes.within.0 in
+    let asked = c.in_ok-nodes.ensures.size.0 in
+    let size = c.in_ok-nodes.ensures.size.1 in
     let old = g.S.Shelf.state c.args.shelf.now in
     let mid = g.S.Shelf.state c.make.new.self in
     let new = g.S.Shelf.state c.keep_filled.new.shelf in
@@ -50,8 +50,8 @@ returns g c =
     let text = c.args.order.set.now in
     let set = c.in_ok-set.set in (
       answered_later old mid new _ _ _ _ c.keep_filled.result made.failed
-          (build_lines profile text set c.in_ok-set.ensures.ok c.args.order.nodes c.in_ok-sizes.sizes.nodes asked size change mid c.args.order.file.now made.told)
-          (building_holds profile text set c.in_ok-set.ensures.ok c.args.order.nodes c.in_ok-sizes.sizes.nodes asked size change mid made.kept)
+          (build_lines profile text set c.in_ok-set.ensures.ok c.args.order.nodes c.in_ok-nodes.nodes asked size change mid c.args.order.file.now made.told)
+          (building_holds profile text set c.in_ok-set.ensures.ok c.args.order.nodes c.in_ok-nodes.nodes asked size change mid made.kept)
           (filled_answers (shelf_change mid new) c.args.order.file.now _ _ _ c.fill_built-filled.result c.keep_filled.result
           (λ tells. made.empty (subst (λ (b : Bool). IsTrue b) made.told tells)) c.fill_built-filled.ensures c.keep_filled.ensures.0),
       others_after c.args.order.file.now _ _ _ made.kept c.keep_filled.ensures.1,

@@ -4,5 +4,5 @@ use Rattle.dob_build.proofs.builds.fill_built.Goals as goal
 
 pub returns : goal.returns
 returns g c =
-    built_fills c.args.family c.args.sizes.now.nodes c.in_ok-built.built c.in_ok-built.ensures c.in_ok-lines.ensures
+    built_fills c.args.family c.args.nodes c.in_ok-built.built c.in_ok-built.ensures c.in_ok-lines.ensures
     c.fill_with_table.result _ c.fill_with_table.ensures

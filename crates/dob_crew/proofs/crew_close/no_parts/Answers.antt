@@ -5,10 +5,10 @@ use Rattle.dob_crew.proofs.crew_close.no_parts.Goals as goal
 
 pub returns : goal.returns
 returns c = record {
-  seats = c.in_ok-with_capacity.ensures.items;
+  seats = c.new.ensures.items;
   sends_rows = c.in_ok-sends.ensures;
   sends = λ j i end there. none_stands c.args.count j i c.in_ok-sends.sends.items end c.in_ok-sends.ensures there;
-  takes = c.in_ok-with_capacity-2.ensures.items;
-  sending = ap (λ (rows : List (Vec (Option BatchView) Global)). map row_of rows) c.in_ok-with_capacity-3.ensures.items;
-  taking = ap (λ (rows : List (Vec (Option BatchView) Global)). map row_of rows) c.in_ok-with_capacity-4.ensures.items;
+  takes = c.new-2.ensures.items;
+  sending = ap (λ (rows : List (Vec (Option BatchView) Global)). map row_of rows) c.new-3.ensures.items;
+  taking = ap (λ (rows : List (Vec (Option BatchView) Global)). map row_of rows) c.new-4.ensures.items;
 }

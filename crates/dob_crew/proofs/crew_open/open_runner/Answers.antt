@@ -30,6 +30,6 @@ returns c =
       endpoint,
       record { family_is = kept.family ∙ made.family; size_is = kept.batch_size ∙ made.batch_size; unfailed = kept.failed ∙ made.unfailed },
       subst (λ (p : Node × Endpoint). IsNew c.args.classes.now.family p.0 p.1) (λ i. ((sym node) i, (sym endpoint) i)) (is_new (goal.at.returns c).In_ok-node),
-      ap kept_member kept.pace ∙ ap Some (c.in_ok-pace.ensures ∙ λ i. (c.args.endpoint.seat.node, (c.get.ensures.value ∙ sym c.requires.nodes) i))
+      ap kept_member kept.pace ∙ ap Some (c.in_ok-pace.ensures ∙ λ i. (c.args.endpoint.seat.node, (sym c.requires.nodes) i))
           ∙ ap (λ (m : Endpoint). Some (m.seat.node, m.seat.nodes)) (sym endpoint),
     )

@@ -8,10 +8,10 @@ use Rattle.dob_board.proofs.board.Board.open_for.Goals as goal
 pub of_words-requires : goal.of_words-requires
 of_words-requires c =
     let made = c.in_ok-words.ensures in
-    let nodes = c.get-nodes.result in
+    let nodes = c.get-key.result in
     subst (λ (ws : List ℕ). IsHeld nodes ws (whole nodes ∷ []))
-    (sym (c.deref.ensures.value ∙ made.2 ∙ ap (λ (n : ℕ). first_words n made.0) (sym c.get-nodes.ensures.value)))
-    (begins nodes made.0 c.get-nodes.ensures.size made.1)
+    (sym (c.deref.ensures.value ∙ made.2 ∙ ap (λ (n : ℕ). first_words n made.0) (sym c.get-key.ensures.value)))
+    (begins nodes made.0 c.get-key.ensures.size made.1)
 
 pub invariant_of-board : goal.invariant_of-board
 invariant_of-board c = grind (arith, common_steps)

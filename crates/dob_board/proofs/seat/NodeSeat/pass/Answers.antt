@@ -7,7 +7,9 @@ use Rattle.dob_board.proofs.seat.NodeSeat.pass.Goals as goal
 use Rattle.dob_board.proofs.seat.NodeSeat.pass.Goals.{After-passed-token}
 
 passed_is : (c : After-passed-token) → c.passed-token.result ≡ passed_by c.args.self.now.nodes c.args.self.now.stand c.in-Some.token
-passed_is c = c.passed-token.ensures ∙ ap (λ (z : ℤ). passed_on c.args.self.now.nodes c.in-Some.token z c.args.self.now.stand.black)
+passed_is c =
+    let passed = rw c.get.ensures.value at c.passed-token.ensures in
+    passed ∙ ap (λ (z : ℤ). passed_on c.args.self.now.nodes c.in-Some.token z c.args.self.now.stand.black)
     (to_z-of_z w64 c.counter.result (search rules) ∙ c.counter.ensures.counter)
 
 pub passed-token-requires : goal.passed-token-requires
@@ -16,7 +18,7 @@ passed-token-requires c =
     let bounds = seat.in_bounds c.in-Some.token c.in-Some.is in
     let same = to_z-of_z w64 c.counter.result (search rules) in
     record {
-      some = search rules;
+      some = c.get.ensures.size.0;
       low = λ ne. rw same (omega (arith, ints, bounds.1, c.counter.ensures.low, seat.size, seat.within));
       high = λ ne. rw same (omega (arith, ints, bounds.2, c.counter.ensures.high, seat.size, seat.within));
     }

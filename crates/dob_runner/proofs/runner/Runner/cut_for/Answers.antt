@@ -1,7 +1,7 @@
 -- A slot is filled just where it is empty and there is something to send. A node that cuts a batch was black and had cut fewer than 2^40; with the batch in the slot the runner is lawful.
 use Rattle.dob_runner.proofs.Common.{◌^◌, ◌∙◌, ◌≡◌, ◌≤◌, Err, None, Ok, Option, Result, Some, ap, arith, false, inl, refl, subst, sym, true, both_ways, IfSome}
 use Rattle.dob_runner.proofs.Common.{some_at, BatchView, OutboxView, Cause, HasCut, outbox_to, token_moves_of, SeatState, IsToFill}
-use Rattle.dob_runner.proofs.Keeping.{goes_by, broken_for, cut_reason, outbox_still, node_goes, agrees_going, noted_agrees, noted_failed}
+use Rattle.dob_runner.proofs.Keeping.{goes_by, broken_for, cut_reason, outbox_still, node_goes, agrees_going, noted_agrees, some_cause}
 use Rattle.dob_endpoint.proofs.Keeping.{own_still}
 use Rattle.dob_runner.proofs.Lawfuls.{busy_black, cut_one, unchanged_failed}
 use Rattle.dob_runner.proofs.Sending.{outlet_at, slot_there, uncut, fills_of, cut_more}
@@ -20,10 +20,17 @@ err_of why = Err why
 pub cut_for-requires-clause-going : goal.cut_for-requires-clause-going
 cut_for-requires-clause-going c = (let r = c.args.self.now in node_goes r.node.failed r.failed r.agrees c.requires.unfailed)
 
-pub invariant_of-self-clause-lawful : goal.invariant_of-self-clause-lawful
-invariant_of-self-clause-lawful c = λ _. (let r = c.args.self.now in
-    unchanged_failed r.family r.batch_size r.node c.cut_for.new.self r.endpoint c.fail_for.new.endpoint (r.lawful (inl c.requires.unfailed))
-    c.in-Err.ensures.step.unchanged c.in-Err.ensures.keeps.sound c.fail_for.ensures.fails.keeps)
+pub invariant_of-self : goal.invariant_of-self
+invariant_of-self c =
+    let r = c.args.self.now in
+    let fails = c.fail_for.ensures.fails in
+    record {
+      going = λ running. absurd (fails.stopped running);
+      own = λ found. some_cause c.fail_for.new.failed c.in-Err.why fails.cause;
+      agrees = noted_agrees _ _ c.in-Err.why c.in-Err.ensures.keeps.failed fails.cause;
+      lawful = λ _. unchanged_failed r.family r.batch_size r.node c.cut_for.new.self r.endpoint c.fail_for.new.endpoint (r.lawful (inl c.requires.unfailed))
+          c.in-Err.ensures.step.unchanged c.in-Err.ensures.keeps.sound fails.keeps;
+    }
 
 -- there was something to send, and the slot was empty
 fills : (c : After-has_to_send) → c.has_to_send.result ≡ true → IsToFill c.args.self.now c.args.to c.args.small
@@ -112,15 +119,6 @@ returns-then-not-has_to_send c = (
   uncut c.args.to c.args.self.now c.args.self.now c.requires.unfailed refl refl refl refl refl,
   (λ never. absurd (cc), λ fill. absurd (both_ways _ c.if-not-has_to_send.true (c.has_to_send.ensures.1 fill.0))),
 )
-
-pub invariant_of-self-clause-going : goal.invariant_of-self-clause-going
-invariant_of-self-clause-going c = λ running. absurd (c.fail_for.ensures.fails.stopped running)
-
-pub invariant_of-self-clause-own : goal.invariant_of-self-clause-own
-invariant_of-self-clause-own c = λ found. noted_failed c.fail_for.new.failed c.in-Err.why c.fail_for.ensures.fails.cause
-
-pub invariant_of-self-clause-agrees : goal.invariant_of-self-clause-agrees
-invariant_of-self-clause-agrees c = noted_agrees _ _ c.in-Err.why c.in-Err.ensures.keeps.failed c.fail_for.ensures.fails.cause
 
 pub post-requires-clause-empty : goal.post-requires-clause-empty
 post-requires-clause-empty c = slot_there c.args.self.now.endpoint c.args.to c.index.result.now c.requires.node c.index.ensures (λ s. s ≡ None)

@@ -13,5 +13,5 @@ returns c =
     let r = c.args.self.now in (
       λ never. absurd (cc),
       λ held. absurd (c.loop-to.invariant held.0
-          (omega (arith, slice_get_within r.endpoint.outlets.items held.0 held.1.outlet held.1.at, r.endpoint.outlets_len, c.loop-to-test.false)) held.1),
+          (omega (arith, slice_get_within r.endpoint.outlets.items held.0 held.1.outlet held.1.at, r.endpoint.outlets_len, c.get-to-end.ensures.value, c.loop-to-test.false)) held.1),
     )

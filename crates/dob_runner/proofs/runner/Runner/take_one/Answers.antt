@@ -5,7 +5,7 @@ use Rattle.dob_runner.proofs.Common.{TakesOne, NodeSeat, SeatState, KeepsEndpoin
 use Rattle.dob_runner.proofs.Common.{Runner, Inlet}
 use Rattle.dob_endpoint.proofs.Links.{taken_still}
 use Rattle.dob_runner.proofs.Taking.{takes_none, takes_one, of_other, fits_node, unchanged_same}
-use Rattle.dob_runner.proofs.Keeping.{broken_by, goes_by, failed_first, refused_reason, node_goes, agrees_going, noted_agrees, noted_failed, unspared_reason, memory_reason}
+use Rattle.dob_runner.proofs.Keeping.{broken_by, goes_by, failed_first, refused_reason, node_goes, agrees_going, noted_agrees, some_cause, unspared_reason, memory_reason}
 use Rattle.dob_endpoint.proofs.Keeping.{endpoint_trans, links_kept, own_still, seat_same, each_same, outlet_same}
 use Rattle.dob_node.proofs.TakenLists.{before_since}
 use Rattle.dob_runner.proofs.Knowing.{worked_again, worked_else, worked_more}
@@ -48,12 +48,17 @@ pub invariant_of-self-clause-lawful : goal.invariant_of-self-clause-lawful
 invariant_of-self-clause-lawful g c = λ _. (let r = c.args.self.now in
     still_lawful r r.node _ c.requires (unchanged_same r.node) (r.lawful (inl c.requires)).sound refl refl refl c.receive.ensures.worked refl)
 
-pub invariant_of-self-in-Err-clause-lawful : goal.invariant_of-self-in-Err-clause-lawful
-invariant_of-self-in-Err-clause-lawful g c = λ _.
+pub invariant_of-self-in-Err : goal.invariant_of-self-in-Err
+invariant_of-self-in-Err g c =
     let fails = c.fail_for.ensures.fails in
     let links = fails.keeps.links in
-    still_lawful c.args.self.now c.reserve.new.self c.fail_for.new.endpoint c.requires c.reserve.ensures.step.unchanged c.reserve.ensures.keeps.sound
-    links.seat.node links.seat.nodes links.outlets (ap (λ (i : Inlet). worked i) links.inlet ∙ c.receive.ensures.worked) fails.keeps.colour
+    record {
+      going = λ running. absurd (fails.stopped running);
+      own = λ found. some_cause c.fail_for.new.failed c.in-Err.refused fails.cause;
+      agrees = noted_agrees _ _ c.in-Err.refused c.in-Err.ensures.keeps.failed fails.cause;
+      lawful = λ _. still_lawful c.args.self.now c.reserve.new.self c.fail_for.new.endpoint c.requires c.reserve.ensures.step.unchanged
+          c.reserve.ensures.keeps.sound links.seat.node links.seat.nodes links.outlets (ap (λ (i : Inlet). worked i) links.inlet ∙ c.receive.ensures.worked) fails.keeps.colour;
+    }
 
 pub invariant_of-self-in_default-accept : goal.invariant_of-self-in_default-accept
 invariant_of-self-in_default-accept g c =
@@ -76,15 +81,21 @@ not_memory g c memory =
     let many = c.held_items.ensures c.in-Some-accept.batch c.in-Some-accept.ensures.held in
     omega (arith, room, less, many)
 
-pub invariant_of-self-in-Err-apply_batch-clause-lawful : goal.invariant_of-self-in-Err-apply_batch-clause-lawful
-invariant_of-self-in-Err-apply_batch-clause-lawful g c =
+pub invariant_of-self-in-Err-apply_batch : goal.invariant_of-self-in-Err-apply_batch
+invariant_of-self-in-Err-apply_batch g c =
     let taken : TakesOne c.args.self.now.endpoint.seat c.accept.new.self.seat c.in-Some-accept.batch.from = c.in-Some-accept.ensures.taken in
     let why = c.in-Err-apply_batch.why in
     let before = c.in-Err-apply_batch.ensures.step.before in
     let fails = c.fail_for-in-Err-apply_batch.ensures.fails in
-    failed_first _ why c.fail_for-in-Err-apply_batch.new.endpoint.seat.stand.halt fails.cause (fails.black (ap (λ (s : SeatState). s.black) taken.counted))
-    (unspared_reason before.item c.apply_batch.new.self.share why before.reason
-    (not_memory g (goal.at.invariant_of-self-in-Err-apply_batch-clause-lawful g c).In-Err-apply_batch))
+    record {
+      going = λ running. absurd (fails.stopped running);
+      own = λ found. some_cause c.fail_for-in-Err-apply_batch.new.failed why fails.cause;
+      agrees = noted_agrees _ _ why c.in-Err-apply_batch.ensures.keeps.failed fails.cause;
+      lawful = failed_first _ why c.fail_for-in-Err-apply_batch.new.endpoint.seat.stand.halt fails.cause
+          (fails.black (ap (λ (s : SeatState). s.black) taken.counted))
+          (unspared_reason before.item c.apply_batch.new.self.share why before.reason
+          (not_memory g (goal.at.invariant_of-self-in-Err-apply_batch g c).In-Err-apply_batch));
+    }
 
 pub invariant_of-self-in-Ok-apply_batch : goal.invariant_of-self-in-Ok-apply_batch
 invariant_of-self-in-Ok-apply_batch g c =
@@ -181,21 +192,3 @@ pub returns-clause-refused : goal.returns-clause-refused
 returns-clause-refused g c memory =
     let same : c.in-Err-apply_batch.why ≡ Memory = cc (c.fail_for-in-Err-apply_batch.ensures.given, memory) in
     absurd (not_memory g (goal.at.returns-clause-refused g c).In-Err-apply_batch same)
-
-pub invariant_of-self-in-Err-clause-going : goal.invariant_of-self-in-Err-clause-going
-invariant_of-self-in-Err-clause-going g c = λ running. absurd (c.fail_for.ensures.fails.stopped running)
-
-pub invariant_of-self-in-Err-clause-own : goal.invariant_of-self-in-Err-clause-own
-invariant_of-self-in-Err-clause-own g c = λ found. noted_failed c.fail_for.new.failed c.in-Err.refused c.fail_for.ensures.fails.cause
-
-pub invariant_of-self-in-Err-clause-agrees : goal.invariant_of-self-in-Err-clause-agrees
-invariant_of-self-in-Err-clause-agrees g c = noted_agrees _ _ c.in-Err.refused c.in-Err.ensures.keeps.failed c.fail_for.ensures.fails.cause
-
-pub invariant_of-self-in-Err-apply_batch-clause-going : goal.invariant_of-self-in-Err-apply_batch-clause-going
-invariant_of-self-in-Err-apply_batch-clause-going g c = λ running. absurd (c.fail_for-in-Err-apply_batch.ensures.fails.stopped running)
-
-pub invariant_of-self-in-Err-apply_batch-clause-own : goal.invariant_of-self-in-Err-apply_batch-clause-own
-invariant_of-self-in-Err-apply_batch-clause-own g c = λ found. noted_failed c.fail_for-in-Err-apply_batch.new.failed c.in-Err-apply_batch.why c.fail_for-in-Err-apply_batch.ensures.fails.cause
-
-pub invariant_of-self-in-Err-apply_batch-clause-agrees : goal.invariant_of-self-in-Err-apply_batch-clause-agrees
-invariant_of-self-in-Err-apply_batch-clause-agrees g c = noted_agrees _ _ c.in-Err-apply_batch.why c.in-Err-apply_batch.ensures.keeps.failed c.fail_for-in-Err-apply_batch.ensures.fails.cause
