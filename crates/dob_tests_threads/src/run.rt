@@ -1,21 +1,16 @@
-// Crews that make no turn, and nodes that make turns by threads.
-ghost use Rattle.dob_safra.specs.Laws.{IsSize};
-
+// Runs by threads: crews that make a number of turns, builds, and runners that are turned by hand. That what a build leaves is the value table, with each
+// batch posted, taken, sent and received, is a clause of `dob_run`; the numbers of its values are asked in `dob_answers`, its file in tests/builds.sh.
 mod builds;
 mod openings;
 mod turns;
 
-use dob_chan::Rejoined;
-use dob_node::Cause;
 use dob_pieces::{Family, PieceSet, Profile};
-use dob_run::{Built, Fault, Gate};
-use dob_turns::{Turned, Worker, run_turns};
-use dob_value::{Table, Value};
-use std::alloc::Global;
+use dob_run::{Fault, Gate, run_nodes};
+use dob_stops::Cause;
+use dob_turns::run_turns;
 use std::process::Abort;
-use std::sync::Wait;
 use std::sync::atomic::{AtomicU64, Ordering};
-use std::thread::{self, Threads};
+use std::thread;
 
 // The family of the two lions alone.
 fn lions(rt: &impl Abort) -> Family {
@@ -25,64 +20,12 @@ fn lions(rt: &impl Abort) -> Family {
     }
 }
 
-// How many classes are won, lost and drawn.
-fn totals(table: &Table) -> (u64, u64, u64) {
-    let mut won = 0u64;
-    let mut lost = 0u64;
-    let mut drawn = 0u64;
-    for class in 0..table.class_count() {
-        match table.value(class) {
-            Value::Win(_) => won = won.saturating_add(1),
-            Value::Loss(_) => lost = lost.saturating_add(1),
-            Value::Draw => drawn = drawn.saturating_add(1),
-        }
-    }
-    (won, lost, drawn)
-}
-
-// The table of the two lions alone.
-fn is_table_of_lions(table: &Table) -> bool {
-    if table.class_count() != 54 || totals(table) != (38, 12, 4) {
-        return false;
-    }
-    table.class_count() > 22
-        && table.value(0) == Value::Win(1)
-        && table.value(1) == Value::Loss(0)
-        && table.value(4) == Value::Loss(2)
-        && table.value(8) == Value::Win(7)
-        && table.value(15) == Value::Loss(4)
-        && table.value(22) == Value::Loss(2)
-}
-
-// The end was announced, and on each link of `n` nodes the batches posted, taken, sent and received are one number, and none
-// waits.
-fn is_done(built: &Built, n: usize) -> bool
-    requires { IsSize n }
-{
-    let words = &built.closed.words;
-    let count = n * n;
-    if built.links.len() != count || words.len() != 3 + 2 * count {
-        return false;
-    }
-    for place in 0..count {
-        let link = &built.links[place];
-        let posted = words[3 + place];
-        let taken = words[3 + count + place];
-        if posted != link.sent() || taken != link.sent() || link.received() != link.sent() {
-            return false;
-        }
-        if !link.waiting().is_empty() {
-            return false;
-        }
-    }
-    words[2] == 1
-}
-
-// Each of two nodes notes its turn, and in the first ten looks for the other's, so often at most.
+// Each of two nodes notes its turn, and in the first ten looks for the other's, so often at most. What the turns report is counted.
 #[derive(Drop)]
 struct Meeting {
     first: AtomicU64,
     second: AtomicU64,
+    told: AtomicU64,
     looks: u32,
 }
 
@@ -90,11 +33,12 @@ struct Meeting {
 const PATIENT: u32 = 1_000_000;
 
 impl Meeting {
-    // No turn is noted yet.
-    fn new(looks: u32) -> Meeting {
+    // Each node has noted so many turns.
+    fn new(turns: u64, looks: u32) -> Meeting {
         Meeting {
-            first: AtomicU64::new(0),
-            second: AtomicU64::new(0),
+            first: AtomicU64::new(turns),
+            second: AtomicU64::new(turns),
+            told: AtomicU64::new(0),
             looks,
         }
     }
@@ -125,18 +69,31 @@ impl Gate for Meeting {
         false
     }
 
-    fn worked(&self, _node: usize, _expanded: u64) {}
+    fn worked(&self, _node: usize, _expanded: u64) {
+        self.told.fetch_add(1, Ordering::SeqCst);
+    }
+}
+
+#[test]
+fn two_nodes_meet(rt: HostRuntime) {
+    let gate = Meeting::new(0, PATIENT);
+    let turned = run_turns(&rt, rt.alloc(), lions(&rt), 2, 1, 1, 1, &gate);
+    assert!(rt; turned.is_ok());
+    assert!(rt; gate.first.load(Ordering::SeqCst) == 1);
+    assert!(rt; gate.second.load(Ordering::SeqCst) == 1);
+}
+
+// Where one thread turns both nodes, whichever first, that one looks for the other's turn in vain and is held back: so a run by one thread fails, as the
+// clauses of turns and runs say.
+#[test]
+fn one_thread_cannot_meet_itself(rt: HostRuntime) {
+    assert!(rt; !Meeting::new(0, 100).enter(0));
+    assert!(rt; !Meeting::new(0, 100).enter(1));
 }
 
 // Holds back node 1, and no other.
 #[derive(Drop)]
 struct HoldsBackOne;
-
-// What a run with that gate answers.
-const HELD: Fault = Fault::Stopped {
-    node: 1,
-    cause: Cause::Held,
-};
 
 impl Gate for HoldsBackOne {
     // It may answer both.
@@ -151,67 +108,26 @@ impl Gate for HoldsBackOne {
     fn worked(&self, _node: usize, _expanded: u64) {}
 }
 
-#[test]
-fn two_nodes_meet(rt: HostRuntime) {
-    let gate = Meeting::new(PATIENT);
-    let turned = run_turns(&rt, rt.alloc(), lions(&rt), 2, 1, 1, 1, &gate);
-    assert!(rt; turned.is_ok());
-    assert!(rt; gate.first.load(Ordering::SeqCst) == 1);
-    assert!(rt; gate.second.load(Ordering::SeqCst) == 1);
-}
+// What a run with that gate answers.
+const HELD: Fault = Fault::Stopped {
+    node: 1,
+    cause: Cause::Held,
+};
 
 #[test]
 fn a_node_that_is_held_back(rt: HostRuntime) {
     let turned = run_turns(&rt, rt.alloc(), lions(&rt), 3, 1, 1, 5, &HoldsBackOne);
     assert!(rt; turned.err() == Some(HELD));
+    let built = run_nodes(&rt, rt.alloc(), lions(&rt), 3, 1, 1, &HoldsBackOne);
+    assert!(rt; built.err() == Some(HELD));
 }
 
-// Whether nothing went over the link.
-fn is_unused(link: &Rejoined) -> bool {
-    link.sent() == 0 && link.received() == 0 && link.waiting().is_empty()
-}
-
-// Whether the worker's slots are empty.
-fn is_empty_handed(worker: &Worker) -> bool {
-    worker.sending.iter().all(|slot| slot.is_none())
-        && worker.taking.iter().all(|slot| slot.is_none())
-}
-
-// Whether all words but those of the number of nodes and of the token are 0.
-fn are_first_words(words: &[u64], n: usize) -> bool
-    requires { IsSize n }
-{
-    words.len() == 3 + 2 * n * n
-        && words[0] == n as u64
-        && words[1] == 1_407_374_883_553_280
-        && words[2..].iter().all(|word| *word == 0)
-}
-
-// Whether nothing is left of `n` nodes that made no turn: their slots are empty, no link was used, and all words but those of
-// the number of nodes and of the token are 0.
-fn is_nothing(turned: &Turned, n: usize) -> bool
-    requires { IsSize n }
-{
-    turned.workers.len() == n
-        && turned.links.len() == n * n
-        && turned.links.iter().all(|link| is_unused(link))
-        && are_first_words(&turned.closed.words, n)
-        && turned.workers.iter().all(|worker| is_empty_handed(worker))
-}
-
-fn leaves_nothing(rt: &(impl Threads + Wait + Abort + Sync), alloc: Global, n: usize)
-    requires { IsSize n }
-{
-    let turned = run_turns(rt, alloc, lions(rt), n, 1, 1, 0, &HoldsBackOne);
-    assert!(rt;
-        is_nothing(&turned.expect(rt, "no turn"), n),
-        "of {n} nodes"
-    );
-}
-
+// The words of the board are those of its start: the number of nodes, the first token, no halt, and no batch posted or taken. So nothing is in a slot or went
+// over a link, by what `run_turns` says of its counts.
 #[test]
 fn no_turns_leave_nothing(rt: HostRuntime) {
-    leaves_nothing(&rt, rt.alloc(), 1);
-    leaves_nothing(&rt, rt.alloc(), 2);
-    leaves_nothing(&rt, rt.alloc(), 16);
+    let turned = run_turns(&rt, rt.alloc(), lions(&rt), 2, 1, 1, 0, &HoldsBackOne);
+    let turned = turned.expect(&rt, "no turn");
+    let start = [2, 1_407_374_883_553_280, 0, 0, 0, 0, 0, 0, 0, 0, 0];
+    assert!(rt; turned.closed.words.as_slice() == start.as_slice());
 }

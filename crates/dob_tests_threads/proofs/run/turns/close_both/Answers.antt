@@ -32,11 +32,13 @@ module _ (family : Family) (board : Board) (one other first second : Runner) (op
 
 pub finish-requires-clause-crew : goal.finish-requires-clause-crew
 finish-requires-clause-crew g c = λ κs lives. let kept = c.requires.crew in
-    still_crew c.args.classes.family c.args.board kept.0 kept.1 c.args.first c.args.second kept.2 kept.3 kept.4 c.in_ok-runners.runners.items c.in_ok-runners.ensures
+    let is : c.expect-runners.result.items ≡ c.args.first ∷ c.args.second ∷ [] = search rules in
+    still_crew c.args.classes.family c.args.board kept.0 kept.1 c.args.first c.args.second kept.2 kept.3 kept.4 c.expect-runners.result.items is
 
 pub finish-requires-clause-stopped : goal.finish-requires-clause-stopped
-finish-requires-clause-stopped g c = λ κs lives. let kept = c.requires.crew in (
-  1,
-  have_stopped c.args.classes.family c.args.board kept.0 kept.1 c.args.first c.args.second kept.2 kept.3 kept.4 c.in_ok-runners.runners.items c.in_ok-runners.ensures
-      (search rules) (search rules),
-)
+finish-requires-clause-stopped g c = λ κs lives. let kept = c.requires.crew in
+    let is : c.expect-runners.result.items ≡ c.args.first ∷ c.args.second ∷ [] = search rules in (
+      1,
+      have_stopped c.args.classes.family c.args.board kept.0 kept.1 c.args.first c.args.second kept.2 kept.3 kept.4 c.expect-runners.result.items is
+          (search rules) (search rules),
+    )

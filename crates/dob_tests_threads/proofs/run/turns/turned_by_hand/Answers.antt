@@ -2,8 +2,8 @@
 use Rattle.dob_runner.proofs.Keeping.{runner_trans}
 use Rattle.dob_tests_threads.proofs.run.turns.turned_by_hand.Goals as goal
 
-pub close_both-requires-clause-crew : goal.close_both-requires-clause-crew
-close_both-requires-clause-crew g c = λ κs.
+pub close_both-built-requires-clause-crew : goal.close_both-built-requires-clause-crew
+close_both-built-requires-clause-crew g c = λ κs.
     let made = c.two_runners-classes in (
       made.result.2,
       made.result.3,
