@@ -1,19 +1,18 @@
--- Sets of squares with a piece more, as either side sees them.
-use Rattle.dob_classes.proofs.Common.{◌%◌, ◌-◌, ◌/◌, ◌<◌, ◌∙◌, ◌∷◌, ◌≡◌, ◌≢◌, List, None, [], ap, arith, false, length, refl}
-use Rattle.dob_classes.proofs.Common.{replicate, rules, set, slice_index_or, suc, true, zero, ℕ, get_or-set_other, length-set, at-turned, one_if, Cell, at}
-use Rattle.dob_classes.proofs.Common.{setup_of, turned_cell, turned, Hands, Side, Enemy, Mover, Setup, base_of, cell_of, enemy_squares, order, own_squares, put}
-use Rattle.dob_classes.proofs.Common.{Chicks, Elephants, Empty, Giraffes, IsBoardOf, is_chick, is_elephant, is_enemy, is_enemy_lion, is_giraffe, is_hen}
-use Rattle.dob_classes.proofs.Common.{is_own_lion, IsWith, seen_by, seen_hands, seen_owner, seen_square, Board}
+-- Planes with a piece more, as either side sees them.
+use Rattle.dob_classes.proofs.Common.{◌%◌, ◌*◌, ◌+◌, ◌-◌, ◌/◌, ◌<◌, ◌^◌, ◌∙◌, ◌≡◌, ◌≢◌, List, None, ap, arith, length, refl, replicate, rules, set, slice_index_or}
+use Rattle.dob_classes.proofs.Common.{suc, zero, ℕ, get_or-set_other, length-set, at-turned, Cell, at, setup_of, turned, Hands, Side, Enemy, Mover, Setup}
+use Rattle.dob_classes.proofs.Common.{base_of, cell_of, enemy_squares, order, own_squares, put, Chicks, Elephants, Empty, Giraffes, IsWith, seen_by, seen_hands}
+use Rattle.dob_classes.proofs.Common.{seen_owner, seen_square}
+use Rattle.dob_classes.specs.Views.{AreSeen, seen_cell}
 use Rattle.dob_rank.specs.Placing.{past, AreFree}
 use Rattle.dob_rank.proofs.Boards.EmptySquares.{past-upto}
-use Rattle.dob_pieces.specs.Masks.{IsMarked, with_square}
-use Rattle.dob_pieces.proofs.BoardChanges.{all_grown, nothing_added, with_one}
+use Rattle.dob_pieces.proofs.Boards.{length-turned}
+use Rattle.dob_pieces.proofs.BoardChanges.{with_one}
+use Rattle.dob_pieces.proofs.BoardPlanes.{piece_comes}
+use Rattle.dob_pieces.specs.Boards.{entry}
+unfoldable use Rattle.dob_pieces.specs.Boards.{planes_of}
 
 -- ---- what a side sees of a change
-
-abbrev pub seen_cell : Side → Cell → Cell
-seen_cell Mover cell = cell
-seen_cell Enemy cell = turned_cell cell
 
 seen_below : (side : Side) (square : ℕ) → square < 12 → seen_square side square < 12
 seen_below Mover square lt = lt
@@ -32,100 +31,75 @@ seen_empty : (side : Side) (before : Setup) (square : ℕ) → square < 12 → a
 seen_empty Mover before square lt e = e
 seen_empty Enemy before square lt e = grind (arith, at-turned)
 
--- ---- one more piece, by a flag for each set
+seen_long : (side : Side) (setup : Setup) → length setup.board ≡ 12 → length (seen_by side setup).board ≡ 12
+seen_long Mover setup twelve = twelve
+seen_long Enemy setup twelve = length-turned setup
 
-abbrev flags_of : Cell → List ℕ
-flags_of cell =
-    one_if (is_own_lion cell) ∷ one_if (is_enemy_lion cell) ∷ one_if (is_chick cell) ∷ one_if (is_elephant cell) ∷ one_if (is_giraffe cell)
-    ∷ one_if (is_hen cell) ∷ one_if (is_enemy cell) ∷ []
+-- ---- what the pieces of each layer add
 
-abbrev pub HasFlags : Cell → ℕ → ℕ → ℕ → ℕ → ℕ → ℕ → ℕ → Type 0
-HasFlags cell own_lion enemy_lion chick elephant giraffe hen enemy =
-    (own_lion ∷ enemy_lion ∷ chick ∷ elephant ∷ giraffe ∷ hen ∷ enemy ∷ []) ≡ flags_of cell
+pub lion_entry : (side : Side) (owner : ℕ) → owner < 2 → 1 + 4096 * seen_owner side owner ≡ entry (seen_cell side (cell_of owner 0))
+lion_entry Mover zero lt = refl
+lion_entry Mover (suc zero) lt = refl
+lion_entry Enemy zero lt = refl
+lion_entry Enemy (suc zero) lt = refl
+lion_entry _ (suc (suc n)) lt = absurd (omega arith)
 
-pub unmarked : (set place : ℕ) → IsMarked 0 place set set
-unmarked set place true e = absurd (omega (arith, e))
-unmarked set place false e = refl
-
-pub marked_on : (set place new : ℕ) → new ≡ with_square set place → IsMarked 1 place set new
-marked_on set place new is true e = is
-marked_on set place new is false e = absurd (omega (arith, e))
-
-pub piece_marked : (side : Side) (before after : Setup) (square : ℕ) (cell : Cell) → square < 12 → IsWith before after square cell
-    → at before square ≡ None → (place : ℕ) → place ≡ seen_square side square → (b new : Board) (o e c l g h x : ℕ) → IsBoardOf (seen_by side before) b
-    → HasFlags (seen_cell side cell) o e c l g h x
-    → IsMarked o place b.own_lion new.own_lion → IsMarked e place b.enemy_lion new.enemy_lion → IsMarked c place b.chicks new.chicks
-    → IsMarked l place b.elephants new.elephants → IsMarked g place b.giraffes new.giraffes → IsMarked h place b.hens new.hens
-    → IsMarked x place b.enemies new.enemies → new.hands ≡ b.hands → IsBoardOf (seen_by side after) new
-piece_marked side before after square cell lt w empty place same b new o e c l g h x are flags is_o is_e is_c is_l is_g is_h is_x is_hands =
-    all_grown (seen_by side before) (seen_by side after) place (seen_cell side cell) (rw same (seen_below side square lt))
-    (rw same (seen_with side before after square cell lt w)) (rw same (seen_empty side before square lt empty)) b new are
-    (is_o _ (flag 0)) (is_e _ (flag 1)) (is_c _ (flag 2)) (is_l _ (flag 3)) (is_g _ (flag 4)) (is_h _ (flag 5)) (is_x _ (flag 6)) is_hands
-  where
-    flag : (k : ℕ) → slice_index_or (o ∷ e ∷ c ∷ l ∷ g ∷ h ∷ x ∷ []) k 0 ≡ slice_index_or (flags_of (seen_cell side cell)) k 0
-    flag k = ap (λ (xs : List ℕ). slice_index_or xs k 0) flags
-
--- ---- the flags of each layer's pieces
-
-pub lion_flags : (side : Side) (owner : ℕ) → owner < 2
-    → HasFlags (seen_cell side (cell_of owner 0)) (1 - seen_owner side owner) (seen_owner side owner) 0 0 0 0 0
-lion_flags Mover zero lt = refl
-lion_flags Mover (suc zero) lt = refl
-lion_flags Enemy zero lt = refl
-lion_flags Enemy (suc zero) lt = refl
-lion_flags _ (suc (suc n)) lt = absurd (omega arith)
-
-pub chick_flags : (side : Side) (form : ℕ) → form < 4
-    → HasFlags (seen_cell side (cell_of (order Chicks) form)) 0 0 1 0 0 (form % 2) (seen_owner side (form / 2))
-chick_flags Mover zero lt = refl
-chick_flags Mover (suc zero) lt = refl
-chick_flags Mover (suc (suc zero)) lt = refl
-chick_flags Mover (suc (suc (suc zero))) lt = refl
-chick_flags Enemy zero lt = refl
-chick_flags Enemy (suc zero) lt = refl
-chick_flags Enemy (suc (suc zero)) lt = refl
-chick_flags Enemy (suc (suc (suc zero))) lt = refl
-chick_flags _ (suc (suc (suc (suc n)))) lt = absurd (omega arith)
+pub chick_entry : (side : Side) (form : ℕ) → form < 4
+    → 16777216 + 281474976710656 * (form % 2) + 4096 * seen_owner side (form / 2) ≡ entry (seen_cell side (cell_of (order Chicks) form))
+chick_entry Mover zero lt = refl
+chick_entry Mover (suc zero) lt = refl
+chick_entry Mover (suc (suc zero)) lt = refl
+chick_entry Mover (suc (suc (suc zero))) lt = refl
+chick_entry Enemy zero lt = refl
+chick_entry Enemy (suc zero) lt = refl
+chick_entry Enemy (suc (suc zero)) lt = refl
+chick_entry Enemy (suc (suc (suc zero))) lt = refl
+chick_entry _ (suc (suc (suc (suc n)))) lt = absurd (omega arith)
 
 -- an elephant, and a giraffe
-pub other_flags : (side : Side) (form : ℕ) → form < 2
-    → HasFlags (seen_cell side (cell_of (order Elephants) form)) 0 0 0 1 0 0 (seen_owner side form)
-    × HasFlags (seen_cell side (cell_of (order Giraffes) form)) 0 0 0 0 1 0 (seen_owner side form)
-other_flags Mover zero lt = (refl, refl)
-other_flags Mover (suc zero) lt = (refl, refl)
-other_flags Enemy zero lt = (refl, refl)
-other_flags Enemy (suc zero) lt = (refl, refl)
-other_flags _ (suc (suc n)) lt = absurd (omega arith)
+pub other_entry : (side : Side) (form : ℕ) → form < 2
+    → (68719476736 + 4096 * seen_owner side form ≡ entry (seen_cell side (cell_of (order Elephants) form)))
+    × (281474976710656 + 4096 * seen_owner side form ≡ entry (seen_cell side (cell_of (order Giraffes) form)))
+other_entry Mover zero lt = (refl, refl)
+other_entry Mover (suc zero) lt = (refl, refl)
+other_entry Enemy zero lt = (refl, refl)
+other_entry Enemy (suc zero) lt = (refl, refl)
+other_entry _ (suc (suc n)) lt = absurd (omega arith)
 
--- nothing comes on an empty square
-pub nothing_came : (side : Side) (before after : Setup) (square form : ℕ) → square < 12 → at before square ≡ None
-    → IsWith before after square (cell_of (order Empty) form) → (b : Board) → IsBoardOf (seen_by side before) b → IsBoardOf (seen_by side after) b
-nothing_came Mover before after square form lt empty w b are = nothing_added before after square lt b are empty w
-nothing_came Enemy before after square form lt empty w b are =
-    nothing_added (turned before) (turned after) (11 - square) (seen_below Enemy square lt) b are (seen_empty Enemy before square lt empty)
-    (seen_with Enemy before after square None lt w)
+pub no_entry : (side : Side) (form : ℕ) → 0 ≡ entry (seen_cell side (cell_of (order Empty) form))
+no_entry Mover form = refl
+no_entry Enemy form = refl
+
+-- a piece comes on an empty square
+pub piece_seen : (side : Side) (before after : Setup) (square planes : ℕ) (cell : Cell) → square < 12 → length before.board ≡ 12 → length after.board ≡ 12
+    → at before square ≡ None → IsWith before after square cell → AreSeen side before planes
+    → (place : ℕ) → place ≡ seen_square side square → (added : ℕ) → added ≡ entry (seen_cell side cell)
+    → AreSeen side after ((planes + added * 2 ^ place % 2 ^ 64) % 2 ^ 64)
+piece_seen side before after square planes cell lt long grown empty w is place at_place added adds =
+    rw (at_place, adds) (piece_comes (seen_by side before) (seen_by side after) (seen_square side square) planes (seen_cell side cell)
+    (seen_long side before long) (seen_long side after grown) (seen_below side square lt)
+    (seen_empty side before square lt empty) (seen_with side before after square cell lt w) is)
 
 -- ---- pieces of a layer, one after the other
 
+-- what a piece on an empty square makes of one fact about a setup
+abbrev Adds : ℕ → Cell → (Setup → Type 0) → (Setup → Type 0) → Type 0
+Adds square cell A B = (before after : Setup) → length before.board ≡ 12 → length after.board ≡ 12 → at before square ≡ None
+    → IsWith before after square cell → A before → B after
+
 -- one piece
 pub one_put : (setup : Setup) (first : ℕ) (cell : Cell) (A B : Setup → Type 0) → length setup.board ≡ 12 → first < 12
-    → slice_index_or setup.board first None ≡ None
-    → ((before after : Setup) → at before first ≡ None → IsWith before after first cell → A before → B after)
-    → A setup → B (setup_of (set setup.board first cell) setup.hands)
-one_put setup first cell A B twelve lt empty step are = search rules
+    → slice_index_or setup.board first None ≡ None → Adds first cell A B → A setup → B (setup_of (set setup.board first cell) setup.hands)
+one_put setup first cell A B twelve lt empty step are =
+    step setup (setup_of (set setup.board first cell) setup.hands) twelve (length-set setup.board first cell ∙ twelve) empty (with_one setup first cell twelve lt) are
 
 -- two pieces, the second one first
 pub two_put : (setup : Setup) (first second : ℕ) (cell other : Cell) (A B C : Setup → Type 0) → length setup.board ≡ 12 → first < 12 → second < 12
     → slice_index_or setup.board first None ≡ None → slice_index_or setup.board second None ≡ None → first ≢ second
-    → ((before after : Setup) → at before second ≡ None → IsWith before after second other → A before → B after)
-    → ((before after : Setup) → at before first ≡ None → IsWith before after first cell → B before → C after)
-    → A setup → C (setup_of (set (set setup.board second other) first cell) setup.hands)
+    → Adds second other A B → Adds first cell B C → A setup → C (setup_of (set (set setup.board second other) first cell) setup.hands)
 two_put setup first second cell other A B C twelve lt low empty free apart one two are =
-    let next = setup_of (set setup.board second other) setup.hands in
-    let at_second = one setup next free (with_one setup second other twelve low) are in
-    two next (setup_of (set (set setup.board second other) first cell) setup.hands)
-    (get_or-set_other setup.board second first other None apart ∙ empty)
-    (with_one next first cell (length-set setup.board second other ∙ twelve) lt) at_second
+    one_put (setup_of (set setup.board second other) setup.hands) first cell B C (length-set setup.board second other ∙ twelve) lt
+    (get_or-set_other setup.board second first other None apart ∙ empty) two (one_put setup second other A B twelve low free one are)
 
 length-put : (t p a b n : ℕ) (cells : List Cell) → length (put t p a b n cells) ≡ length cells
 length-put t zero a b n cells = refl
@@ -146,17 +120,13 @@ at_least_two (suc (suc n)) h Holds each = each n
 
 -- ---- the empty board
 
-abbrev nothing : ℕ → List Cell
-nothing n = replicate n None
+pub empty_seen : (side : Side) (hands : Hands) → AreSeen side (setup_of (replicate 12 None) hands) 0
+unfolding turned planes_of
+empty_seen Mover hands = refl
+empty_seen Enemy hands = refl
 
-none_there : (n k : ℕ) → slice_index_or (nothing n) k None ≡ None
-none_there zero k = refl
-none_there (suc n) zero = refl
-none_there (suc n) (suc k) = none_there n k
-
-pub empty_seen : (side : Side) (hands : Hands) (square : ℕ) → square < 12 → at (seen_by side (setup_of (replicate 12 None) hands)) square ≡ None
-empty_seen Mover hands square lt = none_there 12 square
-empty_seen Enemy hands square lt = at-turned (setup_of (replicate 12 None) hands) square lt ∙ ap turned_cell (none_there 12 (11 - square))
+pub long_seen : (side : Side) (cells : List Cell) (hands : Hands) → length cells ≡ 12 → length (seen_by side (setup_of cells hands)).board ≡ 12
+long_seen side cells hands = seen_long side (setup_of cells hands)
 
 pub hands_seen : (side : Side) (board : List Cell) (hands : Hands) → (seen_by side (setup_of board hands)).hands ≡ seen_hands side hands
 unfolding turned

@@ -38,8 +38,8 @@ step_meets : (aim : Aim) (p : Setup) (kind : Kind) (f t : ℕ) (catch grows : Bo
 step_meets AtLion p kind f t catch grows h = lion_found p kind f t catch grows h
 step_meets Elsewhere p kind f t catch grows h = go_found p kind f t catch grows h
 
-put_behind : (aim : Aim) (p : Setup) (kind : HandKind) (t from to : ℕ) → from < 12 → to < 12 → first_drop + 12 * hand_place kind + t ≡ 12 * from + to → ⊥
-put_behind aim p kind t from to low high e = omega (arith, low, high, e)
+put_after : (aim : Aim) (p : Setup) (kind : HandKind) (t from to : ℕ) → from < 12 → to < 12 → first_drop + 12 * hand_place kind + t ≡ 12 * from + to → ⊥
+put_after aim p kind t from to low high e = omega (arith, low, high, e)
 
 step_there : (aim : Aim) (p : Setup) (from to : ℕ) (m : Move) → from < 12 → to < 12 → Meets aim p m → place m ≡ 12 * from + to
     → step_between aim p from to ≡ Some m
@@ -49,7 +49,7 @@ step_there aim p from to (Step kind f t catch grows) low high h e =
     let is : f ≡ from = one_place f t from to near high e in
     let also : t ≡ to = omega (arith, is, e) in
     sym (λ i. step_between aim p (is i) (also i)) ∙ found_there aim p kind f t (Step kind f t catch grows) found
-step_there aim p from to (Put kind t) low high h e = absurd (put_behind aim p kind t from to low high e)
+step_there aim p from to (Put kind t) low high h e = absurd (put_after aim p kind t from to low high e)
 
 -- a step that is aimed so, or there is none
 pub step_answer : (aim : Aim) (p : Setup) (from to : ℕ) (o : Option Move) → from < 12 → to < 12 → o ≡ step_between aim p from to
@@ -115,8 +115,8 @@ few_kinds : (kind : HandKind) → hand_place kind ≤ 2
 few_kinds hand.Chick = omega arith
 few_kinds _ = omega arith
 
-pub none_behind : (profile : Profile) (p : Setup) (there : ℕ) → length p.board ≡ 12 → first_drop + 36 ≤ there → (m : Move) → CanGo profile p m → place m ≡ there → ⊥
-none_behind profile p there len far (Step k f t catch grows) can e =
+pub none_after : (profile : Profile) (p : Setup) (there : ℕ) → length p.board ≡ 12 → first_drop + 36 ≤ there → (m : Move) → CanGo profile p m → place m ≡ there → ⊥
+none_after profile p there len far (Step k f t catch grows) can e =
     omega (arith, step_before profile p k f t catch grows len can, far, e)
-none_behind profile p there len far (Put k t) can e =
+none_after profile p there len far (Put k t) can e =
     omega (arith, drop_square profile p k t can, few_kinds k, far, e)

@@ -31,6 +31,6 @@ pub use boards_after::board_after;
 pub use count::{count_moves, status_and_count, status_and_count_by};
 pub use first_moves::{Aim, own_kind, put_on, step_onto};
 pub use game_move::Move;
-pub use listing::{MoveList, legal_moves, moves, moves_into};
+pub use listing::{MoveList, legal_moves, moves, moves_into, moves_into_by};
 pub use position_status::Status;
 pub use status_of::{first_catch, status};

@@ -2,6 +2,7 @@
 ghost use Rattle.std.specs.Prelude.{◌≡◌, ◌+◌, ◌≤◌, ◌++◌, IfOk, length};
 ghost use Rattle.dob_pieces.specs.Boards.{IsBoardOf};
 ghost use Rattle.dob_pieces.specs.Masks.{AreSquares, is_empty, is_end};
+ghost use Rattle.dob_pieces.specs.Setups.{IsLegal};
 ghost use Rattle.dob_pieces.specs.declared.setup.Setup.{Setup};
 ghost use Rattle.dob_moves.specs.Laws.{most_moves};
 ghost use Rattle.dob_moves.specs.Statuses.{HasStatus, AreMoves};
@@ -89,12 +90,20 @@ pub fn moves_into(profile: Profile, moves: &mut MoveList, position: &Position) -
     ensures status { HasStatus profile position.now.setup result }
     ensures moves { AreMoves profile position.now.setup moves.new.items }
 {
+    moves_into_by(profile, moves, &Board::of(&position.setup))
+}
+
+/// The same of the position that the board shows.
+pub fn moves_into_by(profile: Profile, moves: &mut MoveList, board: &Board) -> Status
+    requires { (p : Setup) × IsLegal p × IsBoardOf p board.now }
+    ensures status { (p : Setup) → IsLegal p → IsBoardOf p board.now → HasStatus profile p result }
+    ensures moves { (p : Setup) → IsLegal p → IsBoardOf p board.now → AreMoves profile p moves.new.items }
+{
     moves.clear();
-    let board = Board::of(&position.setup);
-    match status_by(&board) {
+    match status_by(board) {
         Status::Open => {
-            push_steps(moves, &board);
-            push_drops(moves, profile, &board);
+            push_steps(moves, board);
+            push_drops(moves, profile, board);
             Status::Open
         }
         other => other,

@@ -14,7 +14,7 @@ pub use Rattle.std.specs.List.{AllZip, Any, count_by, list_any, range_with_len, 
 pub use Rattle.std.specs.Prelude.{MatchResult, Result, Vec, slice_get}
 pub use mathlib.Core.Bool.{beq}
 pub use Rattle.dob_pieces.specs.Lists.{each_below, one_if, sum_below}
-pub use Rattle.dob_pieces.specs.Masks.{AreSquares, IsFirst, IsMarked, IsMask, bit, with_square, without_square, attacks, attacks_by, entry_of, is_empty}
+pub use Rattle.dob_pieces.specs.Masks.{AreSquares, IsFirst, IsMask, bit, with_square, without_square, attacks, attacks_by, is_empty}
 pub use Rattle.dob_pieces.specs.Masks.{is_end, is_own, is_piece, kind_place}
 pub use Rattle.dob_pieces.specs.Masks.{own_kind, side_place}
 unfoldable pub use Rattle.dob_pieces.specs.Masks.{squares_in}

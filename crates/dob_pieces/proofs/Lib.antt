@@ -14,7 +14,7 @@ pub mod MaskBits  -- sets of squares as bits
 pub mod MaskWalks  -- walks over the squares of a mask
 pub mod Attacks  -- who attacks a square
 pub mod Targets  -- the tables of steps are the steps of the kinds
-pub mod Planes  -- several masks in one word
+pub mod CellPlanes  -- several masks in one word
 pub mod OwnKinds  -- the mover's piece on a square
 -- Boards as sets of squares.
 pub mod BoardPlanes  -- sets of squares in one pass over a setup's cells

@@ -1,7 +1,7 @@
 -- Sets of squares as masks: what the operations on bits make of them.
-use Rattle.dob_pieces.proofs.Common.{◌%◌, ◌&&◌, ◌-◌, ◌<◌, ◌==◌, ◌^◌, ◌||◌, ◌∙◌, ◌≡◌, ◌≢◌, ◌≤◌, Bool, ap, arith, bit_and, bit_or, false, inl, inr, not, refl}
+use Rattle.dob_pieces.proofs.Common.{◌%◌, ◌&&◌, ◌-◌, ◌<◌, ◌==◌, ◌^◌, ◌||◌, ◌∙◌, ◌≡◌, ◌≢◌, ◌≤◌, Bool, arith, bit_and, bit_or, false, inl, inr, not, refl}
 use Rattle.dob_pieces.proofs.Common.{one_if}
-use Rattle.dob_pieces.proofs.Common.{suc, sym, true, ℕ, cases_eq, cases_lt, bit_not, trailing_zeros, IsMask, IsFirst, bit, cond, with_square, zero}
+use Rattle.dob_pieces.proofs.Common.{sym, true, ℕ, cases_eq, cases_lt, bit_not, trailing_zeros, IsMask, IsFirst, bit}
 use Rattle.std.proofs.Common.{◌*◌, min, max, rules, w16}
 use Rattle.std.proofs.lemmas.Nat.{and_le_l, or_lt}
 use Rattle.std.proofs.lemmas.Nat.Bits.{bit_at_and, bit_at_or, bit_at_not, bit_at-trailing_zeros, bit_at_above, bit_at-lt, bit_at-zero, same_from_bits_below}
@@ -9,7 +9,6 @@ use Rattle.std.proofs.lemmas.Bool.Decides.{nat_tests}
 use Rattle.std.specs.Simd.Lanes.{mask_l}
 use Rattle.dob_pieces.proofs.Common.{true≢false, bit_at, bit_mask_l, get_or-map-range_with_len, map, mask_l-lt, range_with_len}
 use Rattle.std.proofs.Math.Pow.{pow_mono}
-use Rattle.std.specs.Int.Bits.{or_zero_r}
 
 min-bits : (a b : Bool) → min (one_if a) (one_if b) ≡ one_if (a && b)
 min-bits true true = refl
@@ -119,17 +118,8 @@ bit-small square lt =
     let low : 2 ^ square ≤ 2 ^ 11 = pow_mono le in
     omega (arith, low)
 
--- by a flag
-pub marked_small : (mask flag square : ℕ) → flag ≤ 1 → square < 12 → mask < 4096 → bit_or mask (flag * 2 ^ square % 2 ^ 16) < 4096
-marked_small mask zero square le lt within = or_lt 12 mask _ within (omega arith)
-marked_small mask (suc zero) square le lt within = or_lt 12 mask _ within (bit-small square lt)
-marked_small mask (suc (suc n)) square le lt within = absurd (omega arith)
-
-pub marked_is : (mask flag square : ℕ) (is : Bool) → flag ≡ one_if is → bit_or mask (flag * 2 ^ square % 2 ^ 16) ≡ cond is (with_square mask square) mask
-marked_is mask flag square true e = ap (λ (n : ℕ). bit_or mask (n * 2 ^ square % 2 ^ 16)) e
-marked_is mask flag square false e =
-    let none : 0 * 2 ^ square % 2 ^ 16 ≡ 0 = omega arith in
-    ap (λ (n : ℕ). bit_or mask (n * 2 ^ square % 2 ^ 16)) e ∙ ap (bit_or mask) none ∙ or_zero_r mask
+pub with_small : (mask square : ℕ) → square < 12 → mask < 4096 → bit_or mask (1 * 2 ^ square % 2 ^ 16) < 4096
+with_small mask square lt within = or_lt 12 mask _ within (bit-small square lt)
 
 -- what one function for each operation on sets is proved by
-pub ruleset set_laws = (or_lt, bit-small, lowest-lt, marked_small, marked_is)
+pub ruleset set_laws = (or_lt, bit-small, lowest-lt, with_small)

@@ -1,11 +1,12 @@
 -- A setup as sets of squares, with no list of cells.
-use Rattle.std.specs.Prelude.{◌≡◌, ℕ, ◌/◌, ◌%◌, ◌&&◌, ◌||◌, Bool, false, Some, None, length}
+use Rattle.std.specs.Prelude.{◌≡◌, ℕ, ◌+◌, ◌*◌, ◌&&◌, ◌||◌, ◌∷◌, Bool, false, List, [], Some, None, length}
 use Rattle.dob_pieces.specs.declared.board.Board.{Board}
 use Rattle.dob_pieces.specs.declared.kind.HandKind.TheVariants as hand
 use Rattle.dob_pieces.specs.declared.kind.Kind.{Kind}
 use Rattle.dob_pieces.specs.declared.kind.Kind.TheVariants.{Lion, Hen}
 use Rattle.dob_pieces.specs.declared.kind.Side.TheVariants.{Mover, Enemy}
 use Rattle.dob_pieces.specs.declared.setup.Setup.{Setup}
+use Rattle.dob_pieces.specs.Lists.{one_if}
 use Rattle.dob_pieces.specs.Masks.{AreSquares, IsMask, is_piece, is_prey}
 use Rattle.dob_pieces.specs.Pieces.{is_side, leads}
 use Rattle.dob_pieces.specs.Setups.{Cell, HasLions, at, holds_kind}
@@ -70,14 +71,13 @@ is_foe (Some piece) = is_side Enemy piece.side
 abbrev pub is_giraffe_or_hen : Cell → Bool
 is_giraffe_or_hen cell = is_giraffe cell || is_hen cell
 
--- the set whose lowest bit has that value in a word
-abbrev pub plane : ℕ → ℕ → ℕ
-plane word unit = word / unit % 4096
+-- what a cell adds to a word of five sets
+abbrev pub entry : Cell → ℕ
+entry cell =
+    one_if (is_any_lion cell) + 4096 * one_if (is_foe cell) + 16777216 * one_if (is_chick cell) + 68719476736 * one_if (is_elephant cell)
+    + 281474976710656 * one_if (is_giraffe_or_hen cell)
 
--- five sets of the setup in a word
-pub record HasPlanes (setup : Setup) (word : ℕ) : Type 0 where
-  pub lions_are : AreSquares setup is_any_lion (plane word 1)
-  pub foes_are : AreSquares setup is_foe (plane word 4096)
-  pub chicks_are : AreSquares setup is_chick (plane word 16777216)
-  pub elephants_are : AreSquares setup is_elephant (plane word 68719476736)
-  pub giraffes_and_hens_are : AreSquares setup is_giraffe_or_hen (plane word 281474976710656)
+-- the five sets of the cells, the first of which is the lowest bit of each
+unfoldable pub planes_of : List Cell → ℕ
+planes_of [] = 0
+planes_of (cell ∷ cells) = 2 * planes_of cells + entry cell

@@ -1,6 +1,5 @@
 -- Sets of squares as the bits of a number, square 0 as the lowest.
-use Rattle.std.specs.Prelude.{◌≡◌, ℕ, ◌+◌, ◌*◌, ◌%◌, ◌^◌, ◌<◌, ◌&&◌, ◌==◌, bit_and, bit_or, Bool, true, false, cond, List, [], Option, Some, None}
-use Rattle.std.specs.Prelude.{slice_index_or}
+use Rattle.std.specs.Prelude.{◌≡◌, ℕ, ◌+◌, ◌*◌, ◌%◌, ◌^◌, ◌<◌, ◌&&◌, ◌==◌, bit_and, bit_or, Bool, true, false, cond, List, Option, Some, None}
 use Rattle.std.specs.List.{filter, range_with_len}
 use Rattle.std.specs.Int.{bit_at, bit_not, trailing_zeros, w16}
 use Rattle.dob_pieces.specs.declared.kind.Kind.{Kind}
@@ -26,10 +25,6 @@ with_square mask square = bit_or mask (bit square)
 
 abbrev pub without_square : ℕ → ℕ → ℕ
 without_square mask square = bit_and mask (bit_not w16 (bit square))
-
--- with the square where the flag is 1, and as it was where it is 0
-abbrev pub IsMarked : ℕ → ℕ → ℕ → ℕ → Type 0
-IsMarked flag square old new = (is : Bool) → flag ≡ cond is 1 0 → new ≡ cond is (with_square old square) old
 
 -- the first square of a set that has one
 abbrev pub IsFirst : ℕ → ℕ → Type 0
@@ -114,7 +109,3 @@ kind_number (Some piece) = kind_place piece.kind
 abbrev pub owner_number : Cell → ℕ
 owner_number None = 0
 owner_number (Some piece) = 1 + side_place piece.side
-
--- what a table by these two numbers has for the cell
-abbrev pub entry_of : List (List ℕ) → Cell → ℕ
-entry_of table cell = slice_index_or (slice_index_or table (kind_number cell) []) (owner_number cell) 0

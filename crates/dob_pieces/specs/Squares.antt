@@ -16,3 +16,7 @@ turned_square square = 11 - square
 -- the square after columns a and c are exchanged
 abbrev pub mirrored_square : ℕ → ℕ
 mirrored_square square = 3 * row square + (2 - column square)
+
+-- the square after the rows are put in the other order
+abbrev pub flipped_square : ℕ → ℕ
+flipped_square square = 3 * (3 - row square) + column square

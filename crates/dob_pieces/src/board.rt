@@ -1,15 +1,15 @@
 // What stands on the board as sets of squares by side and kind, with no list of cells: what must be fast reads these. A setup's sets come from one pass over
 // its cells, without a branch on what stands there.
-ghost use Rattle.std.specs.Prelude.{◌≡◌, Some, true};
-ghost use Rattle.dob_pieces.specs.Boards.{IsBoardOf, HasPlanes, HasTwoLions, AreAttackersOf, is_other};
+ghost use Rattle.std.specs.Prelude.{◌≡◌, Some, length, true};
+ghost use Rattle.dob_pieces.specs.Boards.{IsBoardOf, HasTwoLions, AreAttackersOf, is_other, planes_of};
 ghost use Rattle.dob_pieces.specs.Masks.{AreSquares, IsMask, attacks, is_empty, is_end, is_own, is_piece};
 ghost use Rattle.dob_pieces.specs.Setups.{at, mirrored, piece_of, turned};
 ghost use Rattle.dob_pieces.specs.declared.kind.Side.TheVariants.{Mover, Enemy};
 ghost use Rattle.dob_pieces.specs.declared.setup.Setup.{Setup};
 
-use crate::cell_tables::{CellTable, entry_of, plane};
 use crate::hand::Hands;
 use crate::kind::Kind;
+use crate::planes::{CHICKS, ELEPHANTS, ENEMIES, GIRAFFES_AND_HENS, LIONS, entry_of, plane};
 use crate::setup::Setup;
 use crate::square::Square;
 use crate::square_set::SquareSet;
@@ -30,49 +30,6 @@ pub struct Board {
     pub hands: Hands,
 }
 
-// The lowest bits of five planes of a word: the lions of both, ..
-const LIONS: u64 = 1;
-
-// .. the enemy's pieces, ..
-const ENEMIES: u64 = 1 << 12;
-
-// .. chicks and hens, ..
-const CHICKS: u64 = 1 << 24;
-
-// .. elephants, ..
-const ELEPHANTS: u64 = 1 << 36;
-
-// .. and giraffes and hens.
-const GIRAFFES_AND_HENS: u64 = 1 << 48;
-
-// By a cell's kind and owner what it adds to the word.
-const PLANES: CellTable = [
-    [0, LIONS, LIONS + ENEMIES, 0],
-    [0, GIRAFFES_AND_HENS, GIRAFFES_AND_HENS + ENEMIES, 0],
-    [0, ELEPHANTS, ELEPHANTS + ENEMIES, 0],
-    [0, CHICKS, CHICKS + ENEMIES, 0],
-    [
-        0,
-        CHICKS + GIRAFFES_AND_HENS,
-        CHICKS + GIRAFFES_AND_HENS + ENEMIES,
-        0,
-    ],
-];
-
-// The same once the board is turned: the mover's pieces are the enemy's then.
-const TURNED_PLANES: CellTable = [
-    [0, LIONS + ENEMIES, LIONS, 0],
-    [0, GIRAFFES_AND_HENS + ENEMIES, GIRAFFES_AND_HENS, 0],
-    [0, ELEPHANTS + ENEMIES, ELEPHANTS, 0],
-    [0, CHICKS + ENEMIES, CHICKS, 0],
-    [
-        0,
-        CHICKS + GIRAFFES_AND_HENS + ENEMIES,
-        CHICKS + GIRAFFES_AND_HENS,
-        0,
-    ],
-];
-
 impl Board {
     /// What stands on the setup's board.
     pub fn of(setup: &Setup) -> Board
@@ -80,34 +37,16 @@ impl Board {
     {
         let mut planes: u64 = 0;
         for square in (0..Square::COUNT).rev() {
-            let entry = entry_of(&PLANES, setup.board[square]);
+            let entry = entry_of(setup.board[square]);
             planes = 2 * planes + entry;
         }
         Board::in_planes(planes, setup.hands)
     }
 
-    /// The same seen from the other side. The pass begins with the square that becomes the last one.
-    pub fn turned(setup: &Setup) -> Board
-        ensures { IsBoardOf (turned setup.now) result }
-    {
-        let mut planes: u64 = 0;
-        for square in 0..Square::COUNT {
-            let entry = entry_of(&TURNED_PLANES, setup.board[square]);
-            planes = 2 * planes + entry;
-        }
-        Board::in_planes(
-            planes,
-            Hands {
-                mover: setup.hands.enemy,
-                enemy: setup.hands.mover,
-            },
-        )
-    }
-
-    // The sets in a word of planes, with those hands.
+    /// The sets in a word of planes, with those hands.
     #[inline(always)]
-    fn in_planes(planes: u64, hands: Hands) -> Board
-        ensures { (setup : Setup) → HasPlanes setup planes → hands ≡ setup.hands → IsBoardOf setup result }
+    pub fn in_planes(planes: u64, hands: Hands) -> Board
+        ensures { (setup : Setup) → length setup.board ≡ 12 → planes ≡ planes_of setup.board → hands ≡ setup.hands → IsBoardOf setup result }
     {
         let lions = plane(planes, LIONS);
         let enemies = plane(planes, ENEMIES);
@@ -139,6 +78,25 @@ impl Board {
             hens: self.hens.mirrored(),
             enemies: self.enemies.mirrored(),
             hands: self.hands,
+        }
+    }
+
+    /// The same seen from the other side.
+    pub fn turned(&self) -> Board
+        ensures { (setup : Setup) → IsBoardOf setup self.now → IsBoardOf (turned setup) result }
+    {
+        Board {
+            own_lion: self.enemy_lion.turned(),
+            enemy_lion: self.own_lion.turned(),
+            chicks: self.chicks.turned(),
+            elephants: self.elephants.turned(),
+            giraffes: self.giraffes.turned(),
+            hens: self.hens.turned(),
+            enemies: self.others().but_not(self.enemies).turned(),
+            hands: Hands {
+                mover: self.hands.enemy,
+                enemy: self.hands.mover,
+            },
         }
     }
 

@@ -9,8 +9,8 @@
 //   proved against it.
 // - A `SquareSet` is a number in contracts, and `IsMask` says which squares it has. Nothing outside of its own methods knows of bits; only ranks ask for
 //   its number, to count squares below others.
-// - A table by what stands on a cell has two indices, kind and owner (`entry_of`), in rows of four whose last entry is padding, so that the index is an
-//   address. The seven sets of a `Board` come from five planes of one word.
+// - What each cell adds to a word of planes stands in a table by kind and owner, in rows of four whose last entry is padding, so that the index is an
+//   address. The seven sets of a `Board` come from the five planes of one word, to which a piece more is one sum.
 // - A position has two forms. A `Setup` is twelve cells and the hands: definitions, texts and other languages speak of it. A `Board` is sets of squares by
 //   side and kind, and the hands: what must be fast reads it. A relation (`IsBoardOf`) says what it shows, so contracts can speak of a setup that the code
 //   doesn't have.
@@ -20,7 +20,6 @@
 #![tactic(auto)]
 
 mod board;
-mod cell_tables;
 mod changes;
 mod fault;
 mod hand;
@@ -28,6 +27,7 @@ mod kind;
 pub mod laws;
 mod memory;
 mod piece_set;
+pub mod planes;
 mod position;
 mod profile;
 mod setup;

@@ -1,7 +1,7 @@
 // Sets of squares, with a bit for each square. Contracts see a set as the number of its bits, of which `IsMask` says which squares it has.
 ghost use Rattle.std.specs.Prelude.{◌≡◌, ◌↔◌, ◌<◌, ◌≤◌, ◌==◌, ◌&&◌, ◌||◌, ℕ, Bool, IsTrue, MatchOption, length, not};
-ghost use Rattle.dob_pieces.specs.Masks.{IsMask, IsFirst, IsMarked, squares_in, with_square, without_square};
-ghost use Rattle.dob_pieces.specs.Squares.{mirrored_square};
+ghost use Rattle.dob_pieces.specs.Masks.{IsMask, IsFirst, squares_in, with_square, without_square};
+ghost use Rattle.dob_pieces.specs.Squares.{flipped_square, mirrored_square, turned_square};
 
 use crate::square::Square;
 use std::marker::Model;
@@ -130,18 +130,6 @@ impl SquareSet {
         }
     }
 
-    /// The set, with the square where the flag is 1: no branch.
-    #[inline(always)]
-    #[tactic(auto, using(crate::proofs::MaskBits::set_laws))]
-    pub fn marked(self, flag: u64, square: Square) -> SquareSet
-        requires { flag ≤ 1 }
-        ensures { IsMarked flag square self result }
-    {
-        SquareSet {
-            bits: self.bits | (flag as u16) << square.index(),
-        }
-    }
-
     /// The set without the square.
     #[inline(always)]
     pub fn without(self, square: Square) -> SquareSet
@@ -179,6 +167,23 @@ impl SquareSet {
     {
         SquareSet {
             bits: self.bits & !other.bits,
+        }
+    }
+
+    /// The set after a half turn of the board.
+    pub fn turned(self) -> SquareSet
+        ensures { (test : ℕ → Bool) → IsMask test self → IsMask (λ square. test (turned_square square)) result }
+    {
+        self.mirrored().flipped()
+    }
+
+    // The set with the rows in the other order.
+    fn flipped(self) -> SquareSet
+        ensures { (test : ℕ → Bool) → IsMask test self → IsMask (λ square. test (flipped_square square)) result }
+    {
+        let bits = self.bits;
+        SquareSet {
+            bits: (bits & 0o7) << 9 | (bits & 0o70) << 3 | (bits >> 3) & 0o70 | bits >> 9,
         }
     }
 

@@ -15,7 +15,7 @@ ghost use Rattle.dob_distance.specs.Distances.{lesser_of, greater_of};
 ghost use Rattle.dob_probe.specs.Lines.{GivenBy};
 ghost use Rattle.dob_probe.specs.Sums.{AreSummed, HasNext, value_after};
 
-use dob_moves::{Move, MoveList, Status, board_after, moves_into};
+use dob_moves::{Move, MoveList, Status, board_after, moves_into_by};
 use dob_pieces::{Board, Position};
 use dob_value::{Table, Value};
 
@@ -101,23 +101,24 @@ pub(crate) fn value_that_follows(room: &mut MoveList, table: &Table, position: &
     requires member { IsPositionOf table.now.family position.now.setup }
     ensures { Follows table.now.family.profile (GivenBy table.now) position.now.setup result }
 {
-    match moves_into(table.family().profile, room, position) {
+    let board = Board::of(&position.setup);
+    match moves_into_by(table.family().profile, room, &board) {
         Status::Caught => Value::Win(1),
         Status::Tried | Status::Stuck => Value::Loss(0),
-        Status::Open => successors_of(table, position, room.as_slice()).value(),
+        Status::Open => successors_of(table, position, &board.turned(), room.as_slice()).value(),
     }
 }
 
-// The values of the positions to which the moves lead.
-fn successors_of(table: &Table, position: &Position, legal: &[Move]) -> Successors
+// The values of the positions to which the moves lead, by the board that the enemy sees before them.
+fn successors_of(table: &Table, position: &Position, seen: &Board, legal: &[Move]) -> Successors
     requires member { IsPositionOf table.now.family position.now.setup }
+    requires seen { IsBoardOf (turned position.now.setup) seen.now }
     requires legal { AreMoves table.now.family.profile position.now.setup legal.now }
     ensures { (values : List Valued) × AreSuccessors table.now.family.profile (λ v q. GivenBy table.now q v) position.now.setup values × AreSummed values result }
 {
-    let seen = Board::turned(&position.setup);
     let mut kept = Successors::none();
     for played in legal {
-        let value = successor_value(table, position, &seen, *played);
+        let value = successor_value(table, position, seen, *played);
         kept = kept.with(value);
     }
     kept
@@ -141,5 +142,6 @@ pub(crate) fn value_to(table: &Table, position: &Position, played: Move) -> Valu
     requires played { HasStatus table.now.family.profile position.now.setup Status.Open × CanGo table.now.family.profile position.now.setup played }
     ensures { (q : Setup) → Goes table.now.family.profile position.now.setup played q → GivenBy table.now q result }
 {
-    successor_value(table, position, &Board::turned(&position.setup), played)
+    let seen = Board::of(&position.setup).turned();
+    successor_value(table, position, &seen, played)
 }

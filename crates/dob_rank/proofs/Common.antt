@@ -10,7 +10,6 @@ pub use Rattle.std.proofs.lemmas.List.{drop_more, length-drop, length-map, lengt
 pub use Rattle.std.proofs.lemmas.Nat.{div-add-mod', div-mul-add, div_below, mod-mul-add, mod_below, mul-add-lt, mul-le, one_shl, same_from_place}
 pub use Rattle.std.specs.List.{All, Contains, count_by, filter, range_with_len}
 pub use Rattle.dob_pieces.proofs.Boards.{all_below, all_below-at}
-pub use Rattle.dob_pieces.specs.Masks.{entry_of}
 pub use Rattle.dob_pieces.specs.Profiles.{is_allowed, may_all_stand}
 pub use Rattle.dob_pieces.specs.Setups.{Cell, HasLionOffFarRow, HasLions, IsLegal, at, board_by, held, holds_kind, holds_lion, piece_of}
 unfoldable pub use Rattle.dob_pieces.specs.Setups.{mirrored, total}
@@ -46,6 +45,6 @@ pub use Rattle.dob_rank.specs.Runs.{AreFewOnBoard, IsInRun, enemy_square, form_b
 pub use Rattle.dob_rank.specs.Runs.{run_kind, run_number, square_bases}
 unfoldable pub use Rattle.dob_rank.specs.Runs.{local_of, run_of, run_size, run_start, runs_in}
 pub use Rattle.dob_rank.specs.Weights.{allowed_number, are_allowed, choice_weight, chosen, forms_before, forms_in, forms_on, forms_stand, free_weights}
-pub use Rattle.dob_rank.specs.Weights.{lions_before, lions_in, may_have, others_by, others_forms, others_squares, place_behind, squares_by, weight, weights_of}
+pub use Rattle.dob_rank.specs.Weights.{lions_before, lions_in, may_have, others_by, others_forms, others_squares, place_after, squares_by, weight, weights_of}
 unfoldable pub use Rattle.dob_rank.specs.Weights.{hand_size, local_in, place_in}
 pub use Rattle.dob_rank.specs.declared.layers.Layer.TheVariants.{Chicks, Elephants, Empty, EnemyLion, Giraffes, OwnLion}

@@ -19,7 +19,7 @@ pub use Rattle.dob_pieces.proofs.Lists.{cond_sound, cons_cases, each_sound, head
 pub use Rattle.dob_pieces.proofs.MaskBits.{IsLowest, IsMask-same, empty_mask, lowest_is, none_passes, passes_somewhere}
 pub use Rattle.dob_pieces.proofs.MaskWalks.{IsWalked, each_range, walk_next, walk_passes, walk_start, walk_whole}
 unfoldable pub use Rattle.dob_pieces.proofs.MaskWalks.{passing}
-pub use Rattle.dob_pieces.proofs.Planes.{everywhere}
+pub use Rattle.dob_pieces.proofs.CellPlanes.{everywhere}
 pub use Rattle.dob_pieces.proofs.Symmetries.{at-image, turned-mirrored, turned-turned}
 pub use Rattle.dob_pieces.proofs.Targets.{IsMask-less, is_mask}
 pub use Rattle.dob_pieces.specs.Lists.{each_below, one_if}

@@ -1,14 +1,16 @@
-// Placing pieces as sets of squares: what the board of the same numbers (dob_rank/src/placing.rt) has, as either side sees it, with no list of cells.
-ghost use Rattle.std.specs.Prelude.{◌≡◌, ◌<◌, ◌≤◌, ℕ, None, length, slice_index};
+// Placing pieces as sets of squares: what the board of the same numbers (dob_rank/src/placing.rt) has, as either side sees it, with no list of cells. The sets
+// are planes of one word until all pieces stand, so that each piece is one sum.
+ghost use Rattle.std.specs.Prelude.{◌≡◌, ◌<◌, ◌≤◌, None, length, slice_index};
 ghost use Rattle.dob_pieces.specs.Setups.{at, setup_of};
 ghost use Rattle.dob_pieces.specs.declared.setup.Setup.{Setup};
-ghost use Rattle.dob_pieces.specs.Boards.{IsBoardOf};
+ghost use Rattle.dob_pieces.specs.Boards.{IsBoardOf, entry};
 ghost use Rattle.dob_pieces.specs.Changes.{IsWith};
 ghost use Rattle.dob_rank.specs.Numbers.{order, base_of, cell_of, board_of, numbers_by, layers_by};
 ghost use Rattle.dob_rank.specs.Placing.{put, AreChoices, AreFree, ArePlaces};
-ghost use Rattle.dob_classes.specs.Views.{seen_by, seen_square, seen_hands, seen_owner};
+ghost use Rattle.dob_classes.specs.Views.{AreSeen, seen_by, seen_cell, seen_square, seen_hands, seen_owner};
 
-use dob_pieces::{Board, Hands, Side, Square, SquareSet};
+use dob_pieces::planes::{CHICKS, ELEPHANTS, ENEMIES, GIRAFFES_AND_HENS, LIONS};
+use dob_pieces::{Board, Hands, Side};
 use dob_rank::block::{DIGITS, PerKind};
 use dob_rank::forms::base_of;
 use dob_rank::layers::Layer;
@@ -30,8 +32,7 @@ pub(crate) fn bits_by(
     let own = digits[3];
     let enemy = digits[4];
     let lions = (enemy, own);
-    let nothing = no_pieces(seen_hands(side, hands));
-    let own_lion = with_piece(side, nothing, Layer::OwnLion, own, 0);
+    let own_lion = with_piece(side, 0, Layer::OwnLion, own, 0);
     let both_lions = with_piece(side, own_lion, Layer::EnemyLion, past(own, enemy), 0);
     let with_chicks = put(
         side,
@@ -49,14 +50,15 @@ pub(crate) fn bits_by(
         among(lions, wide(places.elephants)),
         digits[9],
     );
-    put(
+    let planes = put(
         side,
         with_elephants,
         Layer::Giraffes,
         on_board[2],
         among(lions, wide(places.giraffes)),
         digits[10],
-    )
+    );
+    Board::in_planes(planes, seen_hands(side, hands))
 }
 
 // The hands as the side sees them.
@@ -72,95 +74,52 @@ fn seen_hands(side: Side, hands: Hands) -> Hands
     }
 }
 
-// The sets of an empty board.
-fn no_pieces(hands: Hands) -> Board
-    ensures { (setup : Setup) → ((square : ℕ) → square < 12 → at setup square ≡ None) → setup.hands ≡ hands → IsBoardOf setup result }
-{
-    Board {
-        own_lion: SquareSet::EMPTY,
-        enemy_lion: SquareSet::EMPTY,
-        chicks: SquareSet::EMPTY,
-        elephants: SquareSet::EMPTY,
-        giraffes: SquareSet::EMPTY,
-        hens: SquareSet::EMPTY,
-        enemies: SquareSet::EMPTY,
-        hands,
-    }
-}
-
-// The sets with as many pieces of a layer, at most two, on those squares; the number's digits are their forms.
+// The planes with as many pieces of a layer, at most two, on those squares; the number's digits are their forms.
 #[inline(always)]
-fn put(
-    side: Side,
-    board: Board,
-    layer: Layer,
-    pieces: u64,
-    squares: (u64, u64),
-    number: u64,
-) -> Board
+fn put(side: Side, planes: u64, layer: Layer, pieces: u64, squares: (u64, u64), number: u64) -> u64
     requires few { pieces ≤ 2 }
     requires first { 0 < pieces → squares.0 < 12 }
     requires second { 1 < pieces → squares.1 < 12 }
-    ensures { (setup : Setup) → length setup.board ≡ 12 → AreFree pieces squares.0 squares.1 setup.board → IsBoardOf (seen_by side setup) board
-        → IsBoardOf (seen_by side (setup_of (put (order layer) pieces squares.0 squares.1 number setup.board) setup.hands)) result }
+    ensures { (setup : Setup) → length setup.board ≡ 12 → AreFree pieces squares.0 squares.1 setup.board → AreSeen side setup planes
+        → AreSeen side (setup_of (put (order layer) pieces squares.0 squares.1 number setup.board) setup.hands) result }
 {
     let base = base_of(layer);
     match pieces {
-        0 => board,
-        1 => with_piece(side, board, layer, squares.0, number % base),
+        0 => planes,
+        1 => with_piece(side, planes, layer, squares.0, number % base),
         _ => {
-            let with_second = with_piece(side, board, layer, squares.1, number % base);
+            let with_second = with_piece(side, planes, layer, squares.1, number % base);
             with_piece(side, with_second, layer, squares.0, number / base % base)
         }
     }
 }
 
-// The sets with a piece of that layer and form on an empty square.
+// The planes with a piece of that layer and form on an empty square, where nothing carries.
 #[inline(always)]
-fn with_piece(side: Side, board: Board, layer: Layer, square: u64, form: u64) -> Board
+fn with_piece(side: Side, planes: u64, layer: Layer, square: u64, form: u64) -> u64
     requires square { square < 12 }
     requires form { form < base_of (order layer) }
-    ensures { (before after : Setup) → at before square ≡ None → IsWith before after square (cell_of (order layer) form)
-        → IsBoardOf (seen_by side before) board → IsBoardOf (seen_by side after) result }
+    ensures { (before after : Setup) → length before.board ≡ 12 → length after.board ≡ 12 → at before square ≡ None
+        → IsWith before after square (cell_of (order layer) form) → AreSeen side before planes → AreSeen side after result }
 {
-    let seen = seen_square(side, square);
-    match layer {
-        Layer::OwnLion => with_lion(side, board, 0, square),
-        Layer::EnemyLion => with_lion(side, board, 1, square),
-        Layer::Chicks => Board {
-            chicks: board.chicks.with(seen),
-            hens: board.hens.marked(form % 2, seen),
-            enemies: board.enemies.marked(seen_owner(side, form / 2), seen),
-            ..board
-        },
-        Layer::Elephants => Board {
-            elephants: board.elephants.with(seen),
-            enemies: board.enemies.marked(seen_owner(side, form), seen),
-            ..board
-        },
-        Layer::Giraffes => Board {
-            giraffes: board.giraffes.with(seen),
-            enemies: board.enemies.marked(seen_owner(side, form), seen),
-            ..board
-        },
-        Layer::Empty => board,
-    }
+    planes.wrapping_add(entry(side, layer, form) << seen_square(side, square))
 }
 
-// The sets with a lion on an empty square, the mover's where the owner is 0 and the enemy's where it is 1.
+// What a piece of that layer and form adds to the planes of square 0, as the side sees it.
 #[inline(always)]
-fn with_lion(side: Side, board: Board, owner: u64, square: u64) -> Board
-    requires owner { owner ≤ 1 }
-    requires square { square < 12 }
-    ensures { (before after : Setup) → at before square ≡ None → IsWith before after square (cell_of owner 0)
-        → IsBoardOf (seen_by side before) board → IsBoardOf (seen_by side after) result }
+fn entry(side: Side, layer: Layer, form: u64) -> u64
+    requires { form < base_of (order layer) }
+    ensures { result ≡ entry (seen_cell side (cell_of (order layer) form)) }
 {
-    let seen = seen_square(side, square);
-    let foreign = seen_owner(side, owner);
-    Board {
-        own_lion: board.own_lion.marked(1 - foreign, seen),
-        enemy_lion: board.enemy_lion.marked(foreign, seen),
-        ..board
+    match layer {
+        Layer::OwnLion => LIONS + ENEMIES * seen_owner(side, 0),
+        Layer::EnemyLion => LIONS + ENEMIES * seen_owner(side, 1),
+        Layer::Chicks => {
+            CHICKS + GIRAFFES_AND_HENS * (form % 2) + ENEMIES * seen_owner(side, form / 2)
+        }
+        Layer::Elephants => ELEPHANTS + ENEMIES * seen_owner(side, form),
+        Layer::Giraffes => GIRAFFES_AND_HENS + ENEMIES * seen_owner(side, form),
+        Layer::Empty => 0,
     }
 }
 
@@ -177,13 +136,13 @@ fn seen_owner(side: Side, owner: u64) -> u64
 }
 
 // The square as the side sees it.
-#[inline(always)]
-fn seen_square(side: Side, square: u64) -> Square
+fn seen_square(side: Side, square: u64) -> u64
     requires { square < 12 }
-    ensures { result ≡ seen_square side square }
+    ensures value { result ≡ seen_square side square }
+    ensures bound { result < 12 }
 {
     match side {
-        Side::Mover => Square::new(square as usize),
-        Side::Enemy => Square::new(11 - square as usize),
+        Side::Mover => square,
+        Side::Enemy => 11 - square,
     }
 }

@@ -1,6 +1,6 @@
 -- Steps stand at the places of their two squares, drops behind them.
 use Rattle.dob_moves.proofs.Common.{◌*◌, ◌+◌, ◌≡◌, arith, subst, CanGo, first_drop, hand_place}
-use Rattle.dob_moves.proofs.ByPlace.{IsFoundAt, step_goes, drop_goes, none_behind}
+use Rattle.dob_moves.proofs.ByPlace.{IsFoundAt, step_goes, drop_goes, none_after}
 use Rattle.dob_moves.proofs.at_place.move_of_open.Goals as goal
 
 pub returns-then-place-lt-FIRST_DROP : goal.returns-then-place-lt-FIRST_DROP
@@ -22,4 +22,4 @@ returns-then-place-lt-END c =
 
 pub returns-else-place-lt-END : goal.returns-else-place-lt-END
 returns-else-place-lt-END c =
-    none_behind c.args.profile c.args.position.now.setup c.args.place c.args.position.now.legal.squares (omega (arith, c.if-place-lt-END.false))
+    none_after c.args.profile c.args.position.now.setup c.args.place c.args.position.now.legal.squares (omega (arith, c.if-place-lt-END.false))

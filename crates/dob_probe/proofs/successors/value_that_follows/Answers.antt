@@ -7,16 +7,16 @@ use Rattle.dob_probe.proofs.successors.value_that_follows.Goals.{In-Open}
 
 -- the position is open
 open_is : (c : In-Open) → HasStatus c.args.table.now.family.profile c.args.position.now.setup Open
-open_is c = rw (c.in-Open.is, c.family.ensures.family) at c.moves_into.ensures.status
+open_is c = rw (c.in-Open.is, c.family.ensures.family) at (c.moves_into_by.ensures.status c.args.position.now.setup c.args.position.now.legal c.of-board.ensures)
 
 pub successors_of-requires-clause-legal : goal.successors_of-requires-clause-legal
 successors_of-requires-clause-legal c =
     subst (AreMoves c.args.table.now.family.profile c.args.position.now.setup) (sym c.as_slice.ensures.value)
-    (rw c.family.ensures.family at c.moves_into.ensures.moves)
+    (rw c.family.ensures.family at (c.moves_into_by.ensures.moves c.args.position.now.setup c.args.position.now.legal c.of-board.ensures))
 
 pub returns-in-Tried : goal.returns-in-Tried
 returns-in-Tried c =
-    let status = rw c.family.ensures.family at c.moves_into.ensures.status in
+    let status = rw c.family.ensures.family at (c.moves_into_by.ensures.status c.args.position.now.setup c.args.position.now.legal c.of-board.ensures) in
     elim c.in-Tried.is [ inl is ↦ (Tried, rw is at status, refl) | inr is ↦ (Stuck, rw is at status, refl) ]
 
 pub value-requires-clause-least : goal.value-requires-clause-least

@@ -1,7 +1,7 @@
 -- All squares but those of lions and other pieces.
 use Rattle.dob_pieces.proofs.Common.{◌&&◌, ◌||◌, ℕ, not, refl, true, is_empty}
 use Rattle.dob_pieces.specs.Boards.{is_enemy_lion, is_other, is_own_lion}
-use Rattle.dob_pieces.proofs.Planes.{everywhere, squares_same}
+use Rattle.dob_pieces.proofs.CellPlanes.{everywhere, squares_same}
 use Rattle.dob_pieces.proofs.board.Board.empty.Goals as goal
 
 pub returns : goal.returns

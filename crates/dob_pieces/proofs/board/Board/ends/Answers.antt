@@ -1,7 +1,7 @@
 -- Empty squares, and enemy pieces.
 use Rattle.dob_pieces.proofs.Common.{◌||◌, refl, is_empty, is_end}
 use Rattle.dob_pieces.specs.Boards.{is_enemy}
-use Rattle.dob_pieces.proofs.Planes.{squares_same}
+use Rattle.dob_pieces.proofs.CellPlanes.{squares_same}
 use Rattle.dob_pieces.proofs.board.Board.ends.Goals as goal
 
 pub returns : goal.returns

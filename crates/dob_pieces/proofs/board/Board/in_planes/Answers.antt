@@ -1,11 +1,13 @@
 -- Each set is a plane, what two planes have, or what one has without the other.
 use Rattle.dob_pieces.proofs.Common.{◌&&◌, not, refl, AreSquares}
-use Rattle.dob_pieces.proofs.Planes.{squares_same}
+use Rattle.dob_pieces.proofs.BoardPlanes.{has_planes}
+use Rattle.dob_pieces.proofs.CellPlanes.{squares_same}
 use Rattle.dob_pieces.specs.Boards.{is_any_lion, is_chick, is_elephant, is_enemy, is_enemy_lion, is_foe, is_giraffe, is_giraffe_or_hen, is_hen, is_own_lion}
 use Rattle.dob_pieces.proofs.board.Board.in_planes.Goals as goal
 
 pub returns : goal.returns
-returns c = λ setup has hands.
+returns c = λ setup twelve word hands.
+    let has = has_planes setup c.args.planes twelve word in
     let lions : AreSquares setup is_any_lion c.plane-lions.result = rw c.plane-lions.ensures has.lions_are in
     let foes : AreSquares setup is_foe c.plane-enemies.result = rw c.plane-enemies.ensures has.foes_are in
     let chicks : AreSquares setup is_chick c.plane-chicks.result = rw c.plane-chicks.ensures has.chicks_are in

@@ -1,8 +1,9 @@
 -- Each square adds its bits.
 use Rattle.dob_pieces.proofs.Common.{◌∙◌, ◌≡◌, ap, arith, drop, length, refl, rules, ℕ}
 use Rattle.std.proofs.Common.{◌*◌, ◌+◌, ◌-◌, ◌^◌}
-use Rattle.dob_pieces.proofs.BoardPlanes.{word_of, word_read, none_read, has_planes}
-use Rattle.dob_pieces.proofs.Planes.{IsRead}
+use Rattle.dob_pieces.proofs.BoardPlanes.{word_read, none_read}
+use Rattle.dob_pieces.specs.Boards.{planes_of}
+use Rattle.dob_pieces.proofs.CellPlanes.{IsRead}
 use Rattle.dob_pieces.proofs.board.Board.of.Goals as goal
 use Rattle.dob_pieces.proofs.board.Board.of.Goals.{After-entry_of-entry}
 
@@ -11,7 +12,7 @@ loop-square-init c = none_read c.args.setup.now.board (search rules)
 
 -- one more square is read
 read : (c : After-entry_of-entry) → IsRead c.loop-square.planes (2 * c.loop-square.planes + c.entry_of-entry.result) (2 ^ 60)
-    (word_of (drop (c.loop-square.square - 1) c.args.setup.now.board))
+    (planes_of (drop (c.loop-square.square - 1) c.args.setup.now.board))
 read c = word_read c.args.setup.now.board c.loop-square.square c.loop-square.planes c.entry_of-entry.result (search rules) (omega arith) (omega arith)
     c.loop-square.invariant c.entry_of-entry.ensures
 
@@ -28,6 +29,6 @@ pub returns : goal.returns
 returns c =
     let twelve : length c.args.setup.now.board ≡ 12 = search rules in
     let none : c.loop-square.square ≡ 0 = omega arith in
-    let word : c.loop-square.planes ≡ word_of c.args.setup.now.board =
-    c.loop-square.invariant ∙ ap (λ (k : ℕ). word_of (drop k c.args.setup.now.board)) none in
-    c.in_planes.ensures c.args.setup.now (has_planes c.args.setup.now c.loop-square.planes twelve word) refl
+    let word : c.loop-square.planes ≡ planes_of c.args.setup.now.board =
+    c.loop-square.invariant ∙ ap (λ (k : ℕ). planes_of (drop k c.args.setup.now.board)) none in
+    c.in_planes.ensures c.args.setup.now twelve word refl

@@ -1,7 +1,7 @@
 -- The lion, and the other pieces that aren't the enemy's.
 use Rattle.dob_pieces.proofs.Common.{◌&&◌, ◌||◌, not, refl, is_own}
 use Rattle.dob_pieces.specs.Boards.{is_enemy, is_other, is_own_lion}
-use Rattle.dob_pieces.proofs.Planes.{squares_same}
+use Rattle.dob_pieces.proofs.CellPlanes.{squares_same}
 use Rattle.dob_pieces.proofs.board.Board.own.Goals as goal
 
 pub returns : goal.returns

@@ -1,7 +1,7 @@
 -- The kind's pieces that aren't the enemy's; a chick is no hen.
 use Rattle.dob_pieces.proofs.Common.{◌&&◌, ◌||◌, not, refl, is_piece, Chick, Elephant, Giraffe, Hen, Mover}
 use Rattle.dob_pieces.specs.Boards.{is_chick, is_elephant, is_enemy, is_giraffe, is_hen}
-use Rattle.dob_pieces.proofs.Planes.{squares_same}
+use Rattle.dob_pieces.proofs.CellPlanes.{squares_same}
 use Rattle.dob_pieces.proofs.board.Board.own_of.Goals as goal
 
 pub returns-in-Lion : goal.returns-in-Lion

@@ -40,6 +40,10 @@ mask_of-small test cells le =
 pub word_by-small : (a b c d e : ℕ) → a < 4096 → b < 4096 → c < 4096 → d < 4096 → e < 4096 → word_by a b c d e < 2 ^ 60
 word_by-small a b c d e small-a small-b small-c small-d small-e = omega arith
 
+-- the set whose lowest bit has that value in a word
+abbrev pub plane : ℕ → ℕ → ℕ
+plane word unit = word / unit % 4096
+
 -- each of them, by its unit
 pub record AreIn (word a b c d e : ℕ) : Type 0 where
   pub first : word / 1 % 4096 ≡ a
