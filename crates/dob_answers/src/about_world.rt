@@ -1,7 +1,7 @@
 // Questions and answers about worlds: `drive CEG N BATCH CAPACITY ROUNDS`, what driving a world by ROUNDS rounds answers,
 // and `events CEG N BATCH CAPACITY E ..`, a letter for each event: `D` if it is done, `s` if it is skipped, `?` where
 // it is none. Events are written `E0`, `O0`, `P0.1` and `T0.1` by the first letters of their names and their nodes, `S0` for a
-// pass of the token and `A` for the announcement. Behind it stands what the world then shows, as shown.rt says.
+// pass of the token and `A` for the announcement. Later it stands what the world then shows, as shown.rt says.
 ghost use Rattle.std.specs.Prelude.{◌≡◌, ◌*◌, ◌^◌, ◌≤◌, None, true, OnOk};
 ghost use Rattle.dob_world.specs.Rounds.{round_length};
 ghost use Rattle.dob_world.specs.Standing.{IsStanding, StandsOrStopped};

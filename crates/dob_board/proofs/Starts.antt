@@ -85,24 +85,24 @@ splits n i id words views stand rest witnessed held at =
       nodes_set views id (view_from n i (stand ∷ rest) witnessed) (view_from n (suc i) rest witnessed) at,
     ))
 
-abbrev stands_behind : ℕ → ℕ → List SeatState
-stands_behind n m = replicate m (fresh n)
+abbrev stands_after : ℕ → ℕ → List SeatState
+stands_after n m = replicate m (fresh n)
 
 pub others-unseated : (n k : ℕ) → k < n → others_of (unseated n k) ≡ unseated n (suc k)
 others-unseated n k within =
     let more : n - k ≡ suc (n - suc k) = omega arith in
-    ap (λ (m : ℕ). others_of (view_from n k (stands_behind n m) [])) more
+    ap (λ (m : ℕ). others_of (view_from n k (stands_after n m) [])) more
 
 pub splits_call : (key n k id : ℕ) (me : Seated) → key ≡ n → k < n → me ≡ (unseated n k, []) →
     Splits (Held key) id me.0 (others_of me.0) (first_of me.0)
 splits_call key n k id me key_is within me_is =
     let more : n - k ≡ suc (n - suc k) = omega arith in
     let split : (m : ℕ)
-    → Splits (Held n) id (view_from n k (stands_behind n (suc m)) []) (others_of (view_from n k (stands_behind n (suc m)) []))
-    (first_of (view_from n k (stands_behind n (suc m)) [])) =
-    λ m s held at. splits n k id s.words s.views (fresh n) (stands_behind n m) [] held at in
-    let view_is : me.0 ≡ view_from n k (stands_behind n (suc (n - suc k))) [] =
-    ap (λ (x : Seated). x.0) me_is ∙ ap (λ (m : ℕ). view_from n k (stands_behind n m) []) more in
+    → Splits (Held n) id (view_from n k (stands_after n (suc m)) []) (others_of (view_from n k (stands_after n (suc m)) []))
+    (first_of (view_from n k (stands_after n (suc m)) [])) =
+    λ m s held at. splits n k id s.words s.views (fresh n) (stands_after n m) [] held at in
+    let view_is : me.0 ≡ view_from n k (stands_after n (suc (n - suc k))) [] =
+    ap (λ (x : Seated). x.0) me_is ∙ ap (λ (m : ℕ). view_from n k (stands_after n m) []) more in
     subst (λ (p : ℕ × View). Splits (Held p.0) id p.1 (others_of p.1) (first_of p.1)) (λ q. (sym key_is q, sym view_is q)) (split (n - suc k))
 
 -- ---- start
@@ -116,7 +116,7 @@ zeros (suc m) zero = refl
 zeros (suc m) (suc k) = zeros m k
 
 first_zero : (n word k : ℕ) → 1 < k → get_or (first_words n word) k 0 ≡ 0
-first_zero n word k behind_first =
+first_zero n word k after_first =
     get_or-set_other (set (zeros_of (word_count n)) 0 n) 1 k word 0 (λ e. omega (arith, e))
     ∙ get_or-set_other (zeros_of (word_count n)) 0 k n 0 (λ e. omega (arith, e))
     ∙ zeros (word_count n) k

@@ -100,8 +100,8 @@ module _ (family : Family) (lost : List Entry) (p : Setup) (legal : List Move) w
               let rising : place lead.played < place other = subst (λ (m : Move). place m < place other) (get_or_from_slice_get legal first.at lead.played other first.there)
               (subst (λ (m : Move). place (get_or legal first.at other) < place m) listed.2 ordered) in
               omega (arith, rising)
-          | inr not_behind ↦
-              let same : listed.0 ≡ first.at = omega (arith, after, not_behind) in
+          | inr not_after ↦
+              let same : listed.0 ≡ first.at = omega (arith, after, not_after) in
               let one : Some other ≡ Some lead.played = sym read ∙ ap (slice_get legal) same ∙ first.there in
               grind (arith, one)
         ]

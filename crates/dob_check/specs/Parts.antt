@@ -2,7 +2,7 @@
 use Rattle.std.specs.Prelude.{ℕ, ◌+◌, ◌-◌, ◌*◌, ◌/◌, ◌≤◌, List, length, min}
 use Rattle.dob_distance.specs.declared.value.Value.{Value}
 use Rattle.dob_probe.specs.Slots.{AreSlots, part_of}
-use Rattle.dob_check.specs.declared.counts.Part.{Part}
+use Rattle.dob_check.specs.declared.counts.SlotPart.{SlotPart}
 
 -- how many parts there are: whole ones, and what is left behind them, which may be none
 abbrev pub part_count : List Value → ℕ
@@ -21,5 +21,5 @@ abbrev pub part_end : List Value → ℕ → ℕ
 part_end values place = place * 65536 + part_size values place
 
 -- what is counted of the part of that place
-pub record IsPart (values : List Value) (place : ℕ) (part : Part) : Type 0 where
+pub record IsPart (values : List Value) (place : ℕ) (part : SlotPart) : Type 0 where
   pub counted : AreSlots (part_of values (place * 65536) (part_size values place)) part.slots.items

@@ -124,11 +124,11 @@ fn news_at(count: u64, class: u64) -> u64
     ensures adds { told_of count class + result ≡ told_of count (class + 1) }
     ensures few { result ≤ 65536 }
 {
-    let behind = class + 1;
-    if behind % EACH == 0 {
+    let after = class + 1;
+    if after % EACH == 0 {
         EACH
-    } else if behind == count {
-        behind % EACH
+    } else if after == count {
+        after % EACH
     } else {
         0
     }

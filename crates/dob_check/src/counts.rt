@@ -15,7 +15,7 @@ use std::thread::Threads;
 
 // What is counted of each code in a part of the classes.
 #[derive(Drop)]
-struct Part {
+struct SlotPart {
     slots: Vec<Option<Group>>,
 }
 
@@ -40,32 +40,36 @@ fn slots_of_parts(
     rt: &(impl Threads + Sync),
     alloc: Global,
     table: &Table,
-) -> Result<Vec<Part>, Memory>
+) -> Result<Vec<SlotPart>, Memory>
     ensures { IfOk result (λ parts. AllZip (IsPart table.now.values) (range_with_len 0 (part_count table.now.values)) parts.items) }
 {
     (0..part_count(table))
         .into_par_iter()
         .map(
-            |place: u64| -> Result<Part, Memory>
+            |place: u64| -> Result<SlotPart, Memory>
                 requires { IsPlace table.now.values place }
                 ensures { IfOk result (IsPart table.entry.now.values place) }
             { slots_of_part(alloc, table, place) },
         )
-        .collect::<Result<Vec<Part>, Memory>>(rt, alloc)?
+        .collect::<Result<Vec<SlotPart>, Memory>>(rt, alloc)?
 }
 
 // What is counted of the part of that place.
-fn slots_of_part(alloc: Global, table: &Table, place: u64) -> Result<Part, Memory>
+fn slots_of_part(alloc: Global, table: &Table, place: u64) -> Result<SlotPart, Memory>
     requires { IsPlace table.now.values place }
     ensures { IfOk result (IsPart table.now.values place) }
 {
     let (first, end) = part_bounds(table, place);
     let slots = slots_between(alloc, table, first, end)?;
-    Ok(Part { slots })
+    Ok(SlotPart { slots })
 }
 
 // What is counted of all parts.
-fn joined_slots(alloc: Global, table: &Table, parts: &[Part]) -> Result<Vec<Option<Group>>, Memory>
+fn joined_slots(
+    alloc: Global,
+    table: &Table,
+    parts: &[SlotPart],
+) -> Result<Vec<Option<Group>>, Memory>
     requires { AllZip (IsPart table.now.values) (range_with_len 0 (part_count table.now.values)) parts.now }
     ensures { IfOk result (λ slots. AreSlots table.now.values slots.items) }
 {

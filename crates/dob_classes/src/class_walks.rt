@@ -26,7 +26,7 @@ pub struct MixedRun {
 /// Where a walk over a run's places stands: at `place`, before the position `number` of the family. The places from there up to an end are all of
 /// representatives or all not.
 #[derive(Clone, Copy)]
-pub struct Walk {
+pub struct StretchCursor {
     pub place: u64,
     pub number: u64,
     pub end: u64,
@@ -38,12 +38,12 @@ impl MixedRun {
     ghost use Rattle.dob_classes.specs.Walks.{IsWalk, IsStretchIn, marks_before};
 
     /// A walk that begins at that place, or at the run's end.
-    pub fn walk_from(&self, place: u64) -> Walk
+    pub fn walk_from(&self, place: u64) -> StretchCursor
         requires { place ≤ run_size self.now.family.set self.now.block }
         ensures walk { IsWalk self.now result }
         ensures place { result.place ≡ place }
     {
-        Walk {
+        StretchCursor {
             place,
             number: count_before(self.family, self.block, self.run, place),
             end: place,
@@ -52,7 +52,7 @@ impl MixedRun {
     }
 
     /// Walks on to that place, or to the run's end, and counts the representatives on the way.
-    pub fn walk_to(&self, walk: &mut Walk, place: u64) -> u64
+    pub fn walk_to(&self, walk: &mut StretchCursor, place: u64) -> u64
         requires walk { IsWalk self.now walk.old }
         requires further { walk.old.place ≤ place }
         requires within { place ≤ run_size self.now.family.set self.now.block }
@@ -73,7 +73,12 @@ impl MixedRun {
     }
 
     /// One step further, by the run's shape, to the end of the places that are alike or to that place, and how many representatives stand on the way.
-    pub(crate) fn step(&self, shape: &RunShape, walk: Walk, place: u64) -> (Walk, u64)
+    pub(crate) fn step(
+        &self,
+        shape: &RunShape,
+        walk: StretchCursor,
+        place: u64,
+    ) -> (StretchCursor, u64)
         requires shape { IsShape self.now.family.set self.now.block self.now.run shape.now }
         requires walk { IsWalk self.now walk }
         requires further { walk.place < place }
@@ -89,7 +94,7 @@ impl MixedRun {
         let number = count_before(self.family, self.block, self.run, to);
         let count = if is_marked { number - walk.number } else { 0 };
         (
-            Walk {
+            StretchCursor {
                 place: to,
                 number,
                 end,
@@ -100,7 +105,7 @@ impl MixedRun {
     }
 
     // Whether the places from the walk's own on are marked, and an end up to which they are alike.
-    fn stretch_at(&self, shape: &RunShape, walk: Walk) -> (bool, u64)
+    fn stretch_at(&self, shape: &RunShape, walk: StretchCursor) -> (bool, u64)
         requires shape { IsShape self.now.family.set self.now.block self.now.run shape.now }
         requires walk { IsWalk self.now walk }
         requires within { walk.place < run_size self.now.family.set self.now.block }

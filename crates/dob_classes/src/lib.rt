@@ -38,7 +38,7 @@ pub use any_rows::class_number_by_any;
 pub use class_counts::count_classes;
 pub use class_numbers::{class_number, classes_in_run};
 pub use class_rows::{block_number, count_blocks, write_row};
-pub use class_walks::{MixedRun, Walk};
+pub use class_walks::{MixedRun, StretchCursor};
 pub use classes::Classes;
 pub use representatives::representative;
 pub use rows::{BEFORE_PLACE, HAND_PLACE, ROW_LEN, Row};

@@ -13,7 +13,7 @@ ghost use Rattle.dob_rank.specs.Runs.{runs_in, run_size, run_of, local_of};
 use crate::far_counts::count_upto;
 use dob_pieces::{Board, Family, PieceSet, Profile};
 use dob_rank::far_rows::before_choice;
-use dob_rank::ranks::{allowed_forms, place_behind};
+use dob_rank::ranks::{allowed_forms, place_after};
 use dob_rank::runs::{LIONS, Spot};
 use dob_rank::set_ranks::{digits_of, numbers_in, spot_by};
 use dob_rank::{block, radix};
@@ -68,6 +68,6 @@ fn far_spot(set: PieceSet, board: &Board) -> (u64, Spot)
     let forms = allowed_forms(board, on_board[0]);
     let lions = run % LIONS;
     let chosen = before_choice(on_board[0], lions, digits[5]);
-    let local = place_behind(&on_board, &digits, lions, chosen, forms);
+    let local = place_after(&on_board, &digits, lions, chosen, forms);
     (block, Spot { run, local })
 }

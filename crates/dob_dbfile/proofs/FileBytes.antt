@@ -17,9 +17,9 @@ file_parts format table =
     ∙ append_assoc (header_in format table) (records table.values) (sha256 (contents_in format table))
 
 -- the same where the header's bytes were put in a piece
-pub parts_behind : (table : ClassTable) (piece : List ℕ) → piece ≡ header_in Second table
+pub parts_after : (table : ClassTable) (piece : List ℕ) → piece ≡ header_in Second table
     → bytes_in Second table ≡ piece ++ (records table.values ++ sha256 (contents_in Second table))
-parts_behind table piece is = file_parts Second table ∙ ap (λ (h : List ℕ). h ++ (records table.values ++ sha256 (contents_in Second table))) (sym is)
+parts_after table piece is = file_parts Second table ∙ ap (λ (h : List ℕ). h ++ (records table.values ++ sha256 (contents_in Second table))) (sym is)
 
 -- what is named of the family and the number of classes is the header's
 pub header_is : (table : ClassTable) (family : Family) (count : ℕ) → family ≡ table.family → count ≡ length table.values
@@ -48,9 +48,9 @@ length-header Second table = refl
 pub header-front : (format : Format) (table : ClassTable) → take (header_len format) (bytes_in format table) ≡ header_in format table
 header-front format table = grind (arith, file_parts, take_at, length-header)
 
-pub behind_header : (format : Format) (table : ClassTable)
+pub after_header : (format : Format) (table : ClassTable)
     → drop (header_len format) (bytes_in format table) ≡ records table.values ++ sha256 (contents_in format table)
-behind_header format table = grind (arith, file_parts, length-header)
+after_header format table = grind (arith, file_parts, length-header)
 
 pub contents-rest : (format : Format) (table : ClassTable) → drop (header_len format) (contents_in format table) ≡ records table.values
 contents-rest format table =

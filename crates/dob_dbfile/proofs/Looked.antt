@@ -7,7 +7,7 @@ use Rattle.dob_dbfile.specs.Looking.{HasRecordFault}
 use Rattle.dob_dbfile.specs.declared.fault.Fault.TheVariants.{Truncated, Memory, Io}
 use Rattle.std.proofs.lemmas.Option.{get_or_from_slice_get, same_Some, slice_get_within}
 use Rattle.dob_dbfile.proofs.CodeBytes.{same_records}
-use Rattle.dob_dbfile.proofs.FileBytes.{behind_header, format_of}
+use Rattle.dob_dbfile.proofs.FileBytes.{after_header, format_of}
 use Rattle.dob_dbfile.proofs.Places.{same_head}
 use Rattle.dob_dbfile.proofs.Written.{counts_file, table_classes}
 
@@ -65,15 +65,15 @@ table_family table bytes format family is file counts =
     (same_head format found.0 family table.family bytes counts.0 (counts_file found.0 bytes table found.1 is).0).1
 
 -- behind the header, whatever format it names, stand the records and then the digest
-records_behind : (table : ClassTable) (bytes : List ℕ) (format : Format) (family : Family) (class : ℕ) → IsTable table.family table.values
+records_after : (table : ClassTable) (bytes : List ℕ) (format : Format) (family : Family) (class : ℕ) → IsTable table.family table.values
     → IsFile bytes table → CountsClasses format family bytes
     → (digest : List ℕ) × (drop (2 * class) (records table.values ++ digest) ≡ drop (place_of format class) bytes)
-records_behind table bytes format family class is file counts =
+records_after table bytes format family class is file counts =
     let found = format_of bytes table file in
     let one = same_head format found.0 family table.family bytes counts.0 (counts_file found.0 bytes table found.1 is).0 in
     let digest : List ℕ = sha256 (contents_in found.0 table) in
     let behind : drop (header_len found.0) bytes ≡ records table.values ++ digest =
-    ap (drop (header_len found.0)) found.1.same ∙ behind_header found.0 table in (
+    ap (drop (header_len found.0)) found.1.same ∙ after_header found.0 table in (
       digest,
       ap (drop (2 * class)) (sym behind)
           ∙ drop-drop (2 * class) (header_len found.0) bytes
@@ -82,7 +82,7 @@ records_behind table bytes format family class is file counts =
 
 pub records_are_entries : RecordsAreEntries
 records_are_entries table bytes format family class value is file counts below has =
-    let behind = records_behind table bytes format family class is file counts in
+    let behind = records_after table bytes format family class is file counts in
     entry_at table.values class value behind.0 is.entries below has.entry (ap (take 2) behind.1 ∙ has.same)
 
 -- the record of one of the family's classes
@@ -97,7 +97,7 @@ table_record table bytes format family class value is file counts below has =
 pub table_has_record : (table : ClassTable) (bytes : List ℕ) (format : Format) (family : Family) (class : ℕ) (value : Value) → IsTable table.family table.values
     → IsFile bytes table → CountsClasses format family bytes → slice_get table.values class ≡ Some value → HasRecord (whole bytes) format class value
 table_has_record table bytes format family class value is file counts stands =
-    let behind = records_behind table bytes format family class is file counts in
+    let behind = records_after table bytes format family class is file counts in
     record {
       entry = subst IsEntry (get_or_from_slice_get table.values class value value stands)
           (is.entries class value (slice_get_within table.values class value stands));

@@ -3,7 +3,7 @@ use Rattle.dob_dbfile.proofs.Common.{◌++◌, ◌+◌, ◌∙◌, ◌≡◌, �
 use Rattle.dob_dbfile.proofs.Common.{length-append, take-append-le, take_at, SinkState, StopsAfter, Writes, change}
 use Rattle.std.proofs.KnownBytes.{Appends-trans, Keeps-trans}
 use Rattle.dob_device.specs.declared.device.FailedAfter.{FailedAfter}
-use Rattle.dob_dbfile.specs.Writing.{StopsBehind}
+use Rattle.dob_dbfile.specs.Writing.{StopsPast}
 
 -- the front of a whole that ends in a piece
 front_is : (xs ys rest whole : List ℕ) (count : ℕ) → whole ≡ xs ++ (ys ++ rest) → count ≤ length ys
@@ -16,9 +16,9 @@ front_is xs ys rest whole count is within =
     ∙ ap (λ (back : List ℕ). xs ++ back) (take-append-le count ys rest within)
 
 -- one piece, and then a part of another one: a part of the whole
-pub stops_behind : (a b c : SinkState) (base before : ℕ) (xs ys rest whole : List ℕ) (failed : FailedAfter) → Writes (change a b) xs → length xs ≡ before
-    → whole ≡ xs ++ (ys ++ rest) → StopsBehind (change b c) (base + before) ys failed → StopsBehind (change a c) base whole failed
-stops_behind a b c base before xs ys rest whole failed first long is stops =
+pub stops_past : (a b c : SinkState) (base before : ℕ) (xs ys rest whole : List ℕ) (failed : FailedAfter) → Writes (change a b) xs → length xs ≡ before
+    → whole ≡ xs ++ (ys ++ rest) → StopsPast (change b c) (base + before) ys failed → StopsPast (change a c) base whole failed
+stops_past a b c base before xs ys rest whole failed first long is stops =
     let count : ℕ = stops.0 in
     let part : StopsAfter (change b c) ys count = stops.2 in
     let le : count ≤ length ys = part.within in
@@ -38,7 +38,7 @@ stops_behind a b c base before xs ys rest whole failed first long is stops =
 
 -- the same of the last piece
 pub stops_last : (a b c : SinkState) (before : ℕ) (xs ys whole : List ℕ) (failed : FailedAfter) → Writes (change a b) xs → length xs ≡ before
-    → whole ≡ xs ++ ys → StopsBehind (change b c) before ys failed → StopsBehind (change a c) 0 whole failed
+    → whole ≡ xs ++ ys → StopsPast (change b c) before ys failed → StopsPast (change a c) 0 whole failed
 stops_last a b c before xs ys whole failed first long is stops =
-    stops_behind a b c 0 before xs ys [] whole failed first long (is ∙ ap (λ (last : List ℕ). xs ++ last) (sym (append-nil ys)))
+    stops_past a b c 0 before xs ys [] whole failed first long (is ∙ ap (λ (last : List ℕ). xs ++ last) (sym (append-nil ys)))
     (stops.0, omega (arith, stops.1), stops.2)

@@ -12,5 +12,5 @@ WriteStopsAt c bytes Memory = IsUntouched c
 WriteStopsAt c bytes _ = ⊥
 
 -- it has received just the first of those bytes, as many as the failure says where so many were counted before
-abbrev pub StopsBehind : Change → ℕ → List ℕ → FailedAfter → Type 0
-StopsBehind c before bytes failed = (count : ℕ) × (failed.bytes ≡ before + count) × StopsAfter c bytes count
+abbrev pub StopsPast : Change → ℕ → List ℕ → FailedAfter → Type 0
+StopsPast c before bytes failed = (count : ℕ) × (failed.bytes ≡ before + count) × StopsAfter c bytes count

@@ -4,7 +4,7 @@ ghost use Rattle.dob_dbfile.specs.Format.{bytes_of, code_bytes, digest_of, heade
 ghost use Rattle.dob_dbfile.specs.declared.header.Format.TheVariants.{Second};
 ghost use Rattle.dob_dbfile.specs.Faults.{fails, is_io};
 ghost use Rattle.dob_device.specs.Sinks.{Puts, Writes, change};
-ghost use Rattle.dob_dbfile.specs.Writing.{WriteStopsAt, StopsBehind};
+ghost use Rattle.dob_dbfile.specs.Writing.{WriteStopsAt, StopsPast};
 
 use crate::digest::{digest_of, header_piece};
 use crate::fault::Fault;
@@ -66,12 +66,12 @@ fn put_file<W: Sink>(
     requires header { piece.old.items ≡ header_in Second table.now }
     requires digest { digest.now ≡ digest_of table.now }
     ensures done { OnOk result (Puts (change (W.state sink.old) (W.state sink.new)) (bytes_of table.now)) }
-    ensures part { IfErr result (StopsBehind (change (W.state sink.old) (W.state sink.new)) 0 (bytes_of table.now)) }
+    ensures part { IfErr result (StopsPast (change (W.state sink.old) (W.state sink.new)) 0 (bytes_of table.now)) }
 {
     let codes = table.codes();
-    write_behind(sink, piece, 0)?;
+    write_after(sink, piece, 0)?;
     write_records(codes, sink, piece)?;
-    put_behind(sink, digest, HEADER_LEN + RECORD_LEN * codes.len() as usize)
+    put_after(sink, digest, HEADER_LEN + RECORD_LEN * codes.len() as usize)
 }
 
 // Writes the records that the codes are, by pieces.
@@ -82,24 +82,24 @@ fn write_records<W: Sink>(
 ) -> Result<(), FailedAfter>
     requires { 4096 ≤ vec_capacity piece.old }
     ensures done { OnOk result (Writes (change (W.state sink.old) (W.state sink.new)) (code_bytes codes.now)) }
-    ensures part { IfErr result (StopsBehind (change (W.state sink.old) (W.state sink.new)) 21 (code_bytes codes.now)) }
+    ensures part { IfErr result (StopsPast (change (W.state sink.old) (W.state sink.new)) 21 (code_bytes codes.now)) }
 {
     let count = codes.len();
     let mut class = 0;
     'pieces: while class < count {
         let end = count.min(class + PIECE_RECORDS);
         put_records(piece, codes, class, end);
-        write_behind(sink, piece, HEADER_LEN + RECORD_LEN * class as usize)?;
+        write_after(sink, piece, HEADER_LEN + RECORD_LEN * class as usize)?;
         class = end;
     }
     Ok(())
 }
 
 // Writes the bytes. `before` bytes of the file went in already.
-fn write_behind<W: Sink>(sink: &mut W, bytes: &[u8], before: usize) -> Result<(), FailedAfter>
+fn write_after<W: Sink>(sink: &mut W, bytes: &[u8], before: usize) -> Result<(), FailedAfter>
     requires { before < 2 ^ 62 }
     ensures done { OnOk result (Writes (change (W.state sink.old) (W.state sink.new)) bytes.now) }
-    ensures part { IfErr result (StopsBehind (change (W.state sink.old) (W.state sink.new)) before bytes.now) }
+    ensures part { IfErr result (StopsPast (change (W.state sink.old) (W.state sink.new)) before bytes.now) }
 {
     match write_all(sink, bytes) {
         Ok(()) => Ok(()),
@@ -110,10 +110,10 @@ fn write_behind<W: Sink>(sink: &mut W, bytes: &[u8], before: usize) -> Result<()
 }
 
 // Writes the last bytes, and flushes the sink. `before` bytes of the file went in already.
-fn put_behind<W: Sink>(sink: &mut W, bytes: &[u8], before: usize) -> Result<(), FailedAfter>
+fn put_after<W: Sink>(sink: &mut W, bytes: &[u8], before: usize) -> Result<(), FailedAfter>
     requires { before < 2 ^ 62 }
     ensures done { OnOk result (Puts (change (W.state sink.old) (W.state sink.new)) bytes.now) }
-    ensures part { IfErr result (StopsBehind (change (W.state sink.old) (W.state sink.new)) before bytes.now) }
+    ensures part { IfErr result (StopsPast (change (W.state sink.old) (W.state sink.new)) before bytes.now) }
 {
     match put_all(sink, bytes) {
         Ok(()) => Ok(()),

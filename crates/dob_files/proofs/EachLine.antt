@@ -47,9 +47,9 @@ module _ (A : Type 0) (tell : A → List ℕ) (refuses : A → Bool) (Is : List 
 
 -- ---- pieces, one after the other
 
-all_behind : (first next last : SinkState) (xs ys : List (List ℕ)) → PutsAll first next xs → PutsAll next last ys → PutsAll first last (xs ++ ys)
-all_behind first next last [] ys same all = subst (λ (s : SinkState). PutsAll s last ys) same all
-all_behind first next last (x ∷ xs) ys all more = (all.0, all.1, all_behind all.0 next last xs ys all.2 more)
+all_after : (first next last : SinkState) (xs ys : List (List ℕ)) → PutsAll first next xs → PutsAll next last ys → PutsAll first last (xs ++ ys)
+all_after first next last [] ys same all = subst (λ (s : SinkState). PutsAll s last ys) same all
+all_after first next last (x ∷ xs) ys all more = (all.0, all.1, all_after all.0 next last xs ys all.2 more)
 
 pub put_none : (first : SinkState) → PutsText (change first first) []
 put_none first = ([], refl, refl)
@@ -60,7 +60,7 @@ put_one first last piece puts = (piece ∷ [], (last, puts, refl), sym (append-n
 put_more : (first next last : SinkState) (xs ys : List ℕ) → PutsText (change first next) xs → PutsText (change next last) ys
     → PutsText (change first last) (xs ++ ys)
 put_more first next last xs ys one more =
-    (one.0 ++ more.0, all_behind first next last one.0 more.0 one.1 more.1, rw (one.2, more.2) (sym (concat-append one.0 more.0)))
+    (one.0 ++ more.0, all_after first next last one.0 more.0 one.1 more.1, rw (one.2, more.2) (sym (concat-append one.0 more.0)))
 
 -- what a call that tells gave
 pub put_or_stopped : (c : Change) (text : List ℕ) (result : Result (Unit {0}) Fault) → OnOk result (PutsText c text)

@@ -18,7 +18,7 @@ pub use Rattle.dob_share.specs.declared.share.Share.{Share}
 pub use Rattle.dob_lawful.proofs.Rest.{below_owner}
 pub use Rattle.dob_gather.specs.Owners.{AreOwners, AreShownBelow, IsCodeShown}
 pub use Rattle.dob_gather.specs.Owners.{IsShownByOwner}
-pub use Rattle.dob_gather.specs.Gathering.{IsTaken}
+pub use Rattle.dob_gather.specs.Gathering.{AreHashed}
 pub use Rattle.dob_gather.specs.Scans.{AreFrom}
 pub use Rattle.dob_dbfile.specs.Digests.{HasTaken}
 pub use Rattle.dob_distance.specs.Codes.{IsEntry, value_of_code, values_of_codes}

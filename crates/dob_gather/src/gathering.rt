@@ -33,17 +33,17 @@ pub struct Gathered {
     ghost digested: { digest ≡ digest_of table },
 }
 
-// The codes of the first classes, which the digest has taken.
+// The codes of the first classes, which are hashed.
 #[derive(Drop)]
-struct Taken {
+struct Hashed {
     codes: Segments<u16>,
     hasher: FileHasher,
 }
 
-// What is gathered: the codes that are taken, and those of the classes behind them, which aren't yet.
+// What is gathered: the codes that are hashed, and those of the classes behind them, which aren't yet.
 #[derive(Drop)]
 struct Parts {
-    taken: Taken,
+    hashed: Hashed,
     part: Vec<u16>,
 }
 
@@ -61,53 +61,53 @@ pub fn gather(
         AreShownBelow (length shares.now) (classes_of classes.family) shares.now gathered.table.values) }
 {
     let count = classes.class_count();
-    let taken = Taken::none(alloc, classes.family, count)?;
+    let hashed = Hashed::none(alloc, classes.family, count)?;
     let mut class = count.min(AT_A_TIME);
     let part = codes_of(rt, alloc, shares, 0, class)?;
-    let mut parts = Parts { taken, part };
+    let mut parts = Parts { hashed, part };
     'parts: while class < count {
         let end = count.min(class + AT_A_TIME);
         parts = parts.next(rt, alloc, shares, class, end)?;
         class = end;
     }
-    let Parts { taken, part } = parts;
-    let Taken { codes, hasher } = taken.with(&part)?;
+    let Parts { hashed, part } = parts;
+    let Hashed { codes, hasher } = hashed.with(&part)?;
     let digest = hasher.end();
     let table = Table::new(classes, codes);
     Ok(Gathered { table, digest })
 }
 
-impl Taken {
+impl Hashed {
     ghost use Rattle.dob_pieces.specs.declared.profile.Family.{Family as Known};
-    ghost use Rattle.dob_gather.specs.Gathering.{IsTaken};
+    ghost use Rattle.dob_gather.specs.Gathering.{AreHashed};
     ghost use Rattle.std.specs.Prelude.{[]};
 
-    // No code is taken yet of a table of the family, which has `count` classes.
-    fn none(alloc: Global, family: Family, count: u64) -> Result<Taken, Memory>
-        ensures codes { IfOk result (λ taken. taken.codes ≡ []) }
-        ensures taken { IfOk result (IsTaken family count) }
+    // No code is hashed yet of a table of the family, which has `count` classes.
+    fn none(alloc: Global, family: Family, count: u64) -> Result<Hashed, Memory>
+        ensures codes { IfOk result (λ hashed. hashed.codes ≡ []) }
+        ensures hashed { IfOk result (AreHashed family count) }
     {
         let hasher = FileHasher::begin(alloc, family, count)?;
         let codes = Segments::new(alloc, SegmentLength::longest());
-        Ok(Taken { codes, hasher })
+        Ok(Hashed { codes, hasher })
     }
 
     // Takes the codes of the next classes.
-    fn with(self, part: &[u16]) -> Result<Taken, Memory>
-        ensures codes { IfOk result (λ taken. taken.codes ≡ self.codes ++ part.now) }
-        ensures taken { (family : Known) (count : ℕ) → IsTaken family count self → IfOk result (IsTaken family count) }
+    fn with(self, part: &[u16]) -> Result<Hashed, Memory>
+        ensures codes { IfOk result (λ hashed. hashed.codes ≡ self.codes ++ part.now) }
+        ensures hashed { (family : Known) (count : ℕ) → AreHashed family count self → IfOk result (AreHashed family count) }
     {
-        let Taken { mut codes, hasher } = self;
+        let Hashed { mut codes, hasher } = self;
         let first = codes.len();
         codes.append(part)?;
         let hasher = hasher.with(&codes, first);
-        Ok(Taken { codes, hasher })
+        Ok(Hashed { codes, hasher })
     }
 }
 
 impl Parts {
     ghost use Rattle.dob_pieces.specs.declared.profile.Family.{Family as Known};
-    ghost use Rattle.dob_gather.specs.Gathering.{IsTaken, Takes};
+    ghost use Rattle.dob_gather.specs.Gathering.{AreHashed, Takes};
 
     // Takes the part that is gathered, while threads gather the next one: the codes of the classes from `first` on, before `end`.
     fn next(
@@ -121,16 +121,16 @@ impl Parts {
         requires order { first ≤ end }
         requires some { 0 < length shares.now }
         requires owned { (family : Known) × (end ≤ classes_of family) × AreOwners family (length shares.now) shares.now }
-        ensures codes { IfOk result (λ next. next.taken.codes ≡ self.taken.codes ++ self.part.items) }
-        ensures taken { (family : Known) (count : ℕ) → IsTaken family count self.taken → IfOk result (λ next. IsTaken family count next.taken) }
+        ensures codes { IfOk result (λ next. next.hashed.codes ≡ self.hashed.codes ++ self.part.items) }
+        ensures hashed { (family : Known) (count : ℕ) → AreHashed family count self.hashed → IfOk result (λ next. AreHashed family count next.hashed) }
         ensures part { IfOk result (λ next. AreFrom (IsCodeShown (length shares.now) shares.now) first end next.part.items) }
     {
-        let Parts { taken, part } = self;
-        let (taken, part) = thread::join(
+        let Parts { hashed, part } = self;
+        let (hashed, part) = thread::join(
             rt,
-            move || -> Result<Taken, Memory>
-                ensures { Takes taken part.items result }
-            { taken.with(&part) },
+            move || -> Result<Hashed, Memory>
+                ensures { Takes hashed part.items result }
+            { hashed.with(&part) },
             move || -> Result<Vec<u16>, Memory>
                 requires order { first ≤ end }
                 requires some { 0 < length shares.now }
@@ -139,7 +139,7 @@ impl Parts {
             { codes_of(rt, alloc, shares, first, end) },
         );
         Ok(Parts {
-            taken: taken?,
+            hashed: hashed?,
             part: part?,
         })
     }

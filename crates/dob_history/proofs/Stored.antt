@@ -41,8 +41,8 @@ settlements_from-at n id first k stored s there =
     ∙ ap (settlement_stored n id (first + k)) (get_or_from_slice_get stored k s s there))
 
 -- and behind others
-get_behind : (xs ys : List Settlement) (k : ℕ) (s : Settlement) → slice_get ys k ≡ Some s → slice_get (xs ++ ys) (length xs + k) ≡ Some s
-get_behind xs ys k s there =
+get_after : (xs ys : List Settlement) (k : ℕ) (s : Settlement) → slice_get ys k ≡ Some s → slice_get (xs ++ ys) (length xs + k) ≡ Some s
+get_after xs ys k s there =
     let within : k < length ys = slice_get_within ys k s there in
     let long : length (xs ++ ys) ≡ length xs + length ys = length-append xs ys in
     slice_get-get_or (xs ++ ys) (length xs + k) s (omega arith)
@@ -135,7 +135,7 @@ module _ (n id room count : ℕ) (starts : StatusesView) (stored : List Stored) 
         let place : length first_ones + k ≡ number = omega (arith, starts_length n id starts) in
         ap (λ (v : HistoryView). slice_get v.settlements number) (sym is)
         ∙ subst (λ (m : ℕ). slice_get (settlements_of n id starts list) m ≡ Some (settlement_stored n id m s)) place
-        (get_behind first_ones (settlements_from n id (length first_ones) list) k (settlement_stored n id (length first_ones + k) s)
+        (get_after first_ones (settlements_from n id (length first_ones) list) k (settlement_stored n id (length first_ones + k) s)
         (settlements_from-at n id (length first_ones) k list s inside))
         ∙ ap Some same
 

@@ -233,11 +233,11 @@ seen_next next share classes looks class look seen inside class_is =
     seen next class (get_or looks (next % 32) look) inside refl class_is (read_again looks (next % 32) look)
 
 -- behind it
-pub seen_behind : (next : ℕ) (share after : Share) (classes : List ℕ) (looks : List (Option Seen)) →
+pub seen_after : (next : ℕ) (share after : Share) (classes : List ℕ) (looks : List (Option Seen)) →
     ((class : ℕ) (look : Option Seen) → IsSeen share class look → IsSeen after class look) → AreSeen next share classes looks →
     0 < (next + 1) % 32 → AreSeen (next + 1) after classes looks
 unfolding AreSeen
-seen_behind next share after classes looks still seen within place class look inside group class_is look_is =
+seen_after next share after classes looks still seen within place class look inside group class_is look_is =
     still class look (seen place class look inside (omega arith) class_is look_is)
 
 -- ---- the items of parts, one after the other
@@ -287,7 +287,7 @@ module _ {parts : List Part} {classes : List ℕ} {k index count : ℕ} {part : 
           (subst (λ (item : Item). IsTaken item mid after longer grown) (sym (item_is no_item)) one);
       room = let before = so_far.room in omega (arith, before, room);
       kept = λ family whole. kept_back (so_far.kept family whole) kept;
-      seen = seen_behind count mid after classes looked seen looks;
+      seen = seen_after count mid after classes looked seen looks;
     }
 
     pub stopped_there : (why : Cause) → IsReason (item_for part.settlement class) mid why → StopsAt items share history why

@@ -23,6 +23,6 @@ pub use Rattle.dob_classes.proofs.Tables.RunTables.{marks_small}
 pub use Rattle.dob_classes.specs.FamilyRuns.{is_there, local_marks_in}
 pub use Rattle.dob_classes.specs.Walks.{IsWalk, marks_before}
 pub use Rattle.dob_classes.specs.declared.class_walks.MixedRun.{MixedRun}
-pub use Rattle.dob_classes.specs.declared.class_walks.Walk.{Walk}
+pub use Rattle.dob_classes.specs.declared.class_walks.StretchCursor.{StretchCursor}
 pub use Rattle.dob_index.specs.Index.{AreEntriesFrom, IsIndex, IsKeptBlock, IsKeptRun}
 pub use Rattle.dob_index.specs.Layout.{entries_at, entries_in, entry_places, row_at, run_words, where_mixed, words_of}

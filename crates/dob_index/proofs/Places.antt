@@ -43,8 +43,8 @@ pub run_fits : (set : PieceSet) (block lions at : ℕ) → block < product (bloc
     → at + run_words set block lions ≤ words_of set
 run_fits set block lions at within low is = omega (arith, is, run_more set block lions, run_within set block (lions + 1) within (omega (arith, low)))
 
-pub behind_rows : (set : PieceSet) (block lions : ℕ) → row_at (product (block_bases set)) ≤ entries_at set block lions
-behind_rows set block lions = omega arith
+pub after_rows : (set : PieceSet) (block lions : ℕ) → row_at (product (block_bases set)) ≤ entries_at set block lions
+after_rows set block lions = omega arith
 
 -- ---- they are few
 

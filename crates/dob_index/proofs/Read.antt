@@ -1,7 +1,7 @@
 -- What an index says of a block's runs is read from it.
 use Rattle.dob_index.proofs.Common.{◌*◌, ◌+◌, ◌<◌, ◌^◌, ◌∙◌, ◌≡◌, ◌≤◌, List, ap, arith, get_or, subst, suc, sym, zero, ℕ, Family, lions_same, block_bases}
 use Rattle.dob_index.proofs.Common.{product, lion_pairs, run_kind, all_lions, none_before, classes_to_block, classes_to_place, classes_to_run, marks_small}
-use Rattle.dob_index.proofs.Common.{IsWalk, marks_before, MixedRun, Walk, IsIndex, entry_places, row_at}
+use Rattle.dob_index.proofs.Common.{IsWalk, marks_before, MixedRun, StretchCursor, IsIndex, entry_places, row_at}
 use Rattle.dob_index.proofs.Walked.{walked}
 
 -- how many classes of the block stand before a run of the first hand, or before the end of the last
@@ -24,7 +24,7 @@ row_small family block lions words is within upto =
     omega (arith, row_read family block lions words is within upto, marks_small family block lions within (omega (arith, upto, all)))
 
 -- an entry of the first hand's run is what a walk from the run's start to its place counts
-pub entry_read : (run : MixedRun) (words : List ℕ) (first entry : ℕ) (walk : Walk) → IsIndex run.family words → run.run < lion_pairs
+pub entry_read : (run : MixedRun) (words : List ℕ) (first entry : ℕ) (walk : StretchCursor) → IsIndex run.family words → run.run < lion_pairs
     → first ≡ get_or words (row_at run.block + (101 + run.run)) 0 → IsWalk run walk → walk.place ≡ entry * entry_places
     → get_or words (first + entry) 0 ≡ marks_before run walk.number
 entry_read run words first entry walk is low first_is stands place =

@@ -1,13 +1,13 @@
 -- How many representatives stand before a place of a run: the same for each hand, and by a walk.
 use Rattle.dob_index.proofs.Common.{◌%◌, ◌+◌, ◌<◌, ◌∙◌, ◌≡◌, ◌≤◌, ap, arith, refl, ℕ, Family, marks_below-upto, marks_below, block_bases, product, lion_pairs}
 use Rattle.dob_index.proofs.Common.{run_kind, run_size, runs_in, Mixed, in_run_before, classes_to_place, classes_to_run, is_there, local_marks_in, IsWalk}
-use Rattle.dob_index.proofs.Common.{marks_before, MixedRun, Walk}
+use Rattle.dob_index.proofs.Common.{marks_before, MixedRun, StretchCursor}
 use Rattle.dob_classes.proofs.MarksOfRuns.FamilyMarks.{lower_run, size_by_lions, alike_by_lions}
 
 -- ---- by a walk
 
 -- those before the run and those before the place at which the walk stands
-pub walked : (run : MixedRun) (walk : Walk) (place : ℕ) → IsWalk run walk → walk.place ≡ place
+pub walked : (run : MixedRun) (walk : StretchCursor) (place : ℕ) → IsWalk run walk → walk.place ≡ place
     → classes_to_run run.family run.block run.run + marks_before run walk.number ≡ classes_to_place run.family run.block run.run place
 walked run walk place is stands =
     in_run_before run.family run.block run.run walk.place (marks_before run walk.number) run.within run.there is.upto (ap (marks_before run) is.number_is)

@@ -6,11 +6,11 @@ use Rattle.dob_lawful.proofs.Copies.{Changes-one, Changes-each_below, each_below
 use Rattle.dob_lawful.proofs.Copies.{last_now-agree, last_now-none, last_now-append, agree_after}
 use Rattle.dob_lawful.proofs.Splits.{IsMade, IsFrom, made_from, AreNumbered, AreNumbered-left, AreNumbered-right, chained_numbered, none_of_later}
 
-none_behind : (items : List Item) (p q copy number : ℕ) (ss : List Settlement) → AreNumbered number ss →
+none_after : (items : List Item) (p q copy number : ℕ) (ss : List Settlement) → AreNumbered number ss →
     ((m : ℕ) → number ≤ m → items_to items m p ≡ 0) → NonePass (λ s. eqb s.class q && ltb copy (items_to items s.number p)) ss
-none_behind items p q copy number [] numbered none = tt
-none_behind items p q copy number (s ∷ ss) numbered none =
-    (grind (arith, nat_tests, none s.number), none_behind items p q copy (suc number) ss numbered.1 (λ m above. none m (omega arith)))
+none_after items p q copy number [] numbered none = tt
+none_after items p q copy number (s ∷ ss) numbered none =
+    (grind (arith, nat_tests, none s.number), none_after items p q copy (suc number) ss numbered.1 (λ m above. none m (omega arith)))
 
 -- ---- one more item
 
@@ -71,7 +71,7 @@ module _ (targets : ℕ → List ℕ) (classes n : ℕ) (histories : ℕ → Lis
       let place : s.number ≡ length made.before = next.number in
       let own_items : items_to (earlier ++ part) s.number p ≡ items_to part s.number p = omega (arith, none s.number (omega arith), sum s.number) in
       let tail : NonePass test made.behind =
-      none_behind (earlier ++ part) p q copy (suc (0 + length made.before)) made.behind (AreNumbered-right 0 made.before (s ∷ made.behind) numbered).1
+      none_after (earlier ++ part) p q copy (suc (0 + length made.before)) made.behind (AreNumbered-right 0 made.before (s ∷ made.behind) numbered).1
       (λ m above. omega (arith, none m (omega arith), sum m, part_alone targets n j s part rest block_is m p (λ e. absurd (omega (arith, e))))) in
       ap (λ k. known (histories k) (given k) p q copy) owned
       ∙ ap (λ h. known h (given i) p q copy) made.history_is

@@ -97,18 +97,18 @@ AreNumbered-right number (x ∷ xs) ys numbered =
     subst (λ k. AreNumbered k ys) (let e : suc number + length xs ≡ number + length (x ∷ xs) = omega arith in e)
     (AreNumbered-right (suc number) xs ys numbered.1)
 
-numbered_behind : (classes n node : ℕ) (history before behind : List Settlement) → IsChained classes n node history → history ≡ before ++ behind →
+numbered_after : (classes n node : ℕ) (history before behind : List Settlement) → IsChained classes n node history → history ≡ before ++ behind →
     AreNumbered (length before) behind
-numbered_behind classes n node history before [] chained is = tt
-numbered_behind classes n node history before (s ∷ ss) chained is = (
+numbered_after classes n node history before [] chained is = tt
+numbered_after classes n node history before (s ∷ ss) chained is = (
   (chained before s ss is).number,
   subst (λ k. AreNumbered k ss) (let e : length (before ++ s ∷ []) ≡ suc (length before) = omega (arith, length-append before (s ∷ [])) in e)
-      (numbered_behind classes n node history (before ++ s ∷ []) ss chained (is ∙ sym (append_assoc before (s ∷ []) ss))),
+      (numbered_after classes n node history (before ++ s ∷ []) ss chained (is ∙ sym (append_assoc before (s ∷ []) ss))),
 )
 
 -- a chained history is numbered
 pub chained_numbered : (classes n node : ℕ) (history : List Settlement) → IsChained classes n node history → AreNumbered 0 history
-chained_numbered classes n node history chained = numbered_behind classes n node history [] history chained refl
+chained_numbered classes n node history chained = numbered_after classes n node history [] history chained refl
 
 -- what settlements below a number make isn't of it
 pub none_of_later : (targets : ℕ → List ℕ) (n node from number p : ℕ) (ss : List Settlement) → AreNumbered from ss → from + length ss ≤ number →

@@ -25,8 +25,8 @@ compare x y = grind (arith, cases_order)
 comes_before : (x y : ValuedMove) → (¬ IsBetter y.value x.value) → place x.played < place y.played → ComesBefore x y
 comes_before x y no_better earlier = grind (arith, compare x.value y.value)
 
-worse_behind : (v : Value) (x y : ValuedMove) → IsBetter v x.value → ComesBefore x y → IsBetter v y.value
-worse_behind v x y better comes = grind (arith, better_still v x.value y.value)
+worse_after : (v : Value) (x y : ValuedMove) → IsBetter v x.value → ComesBefore x y → IsBetter v y.value
+worse_after v x y better comes = grind (arith, better_still v x.value y.value)
 
 -- ---- one move more, inserted before the first that is worse
 
@@ -54,7 +54,7 @@ module _ (xs : List ValuedMove) (i : ℕ) (y : ValuedMove) (within : i ≤ lengt
       behind : (k : ℕ) (d : ValuedMove) → i ≤ k → k < length xs → IsBetter y.value (get_or xs k d).value
       behind k d from below = elim (cases_lt i k) [
         | inl apart ↦
-            worse_behind y.value (get_or xs i d) (get_or xs k d) (first d (omega arith)) (ordered i k d apart below)
+            worse_after y.value (get_or xs i d) (get_or xs k d) (first d (omega arith)) (ordered i k d apart below)
         | inr upto ↦
             let same : i ≡ k = omega arith in
             subst (λ n. IsBetter y.value (get_or xs n d).value) same (first d (omega arith))

@@ -43,7 +43,7 @@ pub use Rattle.dob_probe.specs.SingleMoves.{IsPuzzleOf, IsSingleMove}
 pub use Rattle.dob_probe.specs.Slots.{AreSlots, part_of}
 pub use Rattle.dob_probe.specs.Sums.{AreSummed, HasNext, IsGreatestWin, TellsDraw, value_after}
 pub use Rattle.dob_probe.specs.ValuedMoves.{ComesBefore, IsBetter}
-pub use Rattle.dob_probe.specs.Walks.{IsBehind, IsOrder, begin_at, class_on, place_in, places_in}
+pub use Rattle.dob_probe.specs.Walks.{IsAfter, IsOrder, begin_at, class_on, place_in, places_in}
 pub use Rattle.dob_probe.specs.declared.by_value.ValuedMove.{ValuedMove}
 pub use Rattle.dob_probe.specs.declared.fault.Fault.{Fault}
 pub use Rattle.dob_probe.specs.declared.fault.Fault.TheVariants.{Inconsistent, Memory}

@@ -6,9 +6,9 @@ use Rattle.dob_probe.proofs.Common.{ClassTable, IsEntry, IsTable, Value, Loss, W
 use Rattle.dob_probe.proofs.Common.{IsPuzzle, IsSpread, IsPuzzleOf, IsSingleMove, IsOrder, begin_at, class_on, place_in, places_in, Puzzle}
 use Rattle.std.proofs.Common.{length-append, is_some}
 use Rattle.dob_classes.proofs.OfFamilies.FamilyRepresentatives.{one_of_class}
-use Rattle.dob_probe.specs.declared.walks.Walk.{Walk}
+use Rattle.dob_probe.specs.declared.walks.ClassOrder.{ClassOrder}
 use Rattle.dob_probe.proofs.Entries.{all_at}
-use Rattle.dob_probe.proofs.Walked.{begin_behind, behind_begin, class_only, order_covers, place_below, place_class}
+use Rattle.dob_probe.proofs.Walked.{begin_after, after_begin, class_only, order_covers, place_below, place_class}
 use Rattle.dob_shuffle.specs.declared.shuffle.Shuffle.{Shuffle}
 use Rattle.dob_probe.proofs.InOrder.{in_order}
 use Rattle.dob_probe.proofs.Ways.{NoneBelow, none_below_more, none_leads}
@@ -111,10 +111,10 @@ module _ (table : ClassTable) (plies : ℕ) where
       let solved = rw same at of_b.solved in
       λ i. record { class = is i; played = of_a.solved.only b.played solved.outcome solved.leads i }
 
-module _ (table : ClassTable) (plies : ℕ) (walk : Walk) (order : Option Shuffle) where
+module _ (table : ClassTable) (plies : ℕ) (walk : ClassOrder) (order : Option Shuffle) where
   -- the first place of the walk
   abbrev pub begin : ℕ
-  begin = begin_at walk.behind order (length table.values)
+  begin = begin_at walk.after order (length table.values)
 
   -- the order has a place for each class
   abbrev pub IsCovered : Type 0
@@ -222,14 +222,14 @@ module _ (table : ClassTable) (plies : ℕ) (walk : Walk) (order : Option Shuffl
         let found = are.sound puzzle there in
         let within = class_of puzzle found.2 in (
           found.2,
-          begin_behind order (length table.values) walk.behind puzzle.class (place_below (length table.values) order puzzle.class covered within) found.0,
+          begin_after order (length table.values) walk.after puzzle.class (place_below (length table.values) order puzzle.class covered within) found.0,
         );
     ordered = are.ordered;
     few = few;
     whole = λ puzzle is walked.
         let within = class_of puzzle is in
         elim (cases_lt (place_in order puzzle.class) upto) [
-          | inl earlier ↦ settled list puzzle (are.whole puzzle is (behind_begin order (length table.values) walk.behind puzzle.class walked) earlier)
+          | inl earlier ↦ settled list puzzle (are.whole puzzle is (after_begin order (length table.values) walk.after puzzle.class walked) earlier)
           | inr later ↦ elim end [
             | inl full ↦ inr (inr (full, λ listed there. omega (arith, (are.sound listed there).1, later)))
             | inr all ↦ absurd (omega (

@@ -190,10 +190,10 @@ room_counted xs slots wide code class slot read counted room within same are =
     (slot_has_room xs code (get_or wide code None) (omega (arith, room, counted)) (rw same (are code)))
 
 -- an empty slot at the end changes nothing
-pub none_behind : (slots : List (Option Group)) (k : ℕ) → get_or (slots ++ None ∷ []) k None ≡ get_or slots k None
-none_behind [] k = grind arith
-none_behind (slot ∷ slots) zero = refl
-none_behind (slot ∷ slots) (suc k) = none_behind slots k
+pub none_after : (slots : List (Option Group)) (k : ℕ) → get_or (slots ++ None ∷ []) k None ≡ get_or slots k None
+none_after [] k = grind arith
+none_after (slot ∷ slots) zero = refl
+none_after (slot ∷ slots) (suc k) = none_after slots k
 
 pub slots_none : AreSlots [] []
 slots_none code = refl

@@ -1,5 +1,5 @@
 -- Places in the order of a walk, and their classes.
-use Rattle.dob_probe.proofs.Common.{◌<◌, ◌∙◌, ◌≡◌, ◌≤◌, None, Option, Some, ap, arith, refl, sym, ℕ, IsBehind, IsOrder, begin_at, class_on, place_in, places_in}
+use Rattle.dob_probe.proofs.Common.{◌<◌, ◌∙◌, ◌≡◌, ◌≤◌, None, Option, Some, ap, arith, refl, sym, ℕ, IsAfter, IsOrder, begin_at, class_on, place_in, places_in}
 use Rattle.dob_probe.proofs.Common.{◌+◌, ◌^◌, Family, classes_of}
 use Rattle.std.specs.Prelude.{if◌then◌else◌, nat_lt}
 use Rattle.dob_classes.proofs.OfFamilies.Counted.{one_count}
@@ -40,14 +40,14 @@ begun : (other classes first place end : ℕ) → place < end → (if nat_lt oth
 begun other classes first place end within from = grind (arith, nat_tests)
 
 module _ (order : Option Shuffle) (classes : ℕ) where
-  pub behind_begin : (behind : Option ℕ) (class : ℕ) → IsBehind behind order classes class → begin_at behind order classes ≤ place_in order class
-  behind_begin None class is = omega arith
-  behind_begin (Some other) class is = begins other classes (place_in order other) (place_in order class) (places_in order classes) is.0 is.1
+  pub after_begin : (behind : Option ℕ) (class : ℕ) → IsAfter behind order classes class → begin_at behind order classes ≤ place_in order class
+  after_begin None class is = omega arith
+  after_begin (Some other) class is = begins other classes (place_in order other) (place_in order class) (places_in order classes) is.0 is.1
 
-  pub begin_behind : (behind : Option ℕ) (class : ℕ) → place_in order class < places_in order classes → begin_at behind order classes ≤ place_in order class
-      → IsBehind behind order classes class
-  begin_behind None class within from = tt
-  begin_behind (Some other) class within from = begun other classes (place_in order other) (place_in order class) (places_in order classes) within from
+  pub begin_after : (behind : Option ℕ) (class : ℕ) → place_in order class < places_in order classes → begin_at behind order classes ≤ place_in order class
+      → IsAfter behind order classes class
+  begin_after None class within from = tt
+  begin_after (Some other) class within from = begun other classes (place_in order other) (place_in order class) (places_in order classes) within from
 
 -- a family has fewer classes than a shuffle takes
 pub few_classes : (family : Family) (classes : ℕ) → HasClasses family classes → classes < 2 ^ 63

@@ -10,8 +10,8 @@ use Rattle.dob_probe.specs.declared.puzzles.Puzzle.{Puzzle}
 use Rattle.dob_probe.specs.Checks.{HasEntry}
 use Rattle.dob_probe.specs.Lines.{GivenBy, LeadsTo}
 use Rattle.dob_probe.specs.Outlines.{AreLike}
-use Rattle.dob_probe.specs.declared.walks.Walk.{Walk}
-use Rattle.dob_probe.specs.Walks.{IsBehind, IsOrder, place_in}
+use Rattle.dob_probe.specs.declared.walks.ClassOrder.{ClassOrder}
+use Rattle.dob_probe.specs.Walks.{IsAfter, IsOrder, place_in}
 use Rattle.dob_shuffle.specs.declared.shuffle.Shuffle.{Shuffle}
 
 -- the move leads to a position with that value, and it is the only one that does
@@ -28,15 +28,15 @@ pub record IsPuzzle (table : ClassTable) (plies : ℕ) (puzzle : Puzzle) : Type 
   pub solved : IsOnlyTo table.family.profile (GivenBy table) representative (Loss (plies - 1)) puzzle.played
 
 -- the walk goes over the class
-abbrev pub IsWalked : ClassTable → Walk → Option Shuffle → ℕ → Type 0
-IsWalked table walk order class = IsBehind walk.behind order (length table.values) class
+abbrev pub IsWalked : ClassTable → ClassOrder → Option Shuffle → ℕ → Type 0
+IsWalked table walk order class = IsAfter walk.after order (length table.values) class
 
 -- a walk in the order of a seed lists no two puzzles that are alike
-abbrev pub IsSpread : Walk → Type 0
+abbrev pub IsSpread : ClassOrder → Type 0
 IsSpread walk = is_some walk.seed ≡ true
 
 -- by such a walk the puzzle is passed, since one that is alike is listed, and stands before it
-abbrev pub IsPassed : ClassTable → Walk → Option Shuffle → List Puzzle → Puzzle → Type 0
+abbrev pub IsPassed : ClassTable → ClassOrder → Option Shuffle → List Puzzle → Puzzle → Type 0
 IsPassed table walk order list puzzle = IsSpread walk
     × ((listed : Puzzle) × Contains list listed × AreLike table listed puzzle × (place_in order listed.class < place_in order puzzle.class))
 
@@ -51,7 +51,7 @@ IsListedNext table is_spread puzzle old new =
 
 -- The first puzzles of a walk in its order, at most so many, each once, and no two alike where a seed makes the order: each one that isn't listed
 -- is passed, or stands behind as many as were asked for.
-pub record ArePuzzles (table : ClassTable) (walk : Walk) (plies count : ℕ) (list : List Puzzle) : Type 0 where
+pub record ArePuzzles (table : ClassTable) (walk : ClassOrder) (plies count : ℕ) (list : List Puzzle) : Type 0 where
   pub order : Option Shuffle
   pub is : IsOrder walk.seed (length table.values) order
   pub sound : (puzzle : Puzzle) → Contains list puzzle → IsPuzzle table plies puzzle × IsWalked table walk order puzzle.class

@@ -23,9 +23,9 @@ place_in None class = class
 place_in (Some shuffle) class = place_of shuffle class
 
 -- In that order the class stands behind the one that is named, if one is; no class stands behind one that there isn't.
-abbrev pub IsBehind : Option ℕ → Option Shuffle → ℕ → ℕ → Type 0
-IsBehind None order classes class = Unit {0}
-IsBehind (Some other) order classes class = (other < classes) × (place_in order other < place_in order class)
+abbrev pub IsAfter : Option ℕ → Option Shuffle → ℕ → ℕ → Type 0
+IsAfter None order classes class = Unit {0}
+IsAfter (Some other) order classes class = (other < classes) × (place_in order other < place_in order class)
 
 -- the first place behind it
 abbrev pub begin_at : Option ℕ → Option Shuffle → ℕ → ℕ

@@ -17,7 +17,7 @@ ghost use Rattle.dob_probe.specs.Said.{IsGapOfMoves, fails, is_failing};
 use crate::fault::Fault;
 use crate::gap::LookupFault;
 use crate::members::check_member;
-use crate::values::Values;
+use crate::values::ValueSource;
 use dob_moves::{Move, first_catch, moves};
 use dob_pieces::{Family, Memory, Position};
 use dob_value::{Table, Value, outcome_of};
@@ -83,7 +83,7 @@ fn moves_of_set(
 /// # Errors
 ///
 /// `NoValue` if one of them has none; `Memory`.
-pub fn moves_by<S, V: Values<S>>(
+pub fn moves_by<S, V: ValueSource<S>>(
     alloc: Global,
     by: &V,
     source: &mut S,
@@ -122,7 +122,7 @@ fn one_catch(alloc: Global, played: Move) -> Result<Vec<ValuedMove>, Memory>
 // Those moves of the position with their values, best first.
 //
 // Errors: those of `moves_by`.
-fn moves_in_order<S, V: Values<S>>(
+fn moves_in_order<S, V: ValueSource<S>>(
     alloc: Global,
     by: &V,
     source: &mut S,

@@ -36,5 +36,5 @@ pub use lines::{line, line_by};
 pub use members::check_member;
 pub use probes::probe;
 pub use puzzles::{Puzzle, first_puzzles};
-pub use values::Values;
-pub use walks::Walk;
+pub use values::ValueSource;
+pub use walks::ClassOrder;

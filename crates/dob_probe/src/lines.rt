@@ -14,7 +14,7 @@ ghost use Rattle.dob_probe.specs.Said.{AreSingle, IsGapOfLine, IsGapTo, fails, i
 use crate::fault::Fault;
 use crate::gap::{LookupFault, fault_of};
 use crate::probes::probe;
-use crate::values::Values;
+use crate::values::ValueSource;
 use dob_classes::Classes;
 use dob_moves::{Move, first_catch, moves};
 use dob_pieces::{Memory, Position};
@@ -73,7 +73,7 @@ fn line_from(
 /// # Errors
 ///
 /// `NoValue` if one of them has none; `Inconsistent` with the class at which the line goes on, but no move leads to the value that it needs; `Memory`.
-pub fn line_by<S, V: Values<S>>(
+pub fn line_by<S, V: ValueSource<S>>(
     alloc: Global,
     by: &V,
     source: &mut S,
@@ -131,7 +131,7 @@ fn value_wanted(value: Value) -> Option<Value>
 // The first move to a position with that value, and that position.
 //
 // Errors: `NoValue` if a position to which a move leads has no value; `Inconsistent` with the position's class where none leads to that value; `Memory`.
-fn first_to<S, V: Values<S>>(
+fn first_to<S, V: ValueSource<S>>(
     alloc: Global,
     by: &V,
     source: &mut S,
@@ -159,7 +159,7 @@ fn first_to<S, V: Values<S>>(
 // The first of the moves to a position with that value, and that position.
 //
 // Errors: `NoValue` and `Inconsistent`, as of `first_to`.
-fn first_among<S, V: Values<S>>(
+fn first_among<S, V: ValueSource<S>>(
     by: &V,
     source: &mut S,
     classes: &Classes,

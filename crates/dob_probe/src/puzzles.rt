@@ -12,7 +12,7 @@ ghost use Rattle.dob_probe.specs.SingleMoves.{IsPuzzleOf, IsSingleMove};
 
 use crate::outlines::{Outline, has_outline, outline_of};
 use crate::successors::value_to;
-use crate::walks::{Walk, begin_at, class_on, order_of, places_in};
+use crate::walks::{ClassOrder, begin_at, class_on, order_of, places_in};
 use dob_moves::{Move, legal_moves};
 use dob_pieces::{Memory, Position};
 use dob_value::{Table, Value};
@@ -32,7 +32,7 @@ pub struct Puzzle {
 pub fn first_puzzles(
     alloc: Global,
     table: &Table,
-    walk: Walk,
+    walk: ClassOrder,
     plies: u64,
     count: u64,
 ) -> Result<Vec<Puzzle>, Memory>
@@ -47,7 +47,7 @@ pub fn first_puzzles(
         return Ok(Vec::new(alloc));
     }
     let is_spread = walk.seed.is_some();
-    let begin = begin_at(walk.behind, &order, classes);
+    let begin = begin_at(walk.after, &order, classes);
     let end = places_in(&order, classes);
     let mut list = Vec::new(alloc);
     let mut outlines = Vec::new(alloc);

@@ -14,7 +14,7 @@ use dob_pieces::Position;
 use dob_value::{Table, Value};
 
 /// A source of the values of a family's positions, which reads what it is given: nothing, a file or bytes.
-pub trait Values<S> {
+pub trait ValueSource<S> {
     /// Why it says no value.
     type Fault: Copy;
 
@@ -57,7 +57,7 @@ pub trait Values<S> {
         ensures failed { Self.has_failed source.new ≡ (Self.has_failed source.old || fails Self.is_failure result) };
 }
 
-impl Values<()> for Table {
+impl ValueSource<()> for Table {
     type Fault = Fault;
 
     ghost Held = { Unit {0} };

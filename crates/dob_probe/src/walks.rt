@@ -6,11 +6,11 @@ use dob_shuffle::Shuffle;
 
 /// Which classes are gone over, and in which order.
 #[derive(Clone, Copy)]
-pub struct Walk {
+pub struct ClassOrder {
     /// The seed of the order, which is that of a `Shuffle` of the classes. Without one they are gone over in the order of their numbers.
     pub seed: Option<u64>,
-    /// Only the classes behind this one are gone over, all if there is none, and none if the table has no such class.
-    pub behind: Option<u64>,
+    /// Only the classes after this one are gone over, all if there is none, and none if the table has no such class.
+    pub after: Option<u64>,
 }
 
 /// The shuffle of so many classes that the seed makes, if there is one.
@@ -49,11 +49,11 @@ pub(crate) fn class_on(order: &Option<Shuffle>, classes: u64, place: u64) -> u64
 }
 
 /// The first place behind the class that is named, if one is.
-pub(crate) fn begin_at(behind: Option<u64>, order: &Option<Shuffle>, classes: u64) -> u64
+pub(crate) fn begin_at(after: Option<u64>, order: &Option<Shuffle>, classes: u64) -> u64
     requires { classes ≤ places_in order.now classes }
-    ensures { result ≡ begin_at behind order.now classes }
+    ensures { result ≡ begin_at after order.now classes }
 {
-    match behind {
+    match after {
         None => 0,
         Some(class) => {
             if class < classes {

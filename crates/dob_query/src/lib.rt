@@ -3,7 +3,7 @@
 // Choices:
 // - `show` draws in letters, those of a position's text; `show --svg` makes its file last.
 // - `look --each` reads the header once, before standard input; a record that isn't whole refuses its line alone, a device that fails ends all.
-// - The whole table and the records of a file are asked by the same code, as what says values (`Values`): `probe` and `line` by the one, the others by the other.
+// - The whole table and the records of a file are asked by the same code, as what says values (`ValueSource`): `probe` and `line` by the one, the others by the other.
 #![tactic(auto)]
 
 mod counts;

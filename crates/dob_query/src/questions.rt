@@ -22,7 +22,7 @@ use dob_lines::{
 };
 use dob_moves::Move;
 use dob_pieces::{Memory, Position};
-use dob_probe::{LookupFault, ValuedMove, Values, check_member, line_by, moves_by};
+use dob_probe::{LookupFault, ValueSource, ValuedMove, check_member, line_by, moves_by};
 use dob_records::Records;
 use dob_shelf::Shelf;
 use dob_value::{Table, Value};
@@ -141,7 +141,7 @@ pub(crate) fn answer_by_records<R: PlacedSource>(
 }
 
 // The lines that answer the question of a position of the family, by what says values.
-fn told_by<S, V: Values<S>>(
+fn told_by<S, V: ValueSource<S>>(
     alloc: Global,
     by: &V,
     source: &mut S,
@@ -174,7 +174,7 @@ fn told_by<S, V: Values<S>>(
 }
 
 // The value that is said of the position.
-fn said_value<S, V: Values<S>>(
+fn said_value<S, V: ValueSource<S>>(
     by: &V,
     source: &mut S,
     position: &Position,

@@ -113,8 +113,8 @@ hand_size profile chicks = lions_before profile chicks lion_pairs
 
 -- the place behind so many choices of the chicks' squares with forms, of the digits of the others' squares and forms where those lions stand, and of so
 -- many allowed forms of the chicks before
-abbrev pub place_behind : Profile → List ℕ → List ℕ → ℕ → ℕ → ℕ → ℕ
-place_behind profile ob ds lions chosen forms =
+abbrev pub place_after : Profile → List ℕ → List ℕ → ℕ → ℕ → ℕ → ℕ
+place_after profile ob ds lions chosen forms =
     (chosen * others_squares ob + (squares_by ob ds * choice_weight profile lions (slice_index ob 0) (slice_index ds 5) + forms)) * others_forms ob
     + others_by ob ds
 
@@ -122,8 +122,8 @@ place_behind profile ob ds lions chosen forms =
 unfoldable pub place_in : Profile → List ℕ → List ℕ → ℕ → ℕ → ℕ → ℕ
 place_in profile ob ds hands lions forms =
     let i = slice_index ob 0 in
-    place_behind profile ob ds lions (hands * hand_size profile i + lions_before profile i lions + forms_before profile lions i (slice_index ds 5)) forms
+    place_after profile ob ds lions (hands * hand_size profile i + lions_before profile i lions + forms_before profile lions i (slice_index ds 5)) forms
 
 -- in a run of those lions: behind the choices before its own
 unfoldable pub local_in : Profile → List ℕ → List ℕ → ℕ → ℕ → ℕ
-local_in profile ob ds lions forms = place_behind profile ob ds lions (forms_before profile lions (slice_index ob 0) (slice_index ds 5)) forms
+local_in profile ob ds lions forms = place_after profile ob ds lions (forms_before profile lions (slice_index ob 0) (slice_index ds 5)) forms

@@ -13,7 +13,7 @@ ghost use Rattle.dob_rank.specs.Order.{IsPositionOfSet};
 ghost use Rattle.dob_rank.specs.Places.{IsSpotFor};
 ghost use Rattle.dob_rank.specs.Runs.{AreFewOnBoard, square_bases};
 ghost use Rattle.dob_rank.specs.Weights.{may_have, allowed_number, choice_weight, forms_before, lions_before, others_squares, others_forms};
-ghost use Rattle.dob_rank.specs.Weights.{squares_by, others_by, hand_size, place_behind};
+ghost use Rattle.dob_rank.specs.Weights.{squares_by, others_by, hand_size, place_after};
 
 use crate::block::{self, DIGITS, PerKind};
 use crate::far_places::{lions_at, local_at};
@@ -123,12 +123,12 @@ fn far_place(set: PieceSet, board: &Board, on_board: &PerKind) -> u64
     let lions = run % LIONS;
     let chosen = chosen_before(on_board[0], run / LIONS, lions, digits[5]);
     let forms = allowed_forms(board, on_board[0]);
-    place_behind(on_board, &digits, lions, chosen, forms)
+    place_after(on_board, &digits, lions, chosen, forms)
 }
 
 /// The place that those numbers write: of `chosen` choices of the chicks' squares with forms before, of the digits of the others' squares and forms where
 /// those lions stand, and of `forms` allowed forms of the chicks before.
-pub fn place_behind(
+pub fn place_after(
     on_board: &PerKind,
     digits: &[u64; DIGITS],
     lions: u64,
@@ -142,7 +142,7 @@ pub fn place_behind(
     requires others { others_by on_board.now digits.now < others_forms on_board.now }
     requires chosen { chosen ≤ 2 ^ 22 }
     requires forms { forms ≤ 20 }
-    ensures value { result ≡ place_behind B on_board.now digits.now lions chosen forms }
+    ensures value { result ≡ place_after B on_board.now digits.now lions chosen forms }
     ensures bound { result ≤ 2 ^ 42 }
 {
     let choices = block::choices_in(on_board);

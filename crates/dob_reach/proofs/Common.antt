@@ -30,5 +30,5 @@ pub use Rattle.dob_reach.specs.Marks.{AreMarked, HasBits, HaveBits, IsMarked, Ke
 pub use Rattle.dob_reach.specs.Reached.{AreReachedFrom}
 pub use Rattle.dob_reach.specs.Rounds.{AreMet, IsMarkedWithin, IsNearer}
 pub use Rattle.dob_reach.specs.Searches.{IsSearched}
-pub use Rattle.dob_reach.specs.declared.parts.Part.{Part}
+pub use Rattle.dob_reach.specs.declared.parts.FrontierPart.{FrontierPart}
 pub use Rattle.dob_reach.specs.declared.search.Reached.{Reached}

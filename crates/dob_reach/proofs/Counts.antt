@@ -16,8 +16,8 @@ pub apart_first : (first : ℕ) (rest : List ℕ) → ((number : ℕ) → Contai
 apart_first first rest others once =
     AllPairs-cons Apart first rest (λ k d lt. others (get_or rest k d) (k, lt, get_or_default rest k (get_or rest k d) d lt)) once
 
-pub behind_first : (x : ℕ) (xs : List ℕ) → AllPairs Apart (x ∷ xs) → (number : ℕ) → Contains xs number → ¬ (x ≡ number)
-behind_first x xs p number left same = pairs-head Apart x xs p left.0 number left.1 (same ∙ sym left.2)
+pub after_first : (x : ℕ) (xs : List ℕ) → AllPairs Apart (x ∷ xs) → (number : ℕ) → Contains xs number → ¬ (x ≡ number)
+after_first x xs p number left same = pairs-head Apart x xs p left.0 number left.1 (same ∙ sym left.2)
 
 -- a list of one number has no other
 pub only_one : (x number : ℕ) → Contains (x ∷ []) number → x ≡ number
@@ -29,7 +29,7 @@ apart_both [] ys p q across = q
 apart_both (x ∷ xs) ys p q across =
     apart_first x (xs ++ ys)
     (λ number there same. elim (Contains-append_cases xs ys number there) [
-      | inl left ↦ behind_first x xs p number left same
+      | inl left ↦ after_first x xs p number left same
       | inr right ↦ across x (head_in x xs) (subst (Contains ys) (sym same) right)
     ])
     (apart_both xs ys (pairs-tail Apart x xs p) q (λ number left. across number (rest_in x number xs left)))
@@ -134,7 +134,7 @@ pub among_just : (P : ℕ → Type 0) (numbers : List ℕ) (count : ℕ) → Amo
 among_just P [] count none once = rw none (just_none (λ k is. none_in_empty k is.0))
 among_just P (x ∷ xs) count some once = elim some [
   | inl one ↦ rw one.2 (just_same (just_both (among_just P xs one.1 one.3 (pairs-tail Apart x xs once)) (just_one x)
-      (λ k later same. behind_first x xs once k later.0 (sym same)))
+      (λ k later same. after_first x xs once k later.0 (sym same)))
       (λ k which. elim which [ inl later ↦ (rest_in x k xs later.0, later.1) | inr same ↦ rw same (head_in x xs, one.0) ])
       (λ k is. elim (cons_cases x xs k is.0) [ inl same ↦ inr (sym same) | inr later ↦ inl (later, is.1) ]))
   | inr other ↦ just_same (among_just P xs count other.1 (pairs-tail Apart x xs once))

@@ -1,7 +1,7 @@
 -- What a class's moves lead to: a list that leaves out what is marked. And what is found of parts of the classes, one after the other.
 use Rattle.dob_reach.proofs.Common.{◌*◌, ◌++◌, ◌+◌, ◌-◌, ◌<◌, ◌∙◌, ◌∷◌, ◌≡◌, ◌≤◌, AllZip, Among, AreExpanded, AreMarked, AreMet, Bool, Contains}
 use Rattle.dob_reach.proofs.Common.{Contains-append_cases, Contains-append_left, Contains-append_right, Family, Goes, HasBits, HasStatus, HaveBits}
-use Rattle.dob_reach.proofs.Common.{IsExpanded, IsInClass, IsInClass-class_number, IsMarked, IsOpen, IsPartAt, IsSifted, KeepsMarks, Leads, List, Open, Part}
+use Rattle.dob_reach.proofs.Common.{IsExpanded, IsInClass, IsInClass-class_number, IsMarked, IsOpen, IsPartAt, IsSifted, KeepsMarks, Leads, List, Open, FrontierPart}
 use Rattle.dob_reach.proofs.Common.{RepresentsClass, Setup, [], ap, append-nil, append_assoc, arith, class_number-below, classes_of, drop, false, get_or}
 use Rattle.dob_reach.proofs.Common.{head_in, inl, inr, length, length-drop, length-take, min, none_in_empty, from_bool, opens_of, outcomes_of, part_at}
 use Rattle.dob_reach.proofs.Common.{part_count, parts_before, range_with_len, refl, subst, suc, sym, take, take-add, take-append-drop, take_all, take_min}
@@ -158,7 +158,7 @@ next_part front place =
     sym (take-add (place * 4096) 4096 front) ∙ ap (λ n. take n front) end
 
 -- what is found of so many parts more
-pub parts_expanded : (family : Family) (words front : List ℕ) (place count : ℕ) (done : List ℕ) (opens : ℕ) (parts : List Part)
+pub parts_expanded : (family : Family) (words front : List ℕ) (place count : ℕ) (done : List ℕ) (opens : ℕ) (parts : List FrontierPart)
     → AreExpanded family words (parts_before front place) done opens → AllZip (IsPartAt family words front) (range_with_len place count) parts
     → AreExpanded family words (parts_before front (place + count)) (done ++ outcomes_of parts) (opens + opens_of parts)
 parts_expanded family words front place zero done opens [] are found =
@@ -174,27 +174,27 @@ parts_expanded family words front place (suc count) done opens (part ∷ parts) 
     (expanded_both are found.0.expanded) in
     let all = parts_expanded family words front (place + 1) count (done ++ part.outcomes.items) (opens + part.opens) parts more found.1 in
     let end : place + 1 + count ≡ place + suc count = omega arith in
-    let sum : opens + part.opens + opens_of parts ≡ opens + opens_of (part ∷ parts) = (let split = sum_by-cons (λ (p : Part). p.opens) part parts in omega (arith, split)) in
+    let sum : opens + part.opens + opens_of parts ≡ opens + opens_of (part ∷ parts) = (let split = sum_by-cons (λ (p : FrontierPart). p.opens) part parts in omega (arith, split)) in
     subst (λ n. AreExpanded family words (parts_before front (place + suc count)) (done ++ outcomes_of (part ∷ parts)) n) sum
     (subst (λ xs. AreExpanded family words (parts_before front (place + suc count)) xs (opens + part.opens + opens_of parts)) (append_assoc done part.outcomes.items (outcomes_of parts))
     (subst (λ n. AreExpanded family words (parts_before front n) ((done ++ part.outcomes.items) ++ outcomes_of parts) (opens + part.opens + opens_of parts)) end all))
 
 -- what a part leads to is what all lead to
-pub part_outcomes : (parts : List Part) (place : ℕ) (part : Part) (number : ℕ) → place < length parts → part ≡ get_or parts place part
+pub part_outcomes : (parts : List FrontierPart) (place : ℕ) (part : FrontierPart) (number : ℕ) → place < length parts → part ≡ get_or parts place part
     → Contains part.outcomes.items number → Contains (outcomes_of parts) number
 part_outcomes [] place part number within is there = absurd (omega (arith, within))
 part_outcomes (first ∷ rest) zero part number within is there =
-    Contains-append_left first.outcomes.items (outcomes_of rest) number (subst (λ (p : Part). Contains p.outcomes.items number) is there)
+    Contains-append_left first.outcomes.items (outcomes_of rest) number (subst (λ (p : FrontierPart). Contains p.outcomes.items number) is there)
 part_outcomes (first ∷ rest) (suc place) part number within is there =
     Contains-append_right first.outcomes.items (outcomes_of rest) number (part_outcomes rest place part number (omega (arith, within)) is there)
 
 -- one part more
-pub one_part_more : (parts : List Part) (place : ℕ) (part : Part) → place < length parts → part ≡ get_or parts place part
+pub one_part_more : (parts : List FrontierPart) (place : ℕ) (part : FrontierPart) → place < length parts → part ≡ get_or parts place part
     → outcomes_of (take (place + 1) parts) ≡ outcomes_of (take place parts) ++ part.outcomes.items
 one_part_more parts place part within is =
     ap outcomes_of (take_more parts place part within)
-    ∙ (flat_map-append (λ (p : Part). p.outcomes.items) (take place parts) (get_or parts place part ∷ [])
-    ∙ ap (λ (xs : List ℕ). outcomes_of (take place parts) ++ xs) (append-nil (get_or parts place part).outcomes.items ∙ ap (λ (p : Part). p.outcomes.items) (sym is)))
+    ∙ (flat_map-append (λ (p : FrontierPart). p.outcomes.items) (take place parts) (get_or parts place part ∷ [])
+    ∙ ap (λ (xs : List ℕ). outcomes_of (take place parts) ++ xs) (append-nil (get_or parts place part).outcomes.items ∙ ap (λ (p : FrontierPart). p.outcomes.items) (sym is)))
 
 -- there are bits for what parts lead to
 pub parts_have_bits : {family : Family} {words front : List ℕ} {opens : ℕ} (done more : List ℕ) → AreExpanded family words front (done ++ more) opens

@@ -2,7 +2,7 @@
 use Rattle.std.specs.Prelude.{◌≡◌, ◌⊎◌, ℕ, ◌*◌, ◌/◌, ◌+◌, ◌<◌, ◌≤◌, Bool, false, true, List, length, take, drop, Contains, flat_map, sum_by}
 use Rattle.dob_pieces.specs.declared.profile.Family.{Family}
 use Rattle.dob_rank.specs.Families.{classes_of}
-use Rattle.dob_reach.specs.declared.parts.Part.{Part}
+use Rattle.dob_reach.specs.declared.parts.FrontierPart.{FrontierPart}
 use Rattle.dob_reach.specs.Counts.{Among}
 use Rattle.dob_reach.specs.Distances.{StepFrom}
 use Rattle.dob_reach.specs.Leads.{IsOpen, Leads}
@@ -43,7 +43,7 @@ abbrev pub parts_before : List ℕ → ℕ → List ℕ
 parts_before front place = take (place * 4096) front
 
 -- what is found of the part of that place
-pub record IsPartAt (family : Family) (words front : List ℕ) (place : ℕ) (part : Part) : Type 0 where
+pub record IsPartAt (family : Family) (words front : List ℕ) (place : ℕ) (part : FrontierPart) : Type 0 where
   pub expanded : AreExpanded family words (part_at front place) part.outcomes.items part.opens
 
 -- a part of such classes begins at or before their end, and there is a bit for each class of the family
@@ -53,8 +53,8 @@ pub record IsPlace (family : Family) (words front : List ℕ) (place : ℕ) : Ty
   pub begins : place * 4096 ≤ length front
 
 -- what some parts' classes lead to, and how many of these are open
-abbrev pub outcomes_of : List Part → List ℕ
+abbrev pub outcomes_of : List FrontierPart → List ℕ
 outcomes_of parts = flat_map (λ part. part.outcomes.items) parts
 
-abbrev pub opens_of : List Part → ℕ
+abbrev pub opens_of : List FrontierPart → ℕ
 opens_of parts = sum_by (λ part. part.opens) parts

@@ -20,7 +20,7 @@ const PART: usize = 4096;
 
 /// What is found of a part of the classes.
 #[derive(Drop)]
-pub(crate) struct Part {
+pub(crate) struct FrontierPart {
     /// The classes to which they lead, but those that were marked: one stands there more than once where several lead to it.
     pub(crate) outcomes: Vec<u32>,
     /// How many of them are open.
@@ -44,7 +44,7 @@ pub(crate) fn parts_between(
     front: &[u32],
     first: usize,
     end: usize,
-) -> Result<Vec<Part>, Memory>
+) -> Result<Vec<FrontierPart>, Memory>
     requires members { AreClasses classes.now.family front.now }
     requires bits { HasBits marks.now.words.items (classes_of classes.now.family) }
     requires order { first ≤ end }
@@ -54,12 +54,12 @@ pub(crate) fn parts_between(
     (first as u64..end as u64)
         .into_par_iter()
         .map(
-            |place: u64| -> Result<Part, Memory>
+            |place: u64| -> Result<FrontierPart, Memory>
                 requires { IsPlace classes.now.family marks.now.words.items front.now place }
                 ensures { IfOk result (IsPartAt classes.entry.now.family marks.entry.now.words.items front.entry.now place) }
             { part_at(alloc, classes, marks, front, place as usize) },
         )
-        .collect::<Result<Vec<Part>, Memory>>(rt, alloc)?
+        .collect::<Result<Vec<FrontierPart>, Memory>>(rt, alloc)?
 }
 
 // What is found of the part of that place.
@@ -71,7 +71,7 @@ fn part_at(
     marks: &Marks,
     front: &[u32],
     place: usize,
-) -> Result<Part, Memory>
+) -> Result<FrontierPart, Memory>
     requires { IsPlace classes.now.family marks.now.words.items front.now place }
     ensures { IfOk result (IsPartAt classes.now.family marks.now.words.items front.now place) }
 {
@@ -83,7 +83,12 @@ fn part_at(
 // What is found of the classes.
 //
 // Error: `Memory`.
-fn part_of(alloc: Global, classes: &Classes, marks: &Marks, part: &[u32]) -> Result<Part, Memory>
+fn part_of(
+    alloc: Global,
+    classes: &Classes,
+    marks: &Marks,
+    part: &[u32],
+) -> Result<FrontierPart, Memory>
     requires members { AreClasses classes.now.family part.now }
     requires bits { HasBits marks.now.words.items (classes_of classes.now.family) }
     ensures { IfOk result (λ found. AreExpanded classes.now.family marks.now.words.items part.now found.outcomes.items found.opens) }
@@ -95,7 +100,7 @@ fn part_of(alloc: Global, classes: &Classes, marks: &Marks, part: &[u32]) -> Res
         let is_open = push_outcomes(classes, marks, *class, &mut room, &mut outcomes)?;
         opens += u64::from(is_open);
     }
-    Ok(Part { outcomes, opens })
+    Ok(FrontierPart { outcomes, opens })
 }
 
 // Appends the classes to which the class's moves lead, but those that are marked, and says whether it is open. The list of

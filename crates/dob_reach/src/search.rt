@@ -10,7 +10,7 @@ ghost use Rattle.dob_reach.specs.Rounds.{AreMet};
 ghost use Rattle.dob_reach.specs.Searches.{IsSearched};
 
 use crate::marks::Marks;
-use crate::parts::{Part, part_count, parts_between};
+use crate::parts::{FrontierPart, part_count, parts_between};
 use dob_classes::Classes;
 use dob_pieces::{Memory, Position};
 use std::alloc::Global;
@@ -137,7 +137,7 @@ fn round(
 }
 
 // How many classes of the parts are open.
-fn opens_of(parts: &[Part]) -> u64
+fn opens_of(parts: &[FrontierPart]) -> u64
     requires { opens_of parts.now < 2 ^ 64 }
     ensures { result ≡ opens_of parts.now }
 {
@@ -147,7 +147,7 @@ fn opens_of(parts: &[Part]) -> u64
 // Marks and lists what the parts' classes lead to, if it isn't marked yet.
 //
 // Error: `Memory`.
-fn mark_parts(marks: &mut Marks, next: &mut Vec<u32>, parts: &[Part]) -> Result<(), Memory>
+fn mark_parts(marks: &mut Marks, next: &mut Vec<u32>, parts: &[FrontierPart]) -> Result<(), Memory>
     requires { HaveBits marks.old.words.items (outcomes_of parts.now) }
     ensures keeps { OnOk result (KeepsMarks marks.old.words.items marks.new.words.items) }
     ensures marked { OnOk result ((before done : List ℕ) → AreMarked before marks.old.words.items done next.old.items

@@ -9,7 +9,7 @@ ghost use Rattle.dob_records.specs.Records.{IsRecorded, LacksRecord};
 use dob_classes::Classes;
 use dob_dbfile::{Fault, Format, PlacedSource, read_value};
 use dob_pieces::Position;
-use dob_probe::Values;
+use dob_probe::ValueSource;
 use dob_value::Value;
 
 // The value that the record of the position's class says.
@@ -38,7 +38,7 @@ pub struct Records<'a> {
     pub classes: &'a Classes,
 }
 
-impl<R: PlacedSource> Values<R> for Records<'_> {
+impl<R: PlacedSource> ValueSource<R> for Records<'_> {
     type Fault = Fault;
 
     ghost Held = { Stream };

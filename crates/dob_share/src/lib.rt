@@ -7,7 +7,7 @@
 //   them, so one look-up says whether a class is open and which cell it has (`opens_below`). Any other class reads as a cell without moves.
 // - A run has an entry for each counted win, its distance, and its slot says how many are in use, so first news of a win is written without reading the next
 //   slot or the pool. It has fewer than 64 entries, since a class has at most 63 moves (none was seen to have more than 38).
-// - An owner is found without a division: `rest` and `quotient` match the number of nodes. Four divisions an edge were some 17 % of an expansion.
+// - An owner is found without a division: `remainder` and `quotient` match the number of nodes. Four divisions an edge were some 17 % of an expansion.
 // - The cells of 32 items are read before the first of these is applied, so that their memory is fetched at once: first the statuses of all, which give
 //   the cells' numbers, then the cells. No item changes what is read (`IsSeen`), and it is used later, so the compiler can't drop the read.
 // - An item is applied by its row of the table, a function each. Only a win of the enemy writes to the pool; the run is read when the last move becomes

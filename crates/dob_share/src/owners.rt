@@ -8,11 +8,11 @@ pub fn owner(class: u64, n: usize) -> usize
     ensures owner { result ≡ owner_of n class }
     ensures one_of_n { result < n }
 {
-    rest(class, n as u64) as usize
+    remainder(class, n as u64) as usize
 }
 
 /// The remainder of a number by a number of nodes.
-pub fn rest(number: u64, nodes: u64) -> u64
+pub fn remainder(number: u64, nodes: u64) -> u64
     requires { 0 < nodes }
     ensures { result ≡ number % nodes }
 {
@@ -32,7 +32,7 @@ pub fn quotient(number: u64, nodes: u64) -> u64
 pub fn divide(number: u64, nodes: u64) -> (u64, u64)
     requires { 0 < nodes }
     ensures quotient { result.0 ≡ number / nodes }
-    ensures rest { result.1 ≡ number % nodes }
+    ensures remainder { result.1 ≡ number % nodes }
 {
     match nodes {
         1 => (number / 1, number % 1),

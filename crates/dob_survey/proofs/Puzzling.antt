@@ -5,7 +5,7 @@ use Rattle.dob_survey.proofs.Common.{Some, arith, drop, AreOfTable, ArePairs, Is
 use Rattle.std.proofs.lemmas.Grind.{flat_map-append}
 use Rattle.dob_zugzwang.proofs.Listing.{pair_within}
 use Rattle.dob_probe.specs.declared.puzzles.Puzzle.{Puzzle}
-use Rattle.dob_probe.specs.declared.walks.Walk.{Walk}
+use Rattle.dob_probe.specs.declared.walks.ClassOrder.{ClassOrder}
 use Rattle.dob_probe.specs.Puzzles.{ArePuzzles}
 use Rattle.std.proofs.Common.{refl}
 
@@ -26,7 +26,7 @@ module _ (puzzles : List Puzzle) (i : ℕ) (puzzle : Puzzle) (within : i < lengt
       next_line f puzzles i puzzle old new within before (grown ∙ ap (λ (p : Puzzle). old ++ f p) here)
 
 -- a puzzle of a table is of one of its classes
-pub puzzle_within : (table : ClassTable) (walk : Walk) (plies count : ℕ) (puzzles list : List Puzzle) (puzzle : Puzzle) → ArePuzzles table walk plies count puzzles → list ≡ puzzles
+pub puzzle_within : (table : ClassTable) (walk : ClassOrder) (plies count : ℕ) (puzzles list : List Puzzle) (puzzle : Puzzle) → ArePuzzles table walk plies count puzzles → list ≡ puzzles
     → Contains list puzzle → puzzle.class < length table.values
 puzzle_within table walk plies count puzzles list puzzle are same listed =
     slice_get_within table.values puzzle.class _ (are.sound puzzle (subst (λ (l : List Puzzle). Contains l puzzle) same listed)).0.won.entry

@@ -11,7 +11,7 @@ use Rattle.dob_rank.specs.Families.{class_setup}
 use Rattle.dob_value.specs.Follows.{ClassTable}
 use Rattle.dob_probe.specs.declared.puzzles.Puzzle.{Puzzle}
 use Rattle.dob_probe.specs.Puzzles.{ArePuzzles}
-use Rattle.dob_probe.specs.declared.walks.Walk.{Walk}
+use Rattle.dob_probe.specs.declared.walks.ClassOrder.{ClassOrder}
 use Rattle.dob_words.specs.declared.command.orders.PuzzleSearch.{PuzzleSearch}
 use Rattle.dob_files.specs.declared.fault.Fault.{Fault}
 use Rattle.dob_files.specs.declared.fault.Fault.TheVariants.{PuzzlePlies, Memory}
@@ -41,8 +41,8 @@ puzzle_lines family is_numbered [] = codes "none" ++ line_feed ∷ []
 puzzle_lines family is_numbered puzzles = flat_map (line_of_puzzle family is_numbered) puzzles
 
 -- over which classes they are looked for, and in which order
-abbrev pub walk_of : PuzzleSearch → Walk
-walk_of search = record { seed = search.seed; behind = search.from }
+abbrev pub walk_of : PuzzleSearch → ClassOrder
+walk_of search = record { seed = search.seed; after = search.from }
 
 -- the lines give the first puzzles of the walk over the table, at most so many
 pub record ArePuzzleLines (search : PuzzleSearch) (table : ClassTable) (lines : List ℕ) : Type 0 where

@@ -8,7 +8,7 @@ ghost use Rattle.dob_files.specs.Owed.{GivesOwed};
 use dob_files::{Answer, Fault, open};
 use dob_moves::Move;
 use dob_pieces::{Memory, Position};
-use dob_probe::{Puzzle, Walk, first_puzzles};
+use dob_probe::{ClassOrder, Puzzle, first_puzzles};
 use dob_shelf::Shelf;
 use dob_text::{write_move, write_position};
 use dob_value::Table;
@@ -28,9 +28,9 @@ pub fn answer_puzzles<S: Shelf>(
         return Err(Fault::PuzzlePlies);
     }
     let table = open(alloc, shelf, file)?;
-    let walk = Walk {
+    let walk = ClassOrder {
         seed: search.seed,
-        behind: search.from,
+        after: search.from,
     };
     let puzzles = first_puzzles(alloc, &table, walk, search.plies, search.count)?;
     Ok(puzzle_lines(alloc, &table, search.is_numbered, &puzzles)?)

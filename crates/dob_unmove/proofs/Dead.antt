@@ -8,7 +8,7 @@ use Rattle.dob_unmove.proofs.Common.{IsSeenTurned, CanWalk, Gathers, elsewhere, 
 use Rattle.dob_unmove.proofs.Common.{undoes_at, unsteps_between, unsteps_from, comes_home, is_home, may_come, may_have_ended, Threat, RetroMove, Unput, Unstep, setup_after}
 use Rattle.std.proofs.lemmas.Bool.{and_cases, not-false, or_cases, or_parts}
 use Rattle.dob_rank.specs.Families.{RepresentsClass}
-use Rattle.dob_unmove.specs.declared.predecessors.Walk.{Walk}
+use Rattle.dob_unmove.specs.declared.predecessors.RetroMoves.{RetroMoves}
 use Rattle.dob_unmove.proofs.Undone.{leaves, ends_on, came, given, IsBefore, turned_squares, turned_lions}
 use Rattle.dob_unmove.proofs.Kept.{legal_turned}
 use Rattle.dob_unmove.proofs.Homes.{representative_home}
@@ -50,7 +50,7 @@ stood_either true c is = refl
 stood_either false c (inl is) = cc
 stood_either false c (inr is) = is
 
-module _ (walk : Walk) (w : CanWalk walk) where
+module _ (walk : RetroMoves) (w : CanWalk walk) where
   abbrev family : Family
   family = walk.classes.now.family
 

@@ -6,7 +6,7 @@ use Rattle.dob_pieces.specs.declared.setup.Setup.{Setup}
 use Rattle.dob_pieces.specs.Setups.{at, mirrored, turned}
 use Rattle.dob_rank.specs.Families.{IsPositionOf, RepresentsClass, class_setup}
 use Rattle.dob_unmove.specs.declared.predecessors.End.{End}
-use Rattle.dob_unmove.specs.declared.predecessors.Walk.{Walk}
+use Rattle.dob_unmove.specs.declared.predecessors.RetroMoves.{RetroMoves}
 use Rattle.dob_unmove.specs.declared.undo.RetroMove.{RetroMove}
 use Rattle.dob_unmove.specs.Classes.{IsSeenTurned}
 use Rattle.dob_unmove.specs.Gathers.{Gathers}
@@ -19,11 +19,11 @@ seen_after family led_to =
     let after = turned (class_setup family led_to.0) in
     cond led_to.1 (mirrored after) after
 
-abbrev pub setup_after : Walk → Setup
+abbrev pub setup_after : RetroMoves → Setup
 setup_after walk = seen_after walk.classes.now.family walk.led_to.value
 
 -- the setup stands after a move of positions of the family, and the ways are those that lead to it
-pub record CanWalk (walk : Walk) : Type 0 where
+pub record CanWalk (walk : RetroMoves) : Type 0 where
   pub of_set : IsSeenTurned (IsPositionOf walk.classes.now.family) (setup_after walk)
   pub ways_are : AreWays (setup_after walk) walk.ways.now
 
@@ -35,5 +35,5 @@ pub record CanEnd (end : End) : Type 0 where
   pub home : HasLionHome (setup_after end.walk.now) end.walk.now.ways.now.threat.lion end.to
 
 -- what the ways, one after the other, add to the classes that the walk has found
-abbrev pub Collects : Walk → List RetroMove → List ℕ → List ℕ → Type 0
+abbrev pub Collects : RetroMoves → List RetroMove → List ℕ → List ℕ → Type 0
 Collects walk undoes old new = Gathers (RepresentsClass walk.classes.now.family) (setup_after walk) undoes old new

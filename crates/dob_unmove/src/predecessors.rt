@@ -31,7 +31,7 @@ use std::snapshot::Snapshot;
 // A walk over the ways to take back the moves that led to the representative of the class, or to its mirror image. The side
 // that made them is the mover in the ways, whose board shows all that a walk asks of the setup.
 #[derive(Drop)]
-struct Walk<'a> {
+struct RetroMoves<'a> {
     classes: &'a Classes,
     // The class, and whether it is the mirror image: they say of what the ways are.
     led_to: Snapshot<(u64, bool)>,
@@ -41,11 +41,11 @@ struct Walk<'a> {
 // A square on which the move may have ended.
 #[derive(Clone, Copy)]
 struct End<'a> {
-    walk: &'a Walk<'a>,
+    walk: &'a RetroMoves<'a>,
     to: Square,
 }
 
-impl Walk<'_> {
+impl RetroMoves<'_> {
     // Appends the classes of the open representatives that stood before the setup.
     fn gather_all(&self, found: &mut Vec<u64>) -> Result<(), Memory>
         requires { CanWalk self.now }
@@ -244,7 +244,7 @@ fn gather(room: Vec<u64>, classes: &Classes, class: u64, board: &Board) -> Resul
     let mut found = room;
     found.clear();
     let ways = Ways::of(*board);
-    let walk = Walk {
+    let walk = RetroMoves {
         classes,
         led_to: Snapshot::of(&(class, false)),
         ways: &ways,
@@ -254,7 +254,7 @@ fn gather(room: Vec<u64>, classes: &Classes, class: u64, board: &Board) -> Resul
         return Ok(found);
     }
     let image_ways = Ways::of(ways.board.mirrored());
-    let image_walk = Walk {
+    let image_walk = RetroMoves {
         classes,
         led_to: Snapshot::of(&(class, true)),
         ways: &image_ways,

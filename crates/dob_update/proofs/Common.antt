@@ -17,7 +17,7 @@ pub use Rattle.dob_share.specs.declared.news.Item.{Item}
 pub use Rattle.dob_share.specs.declared.news.Settlement.{Settlement}
 pub use Rattle.dob_update.specs.Batches.{BatchView, HasOneMore, IsBatch, IsCut, IsFront, IsOutbox, OutboxView, added, items_for, with_items}
 pub use Rattle.dob_share.specs.Items.{item_for, items_in_all, items_of, items_of_parts, target_of}
-pub use Rattle.dob_update.specs.Parts.{AreParts, AreWhole, behind, front, settlement_of, settlements_of, skip_behind}
+pub use Rattle.dob_update.specs.Parts.{AreParts, AreWhole, left_after, front, settlement_of, settlements_of, skip_after}
 pub use Rattle.dob_update.specs.Parts.{with_number}
 pub use Rattle.dob_update.specs.Runs.{AreItemsRun, AreListed, IsItemRun, IsRest, count_for}
 pub use Rattle.dob_share.specs.declared.news.Part.{Part}

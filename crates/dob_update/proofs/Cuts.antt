@@ -1,9 +1,9 @@
 -- What is cut from an outbox: the parts in front with their items, and what is left.
 use Rattle.dob_update.proofs.Common.{◌++◌, ◌+◌, ◌<◌, ◌∙◌, ◌≡◌, ◌≢◌, ◌≤◌, List, [], ap, arith, drop, length, length-take-le, min, refl, subst, sym, take, ℕ}
-use Rattle.dob_update.proofs.Common.{drop_min, take_min, Family, Item, IsCut, OutboxView, behind, front, items_in_all, items_of_parts, AreItemsRun}
-use Rattle.dob_update.proofs.Common.{settlements_of, skip_behind, AreListed, IsItemRun, Part}
-use Rattle.dob_update.proofs.Runs.{total-front, front_settlements, run_cut, gone_behind}
-use Rattle.dob_update.proofs.PartItems.{items_in_front, items_of_parts-behind, many_listed, none_listed, listed_behind}
+use Rattle.dob_update.proofs.Common.{drop_min, take_min, Family, Item, IsCut, OutboxView, left_after, front, items_in_all, items_of_parts, AreItemsRun}
+use Rattle.dob_update.proofs.Common.{settlements_of, skip_after, AreListed, IsItemRun, Part}
+use Rattle.dob_update.proofs.Runs.{total-front, front_settlements, run_cut, gone_after}
+use Rattle.dob_update.proofs.PartItems.{items_in_front, items_of_parts-behind, many_listed, none_listed, listed_after}
 
 -- The first k items of those that the outbox lists are cut, `size` of them or all.
 pub record IsCutting (family : Family) (n to : ℕ) (parts : List Part) (skip : ℕ) (classes : List ℕ) (size k : ℕ) : Type 0 where
@@ -27,8 +27,8 @@ module _ {family : Family} {n to : ℕ} {parts : List Part} {skip : ℕ} {classe
   items_within : k ≤ length all
   items_within = let many = many_listed cutting.listed in let least = cutting.least in omega (arith, many, least)
 
-  pub still_listed : AreListed family n to (behind k parts) (skip_behind skip k parts) (drop k classes)
-  still_listed = listed_behind family n to parts skip k classes cutting.listed classes_within
+  pub still_listed : AreListed family n to (left_after k parts) (skip_after skip k parts) (drop k classes)
+  still_listed = listed_after family n to parts skip k classes cutting.listed classes_within
 
   -- where none is cut, none is there
   pub none_there : 0 < size → k ≡ 0 → all ≡ []
@@ -53,18 +53,18 @@ module _ {family : Family} {n to : ℕ} {parts : List Part} {skip : ℕ} {classe
           (run_cut family n to parts skip k all cutting.listed.rest (omega (arith, some)) items_within));
     }
 
-    pub is_cut : (from next new_skip : ℕ) (left : List Part) (others : List ℕ) → left ≡ behind k parts → new_skip ≡ skip_behind skip k parts → others ≡ drop k classes →
+    pub is_cut : (from next new_skip : ℕ) (left : List Part) (others : List ℕ) → left ≡ left_after k parts → new_skip ≡ skip_after skip k parts → others ≡ drop k classes →
         (let old : OutboxView = record { family = family; n = n; from = from; to = to; settlements = settlements_of parts; skip = skip; items = all; next = next } in
         IsCut old size
         (record { family = family; n = n; from = from; to = to; number = next; settlements = settlements_of taken; skip = skip; items = items })
         (record old { settlements = settlements_of left; skip = new_skip; items = items_of_parts left others; next = next + 1 }))
     is_cut from next new_skip left others left_is skip_is others_are =
         let listed = front_settlements parts k in
-        let g = gone_behind family n to parts skip k cutting.listed.rest.parts_fit parts_within in
+        let g = gone_after family n to parts skip k cutting.listed.rest.parts_fit parts_within in
         let least : k ≡ min size (length all) = (let all_listed = many_listed cutting.listed in let few = cutting.least in omega (arith, all_listed, few)) in
         record {
           items = items_are ∙ ap (λ m. take m all) least ∙ take_min size all;
-          left = ap (λ (ps : List Part). items_of_parts ps others) left_is ∙ ap (λ xs. items_of_parts (behind k parts) xs) others_are
+          left = ap (λ (ps : List Part). items_of_parts ps others) left_is ∙ ap (λ xs. items_of_parts (left_after k parts) xs) others_are
               ∙ items_of_parts-behind k parts classes enough parts_within ∙ ap (λ m. drop m all) least ∙ drop_min size all;
           skip = refl;
           number = refl;

@@ -3,12 +3,12 @@ use Rattle.dob_update.proofs.Common.{nat_tests}
 use Rattle.dob_update.proofs.Common.{◌++◌, ◌+◌, ◌-◌, ◌<◌, ◌∙◌, ◌∷◌, ◌≡◌, ◌≤◌, List, [], ap, arith, drop, get_or, inl, inr, length, length-append, length-drop}
 use Rattle.dob_update.proofs.Common.{length-take-le, refl, subst, sym, take, ℕ, cases_lt, append-nil, append_assoc, drop-append-le, drop-drop}
 use Rattle.dob_update.proofs.Common.{drop_all, drop_at, drop_more, length-map, map-append, take-append-le, take-take, take_all, filter, map, Family, predecessors}
-use Rattle.dob_update.proofs.Common.{owner_of, Item, Settlement, OutboxView, added, with_items, item_for, items_of, behind, front, items_in_all, items_of_parts}
-use Rattle.dob_update.proofs.Common.{settlement_of, settlements_of, skip_behind, target_of, AreItemsRun, AreListed, IsRest, Part}
+use Rattle.dob_update.proofs.Common.{owner_of, Item, Settlement, OutboxView, added, with_items, item_for, items_of, left_after, front, items_in_all, items_of_parts}
+use Rattle.dob_update.proofs.Common.{settlement_of, settlements_of, skip_after, target_of, AreItemsRun, AreListed, IsRest, Part}
 use Rattle.std.specs.Prelude.{◌==◌, ◌^◌}
 use Rattle.std.proofs.lemmas.List.{take-append-drop, drop-take, take_at, map_more, get_or-drop, nil_from_length}
 use Rattle.dob_distance.specs.declared.value.Value.TheVariants.{Win}
-use Rattle.dob_update.proofs.PartLists.{front-zero, behind-within, behind-past}
+use Rattle.dob_update.proofs.PartLists.{front-zero, left_after-within, left_after-past}
 use Rattle.dob_share.proofs.PartItems.{items_of_parts-length, targets_of_items}
 use Rattle.dob_update.proofs.Runs.{total-front, rest_many, rest_added, rest_cut}
 
@@ -46,7 +46,7 @@ two_pieces k m classes within =
     let whole : k + (m - k) ≡ m = omega (arith, within) in
     grind (arith, take-take k m classes within, drop-take k (m - k) classes, whole, take-append-drop k (take m classes))
 
-items_of_parts-split : (k : ℕ) (parts : List Part) (classes : List ℕ) → items_of_parts (front k parts) classes ++ items_of_parts (behind k parts) (drop k classes) ≡ items_of_parts parts classes
+items_of_parts-split : (k : ℕ) (parts : List Part) (classes : List ℕ) → items_of_parts (front k parts) classes ++ items_of_parts (left_after k parts) (drop k classes) ≡ items_of_parts parts classes
 items_of_parts-split k [] classes = refl
 items_of_parts-split k (part ∷ parts) classes = elim (cases_lt k part.items) [
   | inl lt ↦
@@ -57,7 +57,7 @@ items_of_parts-split k (part ∷ parts) classes = elim (cases_lt k part.items) [
       grind (
         arith,
         front_within k part parts classes within,
-        behind-within k part parts lt,
+        left_after-within k part parts lt,
         drop-drop (part.items - k) k classes,
         whole,
         append_assoc (map f (take k classes)) (map f (take (part.items - k) (drop k classes))) tail,
@@ -71,10 +71,10 @@ items_of_parts-split k (part ∷ parts) classes = elim (cases_lt k part.items) [
       grind (
         arith,
         front_past k part parts classes le,
-        behind-past k part parts le,
+        left_after-past k part parts le,
         drop-drop (k - part.items) part.items classes,
         whole,
-        append_assoc own before (items_of_parts (behind (k - part.items) parts) (drop k classes)),
+        append_assoc own before (items_of_parts (left_after (k - part.items) parts) (drop k classes)),
         items_of_parts-split (k - part.items) parts (drop part.items classes),
       )
 ]
@@ -84,13 +84,13 @@ long k parts classes enough within = grind (arith, total-front, items_of_parts-l
 
 pub items_of_parts-front : (k : ℕ) (parts : List Part) (classes : List ℕ) → items_in_all parts ≤ length classes → k ≤ items_in_all parts → items_of_parts (front k parts) classes ≡ take k (items_of_parts parts classes)
 items_of_parts-front k parts classes enough within =
-    sym (take_at (items_of_parts (front k parts) classes) (items_of_parts (behind k parts) (drop k classes)) k (long k parts classes enough within))
+    sym (take_at (items_of_parts (front k parts) classes) (items_of_parts (left_after k parts) (drop k classes)) k (long k parts classes enough within))
     ∙ ap (λ (xs : List Item). take k xs) (items_of_parts-split k parts classes)
 
 pub items_of_parts-behind : (k : ℕ) (parts : List Part) (classes : List ℕ) → items_in_all parts ≤ length classes → k ≤ items_in_all parts
-    → items_of_parts (behind k parts) (drop k classes) ≡ drop k (items_of_parts parts classes)
+    → items_of_parts (left_after k parts) (drop k classes) ≡ drop k (items_of_parts parts classes)
 items_of_parts-behind k parts classes enough within =
-    sym (drop_at (items_of_parts (front k parts) classes) (items_of_parts (behind k parts) (drop k classes)) k (long k parts classes enough within))
+    sym (drop_at (items_of_parts (front k parts) classes) (items_of_parts (left_after k parts) (drop k classes)) k (long k parts classes enough within))
     ∙ ap (λ (xs : List Item). drop k xs) (items_of_parts-split k parts classes)
 
 -- classes behind those of the parts don't matter
@@ -199,17 +199,17 @@ items_added family n to parts classes s more all is =
     ∙ ap (λ (xs : List Item). items_of_parts parts classes ++ xs) (items_again s more (filter (λ class. owner_of n class == to) (predecessors family s.class)) is)
 
 -- what is left without the first k
-pub listed_behind : (family : Family) (n to : ℕ) (parts : List Part) (skip k : ℕ) (classes : List ℕ) → AreListed family n to parts skip classes → k ≤ length classes
-    → AreListed family n to (behind k parts) (skip_behind skip k parts) (drop k classes)
-listed_behind family n to parts skip k classes r within =
+pub listed_after : (family : Family) (n to : ℕ) (parts : List Part) (skip k : ℕ) (classes : List ℕ) → AreListed family n to parts skip classes → k ≤ length classes
+    → AreListed family n to (left_after k parts) (skip_after skip k parts) (drop k classes)
+listed_after family n to parts skip k classes r within =
     let before = r.counted in
     let all = items_of_parts parts classes in
     let long = items_of_parts-length parts classes (omega (arith, before)) in
     let rest = rest_cut family n to parts skip k all r.rest (omega (arith, before, long, within)) in
     let left = length-drop k classes in
     record {
-      counted = omega (arith, before, long, rest_many family n to (behind k parts) (skip_behind skip k parts) (drop k all) rest, length-drop k all, left);
-      rest = subst (λ (xs : List Item). IsRest family n to (behind k parts) (skip_behind skip k parts) xs)
+      counted = omega (arith, before, long, rest_many family n to (left_after k parts) (skip_after skip k parts) (drop k all) rest, length-drop k all, left);
+      rest = subst (λ (xs : List Item). IsRest family n to (left_after k parts) (skip_after skip k parts) xs)
           (sym (items_of_parts-behind k parts classes (omega (arith, before)) (omega (arith, before, within)))) rest;
     }
 

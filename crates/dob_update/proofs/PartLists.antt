@@ -1,8 +1,8 @@
 -- Lists of parts: what is taken from their front, and what is left behind it.
 use Rattle.dob_update.proofs.Common.{nat_tests}
 use Rattle.dob_update.proofs.Common.{◌++◌, ◌+◌, ◌-◌, ◌<◌, ◌∙◌, ◌∷◌, ◌≡◌, ◌≤◌, List, [], ap, arith, drop, get_or, length, refl, sym}
-use Rattle.dob_update.proofs.Common.{take, ℕ, append-nil, drop_all, Settlement, AreWhole, behind, front}
-use Rattle.dob_update.proofs.Common.{items_in_all, skip_behind, with_number, Part}
+use Rattle.dob_update.proofs.Common.{take, ℕ, append-nil, drop_all, Settlement, AreWhole, left_after, front}
+use Rattle.dob_update.proofs.Common.{items_in_all, skip_after, with_number, Part}
 
 -- ---- what stands in front
 
@@ -40,16 +40,16 @@ keeping_all k rest index old parts past l = grind (arith, append-nil (take index
 
 -- ---- what is left behind
 
-pub behind-within : (k : ℕ) (part : Part) (parts : List Part) → k < part.items → behind k (part ∷ parts) ≡ with_number part (part.items - k) ∷ parts
-behind-within k part parts lt = grind (arith, nat_tests)
+pub left_after-within : (k : ℕ) (part : Part) (parts : List Part) → k < part.items → left_after k (part ∷ parts) ≡ with_number part (part.items - k) ∷ parts
+left_after-within k part parts lt = grind (arith, nat_tests)
 
-pub behind-past : (k : ℕ) (part : Part) (parts : List Part) → part.items ≤ k → behind k (part ∷ parts) ≡ behind (k - part.items) parts
-behind-past k part parts le = grind (arith, nat_tests)
+pub left_after-past : (k : ℕ) (part : Part) (parts : List Part) → part.items ≤ k → left_after k (part ∷ parts) ≡ left_after (k - part.items) parts
+left_after-past k part parts le = grind (arith, nat_tests)
 
-pub skip-within : (skip k : ℕ) (part : Part) (parts : List Part) → k < part.items → skip_behind skip k (part ∷ parts) ≡ skip + k
+pub skip-within : (skip k : ℕ) (part : Part) (parts : List Part) → k < part.items → skip_after skip k (part ∷ parts) ≡ skip + k
 skip-within skip k part parts lt = grind (arith, nat_tests)
 
-pub skip-past : (skip k : ℕ) (part : Part) (parts : List Part) → part.items ≤ k → skip_behind skip k (part ∷ parts) ≡ skip_behind 0 (k - part.items) parts
+pub skip-past : (skip k : ℕ) (part : Part) (parts : List Part) → part.items ≤ k → skip_after skip k (part ∷ parts) ≡ skip_after 0 (k - part.items) parts
 skip-past skip k part parts le = grind (arith, nat_tests)
 
 -- what is left to be dropped from the parts is what was left before
@@ -57,15 +57,15 @@ pub record IsDropping (k skip rest before : ℕ) (old parts : List Part) : Type 
   pub count : Settlement → ℕ
   pub whole : AreWhole count before parts
   pub within : rest ≤ items_in_all parts
-  pub behind_is : behind rest parts ≡ behind k old
-  pub skip_is : skip_behind before rest parts ≡ skip_behind skip k old
+  pub after_is : left_after rest parts ≡ left_after k old
+  pub skip_is : skip_after before rest parts ≡ skip_after skip k old
 
 -- nothing is left to be dropped
-pub dropped_all : (k skip rest before : ℕ) (old parts : List Part) → rest ≡ 0 → IsDropping k skip rest before old parts → (parts ≡ behind k old) × (before ≡ skip_behind skip k old)
+pub dropped_all : (k skip rest before : ℕ) (old parts : List Part) → rest ≡ 0 → IsDropping k skip rest before old parts → (parts ≡ left_after k old) × (before ≡ skip_after skip k old)
 dropped_all k skip rest before old parts e d =
-    let none = behind-zero d.count before parts d.whole in
-    (grind (arith, none.0, d.behind_is), grind (arith, none.1, d.skip_is))
+    let none = left_after-zero d.count before parts d.whole in
+    (grind (arith, none.0, d.after_is), grind (arith, none.1, d.skip_is))
   where
-    behind-zero : (count : Settlement → ℕ) (before : ℕ) (parts : List Part) → AreWhole count before parts → (behind 0 parts ≡ parts) × (skip_behind before 0 parts ≡ before)
-    behind-zero count before [] w = (refl, refl)
-    behind-zero count before (p ∷ ps) w = (grind (arith, nat_tests), grind (arith, nat_tests))
+    left_after-zero : (count : Settlement → ℕ) (before : ℕ) (parts : List Part) → AreWhole count before parts → (left_after 0 parts ≡ parts) × (skip_after before 0 parts ≡ before)
+    left_after-zero count before [] w = (refl, refl)
+    left_after-zero count before (p ∷ ps) w = (grind (arith, nat_tests), grind (arith, nat_tests))

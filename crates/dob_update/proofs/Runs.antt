@@ -4,12 +4,12 @@ use Rattle.dob_update.proofs.Common.{◌++◌, ◌+◌, ◌-◌, ◌<◌, ◌==�
 use Rattle.dob_update.proofs.Common.{length-append, length-drop, length-take-le, min, refl, subst, sym, take, true, ℕ, cases_lt}
 use Rattle.dob_update.proofs.Common.{append-nil, append_assoc, drop-append-le, drop-drop, drop_at, length-map, map-append, take-append-le, take-take, Family}
 use Rattle.dob_update.proofs.Common.{predecessors, Item, Settlement, BatchView, IsBatch, IsFront, IsOutbox, OutboxView, items_for, items_of, AreParts, AreWhole}
-use Rattle.dob_update.proofs.Common.{behind, front, items_in_all, settlement_of, settlements_of, skip_behind, with_number, IsItemRun, IsRest, count_for, Part}
+use Rattle.dob_update.proofs.Common.{left_after, front, items_in_all, settlement_of, settlements_of, skip_after, with_number, IsItemRun, IsRest, count_for, Part}
 use Rattle.std.proofs.lemmas.List.Elements.{All-cons, All-nil}
 use Rattle.std.specs.List.{All}
 use Rattle.dob_share.specs.Items.{HasItem}
 use Rattle.dob_update.specs.Batches.{HasItemIn}
-use Rattle.dob_update.proofs.PartLists.{behind-within, behind-past, skip-within, skip-past}
+use Rattle.dob_update.proofs.PartLists.{left_after-within, left_after-past, skip-within, skip-past}
 
 -- ---- parts and their numbers of items
 
@@ -72,20 +72,20 @@ module _ (family : Family) (n to : ℕ) where
   length-items s ss = length-append (items_of (predecessors family) n to s) (items ss)
 
   -- each part's settlement has an item in the run
-  each_needed : (parts : List Part) (skip : ℕ) → AreParts count skip parts → (before : List Settlement) (s : Settlement) (behind : List Settlement)
-      → settlements_of parts ≡ before ++ s ∷ behind → HasItemIn family n to before s skip (items_in_all parts)
-  each_needed [] skip h [] s behind e = cc
-  each_needed [] skip h (b ∷ bs) s behind e = cc
-  each_needed (part ∷ parts) skip h [] s behind e =
+  each_needed : (parts : List Part) (skip : ℕ) → AreParts count skip parts → (before : List Settlement) (s : Settlement) (left_after : List Settlement)
+      → settlements_of parts ≡ before ++ s ∷ left_after → HasItemIn family n to before s skip (items_in_all parts)
+  each_needed [] skip h [] s left_after e = cc
+  each_needed [] skip h (b ∷ bs) s left_after e = cc
+  each_needed (part ∷ parts) skip h [] s left_after e =
       let same : part.settlement ≡ s = cc in
       let own = length-items s [] in
       record { place = skip; of_settlement = (omega arith, grind (arith, h.0, h.1, own)); of_run = (omega arith, omega (arith, h.0)) }
-  each_needed (part ∷ parts) skip h (b ∷ bs) s behind e =
+  each_needed (part ∷ parts) skip h (b ∷ bs) s left_after e =
       let first : part.settlement ≡ b = cc in
-      let others : settlements_of parts ≡ bs ++ s ∷ behind = cc in
-      let w = each_needed parts 0 h.3 bs s behind others in
-      let as_many : length parts ≡ length (bs ++ s ∷ behind) = sym (length-map parts settlement_of) ∙ ap length others in
-      let exact : skip + part.items ≡ count b = h.2 (omega (arith, as_many, length-append bs (s ∷ behind))) ∙ ap count first in
+      let others : settlements_of parts ≡ bs ++ s ∷ left_after = cc in
+      let w = each_needed parts 0 h.3 bs s left_after others in
+      let as_many : length parts ≡ length (bs ++ s ∷ left_after) = sym (length-map parts settlement_of) ∙ ap length others in
+      let exact : skip + part.items ≡ count b = h.2 (omega (arith, as_many, length-append bs (s ∷ left_after))) ∙ ap count first in
       record {
         place = count b + w.place;
         of_settlement = (omega (arith, length-items b bs, w.of_settlement.0), omega (arith, length-items b (bs ++ s ∷ []), w.of_settlement.1));
@@ -147,15 +147,15 @@ module _ (family : Family) (n to : ℕ) where
   -- what is gone from the parts, and what is left of them
   pub record IsGone (parts : List Part) (skip k : ℕ) : Type 0 where
     pub gone : List Settlement
-    pub apart : settlements_of parts ≡ gone ++ settlements_of (behind k parts)
-    pub many : length (items gone) + skip_behind skip k parts ≡ skip + k
-    pub whole : AreWhole count (skip_behind skip k parts) (behind k parts)
+    pub apart : settlements_of parts ≡ gone ++ settlements_of (left_after k parts)
+    pub many : length (items gone) + skip_after skip k parts ≡ skip + k
+    pub whole : AreWhole count (skip_after skip k parts) (left_after k parts)
 
-  pub gone_behind : (parts : List Part) (skip k : ℕ) → AreWhole count skip parts → k ≤ items_in_all parts → IsGone parts skip k
-  gone_behind [] skip k w within = record { gone = []; apart = refl; many = omega (arith, within); whole = w }
-  gone_behind (part ∷ parts) skip k w within = elim (cases_lt k part.items) [
+  pub gone_after : (parts : List Part) (skip k : ℕ) → AreWhole count skip parts → k ≤ items_in_all parts → IsGone parts skip k
+  gone_after [] skip k w within = record { gone = []; apart = refl; many = omega (arith, within); whole = w }
+  gone_after (part ∷ parts) skip k w within = elim (cases_lt k part.items) [
     | inl lt ↦
-        let b = behind-within k part parts lt in
+        let b = left_after-within k part parts lt in
         let s = skip-within skip k part parts lt in
         record {
           gone = [];
@@ -164,9 +164,9 @@ module _ (family : Family) (n to : ℕ) where
           whole = rw (s, b) (omega (arith, lt), omega (arith, w.1, lt), w.2, w.3);
         }
     | inr le ↦
-        let b = behind-past k part parts le in
+        let b = left_after-past k part parts le in
         let s = skip-past skip k part parts le in
-        let later = gone_behind parts 0 (k - part.items) w.3 (omega (arith, within)) in
+        let later = gone_after parts 0 (k - part.items) w.3 (omega (arith, within)) in
         record {
           gone = part.settlement ∷ later.gone;
           apart = ap (λ ss. part.settlement ∷ ss) later.apart ∙ ap (λ ps. (part.settlement ∷ later.gone) ++ settlements_of ps) (sym b);
@@ -176,17 +176,17 @@ module _ (family : Family) (n to : ℕ) where
   ]
 
   pub rest_cut : (parts : List Part) (skip k : ℕ) (all : List Item) → IsRest family n to parts skip all → k ≤ length all
-      → IsRest family n to (behind k parts) (skip_behind skip k parts) (drop k all)
+      → IsRest family n to (left_after k parts) (skip_after skip k parts) (drop k all)
   rest_cut parts skip k all r within =
-      let g = gone_behind parts skip k r.parts_fit (cut_within parts skip k all r within) in
-      let left = items (settlements_of (behind k parts)) in
+      let g = gone_after parts skip k r.parts_fit (cut_within parts skip k all r within) in
+      let left = items (settlements_of (left_after k parts)) in
       let before = items g.gone in
-      let apart : items (settlements_of parts) ≡ before ++ left = ap items g.apart ∙ items-append g.gone (settlements_of (behind k parts)) in
+      let apart : items (settlements_of parts) ≡ before ++ left = ap items g.apart ∙ items-append g.gone (settlements_of (left_after k parts)) in
       record {
         parts_fit = g.whole;
         rest = ap (drop k) r.rest ∙ drop-drop k skip (items (settlements_of parts)) ∙ ap (λ m. drop m (items (settlements_of parts))) (sym g.many)
-            ∙ ap (drop (length before + skip_behind skip k parts)) apart ∙ sym (drop-drop (skip_behind skip k parts) (length before) (before ++ left))
-            ∙ ap (drop (skip_behind skip k parts)) (drop_at before left (length before) refl);
+            ∙ ap (drop (length before + skip_after skip k parts)) apart ∙ sym (drop-drop (skip_after skip k parts) (length before) (before ++ left))
+            ∙ ap (drop (skip_after skip k parts)) (drop_at before left (length before) refl);
       }
 
   -- one more settlement with its items
@@ -210,16 +210,16 @@ pub IsBatch-from_run : (b : BatchView) (parts : List Part) → b.settlements ≡
 IsBatch-from_run b parts e r = record {
   some = r.some;
   run = subst (λ (ss : List Settlement). b.items ≡ take (length b.items) (drop b.skip (items_for b.family b.n b.to ss))) (sym e) r.run;
-  needed = λ before s behind h.
-      subst (λ (m : ℕ). HasItemIn b.family b.n b.to before s b.skip m) r.counted (each_needed b.family b.n b.to parts b.skip r.parts_fit before s behind (sym e ∙ h));
+  needed = λ before s left_after h.
+      subst (λ (m : ℕ). HasItemIn b.family b.n b.to before s b.skip m) r.counted (each_needed b.family b.n b.to parts b.skip r.parts_fit before s left_after (sym e ∙ h));
 }
 
 pub IsOutbox-from_rest : (o : OutboxView) (parts : List Part) → o.settlements ≡ settlements_of parts → IsRest o.family o.n o.to parts o.skip o.items → IsOutbox o
 IsOutbox-from_rest o parts e r = record {
   rest = subst (λ (ss : List Settlement). o.items ≡ drop o.skip (items_for o.family o.n o.to ss)) (sym e) r.rest;
-  needed = λ before s behind h.
+  needed = λ before s left_after h.
       subst (λ (m : ℕ). HasItemIn o.family o.n o.to before s o.skip m) (rest_many o.family o.n o.to parts o.skip o.items r)
-      (each_needed o.family o.n o.to parts o.skip (parts_from_whole (count_for o.family o.n o.to) parts o.skip r.parts_fit) before s behind (sym e ∙ h));
+      (each_needed o.family o.n o.to parts o.skip (parts_from_whole (count_for o.family o.n o.to) parts o.skip r.parts_fit) before s left_after (sym e ∙ h));
 }
 
 -- the first k items of a batch, with the parts in front

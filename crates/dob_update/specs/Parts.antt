@@ -19,14 +19,14 @@ front k [] = []
 front k (part ∷ parts) = cond (k == 0) [] (with_number part (min k part.items) ∷ front (k - part.items) parts)
 
 -- what is left of the parts without the first k items
-abbrev pub behind : ℕ → List Part → List Part
-behind k [] = []
-behind k (part ∷ parts) = cond (nat_lt k part.items) (with_number part (part.items - k) ∷ parts) (behind (k - part.items) parts)
+abbrev pub left_after : ℕ → List Part → List Part
+left_after k [] = []
+left_after k (part ∷ parts) = cond (nat_lt k part.items) (with_number part (part.items - k) ∷ parts) (left_after (k - part.items) parts)
 
 -- how many items of the first settlement stood before these parts, and stand before what is left without the first k
-abbrev pub skip_behind : ℕ → ℕ → List Part → ℕ
-skip_behind skip k [] = skip
-skip_behind skip k (part ∷ parts) = cond (nat_lt k part.items) (skip + k) (skip_behind 0 (k - part.items) parts)
+abbrev pub skip_after : ℕ → ℕ → List Part → ℕ
+skip_after skip k [] = skip
+skip_after skip k (part ∷ parts) = cond (nat_lt k part.items) (skip + k) (skip_after 0 (k - part.items) parts)
 
 -- The parts are runs of their settlements' items, of which `count s` gives the number: the first after `skip` of them,
 -- each but the last up to the end, and none is empty.

@@ -7,7 +7,7 @@ ghost use Rattle.dob_unmove.specs.Edges.{predecessors};
 ghost use Rattle.dob_share.specs.declared.news.Settlement.{Settlement as Settled};
 ghost use Rattle.dob_share.specs.Owners.{owner_of};
 ghost use Rattle.dob_share.specs.Items.{items_of, items_in_all, target_of};
-ghost use Rattle.dob_update.specs.Parts.{front, behind, skip_behind, AreWhole};
+ghost use Rattle.dob_update.specs.Parts.{front, left_after, skip_after, AreWhole};
 ghost use Rattle.dob_update.specs.Batches.{OutboxView, IsOutbox, HasOneMore, IsCut, empty_outbox, added};
 
 use crate::batch::Batch;
@@ -209,8 +209,8 @@ fn move_parts(parts: &mut VecDeque<Part>, list: &mut Vec<Part>, skip: usize, k: 
     requires within { k ≤ items_in_all parts.old.items }
     requires room { vec_len list.old + k ≤ vec_capacity list.old }
     ensures moved { list.new.items ≡ list.old.items ++ front k parts.old.items }
-    ensures parts { parts.new.items ≡ behind k parts.old.items }
-    ensures skip { result ≡ skip_behind skip k parts.old.items }
+    ensures parts { parts.new.items ≡ left_after k parts.old.items }
+    ensures skip { result ≡ skip_after skip k parts.old.items }
 {
     let mut before = skip;
     let mut rest = k;

@@ -28,6 +28,6 @@ pub use Rattle.dob_words.specs.Words.{Given, Meaning, Stand, Text, after_dashes,
 pub use Rattle.dob_words.specs.Words.{cleared, dashes, ended, fits, flag, flag_of, has_topic, help, is_clear, is_dashes, is_help_flag, is_number, is_profile}
 pub use Rattle.dob_words.specs.Words.{is_stream, is_text, is_topic, is_version, kept, label_of, meaning_of, meaning_of_command, meaning_of_form}
 pub use Rattle.dob_words.specs.Words.{meaning_of_other, meaning_of_topic, name_in, named_part, number_in, once, option, part_named, placed, without_conflict, streams}
-pub use Rattle.dob_words.specs.Words.{takes_lines, text, text_behind, texts_of, unknown, usage, valued, version, wanted, wants, writes_stream}
+pub use Rattle.dob_words.specs.Words.{takes_lines, text, text_after, texts_of, unknown, usage, valued, version, wanted, wants, writes_stream}
 pub use Rattle.dob_words.specs.declared.command.Reading.{Reading}
 pub use Rattle.dob_words.specs.declared.command.orders.Order.{Order}

@@ -5,7 +5,7 @@ use Rattle.dob_words.proofs.Common.{is_some, not, option_map, bytes_eq, Kinds, o
 use Rattle.dob_words.proofs.Common.{with_leaf_noted, is_given, first_of, AreProfiles, ProfileNames, bare_app, form_app, Given, Meaning, Stand, Text}
 use Rattle.dob_words.proofs.Common.{after_dashes, after_part, after_word, asked, asks, at_end, behind, between, call, dashes, ended, fits, flag, help}
 use Rattle.dob_words.proofs.Common.{is_dashes, is_help_flag, is_text, kept, label_of, meaning_of_form, name_in, named_part, once, option, placed, text}
-use Rattle.dob_words.proofs.Common.{text_behind, texts_of, unknown, usage, valued, version, wanted, wants, unwrap_or}
+use Rattle.dob_words.proofs.Common.{text_after, texts_of, unknown, usage, valued, version, wanted, wants, unwrap_or}
 use Rattle.clap.specs.Walk.{rows_after, value as a_value, is_pending, Held, Row, Rule, Waiting, Walk, arg_by_id, arg_by_index, arg_by_long, arg_by_short}
 use Rattle.clap.specs.Walk.{finished, idle, next_position, nothing_held, option as waits_for, settled, settled_rows, subcommand_met, walked}
 use Rattle.clap.specs.Faults.{check_fault, defaults_fault, level_fault, settle_fault, step_fault, turn_fault, walk_fault}
@@ -149,7 +149,7 @@ module _ (profiles : ProfileNames) (are : AreProfiles profiles) (f : Form) (is :
   good_rows given = record { settles = refl; rows_are = refl }
 
   module _ (long : Option Text) (index : Option ℕ) (label : Text) (known : arg_by_id rules label ≡ Some (text_arg profiles f long index label)) where
-    good_pending : (given : Given) (t : Text) → text_behind label given ≡ None → fits f label t ≡ true
+    good_pending : (given : Given) (t : Text) → text_after label given ≡ None → fits f label t ≡ true
         → Good (rows_of given) (Some (label, t ∷ [])) (given ++ (label, t) ∷ [])
     good_pending given t fresh fit = record {
       settles = rw known (use_passes profiles are f long index label t given fresh fit);
@@ -157,21 +157,21 @@ module _ (profiles : ProfileNames) (are : AreProfiles profiles) (f : Form) (is :
     }
 
     -- the text is kept
-    good_kept : (given : Given) (t : Text) → (is_some (text_behind label given) || not (fits f label t)) ≡ false
+    good_kept : (given : Given) (t : Text) → (is_some (text_after label given) || not (fits f label t)) ≡ false
         → Good (rows_of given) (Some (label, t ∷ [])) (given ++ (label, t) ∷ [])
-    good_kept given t e = let both = kept_both (text_behind label given) (fits f label t) e in good_pending given t both.0 both.1
+    good_kept given t e = let both = kept_both (text_after label given) (fits f label t) e in good_pending given t both.0 both.1
 
     -- a text that isn't what it has to be
-    misfit_fails : (given : Given) (t : Text) → text_behind label given ≡ None → fits f label t ≡ false
+    misfit_fails : (given : Given) (t : Text) → text_after label given ≡ None → fits f label t ≡ false
         → is_usage (settle_fault rules false (held (rows_of given) (Some (label, t ∷ [])))) ≡ true
     misfit_fails given t fresh misfit =
         rw (known, use_misfit profiles are f long index label t given fresh misfit) (misfit_usage (is_among f.numbers label))
 
     -- that, or a second text of one label
-    unfit_fails : (given : Given) (t : Text) → (is_some (text_behind label given) || not (fits f label t)) ≡ true
+    unfit_fails : (given : Given) (t : Text) → (is_some (text_after label given) || not (fits f label t)) ≡ true
         → is_usage (settle_fault rules false (held (rows_of given) (Some (label, t ∷ [])))) ≡ true
-    unfit_fails given t e = elim (cases_Bool (is_some (text_behind label given))) [
-      | inl some ↦ rw (known, use_twice profiles are f long index label t (unwrap_or (text_behind label given) []) given (grind arith)) refl
+    unfit_fails given t e = elim (cases_Bool (is_some (text_after label given))) [
+      | inl some ↦ rw (known, use_twice profiles are f long index label t (unwrap_or (text_after label given) []) given (grind arith)) refl
       | inr none ↦ misfit_fails given t (grind arith) (grind arith)
     ]
 
@@ -236,8 +236,8 @@ module _ (profiles : ProfileNames) (are : AreProfiles profiles) (f : Form) (is :
 
   -- ---- behind `--`
 
-  abbrev behind_at : Waiting → List Row → Option (Text × List Text) → ℕ → Walk
-  behind_at waiting rows pending p = record (closed_at rows pending p) { waiting = waiting }
+  abbrev after_at : Waiting → List Row → Option (Text × List Text) → ℕ → Walk
+  after_at waiting rows pending p = record (closed_at rows pending p) { waiting = waiting }
 
   -- the subcommand has none of its own
   none_met : (waiting : Waiting) (word : Text) → subcommand_met [] waiting word ≡ None
@@ -264,11 +264,11 @@ module _ (profiles : ProfileNames) (are : AreProfiles profiles) (f : Form) (is :
         go [] e = rw e refl
         go (l ∷ ls) e = rw (e.0, and_false (is_pending (text_arg profiles f None (Some p) l) pending)) fails
 
-    closed_fails : (waiting : Waiting) (words : List Text) → is_usage (kinds_at (behind_at waiting rows pending p) words) ≡ true
-    closed_fails waiting [] = ends_failing (behind_at waiting rows pending p) fails
-    closed_fails waiting (u ∷ more) = misused (behind_at waiting rows pending p) u more stray_fails
+    closed_fails : (waiting : Waiting) (words : List Text) → is_usage (kinds_at (after_at waiting rows pending p) words) ≡ true
+    closed_fails waiting [] = ends_failing (after_at waiting rows pending p) fails
+    closed_fails waiting (u ∷ more) = misused (after_at waiting rows pending p) u more stray_fails
 
-    closes : (waiting : Waiting) → walked rules [] (waiting_at waiting rows pending p) (codes "--") ≡ behind_at waiting rows pending p
+    closes : (waiting : Waiting) → walked rules [] (waiting_at waiting rows pending p) (codes "--") ≡ after_at waiting rows pending p
     unfolding walked
     closes waiting = rw (none_met waiting (codes "--")) refl
 
@@ -279,7 +279,7 @@ module _ (profiles : ProfileNames) (are : AreProfiles profiles) (f : Form) (is :
     no_text : (waiting : Waiting) (u : Text) (more : List Text) → is_text u ≡ false → is_usage (kinds_at (waiting_at waiting rows pending p) (u ∷ more)) ≡ true
     no_text waiting u more e = elim (cases_Bool (is_dashes u)) [
       | inl d ↦ rw (← (bytes_eq-Decides (codes "--") u).0 d)
-          (passes usage (waiting_at waiting rows pending p) (behind_at waiting rows pending p) (codes "--") more (passing waiting) (closes waiting)
+          (passes usage (waiting_at waiting rows pending p) (after_at waiting rows pending p) (codes "--") more (passing waiting) (closes waiting)
           (closed_fails waiting more))
       | inr d ↦
           misused (waiting_at waiting rows pending p) u more
@@ -344,9 +344,9 @@ module _ (profiles : ProfileNames) (are : AreProfiles profiles) (f : Form) (is :
         → Rel (between given left) (open_at rows pending p)
     rel_wants : (long : Option Text) (index : Option ℕ) (label : Text) (p : ℕ) (given : Given) (left : List Text)
         → arg_by_id rules label ≡ Some (text_arg profiles f long index label)
-        → text_behind label given ≡ None → ArePlaced profiles f rules p left
+        → text_after label given ≡ None → ArePlaced profiles f rules p left
         → Rel (wants label given left) (waiting_at (waits_for label) (rows_of given) (Some (label, [])) p)
-    rel_behind : (rows : List Row) (pending : Option (Text × List Text)) (p : ℕ) (given : Given) (left : List Text) → Good rows pending given
+    rel_after : (rows : List Row) (pending : Option (Text × List Text)) (p : ℕ) (given : Given) (left : List Text) → Good rows pending given
         → ArePlaced profiles f rules p left
         → Rel (behind given left) (closed_at rows pending p)
 
@@ -362,7 +362,7 @@ module _ (profiles : ProfileNames) (are : AreProfiles profiles) (f : Form) (is :
     -- a text that an option wants
     wanted_step : (name : Option Text) (index : Option ℕ) (label : Text) (p : ℕ) (given : Given) (left : List Text)
         → arg_by_id rules label ≡ Some (text_arg profiles f name index label)
-        → text_behind label given ≡ None → ArePlaced profiles f rules p left
+        → text_after label given ≡ None → ArePlaced profiles f rules p left
         → Stepped (next_stand (wants label given left) word) (waiting_at (waits_for label) (rows_of given) (Some (label, [])) p)
     wanted_step name index label p given left known fresh at = go (is_text word) refl
       where
@@ -411,7 +411,7 @@ module _ (profiles : ProfileNames) (are : AreProfiles profiles) (f : Form) (is :
     place_step stand at_walk related failing_on rows pending p given [] good at turn walks =
         ends_so usage (at_walk rows pending p) (word ∷ rest) rest (misused (at_walk rows pending p) word rest (rw (turn, at) refl))
     place_step stand at_walk related failing_on rows pending p given (label ∷ left) good at turn walks =
-        go (is_some (text_behind label given) || not (fits f label word)) refl
+        go (is_some (text_after label given) || not (fits f label word)) refl
       where
         next : ℕ
         next = next_position (text_arg profiles f None (Some p) label) p
@@ -422,7 +422,7 @@ module _ (profiles : ProfileNames) (are : AreProfiles profiles) (f : Form) (is :
         there : walked rules [] (at_walk rows pending p) word ≡ at_walk (rows_of given) (Some (label, word ∷ [])) next
         there = walks label at.0 ∙ ap (λ r. at_walk r (Some (label, word ∷ [])) next) good.rows_are
 
-        go : (b : Bool) → (is_some (text_behind label given) || not (fits f label word)) ≡ b
+        go : (b : Bool) → (is_some (text_after label given) || not (fits f label word)) ≡ b
             → Reached (at_end f (fold next_stand (cond b (ended usage) (stand (given ++ (label, word) ∷ []) left)) rest)) (at_walk rows pending p)
             (word ∷ rest)
         go false e = passes _ (at_walk rows pending p) (at_walk (rows_of given) (Some (label, word ∷ [])) next) word rest passing_on there
@@ -433,12 +433,12 @@ module _ (profiles : ProfileNames) (are : AreProfiles profiles) (f : Form) (is :
             (passes usage (at_walk rows pending p) (at_walk (rows_of given) (Some (label, word ∷ [])) next) word rest passing_on there
             (failing_on (rows_of given) (Some (label, word ∷ [])) next left (unfit_fails None (Some p) label at.1 given word e) at.2))
 
-    behind_step : (rows : List Row) (pending : Option (Text × List Text)) (p : ℕ) (given : Given) (left : List Text) → Good rows pending given
+    later_step : (rows : List Row) (pending : Option (Text × List Text)) (p : ℕ) (given : Given) (left : List Text) → Good rows pending given
         → ArePlaced profiles f rules p left
         → Stepped (placed f behind given left word) (closed_at rows pending p)
     unfolding walked
-    behind_step rows pending p given left good at =
-        place_step behind closed_at rel_behind (λ r q i ls fails places. closed_fails r q fails i ls places idle rest) rows pending p given left good at refl
+    later_step rows pending p given left good at =
+        place_step behind closed_at rel_after (λ r q i ls fails places. closed_fails r q fails i ls places idle rest) rows pending p given left good at refl
         (λ label known. rw (known, and_false (is_pending (text_arg profiles f None (Some p) label) pending)) refl)
 
     text_step : (rows : List Row) (pending : Option (Text × List Text)) (p : ℕ) (given : Given) (left : List Text) → Good rows pending given
@@ -457,7 +457,7 @@ module _ (profiles : ProfileNames) (are : AreProfiles profiles) (f : Form) (is :
       dashes_step : is_dashes word ≡ true → Stepped (behind given left) here
       unfolding walked
       dashes_step e = subst (λ u. Reached (at_end f (fold next_stand (behind given left) rest)) here (u ∷ rest)) ((bytes_eq-Decides (codes "--") word).0 e)
-          (passes _ here (closed_at rows pending p) (codes "--") rest refl refl (goes _ _ (rel_behind rows pending p given left good at)))
+          (passes _ here (closed_at rows pending p) (codes "--") rest refl refl (goes _ _ (rel_after rows pending p given left good at)))
 
       call_step : is_help_flag word ≡ true → Stepped (ended help) here
       call_step e =
@@ -473,7 +473,7 @@ module _ (profiles : ProfileNames) (are : AreProfiles profiles) (f : Form) (is :
   -- what follows a second option of one label
   again_fails : (name : Option Text) (index : Option ℕ) (label : Text) → arg_by_id rules label ≡ Some (text_arg profiles f name index label)
       → (given : Given) (u : Text)
-      → text_behind label given ≡ Some u
+      → text_after label given ≡ Some u
       → (p : ℕ) (left : List Text) → ArePlaced profiles f rules p left → (words : List Text)
       → is_usage (kinds_at (waiting_at (waits_for label) (rows_of given) (Some (label, [])) p) words) ≡ true
   again_fails name index label known given u there p left at [] =
@@ -527,9 +527,9 @@ module _ (profiles : ProfileNames) (are : AreProfiles profiles) (f : Form) (is :
       option_goes e = rw (e, named, good.rows_are) refl
 
       option_step : has_equals ≡ false → Led (once o.1 given (wants o.1 given left))
-      option_step e = go (text_behind o.1 given) refl
+      option_step e = go (text_after o.1 given) refl
         where
-          go : (m : Option Text) → text_behind o.1 given ≡ m → Led (cond (is_some m) (ended usage) (wants o.1 given left))
+          go : (m : Option Text) → text_after o.1 given ≡ m → Led (cond (is_some m) (ended usage) (wants o.1 given left))
           go None fresh = passes _ from (waiting_at (waits_for o.1) (rows_of given) (Some (o.1, [])) p) word rest (option_fits e) (option_goes e)
               (goes _ _ (rel_wants (Some o.0) None o.1 p given left labelled fresh at))
           go (Some u) there = ends_so usage from (word ∷ rest) rest
@@ -538,9 +538,9 @@ module _ (profiles : ProfileNames) (are : AreProfiles profiles) (f : Form) (is :
 
       valued_step : has_equals ≡ true → Led (kept f o.1 after_equals given (between (given ++ (o.1, after_equals) ∷ []) left))
       unfolding walked
-      valued_step e = go (text_behind o.1 given) (fits f o.1 after_equals) refl refl
+      valued_step e = go (text_after o.1 given) (fits f o.1 after_equals) refl refl
         where
-          go : (m : Option Text) (b : Bool) → text_behind o.1 given ≡ m → fits f o.1 after_equals ≡ b
+          go : (m : Option Text) (b : Bool) → text_after o.1 given ≡ m → fits f o.1 after_equals ≡ b
               → Led (cond (is_some m || not b) (ended usage) (between (given ++ (o.1, after_equals) ∷ []) left))
           go None true fresh fit = passes _ from (open_at (rows_of (given ++ (o.1, after_equals) ∷ [])) None p) word rest
               (rw (e, named, good.settles, good.rows_are, use_passes profiles are f (Some o.0) None o.1 after_equals given fresh fit) refl)
@@ -570,9 +570,9 @@ module _ (profiles : ProfileNames) (are : AreProfiles profiles) (f : Form) (is :
 
       flag_step : has_equals ≡ false → Led (kept f own_name [] given (between (given ++ (own_name, []) ∷ []) left))
       unfolding walked
-      flag_step e = rw (each_flag (λ n. fits f n [] ≡ true) f.flags own_name is.flags own) (go (text_behind own_name given) refl)
+      flag_step e = rw (each_flag (λ n. fits f n [] ≡ true) f.flags own_name is.flags own) (go (text_after own_name given) refl)
         where
-          go : (m : Option Text) → text_behind own_name given ≡ m → Led (cond (is_some m || false) (ended usage) (between (given ++ (own_name, []) ∷ []) left))
+          go : (m : Option Text) → text_after own_name given ≡ m → Led (cond (is_some m || false) (ended usage) (between (given ++ (own_name, []) ∷ []) left))
           go None fresh = passes _ from (open_at (rows_of (given ++ (own_name, []) ∷ [])) None p) word rest
               (rw (e, flag_named, good.settles, good.rows_are, flag_passes own_name given fresh) refl)
               (rw (e, flag_named, good.rows_are, flagged_fresh own_name given fresh) refl)
@@ -614,7 +614,7 @@ module _ (profiles : ProfileNames) (are : AreProfiles profiles) (f : Form) (is :
 
   stepped : (rest : List Text) → Goes rest → (word : Text) (stand : Stand) (w : Walk) → Rel stand w → Going stand w (word ∷ rest)
   stepped rest goes word _ _ (rel_wants name index label p given left known fresh at) = wanted_step rest goes word name index label p given left known fresh at
-  stepped rest goes word _ _ (rel_behind rows pending p given left good at) = behind_step rest goes word rows pending p given left good at
+  stepped rest goes word _ _ (rel_after rows pending p given left good at) = later_step rest goes word rows pending p given left good at
   stepped rest goes word _ _ (rel_between rows pending p given left good at) = go (is_text word) (is_dashes word) (is_help_flag word) refl refl refl
     where
       go : (a b c : Bool) → is_text word ≡ a → is_dashes word ≡ b → is_help_flag word ≡ c
@@ -635,7 +635,7 @@ module _ (profiles : ProfileNames) (are : AreProfiles profiles) (f : Form) (is :
 
   going : (words : List Text) → Goes words
   going [] _ _ (rel_between rows pending p given left good at) = open_end rows pending p given good
-  going [] _ _ (rel_behind rows pending p given left good at) = closed_end rows pending p given good
+  going [] _ _ (rel_after rows pending p given left good at) = closed_end rows pending p given good
   going [] _ _ (rel_wants name index label p given left known fresh at) = ends_wanting label p given name index known
   going (word ∷ rest) stand w rel = stepped rest (going rest) word stand w rel
 

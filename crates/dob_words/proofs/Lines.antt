@@ -5,10 +5,10 @@ use Rattle.dob_words.proofs.Common.{before_first, option_map_or, ◌&&◌, ◌==
 use Rattle.dob_words.proofs.Common.{IsReadingOf, AreFit, IsFit, Given, Meaning, Stand, after_dashes, after_part, after_word, asked, asks, at_end, behind}
 use Rattle.dob_words.proofs.Common.{between, call, dashes, ended, fits, flag, has_topic, help, is_clear, is_dashes, is_help_flag, is_text, kept, label_of}
 use Rattle.dob_words.proofs.Common.{meaning_of, meaning_of_command, meaning_of_form, meaning_of_other, meaning_of_topic, name_in, named_part, option}
-use Rattle.dob_words.proofs.Common.{part_named, placed, without_conflict, takes_lines, text, text_behind, texts_of, unknown, usage, valued, version, wants}
+use Rattle.dob_words.proofs.Common.{part_named, placed, without_conflict, takes_lines, text, text_after, texts_of, unknown, usage, valued, version, wants}
 use Rattle.dob_words.proofs.Common.{writes_stream, Reading, chars}
 use Rattle.dob_words.specs.Forms.{is_among, is_needed, Form, Text, forms, labels, no_form}
-use Rattle.dob_words.specs.Lines.{AreNew, Behind, Gives, IsAmong, IsCommandLine, by_dashes, by_flag, by_option, by_place, by_value, next, none, nothing}
+use Rattle.dob_words.specs.Lines.{AreNew, Later, Gives, IsAmong, IsCommandLine, by_dashes, by_flag, by_option, by_place, by_value, next, none, nothing}
 use Rattle.dob_words.specs.Readings.{ComesFromLine, SomeLine}
 use Rattle.dob_words.specs.declared.command.Reading.TheVariants as reading
 use Rattle.dob_words.proofs.Lexing.{hyphen_first, before_none, take_one}
@@ -60,7 +60,7 @@ module _ (f : Form) (name : Text) (texts : List (Option Text)) where
   Told (wants label before left) words =
       (t : Text) × (rest : List Text) × (more : Given) × (words ≡ t ∷ rest) × (is_text t ≡ true) × (fits f label t ≡ true) × Gives f left rest more
       × Came (before ++ (label, t) ∷ []) more
-  Told (behind before left) words = (more : Given) × Behind left words more × Came before more
+  Told (behind before left) words = (more : Given) × Later left words more × Came before more
   Told (ended m) words = m ≡ asks name texts
 
   ended_told : (m : Meaning) (words : List Text) → at_end f (fold next_stand (ended m) words) ≡ asks name texts → m ≡ asks name texts
@@ -83,7 +83,7 @@ module _ (f : Form) (name : Text) (texts : List (Option Text)) where
   unfolding is_asked
   not_help e = absurd (true≢false (sym (ap is_asked e)))
 
-  came_more : (label t : Text) (before more : Given) → text_behind label before ≡ None → fits f label t ≡ true
+  came_more : (label t : Text) (before more : Given) → text_after label before ≡ None → fits f label t ≡ true
       → Came (before ++ (label, t) ∷ []) more → Came before ((label, t) ∷ more)
   came_more label t before more fresh fit came = ((fresh, fit, came.0), ap (asked f) (sym (append_assoc before ((label, t) ∷ []) more)) ∙ came.1)
 
@@ -94,10 +94,10 @@ module _ (f : Form) (name : Text) (texts : List (Option Text)) where
 
     -- a text that was kept is the first of its label, and fits
     kept_led : (label t : Text) (before : Given) (stand : Stand) → Led (kept f label t before stand)
-        → (text_behind label before ≡ None) × (fits f label t ≡ true) × Led stand
-    kept_led label t before stand e = elim (cases_Bool (is_some (text_behind label before) || not (fits f label t))) [
+        → (text_after label before ≡ None) × (fits f label t ≡ true) × Led stand
+    kept_led label t before stand e = elim (cases_Bool (is_some (text_after label before) || not (fits f label t))) [
       | inl refused ↦ not_usage (ended_told usage rest (rw refused at e))
-      | inr kept ↦ let both = kept_both (text_behind label before) (fits f label t) kept in (both.0, both.1, rw kept at e)
+      | inr kept ↦ let both = kept_both (text_after label before) (fits f label t) kept in (both.0, both.1, rw kept at e)
     ]
 
     -- and the rest gives what comes after it
@@ -113,9 +113,9 @@ module _ (f : Form) (name : Text) (texts : List (Option Text)) where
     placed_told before (label ∷ left) t e =
         let r = kept_told label word before left e in ((label, word) ∷ r.0, by_place label word left rest r.0 t r.1, r.2)
 
-    behind_told : (before : Given) (left : List Text) → Led (placed f behind before left word) → Told (behind before left) (word ∷ rest)
-    behind_told before [] e = not_usage (ended_told usage rest e)
-    behind_told before (label ∷ left) e =
+    after_told : (before : Given) (left : List Text) → Led (placed f behind before left word) → Told (behind before left) (word ∷ rest)
+    after_told before [] e = not_usage (ended_told usage rest e)
+    after_told before (label ∷ left) e =
         let k = kept_led label word before (behind (before ++ (label, word) ∷ []) left) e in
         let r : Told (behind (before ++ (label, word) ∷ []) left) rest = rec (behind (before ++ (label, word) ∷ []) left) k.2 in
         ((label, word) ∷ r.0, next label word left rest r.0 r.1, came_more label word before r.0 k.0 k.1 r.2)
@@ -135,10 +135,10 @@ module _ (f : Form) (name : Text) (texts : List (Option Text)) where
         → Told (between before left) (word ∷ rest)
     named_told before left r is e = go (label_of f.options (name_in r)) (has_byte 61 r) (is_among f.flags (name_in r)) refl refl refl e
       where
-        behind_equals : Text
-        behind_equals = after_first (λ x. x == 61) r
+        later_equals : Text
+        later_equals = after_first (λ x. x == 61) r
 
-        with_option : (label : Text) → label_of f.options r ≡ Some label → (o : Option Text) → text_behind label before ≡ o
+        with_option : (label : Text) → label_of f.options r ≡ Some label → (o : Option Text) → text_after label before ≡ o
             → Led (cond (is_some o) (ended usage) (wants label before left))
             → Told (between before left) (word ∷ rest)
         with_option label known (Some u) fresh e = not_usage (ended_told usage rest e)
@@ -150,13 +150,13 @@ module _ (f : Form) (name : Text) (texts : List (Option Text)) where
               came_more label q.0 before q.2 fresh q.5 q.7,
             )
 
-        with_value : (label : Text) → label_of f.options (name_in r) ≡ Some label → name_in r ++ 61 ∷ behind_equals ≡ r
-            → Led (kept f label behind_equals before (between (before ++ (label, behind_equals) ∷ []) left)) → Told (between before left) (word ∷ rest)
+        with_value : (label : Text) → label_of f.options (name_in r) ≡ Some label → name_in r ++ 61 ∷ later_equals ≡ r
+            → Led (kept f label later_equals before (between (before ++ (label, later_equals) ∷ []) left)) → Told (between before left) (word ∷ rest)
         with_value label known split e =
-            let q = kept_told label behind_equals before left e in (
-              (label, behind_equals) ∷ q.0,
-              subst (λ w. Gives f left (w ∷ rest) ((label, behind_equals) ∷ q.0)) (ap (λ x. codes "--" ++ x) split ∙ is)
-                  (by_value (name_in r) label behind_equals left rest q.0 known q.1),
+            let q = kept_told label later_equals before left e in (
+              (label, later_equals) ∷ q.0,
+              subst (λ w. Gives f left (w ∷ rest) ((label, later_equals) ∷ q.0)) (ap (λ x. codes "--" ++ x) split ∙ is)
+                  (by_value (name_in r) label later_equals left rest q.0 known q.1),
               q.2,
             )
 
@@ -171,8 +171,8 @@ module _ (f : Form) (name : Text) (texts : List (Option Text)) where
 
         go : (o : Option Text) (b own : Bool) → label_of f.options (name_in r) ≡ o → has_byte 61 r ≡ b → is_among f.flags (name_in r) ≡ own
             → Led (after_part f before left word
-            (option_map_or (λ label. option_map_or (valued label) (cond b (Some behind_equals) None) (option label)) o
-            (cond (own && not (is_some (cond b (Some behind_equals) None))) (flag (name_in r)) unknown)))
+            (option_map_or (λ label. option_map_or (valued label) (cond b (Some later_equals) None) (option label)) o
+            (cond (own && not (is_some (cond b (Some later_equals) None))) (flag (name_in r)) unknown)))
             → Told (between before left) (word ∷ rest)
         go None b false known h own e = not_usage (ended_told usage rest e)
         go None true true known h own e = not_usage (ended_told usage rest e)
@@ -180,7 +180,7 @@ module _ (f : Form) (name : Text) (texts : List (Option Text)) where
             with_flag (ap (is_among f.flags) (sym (all_name h)) ∙ own)
             (subst (λ n. Led (kept f n [] before (between (before ++ (n, []) ∷ []) left))) (all_name h) e)
         go (Some label) false b known h own e =
-            with_option label (ap (label_of f.options) (sym (all_name h)) ∙ known) (text_behind label before) refl e
+            with_option label (ap (label_of f.options) (sym (all_name h)) ∙ known) (text_after label before) refl e
         go (Some label) true b known h own e = with_value label known (equals_split r h) e
 
     hyphen_told : (before : Given) (left : List Text) (o : Option Text) → after_dashes word ≡ o
@@ -204,7 +204,7 @@ module _ (f : Form) (name : Text) (texts : List (Option Text)) where
     step_told : (stand : Stand) → Led (next_stand stand word) → Told stand (word ∷ rest)
     step_told (between before left) e = between_told before left e
     step_told (wants label before left) e = wanted_told label before left e
-    step_told (behind before left) e = behind_told before left e
+    step_told (behind before left) e = after_told before left e
     step_told (ended m) e = ended_told m rest e
 
   told : (words : List Text) (stand : Stand) → at_end f (fold next_stand stand words) ≡ asks name texts → Told stand words
@@ -248,11 +248,11 @@ module _ (f : Form) (is : IsSpelled f) where
                 (λ x. bytes_eq x.0 name) f.options o is.by_value found t ∙ ap (λ l. valued l t) label_is),
           )
 
-  behind_asked : (left words : List Text) (given before : Given) → Behind left words given → AreNew f before given
+  after_asked : (left words : List Text) (given before : Given) → Later left words given → AreNew f before given
       → at_end f (fold after (behind before left) words) ≡ asked f (before ++ given)
-  behind_asked _ _ _ before (none left) new = ap (asked f) (sym (append-nil before))
-  behind_asked _ _ _ before (next label t left words given more) new =
-      rw (new.0, new.1) (behind_asked left words given (before ++ (label, t) ∷ []) more new.2 ∙ ap (asked f) (append_assoc before ((label, t) ∷ []) given))
+  after_asked _ _ _ before (none left) new = ap (asked f) (sym (append-nil before))
+  after_asked _ _ _ before (next label t left words given more) new =
+      rw (new.0, new.1) (after_asked left words given (before ++ (label, t) ∷ []) more new.2 ∙ ap (asked f) (append_assoc before ((label, t) ∷ []) given))
 
   given_asked : (left words : List Text) (given before : Given) → Gives f left words given → AreNew f before given
       → at_end f (fold after (between before left) words) ≡ asked f (before ++ given)
@@ -269,7 +269,7 @@ module _ (f : Form) (is : IsSpelled f) where
   given_asked _ _ _ before (by_flag name left words given own more) new =
       rw (each_flag (λ n. part_named f (codes "--" ++ n) ≡ flag n) f.flags name is.by_flag own, new.0, new.1)
       (given_asked left words given (before ++ (name, []) ∷ []) more new.2 ∙ ap (asked f) (append_assoc before ((name, []) ∷ []) given))
-  given_asked _ _ _ before (by_dashes left words given more) new = rw (dashes_part f) (behind_asked left words given before more new)
+  given_asked _ _ _ before (by_dashes left words given more) new = rw (dashes_part f) (after_asked left words given before more new)
 
   -- the words of a line ask for its texts
   line_asked : (rest : List Text) (texts : List (Option Text)) (given : Given) → Gives f f.positions rest given → AreNew f [] given
@@ -281,7 +281,7 @@ module _ (f : Form) (is : IsSpelled f) where
   -- ---- the texts of a line
 
   -- a text that was given is what it has to be
-  given_fits : (given before : Given) → AreNew f before given → (label t : Text) → text_behind label given ≡ Some t → fits f label t ≡ true
+  given_fits : (given before : Given) → AreNew f before given → (label t : Text) → text_after label given ≡ Some t → fits f label t ≡ true
   given_fits [] before new label t e = absurd (cc)
   given_fits (g ∷ given) before new label t e = elim (cases_Bool (bytes_eq g.0 label)) [
     | inl same ↦ let is_t : g.1 ≡ t = same_Some g.1 t (rw same at e) in rw ((bytes_eq-Decides g.0 label).0 same, is_t) at new.1
@@ -289,14 +289,14 @@ module _ (f : Form) (is : IsSpelled f) where
   ]
 
   -- what was given for a label is fit, and so is nothing where the label may be left out
-  text_fits : (given : Given) → AreNew f [] given → (l : Text) (o : Option Text) → text_behind l given ≡ o → (is_needed f l && not (is_some o)) ≡ false
+  text_fits : (given : Given) → AreNew f [] given → (l : Text) (o : Option Text) → text_after l given ≡ o → (is_needed f l && not (is_some o)) ≡ false
       → IsFit f l o
   text_fits given new l None is free = grind arith
   text_fits given new l (Some t) is free = given_fits given [] new l t is
 
   texts_fit : (given : Given) → AreNew f [] given → (ls : List Text) (texts : List (Option Text)) → texts_of f ls given ≡ Some texts → AreFit f ls texts
   texts_fit given new [] texts e = tt
-  texts_fit given new (l ∷ ls) texts e = grind (arith, texts_fit given new ls, text_fits given new l (text_behind l given) refl)
+  texts_fit given new (l ∷ ls) texts e = grind (arith, texts_fit given new ls, text_fits given new l (text_after l given) refl)
 
 -- each text of a line is what it has to be
 pub line_fits : (f : Form) (words : List Text) (texts : List (Option Text)) → IsSpelled f → IsCommandLine f words texts → AreFit f (labels f) texts

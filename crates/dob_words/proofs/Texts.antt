@@ -2,7 +2,7 @@
 use Rattle.dob_words.proofs.Common.{◌++◌, ◌∙◌, ◌∷◌, ◌≡◌, Bool, List, None, Option, Some, [], ap, append-nil, arith, cond, false, map, refl, sym, true, ℕ}
 use Rattle.dob_words.proofs.Common.{or_right, Bor, list_any, ◌&&◌, ◌||◌, find, fold, is_some, not, option_map, unwrap_or, bytes_eq, Kinds, value_kinds}
 use Rattle.dob_words.proofs.Common.{filled, is_given, ErrorKind, AreProfiles, ProfileNames, flag_rule, no_names, text_rule, Given, Text, fits, is_number}
-use Rattle.dob_words.proofs.Common.{is_profile, text_behind, texts_of}
+use Rattle.dob_words.proofs.Common.{is_profile, text_after, texts_of}
 use Rattle.std.proofs.lemmas.List.{map-append}
 use Rattle.clap.proofs.WalkLemmas.{find-map}
 use Rattle.clap.specs.Facts.{parser_of_value}
@@ -45,13 +45,13 @@ rows_of = map row_of
 pub row_found : (label : Text) (given : Given) → find (λ r. bytes_eq r.id label) (rows_of given) ≡ option_map row_of (find (λ g. bytes_eq g.0 label) given)
 row_found label given = sym (find-map (λ (r : Row). bytes_eq r.id label) row_of given)
 
-first_found : (label : Text) (given : Given) → first_of label (rows_of given) ≡ text_behind label given
+first_found : (label : Text) (given : Given) → first_of label (rows_of given) ≡ text_after label given
 first_found label given = grind (arith, row_found label given)
 
-given_found : (label : Text) (given : Given) → is_given label (rows_of given) ≡ is_some (text_behind label given)
+given_found : (label : Text) (given : Given) → is_given label (rows_of given) ≡ is_some (text_after label given)
 given_found label given = rw (row_found label given) (grind arith)
 
-pub has_found : (label : Text) (given : Given) → has_row label (rows_of given) ≡ is_some (text_behind label given)
+pub has_found : (label : Text) (given : Given) → has_row label (rows_of given) ≡ is_some (text_after label given)
 has_found label [] = refl
 has_found label (g ∷ given) = grind (arith, has_found label given)
 
@@ -84,7 +84,7 @@ parser_for profiles is_one is_name =
 as_written : (profiles : ProfileNames) (is_one is_name : Bool) → reading_of (parser_for profiles is_one is_name) ≡ AsWritten
 as_written profiles is_one is_name = grind arith
 
-pub used_fresh : (profiles : ProfileNames) (f : Form) (long : Option Text) (index : Option ℕ) (label t : Text) (given : Given) → text_behind label given ≡ None
+pub used_fresh : (profiles : ProfileNames) (f : Form) (long : Option Text) (index : Option ℕ) (label t : Text) (given : Given) → text_after label given ≡ None
     → used (text_arg profiles f long index label) (t ∷ []) (rows_of given) ≡ rows_of (given ++ (label, t) ∷ [])
 used_fresh profiles f long index label t given fresh =
     let none : has_row label (rows_of given) ≡ false = has_found label given ∙ ap is_some fresh in
@@ -132,33 +132,33 @@ pub kept_both : (before : Option Text) (fit : Bool) → (is_some before || not f
 kept_both before fit e = grind arith
 
 module _ (profiles : ProfileNames) (are : AreProfiles profiles) (f : Form) (long : Option Text) (index : Option ℕ) (label : Text) where
-  pub use_passes : (t : Text) (given : Given) → text_behind label given ≡ None → fits f label t ≡ true
+  pub use_passes : (t : Text) (given : Given) → text_after label given ≡ None → fits f label t ≡ true
       → use_fault false (text_arg profiles f long index label) (t ∷ []) (rows_of given) ≡ []
   use_passes t given fresh fit =
       rw (has_found label given, fresh, fit_kinds profiles are (is_among f.numbers label) (is_among f.profiles label) t fit) refl
 
   -- a text that isn't what it has to be is refused
-  pub use_misfit : (t : Text) (given : Given) → text_behind label given ≡ None → fits f label t ≡ false
+  pub use_misfit : (t : Text) (given : Given) → text_after label given ≡ None → fits f label t ≡ false
       → use_fault false (text_arg profiles f long index label) (t ∷ []) (rows_of given) ≡ misfit_kind (is_among f.numbers label) ∷ []
   use_misfit t given fresh misfit =
       rw (has_found label given, fresh, misfit_kinds profiles are (is_among f.numbers label) (is_among f.profiles label) t misfit) refl
 
   -- a second text of one label is refused
-  pub use_twice : (t u : Text) (given : Given) → text_behind label given ≡ Some u
+  pub use_twice : (t u : Text) (given : Given) → text_after label given ≡ Some u
       → use_fault false (text_arg profiles f long index label) (t ∷ []) (rows_of given) ≡ kind.ArgumentConflict ∷ []
   use_twice t u given there = rw (has_found label given, there) refl
 
 -- ---- one more flag
 
 -- a flag's row is that of the empty text
-pub flagged_fresh : (name : Text) (given : Given) → text_behind name given ≡ None → used (flag_arg name) [] (rows_of given) ≡ rows_of (given ++ (name, []) ∷ [])
+pub flagged_fresh : (name : Text) (given : Given) → text_after name given ≡ None → used (flag_arg name) [] (rows_of given) ≡ rows_of (given ++ (name, []) ∷ [])
 flagged_fresh name given fresh = used_fresh no_names no_form None None name [] given fresh
 
-pub flag_passes : (name : Text) (given : Given) → text_behind name given ≡ None → use_fault false (flag_arg name) [] (rows_of given) ≡ []
+pub flag_passes : (name : Text) (given : Given) → text_after name given ≡ None → use_fault false (flag_arg name) [] (rows_of given) ≡ []
 flag_passes name given fresh = rw (has_found name given, fresh) refl
 
 -- a second use of one flag is refused
-pub flag_twice : (name u : Text) (given : Given) → text_behind name given ≡ Some u
+pub flag_twice : (name u : Text) (given : Given) → text_after name given ≡ Some u
     → use_fault false (flag_arg name) [] (rows_of given) ≡ kind.ArgumentConflict ∷ []
 flag_twice name u given there = rw (has_found name given, there) refl
 

@@ -126,15 +126,15 @@ pub data Meaning : Type 0 where
 abbrev pub Given : Type 0
 Given = List (Text × Text)
 
-abbrev pub text_behind : Text → Given → Option Text
-text_behind label given = option_map (λ g. g.1) (find (λ g. bytes_eq g.0 label) given)
+abbrev pub text_after : Text → Given → Option Text
+text_after label given = option_map (λ g. g.1) (find (λ g. bytes_eq g.0 label) given)
 
 -- what is given for these labels, where each that is needed is
 abbrev pub texts_of : Form → List Text → Given → Option (List (Option Text))
 texts_of form [] given = Some []
 texts_of form (label ∷ more) given =
-    if is_needed form label && not (is_some (text_behind label given)) then None
-    else option_map (λ texts. text_behind label given ∷ texts) (texts_of form more given)
+    if is_needed form label && not (is_some (text_after label given)) then None
+    else option_map (λ texts. text_after label given ∷ texts) (texts_of form more given)
 
 -- where the words of a subcommand stand after some of them: what is given, and the labels of the places that are left
 pub data Stand : Type 0 where
@@ -149,11 +149,11 @@ pub data Stand : Type 0 where
 
 -- no text is given twice
 abbrev pub once : Text → Given → Stand → Stand
-once label given stand = if is_some (text_behind label given) then ended usage else stand
+once label given stand = if is_some (text_after label given) then ended usage else stand
 
 -- nor one that isn't what it has to be
 abbrev pub kept : Form → Text → Text → Given → Stand → Stand
-kept form label t given stand = if is_some (text_behind label given) || not (fits form label t) then ended usage else stand
+kept form label t given stand = if is_some (text_after label given) || not (fits form label t) then ended usage else stand
 
 -- the word is the text of the next place
 abbrev pub placed : Form → (Given → List Text → Stand) → Given → List Text → Text → Stand

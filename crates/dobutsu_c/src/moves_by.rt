@@ -10,7 +10,7 @@ use crate::moves::{DobutsuMove, write_moves};
 use crate::numbering::Numbering;
 use crate::numbers::{INCONSISTENT, MEMORY};
 use dob_pieces::Position;
-use dob_probe::{LookupFault, ValuedMove, Values, moves_by};
+use dob_probe::{LookupFault, ValueSource, ValuedMove, moves_by};
 use dob_value::Value;
 use std::alloc::Global;
 
@@ -107,7 +107,7 @@ struct Bytes<'a> {
     held: HeldBy,
 }
 
-impl Values<()> for Bytes<'_> {
+impl ValueSource<()> for Bytes<'_> {
     type Fault = ByFault;
 
     ghost Held = { Unit {0} };

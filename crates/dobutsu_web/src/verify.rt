@@ -80,12 +80,12 @@ fn answer(lost: &Listed, held: &Listed, position: &Position, claim: Claim, broke
             *broken = place as u64;
             UNSUPPORTED
         }
-        None => answer_behind(lost, held, position, claim, broken),
+        None => answer_after(lost, held, position, claim, broken),
     }
 }
 
 // The same where the lost list supports its entries.
-fn answer_behind(
+fn answer_after(
     lost: &Listed,
     held: &Listed,
     position: &Position,

@@ -1,7 +1,7 @@
 -- The parts of a place of profile B as the code finds them, and that they are small.
 use Rattle.dob_rank.proofs.Common.{◌*◌, ◌+◌, ◌-◌, ◌<◌, ◌^◌, ◌∷◌, ◌≡◌, ◌≤◌, List, [], ap, arith, get_or, slice_index, subst, sym, ℕ, mul-le-mul, B, number_of}
 use Rattle.dob_rank.proofs.Common.{product, AreFewOnBoard, square_bases, choice_weight, forms_before, hand_size, lions_before, local_in, others_by}
-use Rattle.dob_rank.proofs.Common.{others_forms, others_squares, place_behind, place_in, squares_by, drop, form_bases, refl}
+use Rattle.dob_rank.proofs.Common.{others_forms, others_squares, place_after, place_in, squares_by, drop, form_bases, refl}
 use Rattle.dob_rank.proofs.Positions.Blocks.{product-at_most, most_choices, squares_at_most, forms_at_most}
 
 two_digits : (b c x y : ℕ) → x * c + y ≡ number_of (b ∷ c ∷ []) (x ∷ y ∷ [])
@@ -41,20 +41,20 @@ product_few a b m n h k = mul-le-mul h k
 pub place_found : (ob ds : List ℕ) (lions chosen forms count weight squares r f placed : ℕ)
     → count ≡ others_squares ob → squares ≡ squares_by ob ds → weight ≡ choice_weight B lions (slice_index ob 0) (slice_index ds 5)
     → placed ≡ chosen * count + (squares * weight + forms) → r ≡ others_forms ob → f ≡ others_by ob ds
-    → placed * r + f ≡ place_behind B ob ds lions chosen forms
+    → placed * r + f ≡ place_after B ob ds lions chosen forms
 place_found ob ds lions chosen forms count weight squares r f placed count_is squares_is weight_is placed_is r_is f_is = cc
 
 -- behind all choices before it a place is one of the block, and behind those of its run one of the run
 pub place_in_block : (ob ds : List ℕ) (hands lions chosen forms : ℕ)
     → chosen ≡ hands * hand_size B (slice_index ob 0) + lions_before B (slice_index ob 0) lions + forms_before B lions (slice_index ob 0) (slice_index ds 5)
-    → place_behind B ob ds lions chosen forms ≡ place_in B ob ds hands lions forms
+    → place_after B ob ds lions chosen forms ≡ place_in B ob ds hands lions forms
 unfolding place_in
 place_in_block ob ds hands lions chosen forms is = rw is refl
 
 pub place_in_run : (ob ds : List ℕ) (lions chosen forms : ℕ) → chosen ≡ forms_before B lions (slice_index ob 0) (slice_index ds 5)
-    → place_behind B ob ds lions chosen forms ≡ local_in B ob ds lions forms
+    → place_after B ob ds lions chosen forms ≡ local_in B ob ds lions forms
 unfolding local_in
-place_in_run ob ds lions chosen forms is = ap (λ (n : ℕ). place_behind B ob ds lions n forms) is
+place_in_run ob ds lions chosen forms is = ap (λ (n : ℕ). place_after B ob ds lions n forms) is
 
 pub sum_of_three : (h a b c x y z : ℕ) → a ≡ x → b ≡ y → c ≡ z → h * a + b + c ≡ h * x + y + z
 sum_of_three h a b c x y z e f g = rw (e, f, g) refl

@@ -60,9 +60,9 @@ before_choice-chosen-requires c =
       choice = omega (arith, below);
     }
 
-pub place_behind-local-requires : goal.place_behind-local-requires
-place_behind-local-requires c =
-    let at = goal.at.place_behind-local-requires c in
+pub place_after-local-requires : goal.place_after-local-requires
+place_after-local-requires c =
+    let at = goal.at.place_after-local-requires c in
     let found = far at.After-spot_from-run (parts at.After-numbers_in-on_board c.requires.0 c.requires.1) in
     record {
       few = AreFewOnBoard-digits c.args.set _ (has at.After-numbers_in-on_board);
@@ -88,5 +88,5 @@ returns c =
           number_by_digits c.args.set setup _ _ _ _ _ _ shown.position own.numbers_are digits_are
           (run_is_of c.args.set setup _ _ _ own.numbers_are digits_are c.spot_from-run.ensures.run) refl
           (c.allowed_forms-forms.ensures.value setup (chicks_shown c.args.board.now _ setup own))
-          (c.place_behind-local.ensures.value ∙ place_in_run _ _ _ _ c.allowed_forms-forms.result c.before_choice-chosen.ensures.value);
+          (c.place_after-local.ensures.value ∙ place_in_run _ _ _ _ c.allowed_forms-forms.result c.before_choice-chosen.ensures.value);
     }

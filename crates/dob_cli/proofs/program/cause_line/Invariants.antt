@@ -1,4 +1,4 @@
--- Behind the two spaces stands what has no line feed.
+-- Later the two spaces stands what has no line feed.
 use Rattle.dob_cli.proofs.Causes.{IsBegun}
 use Rattle.dob_cli.proofs.program.cause_line.Given as goal
 

@@ -14,9 +14,9 @@ pub parts-init : goal.parts-init
 parts-init g c =
     let shares = c.args.shares.now in (
       omega (arith, c.min-class.ensures),
-      c.in_ok-taken.ensures.taken,
+      c.in_ok-hashed.ensures.hashed,
       subst (λ (codes : List ℕ). AreFrom (IsCodeShown (length shares) shares) 0 c.min-class.result (codes ++ c.in_ok-part.part.items))
-          (sym c.in_ok-taken.ensures.codes) c.in_ok-part.ensures,
+          (sym c.in_ok-hashed.ensures.codes) c.in_ok-part.ensures,
     )
 
 pub next-requires-clause-owned : goal.next-requires-clause-owned
@@ -29,9 +29,9 @@ parts-preserved g c =
     let next = c.in_ok-parts.parts in
     let more = c.in_ok-parts.ensures in (
       omega (arith, c.min-end.ensures),
-      more.taken c.args.classes.family c.class_count-count.result c.parts.invariant.1,
+      more.hashed c.args.classes.family c.class_count-count.result c.parts.invariant.1,
       subst (λ (codes : List ℕ). AreFrom (IsCodeShown (length shares) shares) 0 c.min-end.result (codes ++ next.part.items)) (sym more.codes)
-          (found_joined (IsCodeShown (length shares) shares) 0 c.parts.class c.min-end.result (before.taken.codes ++ before.part.items) next.part.items
+          (found_joined (IsCodeShown (length shares) shares) 0 c.parts.class c.min-end.result (before.hashed.codes ++ before.part.items) next.part.items
           c.parts.invariant.2 more.part),
     )
 
@@ -42,7 +42,7 @@ are : (g : _) (c : In_ok-codes g) → AreFrom (IsCodeShown (length c.args.shares
 are g c =
     let shares = c.args.shares.now in
     subst (AreFrom (IsCodeShown (length shares) shares) 0 c.parts.class)
-    (sym (c.in_ok-codes.ensures.codes ∙ ap (λ (part : List ℕ). c.parts.parts.taken.codes ++ part) c.deref.ensures.value)) c.parts.invariant.2
+    (sym (c.in_ok-codes.ensures.codes ∙ ap (λ (part : List ℕ). c.parts.parts.hashed.codes ++ part) c.deref.ensures.value)) c.parts.invariant.2
 
 pub new-table-requires-clause-whole : goal.new-table-requires-clause-whole
 new-table-requires-clause-whole g c =
@@ -57,12 +57,12 @@ pub invariant_of-result : goal.invariant_of-result
 invariant_of-result g c =
     let here = (goal.at.invariant_of-result g c).In_ok-codes in
     let family = c.args.classes.family in
-    let taken = c.in_ok-codes.field-0 in
-    let count : c.class_count-count.result ≡ length taken.codes = omega (arith, (are g here).whole, all g here, c.class_count-count.ensures.number) in
+    let hashed = c.in_ok-codes.field-0 in
+    let count : c.class_count-count.result ≡ length hashed.codes = omega (arith, (are g here).whole, all g here, c.class_count-count.ensures.number) in
     record {
-      digested = c.end-digest.ensures family taken.codes
-          (subst (λ (k : ℕ). HasTaken taken.hasher family k taken.codes) count
-          (c.in_ok-codes.ensures.taken family c.class_count-count.result c.parts.invariant.1))
+      digested = c.end-digest.ensures family hashed.codes
+          (subst (λ (k : ℕ). HasTaken hashed.hasher family k hashed.codes) count
+          (c.in_ok-codes.ensures.hashed family c.class_count-count.result c.parts.invariant.1))
           ∙ ap digest_of (sym c.new-table.ensures);
     }
 

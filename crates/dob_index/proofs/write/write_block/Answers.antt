@@ -1,7 +1,7 @@
 -- Each run is written behind those before it.
 use Rattle.dob_index.proofs.Common.{◌+◌, ◌∙◌, ◌≡◌, ◌≤◌, ap, arith, inl, length, refl, ℕ, length-set, block_bases, product, run_kind, run_size, all_lions}
 use Rattle.dob_index.proofs.Common.{none_before, one_run_more, classes_to_block, classes_to_run, marks_small, row_at, where_mixed}
-use Rattle.dob_index.proofs.Places.{run_more, run_fits, behind_rows, words_few}
+use Rattle.dob_index.proofs.Places.{run_more, run_fits, after_rows, words_few}
 use Rattle.dob_index.proofs.Kept.{AreAllRuns, row_opened, one_run, runs_stay, all_runs, outside, both_sides}
 use Rattle.dob_index.proofs.write.write_block.Goals.{After-count_runs, After-write_run-count}
 use Rattle.dob_index.proofs.write.write_block.Goals as goal
@@ -9,7 +9,7 @@ use Rattle.dob_index.proofs.write.write_block.Goals as goal
 pub loop-lions-init : goal.loop-lions-init
 loop-lions-init c =
     let set = c.args.family.set in
-    let rows = behind_rows set (product (block_bases set)) 0 in
+    let rows = after_rows set (product (block_bases set)) 0 in
     let room : row_at (c.args.block + 1) ≤ length c.args.words.now = omega (arith, rows, c.requires.block, c.requires.room) in
     let opened = row_opened c.args.block c.args.before c.row_at-row.result c.args.words.now c.row_at-row.ensures room in
     record {
@@ -65,8 +65,8 @@ loop-lions-preserved c =
     let words = c.run_words-at.ensures ∙ ap (where_mixed (run_kind lions)) c.entries_in-entries.ensures in
     let at_is = c.loop-lions.invariant.at in
     let size = c.loop-lions.invariant.size in
-    let rows = behind_rows set block lions in
-    let all_rows = behind_rows set (product (block_bases set)) 0 in
+    let rows = after_rows set block lions in
+    let all_rows = after_rows set (product (block_bases set)) 0 in
     let behind : row_at (product (block_bases set)) ≤ at = omega (arith, rows, at_is) in
     let room : row_at (product (block_bases set)) ≤ length c.loop-lions.words = omega (arith, all_rows, size, c.requires.room) in
     let first : c.args.first ≤ at = omega (arith, at_is, c.requires.first) in

@@ -1,7 +1,7 @@
 -- The blocks before stay where one more is written, and all of them where the first three numbers are.
 use Rattle.dob_index.proofs.Common.{◌<◌, ◌∙◌, ◌≡◌, ◌≤◌, ap, arith, inl, inr, refl, slice_set, subst, ℕ, cases_lt, block_bases, product, lion_pairs, classes_all}
 use Rattle.dob_index.proofs.Common.{no_classes_yet, IsKeptBlock, entries_at, row_at, words_of}
-use Rattle.dob_index.proofs.Places.{block_more, run_within, behind_rows, words_few}
+use Rattle.dob_index.proofs.Places.{block_more, run_within, after_rows, words_few}
 use Rattle.dob_index.proofs.Kept.{block_stays, headed}
 use Rattle.dob_index.proofs.write.write_index.Goals as goal
 
@@ -21,11 +21,11 @@ loop-block-preserved c =
     let low : block < product (block_bases set) = omega (arith, c.loop-block-test.true, c.count_blocks-blocks.ensures) in
     let at = c.loop-block.invariant.at in
     let size = c.loop-block.invariant.size in
-    let rows = behind_rows set block 0 in
+    let rows = after_rows set block 0 in
     let behind : row_at (product (block_bases set)) ≤ c.loop-block.at = omega (arith, rows, at) in
     let next = c.write_block-classes.ensures.first in
     let more = block_more set block in
-    let all = behind_rows set (product (block_bases set)) 0 in
+    let all = after_rows set (product (block_bases set)) 0 in
     let upto = run_within set block lion_pairs low (omega arith) in
     let further : c.loop-block.at ≤ c.write_block-classes.result.1 = omega (arith, at, next, more) in
     record {
@@ -53,7 +53,7 @@ returns c =
     let all : c.loop-block.block ≡ product (block_bases set) = omega (arith, c.loop-block.auto.block-end, c.loop-block-test.false, c.count_blocks-blocks.ensures) in
     let size = c.loop-block.invariant.size in
     let end : c.loop-block.at ≡ words_of set = c.loop-block.invariant.at ∙ ap (λ (n : ℕ). entries_at set n 0) all in
-    let rows = behind_rows set (product (block_bases set)) 0 in
+    let rows = after_rows set (product (block_bases set)) 0 in
     let few = words_few set in
     let head = headed words c.mark_of.result c.loop-block.before c.loop-block.at (omega (arith, rows, size)) in
     let kept : (b : ℕ) → b < product (block_bases set) → IsKeptBlock family b c.loop-block.at

@@ -44,7 +44,7 @@ loop-played-init g c =
       ordered = none_ordered;
       first = none_first c.args.legal.now;
       held = λ held is. is;
-      listed = λ held is. listed_none c.args.family.profile (g.V.Values.says c.args.by.now held) c.args.position.now.setup c.args.legal.now;
+      listed = λ held is. listed_none c.args.family.profile (g.V.ValueSource.says c.args.by.now held) c.args.position.now.setup c.args.legal.now;
       failed = refl;
     })
 
@@ -64,7 +64,7 @@ loop-played-preserved g c =
           c.loop-played.invariant.first;
       held = λ held is. c.in-Ok.ensures.held held (c.loop-played.invariant.held held is);
       listed = λ held is.
-          listed_more family.profile (g.V.Values.says c.args.by.now held) setup legal index c.loop-played.list.items c.insert_by_value.new.list.items more
+          listed_more family.profile (g.V.ValueSource.says c.args.by.now held) setup legal index c.loop-played.list.items c.insert_by_value.new.list.items more
           c.outcome_of-next.result.setup c.in-Ok.value here goes.0 c.outcome_of-next.ensures.goes
           (c.in-Ok.ensures.said held (c.loop-played.invariant.held held is)) c.value_seen.ensures c.in_ok-insert_by_value.ensures.items
           (before_next family.profile setup legal index c.loop-played.list.items played c.requires.legal c.loop-played-test.true here
@@ -75,6 +75,6 @@ loop-played-preserved g c =
 
 pub returns-clause-moves : goal.returns-clause-moves
 returns-clause-moves g c = λ held is.
-    listed_all c.args.family.profile (g.V.Values.says c.args.by.now held) c.args.position.now.setup c.args.legal.now c.loop-played.played-index
+    listed_all c.args.family.profile (g.V.ValueSource.says c.args.by.now held) c.args.position.now.setup c.args.legal.now c.loop-played.played-index
     c.loop-played.list.items c.requires.free c.requires.legal c.loop-played-test.false (c.loop-played.invariant.listed held is)
     c.loop-played.invariant.ordered

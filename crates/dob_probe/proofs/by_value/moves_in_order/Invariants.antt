@@ -8,8 +8,8 @@ abbrev pub invariant-loop-played : goal.invariant-loop-played
 invariant-loop-played g l = record {
   ordered : AllPairs ComesBefore l.list.items;
   first : AreOfFirst l.legal l.played-index l.list.items;
-  held : (held : g.V.Values.Held) → g.V.Values.holds l.fn.source held → g.V.Values.holds l.source held;
-  listed : (held : g.V.Values.Held) → g.V.Values.holds l.fn.source held
-      → AreListed l.family.profile (g.V.Values.says l.by held) l.position.setup l.legal l.played-index l.list.items;
-  failed : g.V.Values.has_failed l.source ≡ g.V.Values.has_failed l.fn.source;
+  held : (held : g.V.ValueSource.Held) → g.V.ValueSource.holds l.fn.source held → g.V.ValueSource.holds l.source held;
+  listed : (held : g.V.ValueSource.Held) → g.V.ValueSource.holds l.fn.source held
+      → AreListed l.family.profile (g.V.ValueSource.says l.by held) l.position.setup l.legal l.played-index l.list.items;
+  failed : g.V.ValueSource.has_failed l.source ≡ g.V.ValueSource.has_failed l.fn.source;
 }

@@ -20,7 +20,7 @@ returns-in-Err-clause-missing g c = λ held is. (
 
 pub returns-then-eq-clause-found : goal.returns-then-eq-clause-found
 returns-then-eq-clause-found g c = λ held is.
-    first_here c.args.classes.now.family.profile (g.V.Values.says c.args.by.now held) c.args.position.now.setup c.args.wanted
+    first_here c.args.classes.now.family.profile (g.V.ValueSource.says c.args.by.now held) c.args.position.now.setup c.args.wanted
     c.args.legal.now c.loop-played.played-index c.played-item.result c.requires.legal c.loop-played-test.true c.played-item.is
     (c.loop-played.invariant.none held is) c.outcome_of-next.result.setup c.in-Ok.value c.outcome_of-next.ensures.goes
     (c.in-Ok.ensures.said held (c.loop-played.invariant.held held is)) (search rules)
@@ -31,7 +31,7 @@ loop-played-preserved g c =
     record {
       held = λ held is. c.in-Ok.ensures.held held (c.loop-played.invariant.held held is);
       none = λ held is.
-          let Has = g.V.Values.says c.args.by.now held in
+          let Has = g.V.ValueSource.says c.args.by.now held in
           let said = c.in-Ok.ensures.said held (c.loop-played.invariant.held held is) in
           none_here family.profile Has c.args.position.now.setup c.args.wanted c.args.legal.now c.loop-played.played-index c.played-item.result
           c.requires.legal c.loop-played-test.true c.played-item.is (c.loop-played.invariant.none held is)
@@ -43,6 +43,6 @@ loop-played-preserved g c =
 pub returns-clause-missing : goal.returns-clause-missing
 returns-clause-missing g c = λ held is. (
   c.class_of.ensures.class,
-  none_leads c.args.classes.now.family.profile (g.V.Values.says c.args.by.now held) c.args.position.now.setup c.args.wanted c.args.legal.now
+  none_leads c.args.classes.now.family.profile (g.V.ValueSource.says c.args.by.now held) c.args.position.now.setup c.args.wanted c.args.legal.now
       c.loop-played.played-index c.requires.legal c.loop-played-test.false (c.loop-played.invariant.none held is),
 )

@@ -5,8 +5,8 @@ use Rattle.dob_probe.proofs.lines.first_among.Given as goal
 
 abbrev pub invariant-loop-played : goal.invariant-loop-played
 invariant-loop-played g l = record {
-  held : (held : g.V.Values.Held) → g.V.Values.holds l.fn.source held → g.V.Values.holds l.source held;
-  none : (held : g.V.Values.Held) → g.V.Values.holds l.fn.source held
-      → NoneBelow l.classes.family.profile (g.V.Values.says l.by held) l.position.setup l.wanted l.legal l.played-index;
-  failed : g.V.Values.has_failed l.source ≡ g.V.Values.has_failed l.fn.source;
+  held : (held : g.V.ValueSource.Held) → g.V.ValueSource.holds l.fn.source held → g.V.ValueSource.holds l.source held;
+  none : (held : g.V.ValueSource.Held) → g.V.ValueSource.holds l.fn.source held
+      → NoneBelow l.classes.family.profile (g.V.ValueSource.says l.by held) l.position.setup l.wanted l.legal l.played-index;
+  failed : g.V.ValueSource.has_failed l.source ≡ g.V.ValueSource.has_failed l.fn.source;
 }

@@ -17,7 +17,7 @@ returns-in_err-played-clause-fault g c =
     let p = err_from_is_err_and c.from_residual-in_err-played.result c.from_residual-in_err-played.ensures.1 in
     let family = c.args.classes.now.family in
     rw (p.1, p.2) (λ held is says.
-    gap_breaks family (g.V.Values.says c.args.by.now held) (g.V.Values.lacks c.args.by.now held) c.args.position.setup c.loop-catch.line.items
+    gap_breaks family (g.V.ValueSource.says c.args.by.now held) (g.V.ValueSource.lacks c.args.by.now held) c.args.position.setup c.loop-catch.line.items
     c.loop-catch.position.setup c.loop-catch.value c.in-Some-value_wanted.wanted c.in_err-played.field-0.0 (c.loop-catch.invariant.on held is says)
     c.in_default.ensures (sym c.value_wanted.ensures ∙ c.in-Some-value_wanted.is)
     (c.in_err-played.ensures.missing held (c.loop-catch.invariant.held held is)))

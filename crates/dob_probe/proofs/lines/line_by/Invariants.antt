@@ -8,10 +8,10 @@ abbrev pub invariant-loop-catch : goal.invariant-loop-catch
 invariant-loop-catch g l = record {
   member : IsPositionOf l.classes.family l.position.setup;
   entry : IsEntry l.value;
-  held : (held : g.V.Values.Held) → g.V.Values.holds l.fn.source held → g.V.Values.holds l.source held;
-  on : (held : g.V.Values.Held) → g.V.Values.holds l.fn.source held → g.V.Values.says l.by held l.fn.position.setup l.fn.value
-      → IsBegun l.classes.family.profile (g.V.Values.says l.by held) l.fn.position.setup l.line.items l.position.setup l.value;
-  failed : g.V.Values.has_failed l.source ≡ g.V.Values.has_failed l.fn.source;
+  held : (held : g.V.ValueSource.Held) → g.V.ValueSource.holds l.fn.source held → g.V.ValueSource.holds l.source held;
+  on : (held : g.V.ValueSource.Held) → g.V.ValueSource.holds l.fn.source held → g.V.ValueSource.says l.by held l.fn.position.setup l.fn.value
+      → IsBegun l.classes.family.profile (g.V.ValueSource.says l.by held) l.fn.position.setup l.line.items l.position.setup l.value;
+  failed : g.V.ValueSource.has_failed l.source ≡ g.V.ValueSource.has_failed l.fn.source;
 }
 
 abbrev pub decreases-loop-catch : goal.decreases-loop-catch

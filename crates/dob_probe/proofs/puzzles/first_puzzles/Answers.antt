@@ -12,7 +12,7 @@ order_of-order-requires c = few_classes c.args.table.now.family c.class_count-cl
 is_order : (c : After-order_of-order) → IsOrder c.args.walk.seed (length c.args.table.now.values) c.order_of-order.result
 is_order c = rw (c.class_count-classes.ensures.length) at c.order_of-order.ensures
 
-begin_is : (c : After-begin_at-begin) → c.begin_at-begin.result ≡ begin_at c.args.walk.behind c.order_of-order.result (length c.args.table.now.values)
+begin_is : (c : After-begin_at-begin) → c.begin_at-begin.result ≡ begin_at c.args.walk.after c.order_of-order.result (length c.args.table.now.values)
 begin_is c = rw (c.begin_at-begin.ensures, c.class_count-classes.ensures.length) refl
 
 end_is : (c : After-places_in-end) → c.places_in-end.result ≡ places_in c.order_of-order.result (length c.args.table.now.values)

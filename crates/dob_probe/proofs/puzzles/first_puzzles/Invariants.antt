@@ -4,5 +4,5 @@ use Rattle.dob_probe.proofs.OnlyMoves.{ArePuzzlesBelow}
 use Rattle.dob_probe.proofs.puzzles.first_puzzles.Given as goal
 
 abbrev pub invariant-loop-place : goal.invariant-loop-place
-invariant-loop-place l = (begin_at l.fn.walk.behind l.order (length l.table.values) ≤ l.place) × (length l.list.items ≤ l.count)
+invariant-loop-place l = (begin_at l.fn.walk.after l.order (length l.table.values) ≤ l.place) × (length l.list.items ≤ l.count)
     × ArePuzzlesBelow l.table l.plies l.fn.walk l.order l.place l.list.items × AreOutlines l.table l.list.items l.outlines.items

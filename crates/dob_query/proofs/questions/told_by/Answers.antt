@@ -12,7 +12,7 @@ returns-in_ok-moves_told-in-Moves g c =
     rw c.in-Moves.is (record {
       ok = λ held holds. (
         legal.legal.items,
-        said_valued family (g.V.Values.says c.args.by.now held) (g.V.Values.says c.args.by.now held) (λ q v says. says) (c.requires.single held) p c.requires.member
+        said_valued family (g.V.ValueSource.says c.args.by.now held) (g.V.ValueSource.says c.args.by.now held) (λ q v says. says) (c.requires.single held) p c.requires.member
             legal.legal.items (legal.ensures.moves held holds),
         c.in_ok-moves_told-in-Moves.ensures ∙ ap (moves_told c.in-Moves.form p) c.deref.ensures.value,
       );

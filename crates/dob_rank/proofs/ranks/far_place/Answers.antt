@@ -38,9 +38,9 @@ chosen_before-chosen-requires c =
       choice = far.choice_below;
     }
 
-pub place_behind-requires : goal.place_behind-requires
-place_behind-requires c =
-    let far = parts (goal.at.place_behind-requires c).After-spot_from-run in
+pub place_after-requires : goal.place_after-requires
+place_after-requires c =
+    let far = parts (goal.at.place_after-requires c).After-spot_from-run in
     record {
       few = AreFewOnBoard-digits c.args.set _ (HasDigits-board c.args.set c.requires.0 _ c.requires.1.of_set c.requires.2.numbers_are);
       lions = omega arith;
@@ -56,6 +56,6 @@ returns c = λ setup position shown.
     let found = c.digits_of-digits.ensures setup shown in
     far_place_is c.args.set setup _ _ _ _ _ position shown.numbers_are found
     (run_is_of c.args.set setup _ _ _ shown.numbers_are found c.spot_from-run.ensures.run)
-    (c.allowed_forms-forms.ensures.value setup (chicks_shown c.args.board.now c.args.on_board.now setup shown)) (c.place_behind.ensures.value
+    (c.allowed_forms-forms.ensures.value setup (chicks_shown c.args.board.now c.args.on_board.now setup shown)) (c.place_after.ensures.value
     ∙ place_in_block _ _ (c.spot_from-run.result.run / lion_pairs) (c.spot_from-run.result.run % lion_pairs) _ c.allowed_forms-forms.result
     c.chosen_before-chosen.ensures.value)

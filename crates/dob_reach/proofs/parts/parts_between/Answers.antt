@@ -1,5 +1,5 @@
 -- The parts in their places, each looked at by itself.
-use Rattle.dob_reach.proofs.Common.{◌-◌, ◌∙◌, AllZip, AllZip-weaken, IfOk, IsPartAt, IsPlace, List, Part, Result, ap, arith, range_with_len, subst, ℕ}
+use Rattle.dob_reach.proofs.Common.{◌-◌, ◌∙◌, AllZip, AllZip-weaken, IfOk, IsPartAt, IsPlace, List, FrontierPart, Result, ap, arith, range_with_len, subst, ℕ}
 use Rattle.rayon.specs.Numbers.{nat_range}
 use Rattle.rayon.proofs.ToStd.{nat_range-All}
 use Rattle.dob_pieces.proofs.Zips.{made_all}
@@ -20,7 +20,7 @@ returns g c =
     let done = c.in_ok-collect.ensures in
     let ends = c.into_par_iter.ensures in
     let places = done.1.1 ∙ ap (λ it. nat_range it.start it.end) c.map.ensures.base ∙ (λ i. nat_range (ends.0 i) (ends.1 i)) in
-    let each = AllZip-weaken _ (λ (place : ℕ) (given : Result Part Memory). IfOk given (IsPartAt family words front place))
+    let each = AllZip-weaken _ (λ (place : ℕ) (given : Result FrontierPart Memory). IfOk given (IsPartAt family words front place))
     (λ place given h. (rw c.map.ensures.f at h)) done.1.0 done.0 done.1.2 in
-    let are = subst (λ (l : List ℕ). AllZip (λ (place : ℕ) (given : Result Part Memory). IfOk given (IsPartAt family words front place)) l done.0) places each in
+    let are = subst (λ (l : List ℕ). AllZip (λ (place : ℕ) (given : Result FrontierPart Memory). IfOk given (IsPartAt family words front place)) l done.0) places each in
     made_all (IsPartAt family words front) (range_with_len c.args.first (c.args.end - c.args.first)) done.0 c.in_ok-collect.field-0 are done.2

@@ -1,5 +1,5 @@
 -- Some parts more each time, and then all of them.
-use Rattle.dob_reach.proofs.Common.{◌++◌, ◌+◌, ◌-◌, ◌≡◌, ◌≤◌, AreExpanded, List, Part, ap, arith, length, opens_of, outcomes_of, parts_before, subst, sym, ℕ}
+use Rattle.dob_reach.proofs.Common.{◌++◌, ◌+◌, ◌-◌, ◌≡◌, ◌≤◌, AreExpanded, List, FrontierPart, ap, arith, length, opens_of, outcomes_of, parts_before, subst, sym, ℕ}
 use Rattle.dob_reach.proofs.Stepping.{all_parts, opens_fit, parts_expanded, parts_have_bits, round_met, expanded_kept}
 use Rattle.dob_reach.proofs.search.round.Goals.{After-deref}
 use Rattle.dob_reach.proofs.search.round.Goals as goal
@@ -39,7 +39,7 @@ windows-preserved g c =
       done ++ outcomes_of c.deref-in-windows.result.now,
       c.in_ok-mark_parts.ensures.marked c.args.marks.now.words.items done c.windows.invariant.1,
       subst (λ (n : ℕ). AreExpanded family new before (done ++ outcomes_of c.deref-in-windows.result.now) n) count
-          (subst (λ (parts : List Part). AreExpanded family new before (done ++ outcomes_of parts) (opens + opens_of found)) (sym all)
+          (subst (λ (parts : List FrontierPart). AreExpanded family new before (done ++ outcomes_of parts) (opens + opens_of found)) (sym all)
           (expanded_kept (found_are g (goal.at.windows-preserved g c).After-deref) c.in_ok-mark_parts.ensures.keeps)),
     )
 

@@ -1,4 +1,4 @@
--- Behind the board there are no two words.
+-- Later the board there are no two words.
 use Rattle.std.proofs.lemmas.Grind.{common_steps}
 use Rattle.std.proofs.Common.{arith}
 use Rattle.std.proofs.lemmas.List.{take_rest}

@@ -1,4 +1,4 @@
--- Behind the last name there is none.
+-- Later the last name there is none.
 use Rattle.dobutsu_c.proofs.Common.{◌≤◌, [], arith, sym, names}
 use Rattle.std.proofs.Math.ListN.{get_or-eq_default}
 use Rattle.dobutsu_c.proofs.fault_names.name_of.Goals as goal

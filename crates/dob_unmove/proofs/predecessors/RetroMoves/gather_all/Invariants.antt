@@ -1,7 +1,7 @@
 -- The ways that end on the squares gone over are taken.
 use Rattle.dob_unmove.proofs.Common.{RepresentsClass, CanWalk, undoes_at, may_have_ended, setup_after}
 use Rattle.dob_unmove.proofs.Gathered.{IsGathered}
-use Rattle.dob_unmove.proofs.predecessors.Walk.gather_all.Given as goal
+use Rattle.dob_unmove.proofs.predecessors.RetroMoves.gather_all.Given as goal
 
 abbrev pub invariant-loop-to : goal.invariant-loop-to
 invariant-loop-to l =

@@ -3,8 +3,8 @@ use Rattle.dob_rank.proofs.Common.{get_or}
 use Rattle.std.proofs.Common.{◌+◌, ◌*◌, ◌≤◌, ◌∙◌, slice_index, arith}
 use Rattle.dob_rank.proofs.ProfileB.PlaceParts.{AreOthersSquares, AreOthersForms, others_squares_are, others_forms_are, few_squares, product_within}
 use Rattle.dob_rank.proofs.ProfileB.PlaceParts.{place_found}
-use Rattle.dob_rank.proofs.ranks.place_behind.Goals as goal
-use Rattle.dob_rank.proofs.ranks.place_behind.Goals.{After-choices_in-choices, After-weight_of, After-power}
+use Rattle.dob_rank.proofs.ranks.place_after.Goals as goal
+use Rattle.dob_rank.proofs.ranks.place_after.Goals.{After-choices_in-choices, After-weight_of, After-power}
 
 squares_in : (c : After-choices_in-choices) → AreOthersSquares c.args.on_board.now c.args.digits.now c.choices_in-choices.result
 squares_in c = others_squares_are c.args.on_board.now c.args.digits.now _ c.requires.few c.choices_in-choices.ensures

@@ -5,8 +5,8 @@ use Rattle.dob_unmove.proofs.Gathering.{finds_from}
 use Rattle.dob_unmove.proofs.Kept.{barred, legal_turned, shown_before}
 use Rattle.dob_unmove.proofs.Threats.{was_open}
 use Rattle.dob_unmove.proofs.Undone.{turned_squares, few_turned}
-use Rattle.dob_unmove.proofs.predecessors.Walk.class_before.Goals as goal
-use Rattle.dob_unmove.proofs.predecessors.Walk.class_before.Goals.{After-bits_before-before}
+use Rattle.dob_unmove.proofs.predecessors.RetroMoves.class_before.Goals as goal
+use Rattle.dob_unmove.proofs.predecessors.RetroMoves.class_before.Goals.{After-bits_before-before}
 
 pub bits_before-before-requires : goal.bits_before-before-requires
 bits_before-before-requires c =

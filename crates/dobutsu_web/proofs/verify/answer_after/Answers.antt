@@ -1,7 +1,7 @@
 -- The held list's family is the lost one's.
 use Rattle.dobutsu_web.proofs.Common.{inl, inr, refl, cases_Bool, not_so, entries_by, entries_in}
 use Rattle.dobutsu_web.proofs.Answered.{proof_of}
-use Rattle.dobutsu_web.proofs.verify.answer_behind.Goals as goal
+use Rattle.dobutsu_web.proofs.verify.answer_after.Goals as goal
 
 pub returns-in-Some-clause-answer : goal.returns-in-Some-clause-answer
 returns-in-Some-clause-answer c =

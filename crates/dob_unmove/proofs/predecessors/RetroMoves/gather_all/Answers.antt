@@ -4,7 +4,7 @@ use Rattle.dob_unmove.proofs.Gathered.{gathered_start, passes_next, gathered_nex
 use Rattle.dob_unmove.proofs.Dead.{ends_dead, calm_end, end_home, own_end}
 use Rattle.dob_unmove.proofs.Kept.{legal_turned}
 use Rattle.dob_unmove.proofs.Undone.{turned_lions}
-use Rattle.dob_unmove.proofs.predecessors.Walk.gather_all.Goals as goal
+use Rattle.dob_unmove.proofs.predecessors.RetroMoves.gather_all.Goals as goal
 
 pub loop-to-init : goal.loop-to-init
 loop-to-init c = λ w.
