@@ -21,12 +21,6 @@ const Answers = (() => {
     return { status, value: engine.valueOf(record), moves: valued, follows: Core.recordOf(record) === Core.recordBy(status, after.map(Core.recordOf)) };
   }
 
-  const isSame = (a, b) => a.letter === b.letter && a.from === b.from && a.to === b.to;
-  // The same by what a certificate says; null where it doesn't say it of the move.
-  function judgeBy({ value: best, moves }, move) {
-    const { value } = moves.find((it) => isSame(it.move, move));
-    return value && best.kind !== "unknown" ? { value, best } : null;
-  }
   // A move that leaves a lion which could be caught is worth what the position behind it is; a lion that has reached its far row so has won.
   async function judgeMissed(table, engine, position, move) {
     const after = Core.apply(position, move), best = { kind: "win", plies: 1 };
@@ -34,10 +28,11 @@ const Answers = (() => {
     const { kind, plies, isWithin } = (await lookUp(table, engine, after)).value;
     return kind === "unknown" ? null : { value: { kind: { win: "loss", loss: "win", draw: "draw" }[kind], plies: kind === "draw" ? 0 : plies + 1, isWithin }, best };
   }
-  // What a move that was played was worth, and what the best one would have been, each for the side that made it.
+  // What a move that was played was worth, and what the best one would have been, each for the side that made it. By a certificate the best may be of kind
+  // `unknown`, and null is what it knows nothing of.
   async function judge(table, engine, position, move) {
     if (position.squares[move.to] !== "l" && engine.moves(table.profile, position).status === "caught") return judgeMissed(table, engine, position, move);
-    if (table.isCertificate) return judgeBy(Certificates.lookUp(table, engine, position), move);
+    if (table.isCertificate) return Certificates.judge(table, engine, position, move);
     const { profile } = table, best = engine.valueOf(await table.record(engine.classOf(profile, position)));
     if (engine.moves(profile, position).status === "caught") return { value: best, best };
     return { value: engine.afterMove(await table.record(engine.classAfter(profile, position, move))), best };

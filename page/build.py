@@ -1,10 +1,11 @@
 #!/usr/bin/env python3
-"""Joins the page's sources into one file, dobutsu.html: page/build.py [--with FILE] [MODULE [OUT]]
+"""Joins the page's sources into one file, dobutsu.html: page/build.py [--script] [--with FILE] [MODULE [OUT]]
 
-MODULE is the engine that is proved, compiled to WebAssembly; without it, or where it is `-`, the page has the engine in plain JavaScript alone. FILE is a
-certificate or a small database file that stands in the page and is open from the beginning. OUT is page/out/dobutsu.html unless it is given. The bytes
-depend on the sources, the module, the file and Python's gzip alone. Prints the file's name and its length.
+MODULE is the engine that is proved, compiled to WebAssembly; without it, or where it is `-`, it is dobutsu_web.wasm, which stands here. With --script the page
+has the engine in JavaScript alone. FILE is a certificate or a small database file that stands in the page and is open from the beginning. OUT is
+page/out/dobutsu.html unless it is given. The bytes depend on the sources, the module, the file and Python's gzip alone. Prints the file's name and its length.
 """
+import argparse
 import base64
 import gzip
 import json
@@ -15,10 +16,11 @@ import sys
 HERE = pathlib.Path(__file__).resolve().parent
 ENGINE = ["core.js", "certificate.js"]  # a worker runs these too
 SCRIPTS = [
-    "alone.js", "texts.js", "fence.js", "english.js", "japanese.js", "hiragana.js", "pieces.js", "file.js", "shuffle.js", "answers.js", "game.js", "notation.js", "board.js", "setup.js", "view.js",
+    "alone.js", "texts.js", "fence.js", "english.js", "japanese.js", "hiragana.js", "pieces.js", "file.js", "shuffle.js", "answers.js", "game.js", "notation.js", "gametext.js", "board.js", "setup.js", "view.js",
     "worksheet.js", "settings.js", "exercise.js", "practice.js",
     "lesson.js", "mistakes.js", "results.js", "glance.js", "page.js",
 ]
+MODULE = HERE / "dobutsu_web.wasm"
 MOST_BYTES, MOST_WITH_FILE = 300_000, 3_000_000
 
 
@@ -80,14 +82,14 @@ def build(module=None, file=None):
 
 
 def main(words):
-    file = None
-    if words[:1] == ["--with"] and len(words) > 1:
-        file, words = pathlib.Path(words[1]), words[2:]
-    if len(words) > 2 or any(word.startswith("--") for word in words):
-        raise SystemExit(__doc__)
-    module = pathlib.Path(words[0]).read_bytes() if words and words[0] != "-" else None
-    out = pathlib.Path(words[1]) if len(words) == 2 else HERE / "out" / "dobutsu.html"
-    data = build(module, file)
+    given = argparse.ArgumentParser(description=__doc__, formatter_class=argparse.RawDescriptionHelpFormatter)
+    given.add_argument("--script", action="store_true")
+    given.add_argument("--with", type=pathlib.Path, dest="file")
+    given.add_argument("module", nargs="?", default="-")
+    given.add_argument("out", nargs="?", type=pathlib.Path, default=HERE / "out" / "dobutsu.html")
+    asked = given.parse_args(words)
+    module = MODULE if asked.module == "-" else pathlib.Path(asked.module)
+    data, out = build(None if asked.script else module.read_bytes(), asked.file), asked.out
     out.parent.mkdir(parents=True, exist_ok=True)
     out.write_bytes(data)
     print(f"{out}: {len(data)} bytes")

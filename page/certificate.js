@@ -8,13 +8,12 @@ const Certificates = (() => {
   const CLAIMS = ["draw", "win", "loss", "winWithin", "lossWithin"];
   const TOLD = 100000; // so many entries are read between two words of how far that is
   const SLICE = 40; // milliseconds of checking, then the page is drawn
-  // Entries that are checked in plain JavaScript, some ten thousand in a second: by a worker, and by the page itself where there can be none.
+  // Entries that are checked in JavaScript, some ten thousand in a second: by a worker, and by the page itself where there can be none.
   const limits = { checked: 1000000, here: 20000 };
 
   // ---- reading
 
   const isOne = (bytes) => String.fromCharCode(...bytes.slice(0, 8)) === TITLE;
-  const setOf = (bytes) => [...bytes.slice(9, 12)].join("");
 
   // A list of entries: classes, which ascend, with their plies.
   class Entries {
@@ -78,6 +77,16 @@ const Certificates = (() => {
     if (lost > classes || held > classes) throw new Core.Fault("E35 EntryCount");
     return { pieces, profile, classes, root, claim: CLAIMS[kind], plies, lost, held };
   }
+  // What a head claims of the position of a class, and whether that is that the first player loses the game.
+  function claimOf({ pieces, profile, root, claim, plies }, engine) {
+    const set = pieces.join(""), kind = claim.replace("Within", "");
+    const isOfStart = kind === "loss" && set === "222" && engine.classOf(profile, Core.readPosition(Game.START)) === root;
+    return { set, profile, root, isOfStart, said: { kind, plies, isWithin: claim.endsWith("Within") } };
+  }
+  // The same of a file's first bytes, before it is read: null where the head isn't as it has to be.
+  function claimIn(bytes, engine) {
+    try { return claimOf(headOf(bytes, () => Infinity), engine); } catch { return null; }
+  }
   // What a file says: its head with both lists of entries. Its digest is tested where the browser can. `tell` is called with the part that is read.
   async function read(bytes, countClasses = Core.countClasses, tell = () => {}) {
     const head = headOf(bytes, countClasses);
@@ -92,7 +101,7 @@ const Certificates = (() => {
     return { ...head, lost: lost.entries, held: held.entries };
   }
 
-  // ---- checking, in plain JavaScript: each entry by the others, then the claim
+  // ---- checking, in JavaScript: each entry by the others, then the claim
 
   class Checker {
     constructor({ profile, pieces, lost, held }) {
@@ -201,24 +210,26 @@ const Certificates = (() => {
   }
   const isRoot = ({ profile, root, set }, engine, position) => Core.setOf(position).join("") === set && engine.classOf(profile, position) === root;
 
+  // A move that the other side answers by the list: what it is worth, and the reply. Null where the list has no answer.
+  function answered(certificate, engine, position, move) {
+    const after = engine.apply(certificate.profile, position, move), reply = replyTo({ certificate, engine }, after);
+    return reply && { value: within("loss", reply.plies + 1), reply: { move: reply.move, position: after, plies: reply.plies } };
+  }
   // A position that is listed as lost: within the plies of its entry, and within those of the move that holds out longest.
   function ofLost(certificate, engine, position, moves, plies) {
-    const { profile } = certificate;
-    const answered = moves.map((move, order) => {
-      const after = engine.apply(profile, position, move), reply = replyTo({ certificate, engine }, after);
-      return { move, order, value: within("loss", reply ? reply.plies + 1 : plies), reply: reply && { move: reply.move, position: after, plies: reply.plies } };
-    });
-    answered.sort((a, b) => b.value.plies - a.value.plies || a.order - b.order);
-    return { value: within("loss", Math.min(plies, answered[0].value.plies)), moves: answered };
+    const valued = moves.map((move, order) => ({ move, order, ...(answered(certificate, engine, position, move) || { value: within("loss", plies), reply: null }) }));
+    valued.sort((a, b) => b.value.plies - a.value.plies || a.order - b.order);
+    return { value: within("loss", Math.min(plies, valued[0].value.plies)), moves: valued };
   }
+  // One that isn't: moves win by the list, lose by an answer of it, or have no value. It is lost where each move is answered.
   function ofOthers(certificate, engine, position, moves) {
     const valued = moves.map((move, order) => {
       const plies = pliesAfter(certificate, engine, position, move);
-      return { move, order, value: plies === null ? null : within("win", plies + 1) };
+      return { move, order, value: null, ...(plies === null ? answered(certificate, engine, position, move) : { value: within("win", plies + 1) }) };
     });
-    const plies = ({ value }) => (value ? value.plies : EVER);
-    valued.sort((a, b) => plies(a) - plies(b) || a.order - b.order);
-    return { value: valued.length && valued[0].value ? valued[0].value : { kind: "unknown", plies: 0 }, moves: valued };
+    const goodness = ({ value }) => (value ? Core.goodness(value) : 0);
+    valued.sort((a, b) => goodness(b) - goodness(a) || a.order - b.order);
+    return { value: valued[0].value || { kind: "unknown", plies: 0 }, moves: valued };
   }
   // { status, value, moves, follows } as of a table. A value may be a bound (`isWithin`), of kind `unknown` outside; a move that loses has its reply.
   function lookUp(certificate, engine, position) {
@@ -230,6 +241,18 @@ const Certificates = (() => {
     const found = listed !== null ? ofLost(certificate, engine, position, moves, listed) : ofOthers(certificate, engine, position, moves);
     if (["win", "loss", "draw"].includes(claim) && isRoot(certificate, engine, position)) found.value = { kind: claim, plies };
     return { status, ...found, follows };
+  }
+  const isSame = (a, b) => a.letter === b.letter && a.from === b.from && a.to === b.to;
+  // A position's value for the side that moved there, the move counted.
+  const ofMover = ({ kind, plies }) => (kind === "draw" ? { kind, plies: 0 } : within(kind === "win" ? "loss" : "win", plies + 1));
+  // What a move was worth, by the list or by what is said of the position behind it, and the best one: of kind `unknown` where that isn't known. Null where the
+  // move's worth isn't known.
+  function judge(certificate, engine, position, move) {
+    const { value: best, moves } = lookUp(certificate, engine, position), { value: listed } = moves.find((it) => isSame(it.move, move));
+    const behind = listed ? null : lookUp(certificate, engine, engine.apply(certificate.profile, position, move)).value;
+    if (behind && behind.kind === "unknown") return null;
+    const value = listed || ofMover(behind);
+    return { value, best: best.kind === "unknown" && value.kind === "win" ? value : best };
   }
   // The line of its replies: the winner's by the list, against the moves that hold out longest by it.
   function line(certificate, engine, position) {
@@ -247,24 +270,22 @@ const Certificates = (() => {
   // ---- an open one
 
   class Open {
-    // `checked` is "proved", "plain" or "not": by what it was checked.
+    // `checked` is "proved", "script" or "not": by what it was checked.
     constructor(name, certificate, checked, engine) {
-      const { pieces, profile, root, claim, plies } = certificate, set = pieces.join(""), isLoss = claim.startsWith("loss");
-      const said = { kind: claim.replace("Within", ""), plies, isWithin: claim.endsWith("Within") };
-      Object.assign(this, certificate, { name, set, key: `${set}${profile}.cert`, said, isCertificate: true, checked, isBroken: false });
-      this.isOfStart = isLoss && set === "222" && engine.classOf(profile, Core.readPosition(Game.START)) === root;
+      Object.assign(this, certificate, claimOf(certificate, engine), { name, isCertificate: true, checked, isBroken: false });
+      this.key = `${this.set}${this.profile}.cert`;
     }
     position() { return Core.positionAt(this.profile, this.pieces, this.root); }
   }
 
-  // Reads a file and checks it: by the engine's proved call, or one of at most so many entries in plain JavaScript; `tell` is called with the part that is
+  // Reads a file and checks it: by the engine's proved call, or one of at most so many entries in JavaScript; `tell` is called with the part that is
   // done, and with about how many milliseconds the rest takes where nothing is told meanwhile. Gives { certificate, checked }, without the held list, of which nothing is looked up.
   async function examine(file, engine, most, tell) {
     const certificate = await read(new Uint8Array(await file.arrayBuffer()), Core.countClasses, (part) => tell(0.1 * part));
     const entries = certificate.lost.classes.length + certificate.held.classes.length, rest = (part, wait) => tell(0.1 + 0.9 * part, wait);
-    const checked = engine.isProved ? "proved" : entries <= most ? "plain" : "not";
+    const checked = engine.isProved ? "proved" : entries <= most ? "script" : "not";
     if (checked === "proved") engine.verify(certificate, rest);
-    if (checked === "plain") await check(certificate, rest);
+    if (checked === "script") await check(certificate, rest);
     return { certificate: { ...certificate, held: null }, checked };
   }
 
@@ -313,6 +334,6 @@ const Certificates = (() => {
     return new Open(file.name, certificate, checked, engine);
   }
 
-  return { limits, isOne, setOf, read, check, examine, serve, open, lookUp, line };
+  return { limits, HEAD, isOne, claimIn, read, check, examine, serve, open, lookUp, judge, line };
 })();
 if (typeof module === "object") module.exports = Certificates;

@@ -1,4 +1,4 @@
-// The engine in plain JavaScript: texts, moves, class numbers and records, written from docs/RULES.md and docs/FORMAT.md as
+// The engine in JavaScript: texts, moves, class numbers and records, written from docs/RULES.md and docs/FORMAT.md as
 // tools/read_db.py is. Nothing here is proved. It touches neither the page nor a file, so that Node can test it.
 //
 // A position is { squares, mover, enemy }: twelve letters from a1 to c4 ('.' is empty, upper case the mover's), and the hands as

@@ -132,7 +132,7 @@ const Exercise = (() => {
   function draw() {
     if (!isOnBoard() && notice !== "drawing") open = null;
     const isThere = !!open && notice !== "drawing";
-    element("task").textContent = isThere ? task() : notice ? text(notice) : table() ? "" : text(Files.all().length || Files.work()?.set ? "needTable" : "needFile");
+    element("task").textContent = isThere ? task() : notice ? text(notice) : table() ? "" : text(Files.all().length || Files.work()?.claim ? "needTable" : "needFile");
     element("verdict").textContent = isThere && open.verdict ? open.verdict() : "";
     element("verdict").className = isThere && open.isSolved ? "good" : "fault";
     element("exercise-card").classList.toggle("asked", isThere);

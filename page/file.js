@@ -36,8 +36,8 @@ const Files = (() => {
   }
 
   const tables = new Map(); // the open ones, by set and profile
-  let work = null; // { name, set, part, wait, at, stop } of the file that is opened; of a certificate its set, the `part` that was checked `at` then, about how long
-  // the rest takes where that is known, and what stops it
+  let work = null; // { name, claim, part, wait, at, stop } of the file that is opened; of a certificate what it claims, the `part` that was checked `at` then, about
+  // how long the rest takes where that is known, and what stops it
   let queue = Promise.resolve(); // files that are given while others are opened wait for them
   let refused = []; // { name, fault } of the files that were given last and aren't open
   let closed = ""; // the name of the file that was closed since then
@@ -53,9 +53,9 @@ const Files = (() => {
 
   // Opens a table, or a certificate: `tell` is called as the check of one goes on.
   async function open(file, engine, tell) {
-    const head = new Uint8Array(await file.slice(0, 12).arrayBuffer());
+    const head = new Uint8Array(await file.slice(0, Certificates.HEAD).arrayBuffer());
     if (Certificates.isOne(head)) {
-      work.set = Certificates.setOf(head);
+      work.claim = Certificates.claimIn(head, engine);
       const note = (part, wait = null) => { Object.assign(work, { part, wait, at: performance.now() }); tell(work); };
       return Certificates.open(file, engine, note, (stop) => { work.stop = stop; note(0); });
     }
@@ -74,7 +74,7 @@ const Files = (() => {
     refused = [];
     closed = "";
     for (const file of files) {
-      work = { name: file.name, set: null, part: null, stop: null };
+      work = { name: file.name, claim: null, part: null, stop: null };
       tell(work);
       await new Promise((done) => setTimeout(done, SEEN)); // so that this is seen while classes are counted
       try {

@@ -53,6 +53,15 @@ const Game = (() => {
       isMissed: isMissed(profile, position, move),
     };
   }
+  // How often each position of the line on the board has been there up to then, from the first position on.
+  function times() {
+    const met = new Map(), { start, side, plies } = state;
+    return [{ position: Core.readPosition(start), side }, ...plies].map((it) => {
+      const key = `${it.side} ${Core.writePosition(it.position)}`;
+      met.set(key, (met.get(key) || 0) + 1);
+      return met.get(key);
+    });
+  }
   const goTo = (cursor) => { state.cursor = Math.max(0, Math.min(cursor, state.plies.length)); };
 
   // A first position of a set: the starting layout without what the set lacks.
@@ -87,7 +96,7 @@ const Game = (() => {
   }
 
   return {
-    START, state, now, moves, legal, isCatch, isMove, moveText, textOf, load, play, take, goTo, startOf, address, readAddress,
+    START, state, now, moves, legal, isCatch, isMove, moveText, textOf, load, play, take, times, goTo, startOf, address, readAddress,
     engine: () => engine, useEngine: (it) => { engine = it; },
   };
 })();

@@ -5,7 +5,7 @@ const Glance = (() => {
   const Core = DobutsuCore;
   const { text } = Texts;
   const { options, node, button } = View;
-  const limits = { classes: 1 << 20 }; // a larger file isn't counted
+  const limits = { classes: 1 << 25 }; // a larger file isn't counted
   const SLICE = 12, WINDOW = 1 << 16, STRIDE = 1000003; // milliseconds of counting; classes that are read at once; a prime, so that its steps meet each class once
   const HALF = 50; // of the chart's height
   const LOST = 1; // the record of a position that is lost at once
@@ -18,7 +18,8 @@ const Glance = (() => {
   let part = null, notice = null; // how far counting is, and the name of a text about the last search
   let turn = 0;
 
-  // ---- what is counted: { name, profile, counts, longestWin, longestLoss, zugzwangs } and of a file { table, records }
+  // ---- what is counted: { name, profile, counts, longestWin, longestLoss, zugzwangs } and of a file { table, records, lost }, the last the numbers of the
+  // classes that are lost, but not at once
 
   const isWin = (record) => record > 0 && record % 2 === 0, isLoss = (record) => record % 2 === 1;
   const valueOf = (record) => Core.valueOf(record), said = (record) => Texts.value(valueOf(record), options.inMoves);
@@ -40,37 +41,36 @@ const Glance = (() => {
     return true;
   }
 
-  async function recordsOf(table) {
+  async function recordsOf(table, isLate) {
     const records = new Uint16Array(table.count);
-    for (let first = 0; first < table.count; first += WINDOW) records.set(await table.records(first, Math.min(WINDOW, table.count - first)), first);
+    for (let first = 0; first < table.count && !isLate(); first += WINDOW) records.set(await table.records(first, Math.min(WINDOW, table.count - first)), first);
     return records;
   }
   // The pairs of a position and its turn, the same board with the other side to move, that are lost by both, or by one where the other draws. The turn of a
   // position that is lost, but not at once, is a position of the set.
-  async function zugzwangsOf({ table, records }, isLate, tell) {
-    const engine = Game.engine(), found = { both: 0, half: 0, deepest: null, classes: [] };
+  async function zugzwangsOf({ table: { profile, pieces }, records, lost }, isLate, tell) {
+    const engine = Game.engine(), found = { both: 0, half: 0, deepest: null, classes: [] }, positions = Core.positionsOf(profile, pieces, lost);
     const depth = ({ plies, turnPlies }) => 1000 * Math.min(plies, turnPlies) + Math.max(plies, turnPlies);
-    const isDone = await each(records.length, (number) => {
-      const record = records[number];
-      if (!isLoss(record) || record === LOST) return;
-      const position = Core.positionAt(table.profile, table.pieces, number), turned = engine.classOf(table.profile, Core.turned(position)), other = records[turned];
+    const isDone = await each(lost.length, (i) => {
+      const number = lost[i], record = records[number], turned = engine.classOf(profile, Core.turned(positions.next().value)), other = records[turned];
       if (isWin(other) || other === LOST || (other && turned < number)) return;
       found[other ? "both" : "half"]++;
       found.classes.push(number);
       const pair = { number, plies: record - 1, turnPlies: other - 1 };
       if (other && (!found.deepest || depth(pair) > depth(found.deepest))) found.deepest = pair;
     }, isLate, tell);
-    if (found.deepest) found.deepest.text = textAt(table, found.deepest.number);
+    if (found.deepest) found.deepest.text = textAt({ profile, pieces }, found.deepest.number);
     return isDone ? found : null;
   }
-  async function census(table, isLate) {
-    const records = await recordsOf(table), counts = [], firsts = [], { profile } = table;
-    const made = { table, records, profile, counts, zugzwangs: null };
+  async function census(table, isLate, tell) {
+    const records = await recordsOf(table, isLate), counts = [], firsts = [], lost = [], { profile } = table;
+    const made = { table, records, lost, profile, counts, zugzwangs: null };
     await each(records.length, (number) => {
       const record = records[number];
       if (!counts[record]) firsts[record] = number;
       counts[record] = (counts[record] || 0) + 1;
-    }, isLate);
+      if (isLoss(record) && record !== LOST) lost.push(number);
+    }, isLate, tell);
     for (let record = 0; record < counts.length; record++) counts[record] = counts[record] || 0;
     const first = (isOne) => { const record = longest(counts, isOne); return record < 0 ? null : textAt(table, firsts[record]); };
     return Object.assign(made, { longestWin: first(isWin), longestLoss: first(isLoss) });
@@ -101,12 +101,16 @@ const Glance = (() => {
     element("glance").setAttribute("aria-busy", !isKnown);
     if (isKnown) return;
     try {
-      shown = shown || await census(table, isLate);
+      const tell = (done) => { part = done; drawTold(); };
+      const known = shown || await census(table, isLate, tell);
       if (isLate()) return;
-      counted.set(table, shown);
-      const zugzwangs = await zugzwangsOf(shown, isLate, (done) => { part = done; drawTold(); });
+      counted.set(table, known);
+      shown = known;
+      part = 0;
+      draw();
+      const zugzwangs = await zugzwangsOf(shown, isLate, tell);
       if (isLate()) return;
-      shown.zugzwangs = zugzwangs;
+      Object.assign(shown, { zugzwangs, lost: null });
       part = null;
     } catch {
       if (isLate()) return;
@@ -174,12 +178,13 @@ const Glance = (() => {
   const sum = (counts, isOne) => counts.reduce((all, number, record) => (isOne(record) ? all + number : all), 0);
 
   function drawTold() {
-    const { counts, profile } = shown || {}, words = [notice && text(notice), part !== null && text("glanceCounting", Math.floor(100 * part))];
+    const { counts, profile } = shown || {}, words = [notice && text(notice)], done = Math.floor(100 * part);
     if (counts) {
       const all = sum(counts, () => true), shares = [isWin, (record) => !record, isLoss].map((isOne) => sum(counts, isOne));
       words.unshift(text("glanceShares", whole(all), profile, shares.map((number) => percent(number, all))));
       element("glance-bar").replaceChildren(...["win", "draw", "loss"].map((kind, i) => { const it = node("span", "", kind); it.style.flexGrow = shares[i] / all; return it; }));
-    } else if (!notice) words.unshift(text("glanceCounting", 0));
+      if (part !== null) words.push(text("glanceCountingMore", done));
+    } else if (!notice) words.unshift(text("glanceCounting", done));
     if (Files.withRecords().length > small().length) words.push(text("glanceLarge", whole(limits.classes)));
     element("glance-told").textContent = words.filter(Boolean).join(" ");
   }

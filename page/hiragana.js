@@ -3,6 +3,8 @@
   "use strict";
   const { winnersMoves } = Texts;
 
+  const claimed = (isOfStart, claim) => `${isOfStart ? "この ゲームは ごての かち" : "ある きょくめん"}、${claim}`;
+
   Texts.languages.kana = {
     title: "どうぶつしょうぎ：きょくめんを しらべる", heading: "どうぶつしょうぎ", subheading: "しゅうばん データベース",
     language: "English", languageLabel: "English：このページを えいごで みる", kana: "ひらがな", open: "ファイルを ひらく…", dropHere: "ここに ファイルを ドロップ",
@@ -11,11 +13,11 @@
     opening: (name) => `${name} を ひらいています…`,
     fileInfo: (file) => `セット ${file.set}、ルール ${file.profile}、${file.count.toLocaleString("ja")} きょくめん（さゆう たいしょうは 1つ）、ダイジェスト ${file.isTested ? "テストずみ" : "テストしていません"}`,
     certificateInfo: ({ set, profile, isOfStart, checked }, claim) => {
-      const by = { proved: "しょうめいされた コードで けんさずみ", plain: "ふつうの JavaScript で けんさずみ", not: "けんさしていません（dobutsu verify で けんさできます）" }[checked];
-      return `しょうめいしょ、セット ${set}、ルール ${profile}：${claim ? `${isOfStart ? "この ゲームは ごての かち" : "ある きょくめん"}、${claim}` : "なにを しめすかは かくしています"}。${by}`;
+      const by = { proved: "しょうめいされた コードで けんさずみ", script: "ふつうの JavaScript で けんさずみ", not: "けんさしていません（dobutsu verify で けんさできます）" }[checked];
+      return `しょうめいしょ、セット ${set}、ルール ${profile}：${claim ? claimed(isOfStart, claim) : "なにを しめすかは かくしています"}。${by}`;
     },
-    checkingValue: (percent) => `しょうめいしょを けんさしています… ${percent} %。ひょうかは その あとに でます。`,
-    checking: (name, percent) => `${name} を けんさしています… ${percent} %`, stopChecking: (name) => `${name} の けんさを やめる`, outside: "この きょくめんは しょうめいしょに ないので、ひょうかは わかりません。",
+    checkingValue: (percent, claim) => (claim ? `しめすこと（まだ けんさしていません）：${claim}。けんさは ${percent} %です。` : `しょうめいしょを けんさしています… ${percent} %。ひょうかは その あとに でます。`),
+    checking: (name, percent, of, claim) => `${name} を けんさしています… ${percent} %${claim ? `。まだ けんさしていないこと：${claimed(of.isOfStart, claim)}` : ""}`, stopChecking: (name) => `${name} の けんさを やめる`, outside: "この きょくめんは しょうめいしょに ないので、ひょうかは わかりません。",
     replied: (reply, value) => `→ ${reply}、${value}`,
     filesOpen: (number) => `${number}この ファイル`, closeFile: (name) => `${name} を とじる`,
     closedFile: (name, open) => `${name} を とじました。${open.length ? `ひらいているのは ${open.join("、")} です。` : ""}`,
@@ -29,13 +31,14 @@
     setUpSection: "きょくめんを つくる", palette: "おく こま", emptySquare: "あき マス",
     setUpHelp: "こまを マスや もちごまへ ドラッグします。ばんの そとに だすと きえます。こまを えらんでから マスを おしても おけます。もちごまは おすたびに 1まい ふえ、2まいの つぎは 0まいです。",
     setUpKeys: "マスでの キー：もりは L G E C H、そらは l g e c h、けすのは Delete。もちごまでは 0、1、2。",
-    sideToMove: "てばん：", lionsAlone: "ライオンだけ",
+    sideToMove: "てばん：", clearBoard: "ぜんぶ けす", lionsAlone: "ライオンだけ", mirrorBoard: "さゆう はんたい", mirrorLabel: "さゆう はんたい：ひだりと みぎを いれかえる",
+    exchangeSides: "もりと そらを かえる", exchangeLabel: "もりと そらを かえる：ふたりの こまと てばんを いれかえる",
     position: "きょくめん", positionLabel: "きょくめんの もじ（てばんから みたもの）、または リンク", copy: "コピー", link: "リンク", print: "いんさつ",
     copied: "コピーしました", notCopied: "コピーできません",
     copyLabel: "コピー：きょくめんの もじ", linkLabel: "リンク：この きょくめんと てじゅんの アドレスを コピー",
     analysis: "しらべる", value: "ひょうか", hideValues: "ひょうかを かくす", showValues: "ひょうかを みせる",
     hidden: "かくしています。どちらが、どの てで かつでしょう？", hiddenShort: "かくしています。",
-    moves: (number) => `さして（${number}）`, movesWait: "さして", line: "さいぜんの てじゅん", lineOfCertificate: "しょうめいしょの てじゅん",
+    moves: (number) => `さして（${number}）`, movesOf: (kind, number) => `${{ win: "かち", draw: "ひきわけ", loss: "まけ", unknown: "わからない" }[kind]}（${number}）`, movesWait: "さして", line: "さいぜんの てじゅん", lineOfCertificate: "しょうめいしょの てじゅん",
     lineNote: "まける ほうの ては いちばん よい てとは かぎりません。しょうめいしょは いちばん おおい てかずしか しめしません。", next: "つぎの いって", playOut: "じどうで すすめる", stop: "とめる",
     played: "さした て", noneYet: "まだ ありません。", mistake: "わるい て",
     judged: (text, value, best, isBest) => (isBest ? `${text}：${value}。いちばん よい てです。` : `${text}：${value}。いちばん よいのは ${best} でした。`),
@@ -43,6 +46,8 @@
       const length = inMoves ? `${kind === "win" ? "じぶん" : "あいて"}の ${winnersMoves(plies)}かいめまで` : `${plies}ていない`;
       return `${text}：${length}の ${kind === "win" ? "かち" : "まけ"}の ままです。`;
     },
+    judgedAlone: (text, value) => `${text}：${value}。いちばん よい ては わかりません。`,
+    repeated: (times) => `おなじ きょくめんが ${times}かいめです。せんにちてを ひきわけに する ルールなら、ひきわけです。`, repeatedShort: (times) => `おなじ きょくめん ${times}かいめ`, timesMark: (times) => `${times}かいめ`,
     beginning: "はじめ", goTo: (text, number) => `${text}：${number}てめの あとに もどる`, goToStart: "はじめ：さいしょに もどる",
     playUpTo: (text, plies) => `${text}：ここまで ${plies}て すすめる`,
     more: "れんしゅう、もじ、せってい、つかいかた", exercise: "れんしゅう もんだい",
@@ -55,8 +60,8 @@
     noExercise: "その ながさの きょくめんは みつかりませんでした。ほかの ながさを えらんでください。", needFile: "れんしゅう もんだいには ファイルを ひらいてください。", needTable: "しょうめいしょには れんしゅう もんだいが ありません。データベース ファイルを ひらいてください。",
     fewExercises: "この ファイルには れんしゅう もんだいが ありません。3て いじょうで かつ きょくめんが ないからです。",
     lostExercises: "ファイルが よめなくなったので、れんしゅう もんだいは だせません。",
-    practise: "じっせん れんしゅう", stopPractising: "れんしゅうを やめる", practiseLabel: "じっせん れんしゅう：この きょくめんから つよい あいてに かつ",
-    practiceTask: (side) => `ここから ${side}が かてます。${side}の てを さしてください。あいては いちばん よい てで こたえます。`,
+    practise: "じっせん れんしゅう", stopPractising: "れんしゅうを やめる", practiseLabel: (isByBounds) => `じっせん れんしゅう：この きょくめんから ${isByBounds ? "しょうめいしょの てで こたえる" : "つよい"} あいてに かつ`,
+    practiceTask: (side, isByBounds) => `ここから ${side}が かてます。${side}の てを さしてください。あいては ${isByBounds ? "しょうめいしょの てで こたえます。いちばん よい てとは かぎりません。" : "いちばん よい てで こたえます。"}`,
     practiceWon: (side, plies) => `${side}が ${plies}てで かちました。`,
     practiceLost: (text, value, best) => `${text} で かちを のがしました（${value}）。いちばん よいのは ${best} でした。`, practiceGiven: (text, value) => `${text} で かちを のがしました。あいてから みて ${value}です。`,
     practiceUnlisted: (known, tried) => `しょうめいしょの ては ${known} です。${tried} については なにも わかりません。つづけてください。`,
@@ -76,12 +81,12 @@
     letterKeys: "ひともじの キーを つかう（u, r, f, e, h, n, p, x, c）",
     help: "つかいかた、ルール、ひょうかの うらづけ",
     helpRules: "こまは てんの ある ほうに うごきます。あいての ライオンを とるか（キャッチ）、すぐに とられない かたちで ライオンが いちばん おくに つけば（トライ）かちです。とった こまは あいた マスに うてます。ひよこは いちばん おくに すすむと にわとりに なります。もりが せんて、そらが ごてです。もりは うえに すすみ おおもじ、そらは したに すすみ こもじです。きょくめんの もじは いつも てばんから みたものです。",
-    helpPlay: "ふたりの てを、クリック、ドラッグ、キーで さしてください。てばんの ほうが かてる きょくめんからは、じっせん れんしゅうで ページが いちばん よい てで こたえます。",
+    helpPlay: "ふたりの てを、クリック、ドラッグ、キーで さしてください。てばんの ほうが かてる きょくめんからは、じっせん れんしゅうで ページが こたえます。データベースなら いちばん よい てです。",
     helpKeys: "キー：ばんでは やじるし、Enterで えらぶ、Escapeで やめる。uか ひだりやじるしで もどる、rか みぎやじるしで すすむ、f ばんを ひっくりかえす、e きょくめんを つくる、h ひょうかを かくす、n つぎの いって、p じどうで すすめる、x もんだいを だす。",
     helpPrivate: "ファイルは この たんまつから でません。ページの きまりが、そとへの リクエスト、ソケット、がぞう、スクリプト、フレーム、フォームを とめます。ピアせつぞくは はじめに とりのぞきます。ひょうか ひとつに つき ファイルの 2バイトを よみます。",
     helpTrust: "ページは ファイルの ヘッダーと ながさ、64 MBまでは ダイジェストを しらべますが、ひょうかは しらべません。ファイルが ただしいかどうかは dobutsu check が おしえます。しょうめいしょは、ひとつの きょくめんで どちらが かつかを しめす ちいさな ファイルです。なにで けんさしたかは なまえの よこに でます。",
-    engine: (name, started) => `さしてと きょくめんの ばんごう：${name}${started ? `、${started} ミリびょうで じゅんび` : ""}。`, engineProved: "しょうめいされた コード（crates/dobutsu_web の WebAssembly）",
-    enginePlain: "ふつうの JavaScript（テストずみ、しょうめいなし）", badgeProved: "しょうめいずみ エンジン", badgePlain: "ふつうの エンジン",
+    engine: (name, started) => `さしてと きょくめんの ばんごう：${name}${started ? `、${started} ミリびょうで じゅんび` : ""}。`, engineProved: "しょうめいされた コード（crates/dobutsu_web の しょうめいずみの ソースから つくった WebAssembly）",
+    engineScript: "ふつうの JavaScript（テストずみ、しょうめいなし）", badgeProved: "しょうめいずみ エンジン", badgeScript: "ふつうの エンジン",
     looking: "しらべています…", noPosition: "まだ きょくめんでは ありません。",
     wins: (plies, inMoves, isWithin) => (inMoves ? `じぶんの ${winnersMoves(plies)}かいめ${isWithin ? "までに" : "で"} かち` : `かち ${plies}て${isWithin ? "いない" : ""}`),
     loses: (plies, inMoves, isWithin) => {
@@ -101,7 +106,7 @@
     over: (side) => `${side}が ライオンを キャッチして かちました。`, overHome: (side) => `${side}の ライオンが トライして、とられなかったので、${side}の かちです。`, drawLine: "ひきわけには てじゅんが ありません。",
     ends: { broken: "あう てが ありません。この ファイルは ただしく ありません。", caught: "キャッチ", tried: "トライ", stuck: "させる てが ない", draw: "ひきわけ", outside: "しょうめいしょは ここまで", going: "…" },
     openSet: (set) => `ひょうかを みるには セット ${set} の ファイルを ひらいてください。`,
-    otherSet: (set, profile, open) => `この きょくめんには セット ${set}、ルール ${profile} の ファイルが いります。ひらいているのは ${open.join("、")} です。`,
+    otherSet: (set, profile, open) => `この きょくめんは セット ${set}、ルール ${profile} なので、ひょうかが わかりません。ひらいているのは ${open.join("、")} です。`,
     brokenFile: "なかみの つじつまが あいません。ただしい ファイルでは ありません（ばしょは dobutsu check が おしえます）",
     step: (piece, from, to, taken, grows) => `${piece} ${from}から ${to}へ${taken ? "、こまを とる" : ""}${grows ? "、にわとりに なる" : ""}`,
     dropped: (piece, to) => `${piece}を ${to}に うつ`,
@@ -127,22 +132,24 @@
     gameGave: (sides, numbers) => `のがした かず：${sides[0]} ${numbers[0]}かい、${sides[1]} ${numbers[1]}かい。`,
     gameClean: (isWhole) => (isWhole ? "かちや ひきわけを のがした ては ありません。" : "ひょうかが わかる ところでは、かちや ひきわけを のがした ては ありません。"),
     gamePartly: (number) => `ひょうかが わからない て：${number}て。`, gameBounds: "≤ は しょうめいしょで わかる いちばん おおい かずです。",
-    stripHelp: (sides) => `ぼうが うえなら ${sides[0]}の かち、したなら ${sides[1]}の かちで、ながいほど はやく おわります。`,
+    gameRepeated: (number) => `${number}てめで おなじ きょくめんが 3かいめに なります。`, gameFrom: (name) => `${name} の きふです。`,
+    gameVariations: (number) => `へんか ${number}つは よまないで、ほんとうの てじゅんだけを すすめました。`, gameDiagram: "ばんの ずは よんでいません。さいしょの きょくめんを たしかめてください。",
+    stripHelp: (sides) => `ぼうが うえなら ${sides[0]}の かち、したなら ${sides[1]}の かちで、ながいほど はやく おわります。かずには その ても はいります。`,
     strip: "ひとつの てごとの ひょうか", stripPly: (number, move) => `${number}てめ ${move}`, stripUnknown: "わかりません",
-    stripWins: (side, length) => `${side}が ${length} かち`, stripWon: (side) => `${side}の かち`,
+    stripWins: (side, length) => `${side}が ${length} かち`, stripWinsWith: (side, length) => `${side}が この てから ${length} かち`, stripWon: (side) => `${side}の かち`,
     gameMissed: (sides, numbers) => `ライオンを とらなかった かず：${sides[0]} ${numbers[0]}かい、${sides[1]} ${numbers[1]}かい。`,
     missed: "ライオンを とれた て", missedTold: (text, value) => `${text}：ライオンを とれました${value ? `（${value}）` : ""}。`,
     gaveWin: "かちを のがした て", gaveDraw: "ひきわけを のがした て", gaveAll: "かちから まけに なった て",
-    gaveTold: (number, move, gave, value, best) => `${number}. ${move}：${gave}${value ? `（${value}。いちばん よいのは ${best}）` : ""}`, gaveBest: (value, best) => `${value}。いちばん よいのは ${best}`,
+    gaveTold: (number, move, gave, value, best) => `${number}.\u00a0${move}：${gave}${value ? `（${value}。いちばん よいのは ${best}）` : ""}`, gaveBest: (value, best) => `${value}。いちばん よいのは ${best}`,
     goBefore: (words) => `${words}：その まえの きょくめんへ`,
-    branches: "ほかの てじゅん：", branch: (number, moves) => `${number}. ${moves}`,
+    branches: "ほかの てじゅん：", branch: (number, moves) => `${number}.\u00a0${moves}`,
     copyGame: "きふを コピー", printGame: "ばんと いっしょに いんさつ", pasteGame: "きふを はりつける", takeGame: "よみこむ", gameLabel: "きふの もじ",
-    gameHelp: "ては ▲22ひよこ、△22ぞう、▲23ひよこうつ、▲11ひよこなる の かたちです。Cb2xb3 や b2b3 も よめます。もじに きょくめんが あれば そこから、なければ ばんの さいしょの きょくめんから はじまります。",
+    gameHelp: "ては ▲22ひよこ、△22ぞう、▲23ひよこうつ、▲11ひよこなる の かたちです。Cb2xb3 や b2b3 も よめます。もじに きょくめんが あれば そこから、なければ ばんの さいしょの きょくめんから はじまります。きふの ファイル（.kif、.ki2、.txt）は、ひらくか ドロップしても よみます。",
     gameWrong: (word, number, why) => `${number}てめの ${word} は、そこでは させません（${why}）。その まえまでを すすめました。`, gameEmpty: "この もじに ては ありません。",
     gameTitle: "どうぶつしょうぎ：きふ", gameRules: (rules) => `ルール ${rules}`,
     // the set at a glance
     glance: "セットの ぜんたい", glanceOf: "どの セット", glanceFile: (set, rules) => `ひらいた ファイルの セット ${set}、ルール ${rules}`, glanceWhole: (rules) => `ゲーム ぜんたい、ルール ${rules}`,
-    glanceCounting: (percent) => `かぞえています… ${percent} %`, glanceLarge: (most) => `${most} きょくめんを こえる ファイルは、ここでは かぞえません。`,
+    glanceCounting: (percent) => `かぞえています… ${percent} %`, glanceCountingMore: (percent) => `てばんの ほうが そんを する きょくめんを かぞえています… ${percent} %`, glanceLarge: (most) => `${most} きょくめんを こえる ファイルは、ここでは かぞえません。`,
     glanceShares: (number, rules, [won, drawn, lost]) => `ルール ${rules}の ${number} きょくめん（さゆう たいしょうは 1つ）：てばんの ほうの かち ${won}、ひきわけ ${drawn}、まけ ${lost}。`,
     glancePlies: "おわりまでの てかず", glanceLess: "1て みじかく", glanceMore: "1て ながく", glanceValue: (value, number) => `${value}：${number} きょくめん`, glanceShow: "ひとつ みる",
     glanceHelp: "うえの ぼうは かち、したの ぼうは まけです。おなじだけ たかくなると、かずは おなじ ばいに なります。",

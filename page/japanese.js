@@ -3,6 +3,8 @@
   "use strict";
   const { winnersMoves } = Texts;
 
+  const claimed = (isOfStart, claim) => `${isOfStart ? "このゲームは後手の勝ち" : "ある局面"}、${claim}`;
+
   Texts.languages.ja = {
     title: "どうぶつしょうぎ：局面を調べる", heading: "どうぶつしょうぎ", subheading: "終盤データベース",
     language: "English", languageLabel: "English：このページを英語で表示", kana: "ひらがな", open: "ファイルを開く…", dropHere: "ここにファイルをドロップ",
@@ -11,11 +13,11 @@
     opening: (name) => `${name} を開いています…`,
     fileInfo: (file) => `セット ${file.set}、ルール ${file.profile}、${file.count.toLocaleString("ja")} 局面（左右対称は1つ）、ダイジェスト${file.isTested ? "テスト済み" : "未テスト"}`,
     certificateInfo: ({ set, profile, isOfStart, checked }, claim) => {
-      const by = { proved: "証明されたコードで検査済み", plain: "普通の JavaScript で検査済み", not: "未検査（dobutsu verify で検査できます）" }[checked];
-      return `証明書、セット ${set}、ルール ${profile}：${claim ? `${isOfStart ? "このゲームは後手の勝ち" : "ある局面"}、${claim}` : "主張は隠しています"}。${by}`;
+      const by = { proved: "証明されたコードで検査済み", script: "普通の JavaScript で検査済み", not: "未検査（dobutsu verify で検査できます）" }[checked];
+      return `証明書、セット ${set}、ルール ${profile}：${claim ? claimed(isOfStart, claim) : "主張は隠しています"}。${by}`;
     },
-    checkingValue: (percent) => `証明書を検査しています… ${percent} %。評価はその後に出ます。`,
-    checking: (name, percent) => `${name} を検査しています… ${percent} %`, stopChecking: (name) => `${name} の検査をやめる`, outside: "この局面は証明書にないので、評価はわかりません。",
+    checkingValue: (percent, claim) => (claim ? `主張（まだ検査していません）：${claim}。検査は ${percent} % です。` : `証明書を検査しています… ${percent} %。評価はその後に出ます。`),
+    checking: (name, percent, of, claim) => `${name} を検査しています… ${percent} %${claim ? `。まだ検査していない主張：${claimed(of.isOfStart, claim)}` : ""}`, stopChecking: (name) => `${name} の検査をやめる`, outside: "この局面は証明書にないので、評価はわかりません。",
     replied: (reply, value) => `→ ${reply}、${value}`,
     filesOpen: (number) => `${number}個のファイル`, closeFile: (name) => `${name} を閉じる`,
     closedFile: (name, open) => `${name} を閉じました。${open.length ? `開いているのは ${open.join("、")} です。` : ""}`,
@@ -29,11 +31,12 @@
     setUpSection: "局面編集", palette: "置く駒", emptySquare: "空きマス",
     setUpHelp: "駒をマスや持ち駒へドラッグします。盤の外に出すと消えます。駒を選んでからマスを押しても置けます。持ち駒は押すたびに1枚増え、2枚の次は0枚です。",
     setUpKeys: "マスでのキー：もりは L G E C H、そらは l g e c h、消すのは Delete。持ち駒では 0、1、2。",
-    sideToMove: "手番：", lionsAlone: "ライオンだけ",
+    sideToMove: "手番：", clearBoard: "全部消す", lionsAlone: "ライオンだけ", mirrorBoard: "左右反転", mirrorLabel: "左右反転：左と右を入れ替える",
+    exchangeSides: "先後交代", exchangeLabel: "先後交代：両者の駒と手番を入れ替える",
     position: "局面", positionLabel: "局面の文字列（手番側から見たもの）、またはリンク", copy: "コピー", link: "リンク", print: "印刷", copied: "コピーしました", notCopied: "コピーできません",
     copyLabel: "コピー：局面の文字列", linkLabel: "リンク：この局面と手順のアドレスをコピー",
     analysis: "解析", value: "評価", hideValues: "評価を隠す", showValues: "評価を見せる", hidden: "隠しています。どちらが、どの手で勝つでしょう？", hiddenShort: "隠しています。",
-    moves: (number) => `指し手（${number}）`, movesWait: "指し手", line: "最善手順", lineOfCertificate: "証明書の手順",
+    moves: (number) => `指し手（${number}）`, movesOf: (kind, number) => `${{ win: "勝ち", draw: "引き分け", loss: "負け", unknown: "不明" }[kind]}（${number}）`, movesWait: "指し手", line: "最善手順", lineOfCertificate: "証明書の手順",
     lineNote: "負ける側の手は最善とはかぎりません。証明書は手数の上限しか示しません。", next: "次の一手", playOut: "自動で進める", stop: "止める",
     played: "指した手", noneYet: "まだありません。", mistake: "悪手",
     judged: (text, value, best, isBest) => (isBest ? `${text}：${value}。最善手です。` : `${text}：${value}。最善は ${best} でした。`),
@@ -41,6 +44,8 @@
       const length = inMoves ? `${kind === "win" ? "自分" : "相手"}の${winnersMoves(plies)}手目まで` : `${plies}手以内`;
       return `${text}：${length}の${kind === "win" ? "勝ち" : "負け"}のままです。`;
     },
+    judgedAlone: (text, value) => `${text}：${value}。最善手はわかりません。`,
+    repeated: (times) => `同じ局面が${times}回目です。千日手を引き分けとする規則なら、引き分けです。`, repeatedShort: (times) => `同じ局面${times}回目`, timesMark: (times) => `${times}回目`,
     beginning: "開始", goTo: (text, number) => `${text}：${number}手目の後に戻る`, goToStart: "開始：最初に戻る",
     playUpTo: (text, plies) => `${text}：ここまで${plies}手進める`,
     more: "練習問題、文字列、設定、使い方", exercise: "練習問題", exerciseHelp: "開いたファイルから、最短で勝つ手がひとつだけの局面を無作為に選びます。", exerciseLength: "勝ちまで", newExercise: "問題を出す",
@@ -50,8 +55,8 @@
     score: (right, asked) => `一回で正解：${asked}問中${right}問。`, drawing: "探しています…", reading: "ファイルから問題を探しています…",
     noExercise: "その長さの局面は見つかりませんでした。ほかの長さを選んでください。", needFile: "練習問題にはファイルを開いてください。", needTable: "証明書には練習問題がありません。データベースファイルを開いてください。",
     fewExercises: "このファイルには練習問題がありません。3手以上で勝つ局面がないからです。", lostExercises: "ファイルが読めなくなったので、練習問題は出せません。",
-    practise: "実戦練習", stopPractising: "練習をやめる", practiseLabel: "実戦練習：この局面から最善の相手に勝つ",
-    practiceTask: (side) => `ここから${side}が勝てます。${side}の手を指してください。相手は最善手で応じます。`,
+    practise: "実戦練習", stopPractising: "練習をやめる", practiseLabel: (isByBounds) => `実戦練習：この局面から${isByBounds ? "証明書の手で応じる" : "最善の"}相手に勝つ`,
+    practiceTask: (side, isByBounds) => `ここから${side}が勝てます。${side}の手を指してください。相手は${isByBounds ? "証明書の手で応じます。最善手とはかぎりません。" : "最善手で応じます。"}`,
     practiceWon: (side, plies) => `${side}が${plies}手で勝ちました。`,
     practiceLost: (text, value, best) => `${text} で勝ちを逃しました（${value}）。最善は ${best} でした。`, practiceGiven: (text, value) => `${text} で勝ちを逃しました。相手から見て${value}です。`,
     practiceUnlisted: (known, tried) => `証明書の手は ${known} です。${tried} については何もわかりません。続けてください。`,
@@ -69,12 +74,12 @@
     letterKeys: "一文字のキーを使う（u, r, f, e, h, n, p, x, c）",
     help: "使い方、ルール、評価の裏づけ",
     helpRules: "駒は点のある方向に動きます。相手のライオンを取るか（キャッチ）、すぐに取られない形でライオンが一番奥に着けば（トライ）勝ちです。取った駒は空いたマスに打てます。ひよこは一番奥に進むとにわとりになります。もりが先手、そらが後手です。もりは上に進み大文字、そらは下に進み小文字です。局面の文字列はいつも手番側から見たものです。",
-    helpPlay: "両者の手を、クリック、ドラッグ、キーで指してください。手番側が勝てる局面からは、実戦練習でページが最善手で応じます。",
+    helpPlay: "両者の手を、クリック、ドラッグ、キーで指してください。手番側が勝てる局面からは、実戦練習でページが応じます。データベースなら最善手です。",
     helpKeys: "キー：盤では矢印、Enterで選ぶ、Escapeでやめる。u か左矢印で戻る、r か右矢印で進む、f 盤を反転、e 局面編集、h 評価を隠す、n 最善手順の次の一手、p 自動で進める、x 問題を出す。",
     helpPrivate: "ファイルはこの端末から出ません。ページ自身の規則が、外への要求、ソケット、画像、スクリプト、フレーム、フォームを拒み、ピア接続は始めに取り除きます。評価ひとつにつきファイルの2バイトを読みます。",
     helpTrust: "ページはファイルのヘッダーと長さ、64 MBまではダイジェストを調べますが、評価は調べません。ファイルが正しい表かどうかは dobutsu check が教えます。証明書は、ひとつの局面でどちらが勝つかを示す小さなファイルです。何で検査したかは名前の横に出ます。",
-    engine: (name, started) => `指し手と局面の番号：${name}${started ? `、${started} ミリ秒で準備完了` : ""}。`, engineProved: "証明されたコード（crates/dobutsu_web の WebAssembly）", enginePlain: "普通の JavaScript（テスト済み、証明なし）",
-    badgeProved: "証明済みエンジン", badgePlain: "普通のエンジン",
+    engine: (name, started) => `指し手と局面の番号：${name}${started ? `、${started} ミリ秒で準備完了` : ""}。`, engineProved: "証明されたコード（crates/dobutsu_web の証明済みソースから作った WebAssembly）", engineScript: "普通の JavaScript（テスト済み、証明なし）",
+    badgeProved: "証明済みエンジン", badgeScript: "普通のエンジン",
     looking: "調べています…", noPosition: "まだ局面ではありません。",
     // 手 counts the moves of both sides; of one side's alone it is said which of them wins.
     wins: (plies, inMoves, isWithin) => (inMoves ? `自分の${winnersMoves(plies)}手目${isWithin ? "までに" : "で"}勝ち` : `勝ち ${plies}手${isWithin ? "以内" : ""}`),
@@ -95,7 +100,7 @@
     over: (side) => `${side}がライオンをキャッチして勝ちました。`, overHome: (side) => `${side}のライオンがトライして、取られなかったので、${side}の勝ちです。`, drawLine: "引き分けには手順がありません。",
     ends: { broken: "合う手がありません。このファイルは正しい表ではありません。", caught: "キャッチ", tried: "トライ", stuck: "指せる手がない", draw: "引き分け", outside: "証明書はここまで", going: "…" },
     openSet: (set) => `評価を見るにはセット ${set} のファイルを開いてください。`,
-    otherSet: (set, profile, open) => `この局面にはセット ${set}、ルール ${profile} のファイルが必要です。開いているのは ${open.join("、")} です。`,
+    otherSet: (set, profile, open) => `この局面はセット ${set}、ルール ${profile} なので、評価がわかりません。開いているのは ${open.join("、")} です。`,
     brokenFile: "記録のつじつまが合いません。正しい表ではありません（場所は dobutsu check が教えます）",
     step: (piece, from, to, taken, grows) => `${piece} ${from}から${to}${taken ? "へ、駒を取る" : "へ"}${grows ? "、にわとりになる" : ""}`,
     dropped: (piece, to) => `${piece}を${to}に打つ`,
@@ -121,22 +126,24 @@
     gameGave: (sides, numbers) => `逃した回数：${sides[0]} ${numbers[0]}回、${sides[1]} ${numbers[1]}回。`,
     gameClean: (isWhole) => (isWhole ? "勝ちや引き分けを逃した手はありません。" : "評価がわかる範囲では、勝ちや引き分けを逃した手はありません。"),
     gamePartly: (number) => `評価がわからない手：${number}手。`, gameBounds: "≤ は証明書による上限です。",
-    stripHelp: (sides) => `棒が上なら${sides[0]}の勝ち、下なら${sides[1]}の勝ちで、長いほど早く終わります。`,
+    gameRepeated: (number) => `${number}手目で同じ局面が3回目になります。`, gameFrom: (name) => `${name} の棋譜です。`,
+    gameVariations: (number) => `変化${number}個は読まず、本譜だけを進めました。`, gameDiagram: "盤面図は読んでいません。最初の局面を確かめてください。",
+    stripHelp: (sides) => `棒が上なら${sides[0]}の勝ち、下なら${sides[1]}の勝ちで、長いほど早く終わります。数はその手も数えます。`,
     strip: "一手ごとの評価", stripPly: (number, move) => `${number}手目 ${move}`, stripUnknown: "わかりません",
-    stripWins: (side, length) => `${side}が${length}勝ち`, stripWon: (side) => `${side}の勝ち`,
+    stripWins: (side, length) => `${side}が${length}勝ち`, stripWinsWith: (side, length) => `${side}がこの手から${length}勝ち`, stripWon: (side) => `${side}の勝ち`,
     gameMissed: (sides, numbers) => `ライオンを取らなかった回数：${sides[0]} ${numbers[0]}回、${sides[1]} ${numbers[1]}回。`,
     missed: "ライオンを取れた手", missedTold: (text, value) => `${text}：ライオンを取れました${value ? `（${value}）` : ""}。`,
     gaveWin: "勝ちを逃した手", gaveDraw: "引き分けを逃した手", gaveAll: "勝ちから負けになった手",
-    gaveTold: (number, move, gave, value, best) => `${number}. ${move}：${gave}${value ? `（${value}。最善は ${best}）` : ""}`, gaveBest: (value, best) => `${value}。最善は ${best}`,
+    gaveTold: (number, move, gave, value, best) => `${number}.\u00a0${move}：${gave}${value ? `（${value}。最善は ${best}）` : ""}`, gaveBest: (value, best) => `${value}。最善は ${best}`,
     goBefore: (words) => `${words}：その前の局面へ`,
-    branches: "ほかの手順：", branch: (number, moves) => `${number}. ${moves}`,
+    branches: "ほかの手順：", branch: (number, moves) => `${number}.\u00a0${moves}`,
     copyGame: "棋譜をコピー", printGame: "盤面つきで印刷", pasteGame: "棋譜を貼り付ける", takeGame: "読み込む", gameLabel: "棋譜の文字列",
-    gameHelp: "指し手は ▲22ひよこ、△同ぞう、▲23ひよこ打、▲11ひよこ成 の形です。Cb2xb3 や b2b3 も読みます。文字列に局面があればそこから、なければ盤の最初の局面から始まります。",
+    gameHelp: "指し手は ▲22ひよこ、△同ぞう、▲23ひよこ打、▲11ひよこ成 の形です。Cb2xb3 や b2b3 も読みます。文字列に局面があればそこから、なければ盤の最初の局面から始まります。棋譜のファイル（.kif、.ki2、.txt）は、開くかドロップしても読みます。",
     gameWrong: (word, number, why) => `${number}手目の ${word} は、そこでは指せません（${why}）。その前までを進めました。`, gameEmpty: "この文字列に指し手はありません。",
     gameTitle: "どうぶつしょうぎ：棋譜", gameRules: (rules) => `ルール ${rules}`,
     // the set at a glance
     glance: "セットの全体", glanceOf: "どのセット", glanceFile: (set, rules) => `開いたファイルのセット ${set}、ルール ${rules}`, glanceWhole: (rules) => `ゲーム全体、ルール ${rules}`,
-    glanceCounting: (percent) => `数えています… ${percent} %`, glanceLarge: (most) => `${most}局面を超えるファイルは、ここでは数えません。`,
+    glanceCounting: (percent) => `数えています… ${percent} %`, glanceCountingMore: (percent) => `手番のほうが損をする局面を数えています… ${percent} %`, glanceLarge: (most) => `${most}局面を超えるファイルは、ここでは数えません。`,
     glanceShares: (number, rules, [won, drawn, lost]) => `ルール ${rules}の${number}局面（左右対称は1つ）：手番側の勝ち ${won}、引き分け ${drawn}、負け ${lost}。`,
     glancePlies: "終わりまでの手数", glanceLess: "1手短く", glanceMore: "1手長く", glanceValue: (value, number) => `${value}：${number}局面`, glanceShow: "ひとつ見る",
     glanceHelp: "上の棒は勝ち、下の棒は負けです。棒の高さは、局面数の対数です。",

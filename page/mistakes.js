@@ -1,38 +1,30 @@
-// A game's mistakes: a strip of the values behind each ply, with marks where a win or a draw was given away; the lines that were left; and the game as a
-// text that is copied and pasted, and on paper with boards. A bound by a certificate stays a bound, and what no file says is told as not known.
+// A game's mistakes: a strip of what each ply was worth, with marks where a win or a draw was given away; the lines that were left; and the game as a
+// text that is copied, pasted or read from a file, and on paper with boards. A bound by a certificate stays a bound, and what no file says is told as not known.
 const Mistakes = (() => {
   "use strict";
   const Core = DobutsuCore;
   const { text } = Texts;
-  const { options, node, button } = View;
-  const WORTH = { loss: 0, draw: 1, win: 2 };
-  const GIVEN = { win: { draw: "gaveWin", loss: "gaveAll" }, draw: { loss: "gaveDraw" } }; // the name of what a ply gave away, by the best and by what it was worth
-  const MARKS = { missed: "??", gaveWin: "?", gaveDraw: "?", gaveAll: "??" };
+  const { options, node, button, lost, given, markOf } = View;
   const LONGEST = 200; // a bar of so many plies would be empty
   const SHOWN = 4; // plies of a line that was left
+  const MOST_SIGNS = 40; // of a word that is no move
   const element = (id) => document.getElementById(id);
-  let calls = null; // of the page: goTo(cursor, line) and restart(load)
-  let unread = null; // says what is wrong with the text that was pasted
+  let calls = null; // of the page: goTo(cursor, line), restart(load) and bringBoard()
+  let unread = null; // says what is wrong with the text that was taken last
+  let taken = null; // { first, name, variations, hasDiagram } of the game that was taken: its first ply, its file's name if it has one, and what of it was left out
 
   // ---- what is known of a game
 
   const isMine = (ply) => 1 - ply.side; // the side that made a ply
-  // What a ply gave away: the name of a text, or undefined. That a lion could be caught is known without a file.
-  const lost = ({ judged }) => judged && (GIVEN[judged.best.kind] || {})[judged.value.kind];
-  const given = (ply) => (ply.isMissed ? "missed" : lost(ply));
-  // The value of a position by that of the move that led to it: who wins it, or null of a draw, and in how many plies.
-  function behind({ kind, plies, isWithin }, side) {
-    if (kind === "draw") return { winner: null, plies: 0, isWithin: false };
-    const left = Math.max(0, plies - 1);
-    return { winner: kind === "win" ? side : 1 - side, plies: left, isWithin: !!isWithin && left > 1 };
-  }
-  // The value behind so many plies of the line on the board, or null where no file says it.
-  function valueBehind(number) {
+  const isJudged = ({ judged }) => !!judged && judged.best.kind !== "unknown";
+  // What the ply of that number was worth, or of 0 the first position: { winner, plies, left, isWithin, isCounted }, with null for the winner of a draw. `plies`
+  // are those that the move's value counts, its own with them, `left` those behind it. Null where no file says it.
+  function worthOf(number) {
     const { plies, side } = Game.state, ply = plies[number && number - 1];
-    if (!ply.judged) return null;
-    if (number) return behind(ply.judged.value, isMine(ply));
-    const { kind, plies: length, isWithin } = ply.judged.best;
-    return { winner: kind === "draw" ? null : kind === "win" ? side : 1 - side, plies: length, isWithin };
+    if (number ? !ply.judged : !isJudged(ply)) return null;
+    const { kind, plies: length, isWithin } = number ? ply.judged.value : ply.judged.best, mine = number ? isMine(ply) : side;
+    const isCounted = number > 0 && (!options.inMoves || kind === "win"); // of the winner's moves none is the loser's
+    return { winner: kind === "draw" ? null : kind === "win" ? mine : 1 - mine, plies: length, left: Math.max(0, number ? length - 1 : length), isWithin: !!isWithin, isCounted };
   }
   const counted = (plies) => (options.inMoves ? Texts.winnersMoves(plies) : plies);
 
@@ -43,17 +35,17 @@ const Mistakes = (() => {
     if (!value) return text("stripUnknown");
     if (value.winner === null) return text("draw");
     const side = text("sides")[value.winner];
-    return value.plies ? text("stripWins", side, text("lengthTold", value.plies, options.inMoves, value.isWithin)) : text("stripWon", side);
+    return value.left ? text(value.isCounted ? "stripWinsWith" : "stripWins", side, text("lengthTold", value.plies, options.inMoves, value.isWithin)) : text("stripWon", side);
   }
-  function cell(number, cursor) {
-    const ply = number ? Game.state.plies[number - 1] : null, value = valueBehind(number), gave = ply && given(ply);
-    const name = ply ? text("stripPly", number, Notation.ofPly(ply)) : text("beginning");
-    const made = button("", "move cell", [`${name}: ${told(value)}`, gave && text(gave)].filter(Boolean).join(", "), () => calls.goTo(number));
+  function cell(number, cursor, times) {
+    const ply = number ? Game.state.plies[number - 1] : null, value = worthOf(number), gave = ply && given(ply);
+    const name = ply ? text("stripPly", number, Notation.ofPly(ply)) : text("beginning"), repeated = times === View.REPEATED && text("repeatedShort", times);
+    const made = button("", "move cell", [`${name}: ${told(value)}`, gave && text(gave), repeated].filter(Boolean).join(", "), () => calls.goTo(number));
     made.title = made.getAttribute("aria-label");
     const way = !value ? "unknown" : value.winner === null ? "even" : value.winner ? "down" : "up", bar = node("span", "", `bar ${way}`);
-    if (value) bar.style.setProperty("--part", Math.max(0.12, 1 - Math.log(1 + value.plies) / Math.log(LONGEST)).toFixed(3));
+    if (value) bar.style.setProperty("--part", Math.max(0.12, 1 - Math.log(1 + value.left) / Math.log(LONGEST)).toFixed(3));
     const words = node("span", "", "worth");
-    words.append(node("b", gave ? MARKS[gave] : ""), value && value.winner !== null ? `${value.isWithin ? "≤" : ""}${counted(value.plies)}` : value ? "" : "·");
+    words.append(node("b", ply ? markOf(ply) : ""), value && value.winner !== null ? `${value.isWithin ? "≤" : ""}${counted(value.plies)}` : value ? "" : "·");
     made.append(bar, words, node("small", number || ""));
     made.classList.toggle("gave", !!gave);
     if (number === cursor) made.setAttribute("aria-current", "step");
@@ -65,16 +57,17 @@ const Mistakes = (() => {
   function summary() {
     const { plies } = Game.state;
     if (!plies.length) return [text("gameNone")];
-    if (options.isHidden) return [text("hiddenShort")];
-    const known = plies.filter((ply) => ply.judged), gave = known.filter(lost), missed = plies.filter((ply) => ply.isMissed), unknown = plies.length - known.length;
+    if (options.isHidden) return [...source(), text("hiddenShort")];
+    const known = plies.filter(isJudged), gave = known.filter(lost), missed = plies.filter((ply) => ply.isMissed), unknown = plies.length - known.length;
     const counts = (name, list) => (list.length ? text(name, text("sides"), [0, 1].map((side) => list.filter((ply) => isMine(ply) === side).length)) : "");
     const isClean = known.length && !gave.length && !missed.length, isBounded = known.some(({ judged }) => judged.value.isWithin);
+    const repeated = Game.times().findIndex((times) => times >= View.REPEATED);
     return [
-      counts("gameMissed", missed), counts("gameGave", gave), isClean ? text("gameClean", !unknown) : "", !known.length ? text("gameUnknown") : unknown ? text("gamePartly", unknown) : "",
+      ...source(), repeated > 0 ? text("gameRepeated", repeated) : "", counts("gameMissed", missed), counts("gameGave", gave), isClean ? text("gameClean", !unknown) : "", !known.length ? text("gameUnknown") : unknown ? text("gamePartly", unknown) : "",
       isBounded ? text("gameBounds") : "", known.length ? text("stripHelp", text("sides")) : "",
     ].filter(Boolean);
   }
-  const comment = ({ judged }) => (judged ? [judged.value, judged.best].map((it) => Texts.value(it, options.inMoves)) : []);
+  const comment = (ply) => (ply.judged ? [ply.judged.value, isJudged(ply) && ply.judged.best].filter(Boolean).map((it) => Texts.value(it, options.inMoves)) : []);
   function mistake(ply, number) {
     const words = text("gaveTold", number, Notation.ofPly(ply), text(given(ply)), ...comment(ply)), item = node("li", "");
     item.append(button(words, "", text("goBefore", words), () => calls.goTo(number - 1)));
@@ -93,9 +86,9 @@ const Mistakes = (() => {
   }
 
   function draw() {
-    const { plies, cursor, lines } = Game.state, isTold = !options.isHidden && plies.some((ply) => ply.judged || ply.isMissed);
+    const { plies, cursor, lines } = Game.state, times = Game.times(), isTold = !options.isHidden && plies.some((ply) => ply.judged || ply.isMissed);
     if (element("game-told").textContent !== summary().join(" ")) element("game-told").textContent = summary().join(" "); // heard where it changes
-    View.drawSteps("strip", isTold ? [...Array(plies.length + 1).keys()].map((number) => cell(number, cursor)) : [], cursor);
+    View.drawSteps("strip", isTold ? times.map((it, number) => cell(number, cursor, it)) : [], cursor);
     element("mistakes").replaceChildren(...(isTold ? plies.flatMap((ply, i) => (given(ply) ? [mistake(ply, i + 1)] : [])) : []));
     element("branches-head").hidden = !lines.length;
     element("branches").replaceChildren(...[...lines].sort((a, b) => alike(a, plies) - alike(b, plies)).map(branch));
@@ -110,7 +103,7 @@ const Mistakes = (() => {
   // ---- as a text: what stands before the game in brackets, then the moves, each left line in parentheses behind the ply that it isn't
 
   // A ply with its mark, and what is said of it, as far as that is known and shown.
-  const marked = (ply) => Notation.ofPly(ply) + ((!options.isHidden && MARKS[given(ply)]) || "");
+  const marked = (ply) => Notation.ofPly(ply) + (options.isHidden ? "" : markOf(ply));
   const isKnown = (ply) => !!ply.judged && !options.isHidden;
   function plyWords(ply) {
     const [value, best] = comment(ply);
@@ -142,10 +135,11 @@ const Mistakes = (() => {
         left.push([Game.state.plies, Game.state.cursor]);
         Game.goTo(Game.state.cursor - 1);
       } else if (word === ")" && left.length) back(left.pop());
-      else if (Notation.isEnd(word)) break;
-      else {
+      else if (GameText.isEnd(word)) {
+        if (!left.length) break;
+      } else {
         const { move, why } = Notation.read(word);
-        if (!move) { wrong = { word: word.replace(/<(..)>/, "($1)"), number: Game.state.cursor + 1, why }; break; }
+        if (!move) { wrong = { word: word.replace(/<(..)>/, "($1)").slice(0, MOST_SIGNS), number: Game.state.cursor + 1, why }; break; }
         Game.play(move);
       }
     }
@@ -163,26 +157,30 @@ const Mistakes = (() => {
     const rules = ["A", "B"].includes(tag("Rules")) ? tag("Rules") : profile;
     if (found) return { start: found[0], side: tag("First") === "Sky" ? 1 : 0, profile: rules };
     Game.goTo(0);
-    return Notation.read(first).move ? { start, side, profile: rules } : { start: Game.START, side: 0, profile: rules };
+    return !/手合割|手数-/.test(given) && Notation.read(first).move ? { start, side, profile: rules } : { start: Game.START, side: 0, profile: rules };
   }
   // Loads the game of a text, or of a link; gives the first word that is no move as { word, number, why }, or null. What is no game at all is a fault.
-  function load(given) {
-    const list = Notation.words(given.replace(POSITION, " "));
-    if (given.includes("#")) return Game.readAddress(given.slice(given.indexOf("#")).trim());
-    if (!list.length) throw new Core.Fault("empty");
-    const { start, side, profile } = beginningOf(given, list[0]);
+  function load(given, name) {
+    const link = GameText.link(given), { words, ...leaves } = GameText.read(given.replace(POSITION, " "));
+    const wrong = link ? Game.readAddress(link) : loadWords(given, words);
+    if (Game.state.plies.length) taken = { first: Game.state.plies[0], name, ...(link ? {} : leaves) };
+    return wrong;
+  }
+  function loadWords(given, words) {
+    if (!words.length || GameText.isEnd(words[0])) throw new Core.Fault("empty");
+    const { start, side, profile } = beginningOf(given, words[0]);
     if (!Core.isAllowed(profile, Core.readPosition(start))) throw new Core.Fault("E26 FarChick");
     Game.load(start, side);
     Game.state.profile = profile;
-    return playWords(list);
+    return playWords(words);
   }
-  // Puts the game of the text on the board; says what is wrong with it, and leaves the board as it is where no move was played.
-  async function takeGame() {
+  // Puts the game of a text on the board; says what is wrong with it, and leaves the board as it is where no move was played.
+  async function take(given, name = "") {
     const kept = { ...Game.state }, restore = () => Object.assign(Game.state, kept);
     await calls.restart(() => {
       unread = null;
       try {
-        const wrong = load(element("game-text").value);
+        const wrong = load(given, name);
         if (wrong) unread = () => text("gameWrong", wrong.word, wrong.number, wrong.why());
         if (wrong && !Game.state.plies.length) restore();
       } catch (fault) {
@@ -190,7 +188,24 @@ const Mistakes = (() => {
         unread = () => (fault.fault === "empty" ? text("gameEmpty") : Texts.wrong(fault));
       }
     });
-    if (!unread) showPaste(false);
+  }
+  async function takeGame() {
+    await take(element("game-text").value);
+    if (unread) return;
+    showPaste(false);
+    element("paste-game").focus({ preventScroll: true });
+    calls.bringBoard();
+  }
+  // Takes the game of a file. One that can't be read whole stands in the box, with what is wrong with it.
+  async function takeFile(name, given) {
+    await take(given, name);
+    if (!unread) {
+      showPaste(false);
+      return calls.bringBoard();
+    }
+    showPaste(true);
+    element("game-text").value = given;
+    drawFault();
   }
   function showPaste(isShown) {
     element("paste-box").hidden = !isShown;
@@ -202,6 +217,11 @@ const Mistakes = (() => {
       drawFault();
     }
   }
+  // What is said of where the game came from, as long as a line of it is there.
+  function source() {
+    const { plies, lines } = Game.state, isThere = taken && [plies, ...lines].some((line) => line[0] === taken.first);
+    return isThere ? [taken.name && text("gameFrom", taken.name), taken.variations && text("gameVariations", taken.variations), taken.hasDiagram && text("gameDiagram")].filter(Boolean) : [];
+  }
 
   // ---- on paper
 
@@ -209,7 +229,7 @@ const Mistakes = (() => {
     const { plies } = Game.state, ply = number ? plies[number - 1] : { position: Core.readPosition(Game.state.start), side: Game.state.side };
     const { squares, hands: [mover, enemy] } = Setup.seen(ply), item = node("div", "", "sheet-item");
     const value = number && isKnown(ply) ? Texts.value(ply.judged.value, options.inMoves) : "";
-    item.append(node("b", number ? `${number}. ${marked(ply)}` : text("beginning")), node("span", ` ${value}`));
+    item.append(node("b", number ? `${number}. ${marked(ply)}` : text("beginning"), "whole"), node("span", ` ${value}`));
     item.append(...Worksheet.diagram({ squares: squares.join(""), mover, enemy }));
     item.classList.toggle("gave", !!number && !options.isHidden && !!given(ply));
     return item;
@@ -232,5 +252,5 @@ const Mistakes = (() => {
     document.addEventListener("record", draw);
   }
 
-  return { make, gameText };
+  return { make, gameText, takeFile };
 })();

@@ -36,10 +36,6 @@ const Notation = (() => {
   const japaneseSquare = (name) => name && 3 - name[0] + 3 * (4 - name[1]);
   // A Japanese move in one way: kana as hiragana, ranks as digits.
   const plain = (word) => word.replace(/[ァ-ヶ]/g, (kana) => String.fromCharCode(kana.charCodeAt(0) - 96)).replace(/(?<=[1-3])[一二三四]/g, (rank) => "一二三四".indexOf(rank) + 1);
-  // The words of a game: a square in brackets stays with its move, and a mark of a side begins one. What a record has beside its moves goes.
-  const words = (given) => given.replace(/\{[^}]*\}|\[[^\]]*\]/g, " ").normalize("NFKC").replace(/^\s*(?:(?:先手|後手|手合割|開始日時|終了日時|棋戦|場所|持ち時間)\s*:|手数|まで).*$/gm, " ").replace(/\(\s*\d+:[^)]*\)/g, " ")
-    .replace(/\(([1-3][1-4])\)/g, "<$1>").replace(/[()]/g, " $& ").replace(/[▲☗▼△☖▽]/g, " $&").replace(/同\s+/g, "同").split(/[\s,]+/)
-    .map((word) => word.replace(/^\d*\.+/, "").replace(/[?!]+$/, "")).filter((word) => word && !/^\d+$/.test(word));
 
   // What a word says of a move: what it leaves open is undefined. Squares are as Forest sees them. Null where it is written as no move.
   function said(word) {
@@ -95,7 +91,6 @@ const Notation = (() => {
     const found = exact ? [exact] : it && (it.side ?? now.side) === now.side ? meant(it, now, moves) : [];
     return found.length === 1 ? { move: found[0] } : { why: () => why(it, now, moves) };
   }
-  const isEnd = (word) => /^(投了|中断)/.test(word);
 
-  return { columnName, rowName, squareName, shown, ofPly, words, read, isEnd };
+  return { columnName, rowName, squareName, shown, ofPly, read };
 })();

@@ -89,12 +89,8 @@
 
   // ---- moves
 
-  // Whether in practice a certificate says nothing of a move, and the rules alone don't say that it loses.
-  function isOutside(move) {
-    const tried = found.moves.find((it) => isSame(it.move, move)), { profile } = Game.state, engine = Game.engine();
-    if (found.status !== "open" || tried.value) return false;
-    return engine.moves(profile, engine.apply(profile, Game.now().position, move)).status !== "caught";
-  }
+  // Whether in practice a certificate says nothing of a move.
+  const isOutside = (move) => found.status === "open" && !found.moves.find((it) => isSame(it.move, move)).value;
   // A move of the reader: it is played, unless it is a wrong answer to an exercise, or in practice one of which nothing is known, or the page's to make.
   function tryMove(move) {
     stopPlaying();
@@ -102,7 +98,7 @@
     if (Practice.isOn() && isOutside(move)) {
       chosen = null;
       const { position, side } = Game.now(), words = (it) => () => Notation.shown(position, it, side);
-      Practice.sayOutside(words(found.moves[0].move), words(move));
+      Practice.sayOutside(found.value.kind === "win" && words(found.moves[0].move), words(move));
       if (options.isHidden) View.tellNone(Practice.told());
       drawControls();
       return drawBoard();
@@ -184,7 +180,7 @@
   function drawRecord() {
     const { plies, cursor } = Game.state;
     Fence.keep("played", () => View.drawRecord(plies, cursor, Fence.around("played", goTo)));
-    Fence.keep("analysis", () => View.drawJudged(cursor && !Setup.isOn() ? plies[cursor - 1] : null));
+    Fence.keep("analysis", () => View.drawJudged(cursor && !Setup.isOn() ? plies[cursor - 1] : null, Game.times()[cursor]));
     announce("record");
   }
   const tellNone = Fence.around("value", (words) => View.tellNone(words)), tellNoLine = Fence.around("line", (words) => View.tellLine(words));
@@ -192,7 +188,7 @@
     tellNone(words);
     tellNoLine("");
   };
-  const plainMoves = () => Game.moves().moves.map((move, order) => ({ move, order, value: null }));
+  const unvaluedMoves = () => Game.moves().moves.map((move, order) => ({ move, order, value: null }));
   // A move of a list or a line is of the position that it was drawn for: a later click on it does nothing.
   const ofThisTurn = (act) => {
     const mine = turn;
@@ -203,10 +199,11 @@
   const overWords = ({ side, winner }) => text(winner === side ? "overHome" : "over", text("sides")[winner]);
   // Why there is no value: no open file has the position, or a certificate of its set is checked still, or the page's own file isn't open yet.
   function tellMissing() {
-    const { profile } = Game.state, set = Core.setOf(Game.now().position).join(""), work = Files.work(), isChecked = !!work && work.set === set;
+    const { profile } = Game.state, { position } = Game.now(), set = Core.setOf(position).join(""), work = Files.work(), isChecked = !!work?.claim && work.claim.set === set;
+    const isClaimed = isChecked && work.claim.profile === profile && Game.engine().classOf(profile, position) === work.claim.root;
     const open = Files.all().map((it) => `${it.name} (${it.set}, ${it.profile})`);
     element("value").setAttribute("aria-busy", isChecked); // not each percent is read out
-    tellNothing(isChecked ? text("checkingValue", View.percentOf(work)) : given ? text("opening", given) : open.length ? text("otherSet", set, profile, open) : text("openSet", set));
+    tellNothing(isChecked ? text("checkingValue", View.percentOf(work), isClaimed ? View.claimWords(work) : "") : given ? text("opening", given) : open.length ? text("otherSet", set, profile, open) : text("openSet", set));
   }
   // Looks the position up and shows what was found, or why nothing is; what comes too late is dropped.
   async function tell(isLate) {
@@ -216,7 +213,7 @@
     if (!Core.isAllowed(profile, position)) throw new Core.Fault("E26 FarChick");
     if (!table) {
       isMissing = true;
-      drawMoves(plainMoves());
+      drawMoves(unvaluedMoves());
       return tellMissing();
     }
     const answer = await Answers.lookUp(table, Game.engine(), position);
@@ -312,7 +309,7 @@
   function writePosition() {
     const { position, side, isOver } = Game.now();
     const words = isOver ? "" : Core.writePosition(position);
-    element("caption").textContent = isOver ? overWords(Game.now()) : `${text("caption", text("sides")[side])}: ${words}`;
+    element("caption").replaceChildren(...(isOver ? [overWords(Game.now())] : [`${text("caption", text("sides")[side])}: `, View.node("span", words, "whole")]));
     if (document.activeElement !== element("text")) element("text").value = words;
     element("text-fault").textContent = "";
     written = Game.address();
@@ -414,8 +411,18 @@
     const start = Game.startOf(file.pieces);
     return file.isCertificate && Game.engine().classOf(file.profile, Core.readPosition(start)) !== file.root ? Core.writePosition(file.position()) : start;
   }
+  // Opens tables and certificates, then the last of the games, so that they judge it.
   async function openFiles(files) {
-    if (!files.length) return;
+    const games = [], others = [];
+    for (const file of files) {
+      const words = await GameText.textOf(file);
+      if (words === null) others.push(file);
+      else games.push({ name: file.name, words });
+    }
+    if (others.length) await openTables(others);
+    for (const { name, words } of games.slice(-1)) await Mistakes.takeFile(name, words);
+  }
+  async function openTables(files) {
     stopPlaying();
     const tellWork = (work) => {
       View.tellWork(work, drawFiles);
@@ -480,9 +487,11 @@
 
   function drawLanguage() {
     const { isProved, started } = Game.engine();
-    element("engine").textContent = text("engine", text(isProved ? "engineProved" : "enginePlain"), started);
-    element("badge").textContent = text(isProved ? "badgeProved" : "badgePlain");
-    element("badge").className = isProved ? "proved" : "plain";
+    const what = text(isProved ? "engineProved" : "engineScript");
+    element("engine").textContent = text("engine", what, started);
+    element("badge").title = what;
+    element("badge").textContent = text(isProved ? "badgeProved" : "badgeScript");
+    element("badge").className = isProved ? "proved" : "script";
     drawFiles();
     Fence.draw();
     return offer();
@@ -572,7 +581,7 @@
     const packed = new Blob([Uint8Array.from(atob(bytes), (c) => c.charCodeAt(0))]).stream().pipeThrough(new DecompressionStream("gzip"));
     await openFiles([new File([await new Response(packed).arrayBuffer()], name)]);
   }
-  // The proved engine where this page has it and it answers soon; else the plain one goes on.
+  // The proved engine where this page has it and it answers soon; else the script engine goes on.
   async function chooseEngine() {
     if (!window.DobutsuWasm) return;
     const since = performance.now(), silence = new Promise((_, fail) => { setTimeout(() => fail(new Error("it doesn't answer")), PATIENCE); });
@@ -589,7 +598,7 @@
     Setup.make(Fence.around("setUpSection", setUpChanged));
     View.makeSteps();
     Lesson.make();
-    Mistakes.make({ goTo, restart });
+    Mistakes.make({ goTo, restart, bringBoard });
     Glance.make(restart);
     Settings.make(Fence.around("settings", showChoices));
     drawBoard(); // seen while the engine is made

@@ -10,7 +10,12 @@ const Practice = (() => {
   const isOn = () => side !== null;
   const sideName = (of) => text("sides")[of];
 
-  const task = (of) => () => text("practiceTask", sideName(of));
+  // Whether the position on the board is looked up in a certificate, whose bounds don't say which move is best.
+  function isByBounds() {
+    const table = Files.tableFor(Game.state.profile, Game.now().position);
+    return !!table && table.isCertificate;
+  }
+  const task = (of) => () => text("practiceTask", sideName(of), isByBounds());
   function begin(now, cursor) {
     side = now.side;
     first = cursor;
@@ -41,9 +46,9 @@ const Practice = (() => {
     else end(() => View.lostWords(last, found.value));
     return null;
   }
-  // A certificate says nothing of a move that was tried: it is for another one.
+  // A certificate says nothing of a move that was tried: it is for another one, or knows none here.
   function sayOutside(known, tried) {
-    tell = () => text("practiceUnlisted", known(), tried());
+    tell = () => (known ? text("practiceUnlisted", known(), tried()) : text("practiceOutside"));
   }
 
   // What was said of practice that is over, or of a move that was tried, goes with the next move.
@@ -54,7 +59,7 @@ const Practice = (() => {
 
   function draw() {
     element("practise").textContent = text(isOn() ? "stopPractising" : "practise");
-    element("practise").setAttribute("aria-label", isOn() ? text("stopPractising") : text("practiseLabel"));
+    element("practise").setAttribute("aria-label", isOn() ? text("stopPractising") : text("practiseLabel", isByBounds()));
     element("practise").setAttribute("aria-pressed", isOn());
     element("practice").textContent = isOn() && View.options.isHidden ? "" : told();
   }

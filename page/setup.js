@@ -20,7 +20,7 @@ const Setup = (() => {
     return { squares: [...forest.squares], hands: [[...forest.mover], [...forest.enemy]], side };
   };
   const position = () => {
-    const forest = { squares: board.squares.join(""), mover: board.hands[0], enemy: board.hands[1] };
+    const forest = whole();
     return board.side ? Core.turned(forest) : forest;
   };
 
@@ -75,6 +75,16 @@ const Setup = (() => {
     return true;
   }
 
+  // ---- the whole board at once
+
+  const whole = () => ({ squares: board.squares.join(""), mover: board.hands[0], enemy: board.hands[1] });
+  const become = ({ squares, mover, enemy, side = board.side }) => Object.assign(board, { squares: [...squares], hands: [[...mover], [...enemy]], side });
+  const ofSquares = (squares) => ({ squares, mover: [0, 0, 0], enemy: [0, 0, 0] });
+  // What the buttons make of the board, by their names. Sides are exchanged with all that they have: it is the same position for the other one then.
+  const WHOLE = {
+    clear: () => ofSquares("............"), lions: () => ofSquares(".L........l."), mirror: () => Core.mirrored(whole()), exchange: () => ({ ...Core.turned(whole()), side: 1 - board.side }),
+  };
+
   // ---- the palette
 
   function make(whenChanged) {
@@ -89,12 +99,7 @@ const Setup = (() => {
       element("palette").append(button);
     }
     for (const side of [0, 1]) element(`move-${side}`).addEventListener("click", () => { board.side = side; changed(); });
-    element("lions").addEventListener("click", () => {
-      Object.assign(board, { squares: [..."............"], hands: [[0, 0, 0], [0, 0, 0]] });
-      put(1, "L");
-      put(10, "l");
-      changed();
-    });
+    for (const [name, make] of Object.entries(WHOLE)) element(name).addEventListener("click", () => { become(make()); changed(); });
   }
   function draw() {
     element("editor").hidden = !board;

@@ -4,6 +4,8 @@ const View = (() => {
   const Core = DobutsuCore;
   const { text } = Texts;
   const options = { isHidden: false, inMoves: false };
+  const KINDS = ["win", "draw", "unknown", "loss"]; // of moves, in the order of their groups
+  const REPEATED = 3; // from so many times on a position is told as repeated, and the first ply of so many is marked
 
   const element = (id) => document.getElementById(id);
   function node(name, words, className = "") {
@@ -64,7 +66,13 @@ const View = (() => {
     }
     const work = workLine();
     element("files").setAttribute("aria-busy", work.length > 0);
-    element("files").replaceChildren(...(lines.length + refused.length + work.length ? [...lines, ...refused, ...work] : [node("p", text("noFile"))]), ...closed);
+    keepFocus(() => element("files").replaceChildren(...(lines.length + refused.length + work.length ? [...lines, ...refused, ...work] : [node("p", text("noFile"))]), ...closed));
+  }
+  // Draws the files anew. A button of theirs that had the focus leaves it to the one in its place, or to what opens a file where none is left.
+  function keepFocus(drawAnew) {
+    const controls = () => [...element("files").querySelectorAll("button, summary")], place = controls().indexOf(document.activeElement);
+    drawAnew();
+    if (place >= 0) (controls()[Math.min(place, controls().length - 1)] || element("file")).focus();
   }
   // The file that is opened, with how far its check is and a button to stop it.
   const MOST = 0.97; // of the rest, while it goes on
@@ -72,7 +80,8 @@ const View = (() => {
     const rest = wait ? Math.min(MOST, (performance.now() - at) / wait) : 0;
     return Math.floor(100 * (part + rest * (1 - part)));
   }
-  const workWords = (work) => (work.part === null ? text("opening", work.name) : text("checking", work.name, percentOf(work)));
+  const claimWords = ({ claim }) => (claim && !options.isHidden ? Texts.value(claim.said, options.inMoves) : "");
+  const workWords = (work) => (work.part === null ? text("opening", work.name) : text("checking", work.name, percentOf(work), work.claim, claimWords(work)));
   function workLine() {
     const work = Files.work();
     if (!work) return [];
@@ -102,27 +111,36 @@ const View = (() => {
     tellValue(value.kind, Texts.value(value, options.inMoves), follows ? told : `${told} ${text("ends").broken}`);
   }
 
+  // What a ply gave away, by the best and by what it was worth: the name of a text. One mark stands for each wherever the ply stands.
+  const GIVEN = { win: { draw: "gaveWin", loss: "gaveAll" }, draw: { loss: "gaveDraw" } };
+  const MARKS = { missed: "??", gaveWin: "?", gaveDraw: "?", gaveAll: "??" };
+  const lost = ({ judged }) => judged && (GIVEN[judged.best.kind] || {})[judged.value.kind];
+  // The same of a lion that could be caught, which is known without a file; undefined where nothing is known to be given away.
+  const given = (ply) => (ply.isMissed ? "missed" : lost(ply));
+  const markOf = (ply) => MARKS[given(ply)] || "";
+
   // What a move that was played is said to be worth, beside the best one.
   // Bounds aren't compared, since the greater one may be of the worse move: of a bound it is said that it stands.
   function judgedWords(ply) {
     const { judged } = ply, words = Notation.ofPly(ply), said = (it) => Texts.value(it, options.inMoves);
     if (ply.isMissed) return text("missedTold", words, judged ? said(judged.value) : "");
     const { value, best } = judged;
+    if (best.kind === "unknown") return text("judgedAlone", words, said(value));
     if (value.kind === best.kind && (value.isWithin || best.isWithin)) return text("judgedWithin", words, value.kind, value.plies, options.inMoves);
     return text("judged", words, said(value), said(best), said(value) === said(best));
   }
   // What is said of a move that gave a win away, `now` being the other side's value behind it: where no file judged the move, that alone.
   function lostWords(ply, now) {
     const { judged } = ply, words = Notation.ofPly(ply), said = (value) => Texts.value(value, options.inMoves);
-    return judged ? text("practiceLost", words, said(judged.value), said(judged.best)) : text("practiceGiven", words, said(now));
+    return judged && judged.best.kind !== "unknown" ? text("practiceLost", words, said(judged.value), said(judged.best)) : text("practiceGiven", words, said(now));
   }
-  // A mistake gives away a win or a draw, or leaves a lion that could be caught.
-  const isMistake = (ply) => ply.isMissed || (!!ply.judged && ply.judged.value.kind !== ply.judged.best.kind);
   const isSaid = (ply) => (!!ply.judged || ply.isMissed) && !options.isHidden;
-  function drawJudged(ply) {
-    const isTold = !!ply && isSaid(ply);
-    element("judged").textContent = isTold ? judgedWords(ply) : "";
-    element("judged").className = isTold && isMistake(ply) ? "mistake" : "";
+  const isMistake = (ply) => !!given(ply) && isSaid(ply);
+  // Tells of the last ply what it was worth, and of the position behind it that it is there for the third time or more.
+  function drawJudged(ply, times) {
+    const words = ply ? [isSaid(ply) && judgedWords(ply), times >= REPEATED && text("repeated", times)] : [];
+    element("judged").textContent = words.filter(Boolean).join(" ");
+    element("judged").className = ply && isMistake(ply) ? "mistake" : "";
   }
 
   // ---- the moves
@@ -138,12 +156,20 @@ const View = (() => {
     const words = Texts.value(value, options.inMoves);
     return reply ? text("replied", Notation.shown(reply.position, reply.move, other), words) : words;
   }
-  // The moves of { move, order, value, reply }, by value where it is shown and else in move order; `play` is called with the move.
+  // The moves of { move, order, value, reply }: where values are shown best first, wins, draws and losses each below a heading, and else in move order. `play`
+  // is called with the move.
   function drawMoves(list, { position, side }, play) {
-    const shown = options.isHidden ? [...list].sort((a, b) => a.order - b.order) : list;
+    const isTold = !options.isHidden && list.some(({ value }) => value), kindOf = ({ value }) => (value ? value.kind : "unknown");
+    const kinds = isTold ? KINDS.filter((kind) => list.some((it) => kindOf(it) === kind)) : [];
     element("moves-head").textContent = text("moves", list.length);
-    element("moves").classList.toggle("replied", list.some(({ reply }) => reply));
-    replace(element("moves"), shown.map(({ move, value, reply }) => {
+    const groups = kinds.map((kind) => [kind, list.filter((it) => kindOf(it) === kind)]);
+    const drawn = ([kind, moves]) => [Object.assign(node("h3", text("movesOf", kind, moves.length)), { id: `moves-${kind}` }), moveList(moves, `moves-${kind}`, position, side, play)];
+    replace(element("moves"), isTold ? groups.flatMap(drawn) : [moveList([...list].sort((a, b) => a.order - b.order), "moves-head", position, side, play)]);
+  }
+  function moveList(moves, heading, position, side, play) {
+    const list = node("ul", "", !options.isHidden && moves.some(({ reply }) => reply) ? "replied" : "");
+    list.setAttribute("aria-labelledby", heading);
+    list.append(...moves.map(({ move, value, reply }) => {
       const words = Notation.shown(position, move, side), told = value && !options.isHidden ? valueWords(value, reply, 1 - side) : "";
       const made = button("", "", [words, moveWords(position, move, side), told].filter(Boolean).join(", "), () => play(move));
       made.append(node("span", words, "move"));
@@ -155,6 +181,7 @@ const View = (() => {
       item.append(made);
       return item;
     }));
+    return list;
   }
 
   // ---- lines of moves
@@ -185,9 +212,18 @@ const View = (() => {
     moves[next].focus();
   }
   function drawSteps(name, nodes, current) {
-    const box = element(name), place = movesIn(box).indexOf(document.activeElement);
+    const box = element(name), { scrollTop } = box, place = movesIn(box).indexOf(document.activeElement);
     replace(box, nodes);
     rove(box, place >= 0 ? Math.min(place, movesIn(box).length - 1) : current);
+    scrollIn(box, scrollTop);
+  }
+  // A long game scrolls in its box: from where it was as little as brings the current step into view.
+  function scrollIn(box, top) {
+    const current = box.querySelector("[aria-current]");
+    box.scrollTop = top;
+    if (!current || box.scrollHeight <= box.clientHeight) return;
+    const step = current.getBoundingClientRect(), frame = box.getBoundingClientRect();
+    box.scrollTop += Math.min(0, step.top - frame.top) + Math.max(0, step.bottom - frame.bottom);
   }
   function makeSteps() {
     for (const name of ["line", "record", "strip"]) element(name).addEventListener("keydown", arrowIn);
@@ -210,26 +246,31 @@ const View = (() => {
   const tellLine = (words) => drawSteps("line", [node("span", words, "end")], 0);
 
   // A move that was played says what it was worth, where that is known and shown; a mistake is marked.
+  function marksOf(ply, times) {
+    const repeated = times === REPEATED ? [node("span", text("timesMark", times), "mark times")] : [];
+    return [...valueMark(ply), ...repeated];
+  }
   function valueMark(ply) {
     if (!isSaid(ply)) return [];
     const { kind } = ply.judged ? ply.judged.value : { kind: "loss" }, tag = ply.judged ? ` ${Texts.tag(ply.judged.value, options.inMoves)}` : "";
-    return [node("span", (ply.isMissed ? "??" : isMistake(ply) ? "?" : "") + tag, `mark ${kind}`)];
+    return [node("span", markOf(ply) + tag, `mark ${kind}`)];
   }
-  function recordLabel(ply, number) {
+  function recordLabel(ply, number, times) {
     const told = isSaid(ply) ? [judgedWords(ply), isMistake(ply) && text("mistake")] : [];
-    return [text("goTo", Notation.ofPly(ply), number), ...told].filter(Boolean).join(", ");
+    return [text("goTo", Notation.ofPly(ply), number), ...told, times === REPEATED && text("repeatedShort", times)].filter(Boolean).join(", ");
   }
   function drawRecord(plies, cursor, goTo) {
+    const times = Game.times();
     const first = button(text("beginning"), "move", text("goToStart"), () => goTo(0));
-    const rest = numbered(plies.map(Notation.ofPly), (word, i) => recordLabel(plies[i], i + 1), (i) => goTo(i + 1));
+    const rest = numbered(plies.map(Notation.ofPly), (word, i) => recordLabel(plies[i], i + 1, times[i + 1]), (i) => goTo(i + 1));
     rest.forEach((step, i) => {
-      step.append(...valueMark(plies[i]));
-      step.classList.toggle("mistake", isMistake(plies[i]) && !options.isHidden);
+      step.append(...marksOf(plies[i], times[i + 1]));
+      step.classList.toggle("mistake", isMistake(plies[i]));
     });
     const buttons = [first, ...rest.map((step) => step.querySelector(".move"))];
     buttons[cursor].setAttribute("aria-current", "step");
     drawSteps("record", plies.length ? [first, ...rest] : [node("span", text("noneYet"), "end")], cursor);
   }
 
-  return { options, node, button, replace, makeSteps, drawSteps, drawFiles, tellWork, percentOf, tellNone, drawValue, drawJudged, lostWords, drawMoves, headLine, drawLine, tellLine, drawRecord };
+  return { options, REPEATED, lost, given, markOf, node, button, replace, makeSteps, drawSteps, drawFiles, tellWork, percentOf, claimWords, tellNone, drawValue, drawJudged, lostWords, drawMoves, headLine, drawLine, tellLine, drawRecord };
 })();

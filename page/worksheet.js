@@ -67,12 +67,13 @@ const Worksheet = (() => {
   }
   // Draws what was drawn of so many that were asked for; where they are fewer the sheet says so.
   function draw(drawn, plies, asked, isApart) {
-    const answers = drawn.map(({ position, move, profile }, i) => `${i + 1}. ${Notation.shown(position, move, 0, profile)}`).join("   "), isInMoves = element("sheet-measure").value === "moves";
+    const isInMoves = element("sheet-measure").value === "moves", title = () => node("h2", "", text("sheetTitle")), task = text("sheetTask", text("length", plies, isInMoves));
+    const answers = drawn.flatMap(({ position, move, profile }, i) => [" ", node("span", "whole", `${i + 1}. ${Notation.shown(position, move, 0, profile)}`)]);
     const fewer = drawn.length < asked ? [node("p", "sheet-fewer", text("sheetFewer", drawn.length, asked))] : [];
     element("sheet").className = drawn.length > LARGE ? "many" : "";
     element("sheet").replaceChildren(
-      node("h2", "", text("sheetTitle")), node("p", "", `${text("sheetTask", text("length", plies, isInMoves))} ${text("sheetName")} ____________________`), ...fewer,
-      node("div", "sheet-items", ...drawn.map(exercise)), node("p", isApart ? "sheet-answers apart" : "sheet-answers", `${text("sheetAnswers")} ${answers}`));
+      title(), node("p", "", `${task} ${text("sheetName")} ____________________`), ...fewer, node("div", "sheet-items", ...drawn.map(exercise)),
+      node("div", isApart ? "sheet-answers apart" : "sheet-answers", ...(isApart ? [title(), node("p", "", task)] : []), node("p", "", text("sheetAnswers"), ...answers)));
   }
   // Offers the numbers that a sheet may have.
   function make() {

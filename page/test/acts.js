@@ -78,7 +78,7 @@ globalThis.Acts = (() => {
     ];
   }
 
-  // The plain engine made as strict as the proved one, which says nothing of what is no position or no move by the rules.
+  // The script engine made as strict as the proved one, which says nothing of what is no position or no move by the rules.
   function strict(engine) {
     const asked = (name, hasMove) => (profile, position, move, ...about) => {
       if (!Core.isAllowed(profile, position)) throw new Core.Fault("E26 FarChick");

@@ -20,7 +20,7 @@ FLAGS = [
     # A test changes the address more often than a browser bears of a page.
     "--disable-ipc-flooding-protection",
 ]
-KEYS = {"Enter": 13, "Escape": 27, "Delete": 46, "ArrowLeft": 37, "ArrowUp": 38, "ArrowRight": 39, "ArrowDown": 40}
+KEYS = {"Tab": 9, "Enter": 13, "Escape": 27, "Delete": 46, "ArrowLeft": 37, "ArrowUp": 38, "ArrowRight": 39, "ArrowDown": 40, "Home": 36, "End": 35}
 WAIT_SECONDS = float(os.environ.get("DOBUTSU_WAIT", 180))  # what is waited for comes in a second, but on a machine that is busy
 ANSWER_SECONDS = 2 * WAIT_SECONDS
 

@@ -1,4 +1,4 @@
-// What the page's plain reader and checker say of certificates: each line of standard input has a file's bytes in hexadecimal, a tab, and the fault that
+// What the page's own reader and checker say of certificates: each line of standard input has a file's bytes in hexadecimal, a tab, and the fault that
 // docs/FORMAT.md gives it, or nothing where it proves its claim. Run by tests/certificates.sh.
 "use strict";
 const path = require("path");

@@ -77,14 +77,14 @@ def spoil(place, byte):
 
 
 def faulty(data):
-    """What docs/FORMAT.md says of a certificate, by the plain reader: its fault, or none."""
+    """What docs/FORMAT.md says of a certificate, by the reader in Python: its fault, or none."""
     path = pathlib.Path(__file__).resolve().parents[2] / "python"
     sys.path.insert(0, str(path))
-    from dobutsu import plain
+    from dobutsu import pure
     try:
-        plain.Certificate(data).verify()
+        pure.Certificate(data).verify()
         return ""
-    except plain.Fault as fault:
+    except pure.Fault as fault:
         return str(fault)
 
 
@@ -93,7 +93,7 @@ CHANGES = [("lost", -2), ("lost", 2), ("lost", -1), ("lost", None), ("held", 2),
 
 
 def mutated(checks, screen, program):
-    """Exact certificates with an entry or the claim changed: each is refused, or passes, as by the plain reader in Python."""
+    """Exact certificates with an entry or the claim changed: each is refused, or passes, as by the reader in Python."""
     maker, draw, told = Maker(program), random.Random(76), set()
     for number, (what, by) in enumerate(2 * CHANGES):
         claim, root, plies = [("loss", LOSS, 6), ("win", WON, 5)][number % 2]
@@ -162,8 +162,8 @@ def whole_game(rules):
     def run(checks, screen, program):
         is_proved, path = screen.js("Game.engine().isProved"), program.folder / "spoilt.cert"
         source = pathlib.Path(__file__).resolve().parents[2] / "testdata" / f"222_{rules}.cert"
-        by = "checked by proved code" if is_proved else "checked by plain JavaScript"
-        screen.give(source, seconds=600)  # plain JavaScript takes a minute of a processor of its own
+        by = "checked by proved code" if is_proved else "checked by JavaScript"
+        screen.give(source, seconds=600)  # JavaScript takes a minute of a processor of its own
         said = f"222_{rules}.cert certificate of set 222, rules {rules}: the second player wins the game, loss within 78; {by}"
         checks.expect(f"{rules}: the file", screen.files(), [[said, False]])
         if not is_proved:
@@ -209,7 +209,7 @@ def beside(checks, screen, program):
     checks.expect("how far it was went up", [percents == sorted(percents), len(set(percents)) > 1], [True, True])
     screen.give(Maker(program).write("mine.cert", LOSS, "loss", 6))
     screen.press("hide")
-    by = "proved code" if screen.js("Game.engine().isProved") else "plain JavaScript"
+    by = "proved code" if screen.js("Game.engine().isProved") else "JavaScript"
     english, japanese = f"mine.cert certificate of set 100, rules A: its claim is hidden; checked by {by}", "mine.cert 証明書、セット 100、ルール A：主張は隠しています。"
     screen.in_both(checks, "a claim that is hidden", lambda: screen.files()[-1][0][: len(english) if screen.js("Texts.language()") == "en" else len(japanese)], english, japanese)
     screen.press("hide")

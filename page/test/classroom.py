@@ -51,7 +51,7 @@ def worksheet(checks, screen, program):
     checks.expect("each is an exercise", [it for it in texts if it not in known], [])
     checks.expect("there are six of them, or all that differ", 2 <= len(texts) <= 6)
     answers = screen.seen("texts", ".sheet-answers")[0]
-    checks.expect("their answers", answers, "Answers: " + "   ".join(f"{i + 1}. {known[it]}" for i, it in enumerate(texts)))
+    checks.expect("their answers", answers, "Answers: " + " ".join(f"{i + 1}. {known[it]}" for i, it in enumerate(texts)))
     alike = lambda a, b: screen.js(f"Worksheet.areAlike(DobutsuCore.readPosition({a!r}), DobutsuCore.readPosition({b!r}))")
     checks.expect("no two are alike", [(a, b) for a in texts for b in texts if a < b and alike(a, b)], [])
     for a, b, wanted in [(PLAIN, PLAIN, True), ("..l/.../C../L.. - -", "l../.../..C/..L - -", True), (PLAIN, "l../.../.C./.L. - -", True),

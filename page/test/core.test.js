@@ -1,4 +1,4 @@
-// node page/test/core.test.js [NUMBER]: the engine in plain JavaScript against tools/read_db.py, on so many positions of all sets drawn at
+// node page/test/core.test.js [NUMBER]: the engine in JavaScript against tools/read_db.py, on so many positions of all sets drawn at
 // random and by both rules: class numbers, statuses, moves and what they lead to; and positions of class numbers, both ways.
 "use strict";
 const { spawnSync } = require("child_process");

@@ -29,13 +29,13 @@ def asked(checks, screen, program):
 
 
 def silent(checks, screen, program):
-    """An engine that never answers gives way to the plain one after three seconds, and the head says which engine is at work."""
+    """An engine that never answers gives way to the script engine after three seconds, and the head says which engine is at work."""
     hung = screen.browser.call("Page.addScriptToEvaluateOnNewDocument", source="window.DobutsuWasm = Object.freeze({ open: () => new Promise(() => {}) });"
                                "Object.defineProperty(window, 'DobutsuWasm', { value: window.DobutsuWasm, writable: false });")
     screen.open()
     screen.browser.call("Page.removeScriptToEvaluateOnNewDocument", identifier=hung["identifier"])
-    checks.expect("the plain engine answers", screen.js("Game.engine().isProved"), False)
-    screen.in_both(checks, "the head says so", lambda: screen.text("badge"), "plain engine", "普通のエンジン")
+    checks.expect("the script engine answers", screen.js("Game.engine().isProved"), False)
+    screen.in_both(checks, "the head says so", lambda: screen.text("badge"), "script engine", "普通のエンジン")
     checks.expect("moves can be played", len(screen.moves()), 4)
     said = [it for it in screen.browser.events if it["method"] == "Runtime.consoleAPICalled"]
     checks.expect("the console says why", ["doesn't answer" in json.dumps(it) for it in said], [True])

@@ -24,15 +24,6 @@ def play_badly(screen, program, path, moves=BAD):
     return made
 
 
-def told(number, ply, gave):
-    text, value, best = ply
-    wins = value.split()[0] == "win"
-    side = ["Forest", "Sky"][(number + wins) % 2]
-    plies = 0 if value == "draw" else int(value.split()[1]) - 1
-    words = "draw" if value == "draw" else f"{side} wins in {plies} {'ply' if plies == 1 else 'plies'}" if plies else f"{side} has won"
-    return f"ply {number}, {text}: {words}{', ' + gave if gave else ''}"
-
-
 def paste(screen, words):
     screen.js("document.getElementById('paste-box').hidden && document.getElementById('paste-game').click()")
     screen.js(f"document.getElementById('game-text').value = {words!r}")
@@ -49,7 +40,7 @@ def worth(db, position, move):
 
 
 def missed(checks, screen, program):
-    """Where a lion can be caught each other step and drop is taken too, marked, and worth what plain Python says of the position behind it."""
+    """Where a lion can be caught each other step and drop is taken too, marked, and worth what pure Python says of the position behind it."""
     path = program.build("100", "A")
     at = lambda square: f"[data-square='{square}']"
     screen.enter(".../.l./.L./.C. - -")
@@ -78,7 +69,8 @@ NONE = [  # (words, the reason why the last is no move)
     ("b2b3+", "only a chick that steps onto its far row becomes a hen"), ("nonsense", "it isn't written as one"), ("b2b3 b4b3 C*b3", "b3 isn't empty"), ("b2b3 b4b3 Lb1-a2 c*b3", "b3 isn't empty"),
     ("▲22ヒヨコ ▲同ライオン", "it is Sky's turn"), ("▲22ヒヨコ △同ゾウ引", "the elephant doesn't go to b3引"), ("b2b3 b4b3 Lb1-a2 b3b2 La2xb2 a4a3", "the game is over"),
 ]
-KIFU = ["▲22ヒヨコ△同ゾウ▲13キリン", "手合割：どうぶつしょうぎ\n先手：はな\n▲22ヒヨコ △同ゾウ\n▲13キリン\n投了", "▲２二ひよこ　△同　ぞう　▲１三きりん", "1 22ひよこ(23) ( 0:01/00:00:01)\n2 22ぞう(11)\n3 13キリン(14)\nまで3手", "☗22ひ☖同ぞ上☗13き上"]
+KIFU = ["▲22ヒヨコ△同ゾウ▲13キリン", "手合割：どうぶつしょうぎ\n先手：はな\n▲22ヒヨコ △同ゾウ\n▲13キリン\n投了", "▲２二ひよこ　△同　ぞう　▲１三きりん", "1 22ひよこ(23) ( 0:01/00:00:01)\n2 22ぞう(11)\n3 13キリン(14)\nまで3手", "☗22ひ☖同ぞ上☗13き上",
+        "#KIF version=2.0\n記録係：太郎\n*22ひよこまで\n1 ２二ひよこ(23)\n2 同　ぞう(11)\n3 １三きりん(14)+\n4 詰み\n\n変化：2手\n2 同　ライオン(21)", '[Event "Game #12"]\n1. Cb2xb3 ec4xb3 2. Gc1-c2# 1-0', "# a game\nb2b3 c4b3 c1c2"]
 
 
 def kifu(checks, screen, program):

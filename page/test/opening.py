@@ -1,4 +1,8 @@
-"""Files that are read short, that end before their line does, and large ones."""
+"""Files that are read short, that end before their line does, large ones, and one that stands in the page."""
+import subprocess
+import sys
+
+from program import TOP
 
 PLAIN = ".l./.../.C./.L. - -"
 TRIED = ".../L../..l/h.. - -"  # won by a try, La3-a4
@@ -42,4 +46,30 @@ def large(checks, screen, program):
     checks.expect("a record of zeros", screen.value(), "draw")
 
 
-PARTS = {"short": short, "ends_early": ends_early, "large": large}
+# What is said of the position while the page opens its file, from the beginning.
+SAID = """window.said = [];
+new MutationObserver(() => {
+  const words = document.getElementById("value")?.innerText.trim();
+  if (words && words !== window.said.at(-1)) window.said.push(words);
+}).observe(document, { childList: true, subtree: true, characterData: true });"""
+
+
+def given(checks, screen, program):
+    """The page that Python makes with the solution in it: the claim is shown as not checked yet, then its value, checked by the proved engine."""
+    page = program.folder / "solved.html"
+    subprocess.run([sys.executable, TOP / "page/build.py", "--with", TOP / "testdata/222_A_first_moves.cert", "-", page], check=True, stdout=subprocess.DEVNULL)
+    script = screen.browser.call("Page.addScriptToEvaluateOnNewDocument", source=SAID)["identifier"]
+    screen.browser.open(page.as_uri())
+    screen.browser.wait("!!document.querySelector('#value b')?.textContent")
+    said = screen.js("window.said")
+    checks.expect("the claim is shown before", [it for it in said if it.startswith("Claimed, and not checked yet: loss within 78.")] != [])
+    checks.expect("no value is before it", [it for it in said[:-1] if it.startswith("loss")], [])
+    checks.expect("then the value", screen.value(), "loss within 78")
+    checks.expect("by what it was checked", screen.files()[-1][0].endswith("checked by proved code"))
+    checks.expect("the engine", screen.js("[document.getElementById('badge').textContent, document.getElementById('badge').title.includes('made from the proved sources')]"), ["proved engine", True])
+    screen.browser.call("Page.removeScriptToEvaluateOnNewDocument", identifier=script)
+    screen.open()
+    screen.browser.events.clear()  # this page was asked for too
+
+
+PARTS = {"short": short, "ends_early": ends_early, "large": large, "given": given}

@@ -91,7 +91,8 @@ class Run:
             if self.stops and checks.failed:
                 return
         if is_first:
-            print("engine:", "proved" if browser.js("Game.engine().isProved") else "plain JavaScript", flush=True)
+            screen.open()  # others may have taken each part before it
+            print("engine:", "proved" if browser.js("Game.engine().isProved") else "JavaScript", flush=True)
         if not self.is_firefox:
             looks.asked(checks, screen)
 

@@ -1,5 +1,5 @@
 #!/usr/bin/env python3
-"""Plants wrong code in the page's plain engine, one piece a page, and sees that the tests count failures: page/test/planted.py PROGRAM
+"""Plants wrong code in the page's script engine, one piece a page, and sees that the tests count failures: page/test/planted.py PROGRAM
 
 Each planted page has to be told apart by `page_test.py told/short`, by counts alone: a test that breaks off with a traceback doesn't count. Prints a line for
 each page that passed, and last `N passed, M failed`.

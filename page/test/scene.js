@@ -136,7 +136,7 @@ globalThis.Scene = (() => {
 
   // ---- what an element is, says and can do
 
-  const ROLES = { BUTTON: "button", TEXTAREA: "textbox", SELECT: "select", SUMMARY: "summary", H1: "heading 1", H2: "heading 2", UL: "list", LI: "item", DETAILS: "details", SECTION: "region", P: "text", LABEL: "label", SPAN: "text", SMALL: "text", B: "text", DIV: "group" };
+  const ROLES = { BUTTON: "button", TEXTAREA: "textbox", SELECT: "select", SUMMARY: "summary", H1: "heading 1", H2: "heading 2", H3: "heading 3", UL: "list", LI: "item", DETAILS: "details", SECTION: "region", P: "text", LABEL: "label", SPAN: "text", SMALL: "text", B: "text", DIV: "group" };
   const KINDS = { checkbox: "checkbox", file: "file" };
   function roleOf(it) {
     const role = it.getAttribute("role") || (it.tagName === "INPUT" ? KINDS[it.type] || "textbox" : ROLES[it.tagName] || it.tagName.toLowerCase());
@@ -178,7 +178,13 @@ globalThis.Scene = (() => {
     return isControl(it) ? heardText(it) : "";
   }
   const isUnseen = (it) => { const { width, height } = boxOf(it); return width <= 1 && height <= 1; };
-  const before = (it) => { const words = getComputedStyle(it, "::before").content; return words && words !== "none" && words !== "normal" && words !== '""' ? `${words.replaceAll('"', "")}` : ""; };
+  // What its style puts in front of an element, with the colour where that isn't the element's own.
+  function before(it) {
+    const { content, color } = getComputedStyle(it, "::before");
+    if (["none", "normal", '""', ""].includes(content)) return "";
+    const words = content.replaceAll('"', "");
+    return color === getComputedStyle(it).color ? words : `{${colour(color)}: ${clean(words)}} `;
+  }
   // What stands on an element: parts that look otherwise stand in braces with their looks, pictures of pieces in brackets, controls as □.
   function rich(it, outer = null) {
     const own = getComputedStyle(it), key = (style, of = null) => [colour(style.color), of && colour(style.backgroundColor) === "clear" ? colour(of.backgroundColor) : colour(style.backgroundColor), ...type(style)].join(" ");
@@ -202,6 +208,7 @@ globalThis.Scene = (() => {
     }
     return clean(words);
   }
+  let isColoured = false; // whether it is told in which colours a piece is drawn
   let isPlain = false; // whether it is left out how things look and where they stand, which isn't the same in all browsers
   // Whether an element has a text of its own, or is one of those that are told anyway.
   const hasWords = (it) => [...it.childNodes].some((part) => part.nodeType === 3 && part.textContent.trim());
@@ -213,7 +220,17 @@ globalThis.Scene = (() => {
     if (it.scrollWidth > it.clientWidth + 1) return "cut";
     return boxOf(it).right > root.clientWidth + 1 && style.position !== "fixed" ? "wider than the window" : "";
   }
-  const rowsOf = (it) => { const range = document.createRange(); range.selectNodeContents(it); return new Set([...range.getClientRects()].filter((box) => box.width > 2).map((box) => Math.round(box.bottom / 8))).size; };
+  // How many lines the words on an element take: signs of several fonts on one line don't end at one height.
+  function rowsOf(it) {
+    const range = document.createRange();
+    range.selectNodeContents(it);
+    let rows = 0, end = -Infinity;
+    for (const { top, bottom } of [...range.getClientRects()].filter((box) => box.width > 2).sort((a, b) => a.top + a.bottom - b.top - b.bottom)) {
+      if ((top + bottom) / 2 > end) rows++;
+      end = Math.max(end, bottom);
+    }
+    return rows;
+  }
 
   // ---- the board
 
@@ -230,6 +247,7 @@ globalThis.Scene = (() => {
   }
   const drawings = new Map(), contrasts = new Set();
   const digest = (words) => { let sum = 5381; for (const sign of words) sum = ((sum * 33) ^ sign.codePointAt(0)) >>> 0; return sum.toString(36); };
+  const paintOf = (art) => digest([...art.querySelectorAll("*")].map((part) => { const { fill, stroke, strokeWidth } = getComputedStyle(part); return `${fill} ${stroke} ${strokeWidth}`; }).join());
   // A piece's picture by its letter; what is drawn of it is told once, below.
   function pictureOf(art) {
     const letter = letterOf(art), isTurned = !!art.querySelector("g").getAttribute("transform"), name = `${letter}${isTurned ? " turned" : ""}`, tile = art.querySelector(".tile");
@@ -238,12 +256,17 @@ globalThis.Scene = (() => {
       return `${y < -12 ? "up" : y > 12 ? "down" : ""}${x < -12 ? " left" : x > 12 ? " right" : ""}`.trim();
     });
     const words = art.querySelector(".letter"), colours = [getComputedStyle(tile).fill, getComputedStyle(tile).stroke, getComputedStyle(art.querySelector(".dot")).fill].map(colour);
-    drawings.set(name, `${name}: tile ${colours[0]} edge ${colours[1]}, dots ${colours[2]} ${ways.join(", ")}; letter ${+words.getAttribute("x") < 50 ? "left" : "right"} ${+words.getAttribute("y") > 50 ? "below" : "above"}, drawn as ${digest(art.outerHTML)}`);
+    drawings.set(name, `${name}: tile ${colours[0]} edge ${colours[1]}, dots ${colours[2]} ${ways.join(", ")}; letter ${+words.getAttribute("x") < 50 ? "left" : "right"} ${+words.getAttribute("y") > 50 ? "below" : "above"}, drawn as ${digest(art.outerHTML)}${isColoured ? ` in ${paintOf(art)}` : ""}`);
     return name;
+  }
+  // How wide a piece's picture is in its place, where that isn't as usual.
+  function widthIn(art, it) {
+    const tenths = art && !isPlain ? Math.round((10 * boxOf(art).width) / boxOf(it).width) : 9;
+    return tenths === 9 ? [] : [`${tenths} tenths wide`];
   }
   function squareLine(it) {
     const style = getComputedStyle(it), art = it.querySelector(".piece"), tag = it.querySelector(".tag"), found = [art ? pictureOf(art) : "empty", `on ${colour(style.backgroundColor)}`];
-    found.push(...insetOf(style), ...markOf(it));
+    found.push(...widthIn(art, it), ...insetOf(style), ...markOf(it));
     if (tag.textContent) found.push(tag.checkVisibility() ? `tag «${tag.textContent}» ${colour(getComputedStyle(tag).color)} on ${colour(getComputedStyle(tag).backgroundColor)}` : `tag unseen «${tag.textContent}»`);
     if (art && +getComputedStyle(art.parentElement).opacity < 1) found.push("lifted");
     if (style.cursor !== "pointer") found.push(`cursor ${style.cursor}`);
@@ -255,7 +278,7 @@ globalThis.Scene = (() => {
     const art = it.querySelector(".piece"), number = it.querySelector(".number"), found = [art ? pictureOf(art) : "empty"], style = getComputedStyle(it), faint = +getComputedStyle(it.querySelector(".art")).opacity;
     if (number.checkVisibility() && number.textContent) found.push(`number «${number.textContent}»`);
     if (faint < 1) found.push(`faint ${faint}`);
-    found.push(...insetOf(style));
+    found.push(...widthIn(art, it), ...insetOf(style));
     if (it.disabled) found.push("off");
     if (style.cursor !== (it.disabled ? "default" : "pointer")) found.push(`cursor ${style.cursor}`);
     if (it.tabIndex < 0) found.push("no stop");
@@ -320,7 +343,7 @@ globalThis.Scene = (() => {
       const isStep = it.tagName === "BUTTON" && it.parentElement.closest(".steps"), usual = isStep ? ["mono", "border clear"] : [], found = looks(it, control && it.tagName !== "SUMMARY" && it.type !== "checkbox");
       parts.push(...found.filter((look) => !usual.includes(look)), ...usual.filter((look) => !found.includes(look)).map((look) => `not ${look}`));
       if (control && !isPaper && it.type !== "checkbox") {
-        if (least(box.height) !== (isStep ? 32 : 40) && it.tagName !== "SUMMARY") parts.push(`${least(box.height)} high`);
+        if (least(box.height) !== (isStep ? 32 : it.tagName === "SUMMARY" ? 28 : 40)) parts.push(`${least(box.height)} high`);
         if (box.width < 39.5) parts.push(`${least(box.width)} wide`);
         if (it.tagName === "BUTTON" && rowsOf(it) > 1) parts.push(`${rowsOf(it)} lines`);
       }
@@ -351,6 +374,7 @@ globalThis.Scene = (() => {
       if (it.classList.contains("cell")) { push([cellLine(it)]); continue; }
       if (it.id === "glance-chart") { out.push(...chartLines().map((text) => ({ depth, text }))); continue; }
       if (it.id === "glance-bar") { push([shareLine(it)]); continue; }
+      if (it.classList.contains("sheet-item") && getComputedStyle(it).outlineStyle !== "none") push([`an item in ${colour(getComputedStyle(it).outlineColor)}`]);
       if (it.classList.contains("sheet-row")) { push([sheetRow(it)]); continue; }
       if (it.classList.contains("sheet-hand")) { push([sheetHand(it)]); continue; }
       if (it.parentElement.id === "palette") { push([`tool ${it.dataset.tool} ${it.querySelector(".piece") ? pictureOf(it.querySelector(".piece")) : rich(it)}`, `"${heardName(it)}"`, ...states(it), ...(isPlain ? [] : looks(it, true))]); continue; }
@@ -405,6 +429,7 @@ globalThis.Scene = (() => {
   // The whole as a list of lines.
   function write({ withColours = false, isPlainly = false } = {}) {
     isPlain = isPlainly;
+    isColoured = withColours;
     const palette = readColours();
     drawings.clear();
     contrasts.clear();
@@ -427,7 +452,7 @@ globalThis.Scene = (() => {
     drawings.clear();
     return lines(true).map((it) => it.replace(/, no stop|, stop|, cursor [-a-z]+/g, "")).filter((it) => !/^\s*(hidden|region|header)/.test(it));
   }
-  // What the page says of the position on its board, to be compared with plain Python.
+  // What the page says of the position on its board, to be compared with pure Python.
   function facts() {
     const { position, side, isOver } = Game.now(), { profile } = Game.state, table = isOver || !DobutsuCore.isAllowed(profile, position) ? null : Files.tableFor(profile, position);
     if (!table || Setup.isOn() || View.options.isHidden || View.options.inMoves || Texts.language() !== "en") return null;

@@ -1,4 +1,4 @@
-"""The files that scenes open. Tables are made here by plain Python, or stand in testdata/; certificates are made of the values of a table, by docs/FORMAT.md."""
+"""The files that scenes open. Tables are made here by pure Python, or stand in testdata/; certificates are made of the values of a table, by docs/FORMAT.md."""
 import functools
 import hashlib
 import pathlib
@@ -6,6 +6,7 @@ import struct
 
 from program import TOP, read_db
 
+GAMES = pathlib.Path(__file__).parent / "games"  # games as files, in the letters and the forms that records have
 LOSS, WON, DRAWN = ".../..l/.../L.. - c", ".l./.../.C./.L. - -", ".../l../.../L.C - -"
 KINDS = {"draw": 0, "win": 1, "loss": 2, "win within": 3, "loss within": 4}
 
@@ -121,6 +122,12 @@ def made_of_table(name, whole):
     }[name]()
 
 
+def all_draws(pieces, others=()):
+    """A table of a set by rules A in which each record is a draw, but the first ones."""
+    count = read_db.class_count("A", pieces)
+    return sealed(b"DOBUTSU2" + bytes([*pieces, 2, 0]) + struct.pack("<Q", count) + struct.pack(f"<{len(others)}H", *others) + bytes(2 * (count - len(others))))
+
+
 class Files:
     """Files by their names, made in a folder when they are asked for first."""
 
@@ -164,11 +171,20 @@ class Files:
             return (TOP / "testdata/lions_alone_2.db").read_bytes()
         if name == "lions_alone.db":
             return (TOP / "testdata/lions_alone.db").read_bytes()
+        if (GAMES / name).exists():
+            return (GAMES / name).read_bytes()
         if name == "222_A.cert":
             return (TOP / "testdata/222_A.cert").read_bytes()
-        if name == "giraffes.db":  # a set with two of a kind, all draws
-            count = read_db.class_count("A", (0, 0, 2))
-            return sealed(b"DOBUTSU2" + bytes([0, 0, 2, 2, 0]) + struct.pack("<Q", count) + bytes(2 * count))
+        if name == "giraffes.db":  # a set with two of a kind
+            return all_draws((0, 0, 2))
+        if name == "draws.db":  # a megabyte and a half
+            return all_draws((1, 1, 1))
+        if name == "large.db":  # 24 MB
+            return all_draws((2, 1, 1), (2, 3, 2, 4))
+        if name == "draws_spoilt.db":
+            draws = bytearray(all_draws((1, 1, 1)))
+            draws[10**6] ^= 1
+            return bytes(draws)
         if name == "100B":
             data = table("B", (1, 0, 0))
             self.tables["100B.db"] = read_db.Db(data)

@@ -1,4 +1,4 @@
-"""The values that a scene shows against those of plain Python (python/dobutsu/plain.py), which reads the same files."""
+"""The values that a scene shows against those of pure Python (python/dobutsu/pure.py), which reads the same files."""
 import functools
 
 from program import read_db

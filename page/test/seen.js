@@ -98,9 +98,11 @@ globalThis.Seen = (() => {
   }
   // Fills the lists of moves and of the line with copies, up to so many.
   function fillLists(moves, plies) {
-    for (const [list, number] of [["moves", moves], ["line", plies]]) {
-      const items = [...element(list).children], end = list === "line" ? items.pop() : null;
-      while (element(list).children.length - (end ? 1 : 0) < number) element(list).insertBefore(items[element(list).children.length % 2].cloneNode(true), end);
+    const [first, ...others] = all("#moves ul"); // all moves in one group
+    first.append(...others.flatMap((it) => [...it.children]));
+    for (const [list, number] of [[first, moves], [element("line"), plies]]) {
+      const items = [...list.children], end = list === first ? null : items.pop();
+      while (list.children.length - (end ? 1 : 0) < number) list.insertBefore(items[list.children.length % 2].cloneNode(true), end);
     }
   }
 

@@ -130,6 +130,7 @@ def drops(at):
     at.click("a2")
     at.click("c4")
     at.enter("l../.../L../... C -", tell="a drop is the best move")
+    at.run("location.hash = '#~l../.../L../..._C_-'", until="Game.state.side === 1", tell="and it is Sky's")
     at.enter("..l/.../.../L.. CCE gg", tell="two kinds in hand, and no table")
     at.click("E")
     at.click("b2")
@@ -140,6 +141,9 @@ def drops(at):
     at.run("location.hash = '#~..l/.../.../L.._E_c'", until="Game.state.side === 1 && Game.state.start.startsWith('..l')", tell="Sky is to move, with an elephant")
     at.click("e")
     at.press("edit")
+    at.press("edit", tell=False)
+    at.enter("..l/.../.c./E.L E -", tell=False)
+    at.click("E", tell="an elephant in the corner makes no drop")
 
 
 def sky(at):
@@ -212,6 +216,10 @@ def set_up(at):
     """A position is set up by clicks, dragging and keys."""
     at.table("..l/H.h/.../L.. E g", tell=False)
     at.press("edit", tell="setting up begins")
+    at.press("mirror", tell="a board that is not its own mirror image is mirrored")
+    at.press("exchange", tell="and its sides are exchanged")
+    at.press("exchange", tell=False)
+    at.press("mirror", tell=False)
     at.click("tool c")
     at.click("b2")
     at.click("b2")
@@ -219,6 +227,8 @@ def set_up(at):
     at.click("a3", tell="a hen is taken away by the empty square")
     at.click("tool L", tell=False)
     at.click("c1", tell="a lion is put elsewhere")
+    at.press("clear", tell="the board is cleared")
+    at.says()
     at.press("lions")
     at.drag("tool C", "b2")
     at.drag("b2", "c3")
@@ -235,6 +245,10 @@ def set_up(at):
     at.hold("C", "b2")
     at.key("Escape", tell="a drag is given up")
     at.press("move-1")
+    at.press("mirror", tell="the board is mirrored")
+    at.press("exchange", tell="sides are exchanged")
+    at.press("exchange", tell="and again")
+    at.press("mirror", tell=False)
     at.press("move-0", tell=False)
     at.click("C", tell="a click on a hand gives one more")
     at.click("C")
@@ -375,6 +389,29 @@ def keys(at):
     at.key("e", "x", "c", tell="while a position is set up no exercise is drawn")
 
 
+def keys_left(at):
+    """Letters in a text are letters, Tab leaves the board, and the right button has its menu but in class mode."""
+    at.table(PLAIN, tell=False)
+    at.press("paste-game", tell=False)
+    at.focus("#game-text")
+    at.key("f", "e", "h", tell="letters in the box")
+    at.press("paste-game", tell=False)
+    at.press("edit", tell=False)
+    at.focus("b2")
+    at.key("Tab", tell="Tab on the board that is set up")
+    at.press("edit", tell=False)
+    menu = "document.getElementById('board').dispatchEvent(new MouseEvent('contextmenu', { bubbles: true, cancelable: true }))"
+    at.out.append(f"== the right button's menu on the board: {at.js(menu)}")
+    at.press("lesson", tell=False)
+    at.out.append(f"== in class mode: {at.js(menu)}")
+    at.stop_early()
+    at.press("lesson-end", tell=False)
+    at.play("Lb1-a2", "lb4-c4", tell=False)
+    at.focus("#record .move")
+    at.key("End", tell="End leads to the last move, and scrolls nothing")
+    at.key("Home")
+
+
 def dragged(at):
     """Pieces are dragged: to their square, back, off the board, to a wrong one; a hand's piece too."""
     at.table(PLAIN, tell=False)
@@ -400,5 +437,5 @@ def dragged(at):
 
 STORIES = {
     it.__name__: it
-    for it in (start, table, values, ends, hover, chosen, flipped, drops, sky, line, hidden, set_up, set_up_wrong, texts, link, link_wrong, rules, keys, dragged)
+    for it in (start, table, values, ends, hover, chosen, flipped, drops, sky, line, hidden, set_up, set_up_wrong, texts, link, link_wrong, rules, keys, keys_left, dragged)
 } | stories_files.STORIES | stories_play.STORIES | stories_class.STORIES | stories_looks.STORIES

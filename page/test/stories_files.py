@@ -37,9 +37,15 @@ def closed(at):
     at.table(PLAIN, tell=False)
     at.play("Cb2-b3", tell="a move was played by the table")
     at.focus("#files .close")
-    at.run("document.querySelector('#files .close').click()", until="!document.querySelector('#files b')", tell="it is closed")
+    at.key("Enter", until="!document.querySelector('#files b')", tell="it is closed")
     at.press("start")
     at.give("100A", tell="it is open again")
+    at.give("000A", "100B", tell=False)
+    at.on("3 files open", within="header", tell=False)
+    at.focus("#files p:nth-child(2) .close")
+    at.key("Enter", until="document.querySelectorAll('#files b').length === 2", tell="the second of three is closed, and the focus is on the next one")
+    at.key("Enter", until="document.querySelectorAll('#files b').length === 1", tell="then on the one that is left")
+    at.key("Enter", until="!document.querySelector('#files b')", tell="and where none is left, on what opens a file")
 
 
 def starts(at):
@@ -66,6 +72,13 @@ def refused(at):
     at.says()
     at.give("000A", "cut.db", "title.db")
     at.give("100B")
+
+
+def digests(at):
+    """A file of a megabyte and a half: its digest is tested, and with one byte changed it is refused."""
+    at.open(tell=False)
+    at.give("draws.db", tell="it is open")
+    at.give("draws_spoilt.db", tell="a byte of it is another one")
 
 
 def refused_certificates(at):
@@ -227,6 +240,7 @@ def checking_alone(at):
     at.js("window.works[0].give(1); window.works[0].say(0.42, 1e9)")
     at.wait("/42/.test(document.getElementById('files').textContent)", tell="it is checked")
     at.says()
+    at.enter(PLAIN, tell="another position of its set")
     at.enter("..l/.../L../... EG cc", tell="another set")
     at.enter(LOSS, tell=False)
     at.press("hide", tell="values are hidden meanwhile")
@@ -347,4 +361,27 @@ def glance_slow(at):
     at.says()
 
 
-STORIES = {it.__name__: it for it in (file_names, closed, starts, refused, refused_certificates, broken, lost, slow, opening, checking, checking_alone, certificate, claims, whole_game, glance_file, glance_game, glance_slow)}
+def glance_large(at):
+    """A file of 24 MB is counted as a small one is."""
+    at.open(tell=False)
+    at.pick("large.db", tell=False)
+    at.run("document.querySelector('#glance summary').click()", until=COUNTED, tell="it is counted")
+    at.on("The longest loss")
+
+
+def glance_counted(at):
+    """A set is counted in slices, between which it is told how far that is."""
+    at.table(PLAIN, tell=False)
+    at.js("performance.now = ((at) => () => (at += 0.6))(0)")  # a slice is so many classes, however quick the machine is
+    at.js("window.told = []; new MutationObserver(() => window.told.push(document.getElementById('glance-told').textContent)).observe(document.getElementById('glance-told'), { childList: true })")
+    for name in ("en", "ja", "kana"):
+        at.language(name, tell=False)
+        at.give("100A", tell=False)
+        at.js("window.told.length = 0")
+        at.run("document.getElementById('glance').open = true", until=COUNTED, tell=False)
+        at.out += [f"== told on the way, in {name}", *at.js("window.told.map((it) => `  ${it}`)")]
+        at.stop_early()
+        at.run("document.getElementById('glance').open = false", tell=False)
+
+
+STORIES = {it.__name__: it for it in (file_names, closed, starts, refused, digests, refused_certificates, broken, lost, slow, opening, checking, checking_alone, certificate, claims, whole_game, glance_file, glance_game, glance_slow, glance_counted, glance_large)}

@@ -31,6 +31,18 @@ def small(at):
     at.language("kana")
 
 
+def lying(at):
+    """A phone that lies on its side, and a window at 200 %: the board between hands and buttons."""
+    at.table(PLAIN, tell="a table is open", size=(844, 390), touch=True)
+    at.touch("b1", tell=False)
+    at.touch("a2", tell="a move by two taps")
+    at.press("edit")
+    at.press("edit", tell=False)
+    at.press("lesson", tell="class mode")
+    at.press("lesson-end", tell=False)
+    at.size(640, 400, touch=True, tell="at 200 %")
+
+
 def tablet(at):
     """Windows between a phone and a desk."""
     at.table(PLAIN, tell=False)
@@ -227,4 +239,4 @@ def no_script(at):
         at.open(tell=False)
 
 
-STORIES = {it.__name__: it for it in (phone, small, tablet, wide, dark, system_dark, japanese, kana, in_japan, settings, kept, kept_wrong, help_card, copied, fences, no_script)}
+STORIES = {it.__name__: it for it in (phone, small, lying, tablet, wide, dark, system_dark, japanese, kana, in_japan, settings, kept, kept_wrong, help_card, copied, fences, no_script)}

@@ -70,6 +70,16 @@ def practice_ends(at):
     at.play("Lb1-a2", tell="a move of which no file knows")
 
 
+def practice_left(at):
+    """Practice ends where a position is set up; and it is refused, while a line is played out, in a position that is lost."""
+    at.table(PLAIN, tell=False)
+    at.press("practise", tell=False)
+    at.press("edit", tell="a position is set up")
+    at.press("edit", tell="and done")
+    at.press("play", tell="a line is played out")
+    at.press("practise", tell="behind its first move")
+
+
 def practice_thinks(at):
     """The page thinks: no move is taken for its side by any way."""
     at.table(PLAIN, tell=False)
@@ -227,6 +237,17 @@ def exercise_drawn(at):
     at.play("Lb1-a1", tell="nor a slower win")
 
 
+def exercise_left(at):
+    """The file is closed while an exercise is drawn of it: none comes."""
+    at.table(PLAIN, tell=False)
+    at.run("Answers.drawExercise = ((real) => async (...about) => { const drawn = await real(...about); await new Promise((done) => { window.giveDrawn = done; }); return drawn; })(Answers.drawExercise)", tell=False)
+    at.js("document.getElementById('draw').click()")
+    at.browser.wait("!!window.giveDrawn")
+    at.tell("it is drawn", False)
+    at.js("document.querySelector('#files .close').click(); window.giveDrawn()")
+    at.wait("!document.querySelector('#files b')", tell="the file is closed meanwhile")
+
+
 def exercise_files(at):
     """Exercises of one of several files; files without exercises; a file that is closed ends its exercise."""
     at.open(tell=False)
@@ -334,6 +355,14 @@ def game_certificate(at):
     at.enter(".../l../.../L.C - -", tell=False)
     at.on("La1-b1", within="#moves", tell="a game of which nothing is known")
     at.says()
+    at.enter(START, tell=False)
+    at.play("C*c1", "lb4-a4", tell="what was best isn't known")
+    at.play("Cc1-c2", tell=False)
+    at.play("la4-a3", tell="a win made a loss")
+    at.says()
+    at.press("copy-game")
+    at.press("print-game", tell=False)
+    at.paper("it on paper")
 
 
 def pasted(at):
@@ -357,11 +386,47 @@ def pasted(at):
     take("1... lb4-c3 Lb1-a1", "Sky begins")
     take('[Rules "B"] [First "Sky"] [Position ".l./.../.C./.L. - -"] lb4-c3', "rules B, Sky first")
     take("PAGE#.l./.../.C./.L._-_-:Lb1-a2,lb4-c4", "a link")
+    take('# game of Monday\n[Event "Game #12"]\n1. Lb1-a2 {see #2} lb4-c3 ; a comment\n3. La2-a3#', "a game with number signs")
+    take("# game of Monday", "a comment alone")
+    take("1-0", "a result alone")
+    take("1. Lb1-a2 lb4-c4 (Lb1-a1 1-0) 2. La2-a3 0-1 lc4-b4", "a result ends it")
     take('[Position "L.l/.../.../... - -"] La2-a3', "a position that is none")
     take("gle/.c./.C./ELG - - cb2xb3 eb4xb3 Gc1c2", "the whole game, small letters")
     take("Lb1", "a move that is none")
     at.says()
     at.press("paste-game", tell="the box is closed")
+
+
+def game_files(at):
+    """A game's file is opened or dropped: in Shift_JIS, with headers, comments and variations; in UTF-8; with tags; beside a table; one that is no game."""
+    at.open(tell=False)
+    at.game("shift_jis.kif", by="open", until="Game.state.plies.length === 5", tell="a record in Shift_JIS is opened")
+    at.says()
+    at.press("undo", tell=False)
+    at.play(at.js("document.querySelector('#moves .move').textContent"), tell="another move")
+    at.press("start", tell="a new game")
+    at.game("utf_8.ki2", until="Game.state.plies.length === 5", tell="one in UTF-8 is dropped")
+    at.says()
+    at.game("tags.txt", until="/tags/.test(document.getElementById('game-told').textContent)", tell="a game with tags")
+    at.press("hide", tell="values are hidden")
+    at.press("hide", tell=False)
+    at.game("no_game.txt", until="document.getElementById('game-fault').textContent", tell="a text that is no game")
+    at.press("paste-game", tell=False)
+    at.game("100A", "mistakes.txt", until="Game.state.plies.length === 4", tell="a table and a game of its set")
+    at.says()
+
+
+def repeated(at):
+    """A position comes for the third time, and for the fourth; with the other side to move it is another one."""
+    at.table("..l/.../.../L.. C -", tell=False)
+    at.js("document.getElementById('paste-game').click(); document.getElementById('game-text').value = '" + 4 * "La1-a2 lc4-b4 La2-a1 lb4-c4 " + "'")
+    at.press("take-game", tell="a game that goes round")
+    at.run("document.querySelectorAll('#strip .cell')[8].click()", tell="the third time")
+    at.says()
+    at.press("hide", tell="values are hidden")
+    at.press("hide", tell=False)
+    at.press("undo", tell="and back")
+    at.run("location.hash = '#.l./.../.../.L._-_-:Lb1-a1,lb4-c4,La1-a2,lc4-b4,La2-b1,lb4-c4,Lb1-a1,lc4-c3,La1-b1,lc3-b4'", until="Game.state.plies.length === 10", tell="twice with each side to move is no third time")
 
 
 def missed(at):
@@ -426,4 +491,5 @@ def stuck(at):
     at.says()
 
 
-STORIES = {it.__name__: it for it in (practice, practice_ends, practice_thinks, ended, practice_try, practice_certificate, exercise, exercise_drawn, exercise_files, worksheet, game, game_certificate, pasted, missed, pasted_kifu, stuck)}
+STORIES = {it.__name__: it for it in (
+    practice, practice_ends, practice_left, practice_thinks, ended, practice_try, practice_certificate, exercise, exercise_drawn, exercise_left, exercise_files, worksheet, game, game_certificate, pasted, game_files, repeated, missed, pasted_kifu, stuck)}

@@ -31,5 +31,15 @@ def values(number):
     return run
 
 
-PARTS = {"values": values(40), "short": values(10)}
+def far(checks, screen, program):
+    """A line of which the first move is only one by rules A, a chick that is dropped where it never moves."""
+    path, position = program.build("111", "A"), ".../.../Lel/.G. C -"
+    screen.give(path)
+    screen.enter(position)
+    line = program.line(path, position)
+    checks.expect("it begins with that drop", line.split(" ")[0], "C*a4")
+    checks.expect("its line", screen.line(), line)
+
+
+PARTS = {"values": values(40), "short": values(10), "far": far}
 NAMED = {"short"}  # told/values has its positions too

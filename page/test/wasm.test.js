@@ -1,4 +1,4 @@
-// node page/test/wasm.test.js MODULE [N [CORE]]: the proved engine against the one in plain JavaScript (page/core.js unless it is named), on N random positions of
+// node page/test/wasm.test.js MODULE [N [CORE]]: the proved engine against the one in JavaScript (page/core.js unless it is named), on N random positions of
 // set 111 and others in both profiles, with each of their moves, on headers that are spoilt, and on the whole game's certificates, spoilt ones among them.
 "use strict";
 const fs = require("fs"), path = require("path"), zlib = require("zlib");
@@ -30,7 +30,7 @@ function draw(pieces) {
 const faultOf = (call) => { try { return JSON.stringify(call()); } catch (fault) { return fault.fault || String(fault); } };
 
 (async () => {
-  const plain = Core.engine, proved = await window.DobutsuWasm.open(Core);
+  const script = Core.engine, proved = await window.DobutsuWasm.open(Core);
   let asked = 0, compared = 0, bad = 0;
   function same(what, a, b) {
     compared++;
@@ -44,24 +44,24 @@ const faultOf = (call) => { try { return JSON.stringify(call()); } catch (fault)
       if (!Core.isAllowed(profile, position)) continue;
       const name = `${profile} ${Core.writePosition(position)}`;
       asked++;
-      same(name, plain.classOf(profile, position), proved.classOf(profile, position));
-      const told = plain.moves(profile, position), found = proved.moves(profile, position);
+      same(name, script.classOf(profile, position), proved.classOf(profile, position));
+      const told = script.moves(profile, position), found = proved.moves(profile, position);
       same(name, bare(told), bare(found));
       if (told.moves.length !== found.moves.length) continue;
       told.moves.forEach((move, i) => {
-        for (const second of [false, true]) same(name, plain.moveText(profile, position, move, second), proved.moveText(profile, position, found.moves[i], second));
+        for (const second of [false, true]) same(name, script.moveText(profile, position, move, second), proved.moveText(profile, position, found.moves[i], second));
         if (told.status !== "open") return;
-        same(name, Core.writePosition(plain.apply(profile, position, move)), Core.writePosition(proved.apply(profile, position, found.moves[i])));
-        same(name, plain.classAfter(profile, position, move), proved.classAfter(profile, position, found.moves[i]));
-        same(name, plain.classAfter(profile, position, move), proved.classAfter(profile, position, move));
+        same(name, Core.writePosition(script.apply(profile, position, move)), Core.writePosition(proved.apply(profile, position, found.moves[i])));
+        same(name, script.classAfter(profile, position, move), proved.classAfter(profile, position, found.moves[i]));
+        same(name, script.classAfter(profile, position, move), proved.classAfter(profile, position, move));
       });
     }
   }
 
   for (let code = 0; code < 400; code++) {
     const record = Uint8Array.of(code % 256, Math.floor(code / 256));
-    same(`record ${code}`, plain.valueOf(record), proved.valueOf(record));
-    same(`move by record ${code}`, plain.afterMove(record), proved.afterMove(record));
+    same(`record ${code}`, script.valueOf(record), proved.valueOf(record));
+    same(`move by record ${code}`, script.afterMove(record), proved.afterMove(record));
   }
   same("half a record", "E15 Truncated", faultOf(() => proved.valueOf(Uint8Array.of(1))));
 
@@ -101,7 +101,7 @@ const faultOf = (call) => { try { return JSON.stringify(call()); } catch (fault)
     ]) same(`222_${rules}.cert: ${what}`, fault, faultOf(() => proved.verify({ ...certificate, ...change })));
   }
 
-  // an exact one, by both lists: what is found of it with each number of plies changed is what plain JavaScript finds
+  // an exact one, by both lists: what is found of it with each number of plies changed is what JavaScript finds
   const exact = await Certificates.read(new Uint8Array(fs.readFileSync(path.join(page, "..", "testdata", "one_chick.cert"))));
   const checked = async (certificate) => Certificates.check(certificate, () => {}).then(() => undefined, (fault) => fault.fault || String(fault));
   const claims = ["draw", "win", "loss", "winWithin", "lossWithin"].flatMap((claim) => [0, 1, 7, 8, 9].map((plies) => ({ claim, plies })));
