@@ -1,4 +1,5 @@
-/* Dobutsu shogi for an engine: positions, their moves, and values by a database's file. One file of C99 to compile in, dobutsu_plain.c; C++ too.
+/* Dobutsu shogi for an engine: positions, their moves, and values by a database's file. Two files of C99 to compile in, dobutsu_plain.c
+   and dobutsu_plain_classes.c; C++ too.
 
    Nothing is proved of it, it is only tested: it was written from docs/RULES.md, docs/FORMAT.md and docs/CLASSES.md. The proved library is
    include/dobutsu.h, whose numbers and positions these are.
@@ -47,11 +48,10 @@ const char *plain_fault_text(uint32_t fault);
 /* The profiles of the rules: whether a chick may be dropped on its far row (A) or not (B). */
 enum { PLAIN_RULES_A = 0, PLAIN_RULES_B = 1 };
 
-/* Kinds of pieces. */
-enum { PLAIN_CHICK = 0, PLAIN_ELEPHANT = 1, PLAIN_GIRAFFE = 2, PLAIN_HEN = 3, PLAIN_LION = 4 };
-
-/* What stands on a square: PLAIN_NOTHING, or PLAIN_MOVER or PLAIN_ENEMY and a kind. PLAIN_ENEMY + PLAIN_HEN is a hen of the side that isn't to move. */
-enum { PLAIN_NOTHING = 0, PLAIN_MOVER = 1, PLAIN_ENEMY = 6 };
+/* Kinds of pieces, and what stands on a square: PLAIN_NOTHING, or PLAIN_MOVER or PLAIN_ENEMY and a kind. PLAIN_ENEMY + PLAIN_HEN is a hen of the side that
+   isn't to move. They are of one type, so that C++ adds them without a warning. */
+enum { PLAIN_CHICK = 0, PLAIN_ELEPHANT = 1, PLAIN_GIRAFFE = 2, PLAIN_HEN = 3, PLAIN_LION = 4,
+       PLAIN_NOTHING = 0, PLAIN_MOVER = 1, PLAIN_ENEMY = 6 };
 
 /* A position as the side to move sees it: what stands on a1, b1, c1, a2 and so on to c4, row 1 being its home row; and how many chicks, elephants and
    giraffes lie in its hand, and in the enemy's. */
@@ -92,8 +92,9 @@ uint32_t plain_check(const PlainPosition *position, uint32_t profile);
 /* The text of a position, by rules A. */
 uint32_t plain_write(const PlainPosition *position, char text[PLAIN_POSITION_TEXT]);
 
-/* The text of a move, as "Cb3xb4+" or "C*a2". Answers 28 where its numbers are those of no move. */
+/* The text of a move, as "Cb3xb4+" or "C*a2", and the move of a text of that length. Each answers 28 where no position has that move. */
 uint32_t plain_write_move(const PlainMove *move, char text[PLAIN_MOVE_TEXT]);
+uint32_t plain_read_move(const char *text, size_t length, PlainMove *move);
 
 /* The status of a position, and its moves in the order of moves: where the enemy lion can be caught its first catch alone, and none where the game is lost. */
 uint32_t plain_moves(const PlainPosition *position, uint32_t profile, PlainMove moves[PLAIN_MOST_MOVES], uint32_t *count, uint32_t *status);
@@ -101,6 +102,10 @@ uint32_t plain_moves(const PlainPosition *position, uint32_t profile, PlainMove 
 /* The position after a move of an open one, as the other side sees it, which is then to move. Answers 28 where plain_moves doesn't list that very move, or
    the position isn't open: after the catch of a lion there is none. `after` may be `position`. */
 uint32_t plain_play(const PlainPosition *position, uint32_t profile, const PlainMove *move, PlainPosition *after);
+
+/* The same of a move that plain_moves listed of that very position, an open one, at a fraction of the cost: moves aren't listed again. Of anything else it
+   answers 28 where its squares or its hand can't give that move, and else a position that may be none. */
+uint32_t plain_play_listed(const PlainPosition *position, const PlainMove *move, PlainPosition *after);
 
 /* ---- Values, by a table */
 
@@ -134,7 +139,8 @@ typedef struct {
 } PlainTable;
 
 /* Opens the table of a file: all its bytes, read or mapped, which stay as they are; or a function that reads them, and how many they are. Answers the first
-   of 15 to 19, 24 and 27 that holds of header and length, in the order of docs/FORMAT.md. Values and digest aren't tested: `dobutsu check` does. */
+   of 15 to 19, 24 and 27 that holds of header and length, in the order of docs/FORMAT.md. Values and digest aren't tested: `dobutsu check` does. A table
+   that was refused has no class, so whoever asks it all the same is answered 7 or 29. */
 uint32_t plain_open(PlainTable *table, const uint8_t *bytes, size_t length);
 uint32_t plain_open_by(PlainTable *table, PlainReader *reader, void *context, uint64_t length);
 

@@ -1,14 +1,19 @@
 //! Certificates (docs/FORMAT.md): lists of classes that show a claim without any table.
 
 use crate::classes::Family;
-use crate::file::{end, rules_of, set_of, take};
+use crate::fault::Fault;
+use crate::file::{end, first_bytes, rules_of, set_of, take};
 use crate::rules::*;
 use crate::text;
 use crate::threads::first;
+use std::path::Path;
 
 /// How a certificate begins, and how long its header is.
 pub(crate) const TITLE: &[u8; 8] = b"DOBUCERT";
 pub(crate) const HEADER: usize = 28;
+
+/// The most bytes of an entry: five of a number, and its plies.
+const ENTRY: u64 = 6;
 
 /// So many plies stand for *ever*.
 const EVER: u16 = 65535;
@@ -35,7 +40,7 @@ pub struct Certificate {
 }
 
 /// Reads a number of seven bits a byte, the lowest first, in its fewest bytes and five at most.
-fn number(bytes: &mut &[u8]) -> Result<u64, String> {
+fn number(bytes: &mut &[u8]) -> Result<u64, Fault> {
     let mut number = 0;
     for place in 0..5 {
         let [byte] = take(bytes)?;
@@ -47,24 +52,24 @@ fn number(bytes: &mut &[u8]) -> Result<u64, String> {
             break;
         }
     }
-    Err("E36 EntryNumber: an entry's number isn't in its fewest bytes".into())
+    Err(Fault::EntryNumber)
 }
 
 /// The entries of `lost`, or those of `held`, which alone may be for ever.
-fn list(bytes: &mut &[u8], count: u32, classes: u32, is_lost: bool) -> Result<List, String> {
+fn list(bytes: &mut &[u8], count: u32, classes: u32, is_lost: bool) -> Result<List, Fault> {
     let mut list = vec![];
     let mut next = 0; // the class before, plus 1
     for _ in 0..count {
         let step = number(bytes)?;
         if step == 0 {
-            return Err("E37 EntryOrder: an entry's class isn't above the one before it".into());
+            return Err(Fault::EntryOrder);
         }
         next += step;
         if next > classes as u64 {
-            return Err("E38 EntryClass: the family has no class of an entry's number".into());
+            return Err(Fault::EntryClass);
         }
         let plies = match take(bytes)? {
-            [255] if is_lost => return Err("E42 EntryPlies: an entry of the lost list has 255 plies".into()),
+            [255] if is_lost => return Err(Fault::EntryPlies),
             [255] => EVER,
             [plies] => plies as u16,
         };
@@ -74,40 +79,46 @@ fn list(bytes: &mut &[u8], count: u32, classes: u32, is_lost: bool) -> Result<Li
 }
 
 /// Takes the header off a file's bytes; the fault is the first that holds in the order of docs/FORMAT.md.
-pub(crate) fn header(bytes: &mut &[u8]) -> Result<Header, String> {
+pub(crate) fn header(bytes: &mut &[u8]) -> Result<Header, Fault> {
     take::<HEADER>(&mut &bytes[..])?;
     if take(bytes)? != *TITLE {
-        return Err("E16 Magic: the file doesn't begin as certificates do".into());
+        return Err(Fault::Magic("certificates"));
     }
     if take(bytes)? != [1] {
-        return Err("E32 Version: the certificate is of another version".into());
+        return Err(Fault::Version);
     }
     let set = set_of(take(bytes)?)?;
     let [rules] = take(bytes)?;
     let family = Family::new(set, rules_of(rules)?);
     let root = u32::from_le_bytes(take(bytes)?);
     if root >= family.classes {
-        return Err("E33 RootClass: the family has no class of the root's number".into());
+        return Err(Fault::RootClass);
     }
     let [kind, plies] = take(bytes)?;
     if kind > 4 || plies == 255 || kind == 0 && plies != 0 {
-        return Err("E34 ClaimByte: what is claimed is no claim".into());
+        return Err(Fault::ClaimByte);
     }
     let [lost, held] = [take(bytes)?, take(bytes)?].map(u32::from_le_bytes);
     if lost.max(held) > family.classes {
-        return Err("E35 EntryCount: a list counts more entries than the family has classes".into());
+        return Err(Fault::EntryCount);
     }
     Ok(Header { family, root, kind, plies: plies as u16, lost, held })
 }
 
 /// A certificate of a file's bytes; the fault is the first that holds in the order of docs/FORMAT.md.
-pub fn read(file: &[u8]) -> Result<Certificate, String> {
+pub fn read(file: &[u8]) -> Result<Certificate, Fault> {
     let mut bytes = file;
     let header = header(&mut bytes)?;
     let lost = list(&mut bytes, header.lost, header.family.classes, true)?;
     let held = list(&mut bytes, header.held, header.family.classes, false)?;
     end(file, bytes)?;
     Ok(Certificate { header, lost, held })
+}
+
+/// The certificate of a plain file. Of one that is longer than its header tells no more is read than shows that.
+pub fn open(path: &Path) -> Result<Certificate, Fault> {
+    let most = |mut head: &[u8]| Ok(HEADER as u64 + ENTRY * header(&mut head)?.entries() + 32);
+    read(&first_bytes(path, HEADER, most)?)
 }
 
 impl Header {
@@ -135,7 +146,7 @@ impl Header {
 
 impl Certificate {
     /// Checks each entry and then the claim; says what is proved, and where it is so by rules B that too.
-    pub fn verify(&self, threads: usize) -> Result<String, String> {
+    pub fn verify(&self, threads: usize) -> Result<String, Fault> {
         let unsupported = |list: &List, supports: fn(&Self, &Position, u16) -> bool| {
             first(threads, list.len(), |n| {
                 let (class, plies) = list[n];
@@ -145,7 +156,7 @@ impl Certificate {
         let fault = unsupported(&self.lost, Self::supports_lost);
         if let Some(class) = fault.or_else(|| unsupported(&self.held, Self::supports_held)) {
             let position = text::position(&self.header.family.representative(class));
-            return Err(format!("E30 Unsupported class {class}: its entry isn't shown by its moves: {position}"));
+            return Err(Fault::Unsupported(class, position));
         }
         let (root, n) = (self.header.root(), self.header.plies);
         let loss = || self.lost(&root, n);
@@ -162,7 +173,7 @@ impl Certificate {
             let by = if self.header.family.rules == Rules::B { " by rules B" } else { "" };
             Ok(format!("{position} {claim}{by}"))
         } else {
-            Err(format!("E31 Claim: the entries don't show `{position} {claim}`"))
+            Err(Fault::Claim(format!("{position} {claim}")))
         }
     }
 

@@ -4,18 +4,20 @@
 //! It is changed only from docs/RULES.md, docs/FORMAT.md and docs/CLASSES.md. Whoever mends it doesn't read the proved
 //! program for it, or the two would be one opinion.
 //!
-//! A call that refuses what it is given answers a text that begins with the fault's number and name, as
+//! A call that refuses what it is given answers a [`fault::Fault`], whose text begins with its number and name, as
 //! `E7 OtherSet: ..`; docs/FAULTS.md has them all.
 //!
 //! ```no_run
 //! use independent::file::{Opened, Records};
-//! use independent::{check, text};
+//! use independent::{check, fault::Fault, text};
 //!
 //! let table = Opened::open("222.db".as_ref())?;
 //! let start = text::read_position("gle/.c./.C./ELG - -")?;
 //! println!("{}", text::value(table.record(&start)?)); // loss 78
-//! print!("{}", check::moves(&table, &start)?);
-//! # Ok::<(), String>(())
+//! for valued in check::moves(&table, &start)? {
+//!     println!("{} {}", text::move_of(&start, valued.one), valued.value); // Ga1-a2 loss 76, and so on
+//! }
+//! # Ok::<(), Fault>(())
 //! ```
 
 #![warn(missing_docs)]
@@ -23,6 +25,7 @@
 pub mod certificate;
 pub mod check;
 pub mod classes;
+pub mod fault;
 pub mod file;
 pub mod rules;
 mod sha256;

@@ -1,6 +1,7 @@
 //! The command line of the second program: see README.md and the library beside it.
 
 use independent::classes::Family;
+use independent::fault::Fault;
 use independent::file::{self, Opened, Records};
 use independent::rules::{Position, Rules};
 use independent::{certificate, check, solve, text};
@@ -29,19 +30,17 @@ they need, info the header alone; check, stats and verify read the whole file, a
 digest. The status is 0 if done, 1 if refused, 2 for a wrong command line.
 ";
 
-const NO_MEMORY: &str = "E23 Memory: no memory is left";
-
 /// Why there is no answer: the status, which is 2 for a wrong command line, and a text.
-struct Fault(u8, String);
+struct Refusal(u8, String);
 
-impl From<String> for Fault {
-    fn from(text: String) -> Fault {
-        Fault(1, text)
+impl From<Fault> for Refusal {
+    fn from(fault: Fault) -> Refusal {
+        Refusal(1, fault.to_string())
     }
 }
 
-fn usage<T>(text: impl std::fmt::Display) -> Result<T, Fault> {
-    Err(Fault(2, format!("{text}\n{}", USAGE.trim_end())))
+fn usage<T>(text: impl std::fmt::Display) -> Result<T, Refusal> {
+    Err(Refusal(2, format!("{}\n{}", text::shown(&text.to_string()), USAGE.trim_end())))
 }
 
 /// A command's options, and its other words.
@@ -51,7 +50,7 @@ struct Words {
 }
 
 impl Words {
-    fn read(mut words: impl Iterator<Item = OsString>, known: &[&'static str]) -> Result<Words, Fault> {
+    fn read(mut words: impl Iterator<Item = OsString>, known: &[&'static str]) -> Result<Words, Refusal> {
         let mut read = Words { options: HashMap::new(), others: vec![] };
         while let Some(word) = words.next() {
             if !word.to_string_lossy().starts_with("--") {
@@ -77,7 +76,7 @@ impl Words {
         }
     }
 
-    fn path(&self, name: &str) -> Result<&Path, Fault> {
+    fn path(&self, name: &str) -> Result<&Path, Refusal> {
         match self.options.get(name) {
             Some(path) => Ok(Path::new(path)),
             None => usage(format!("{name} is needed")),
@@ -92,7 +91,7 @@ impl Words {
         self.others[0].to_str().unwrap_or_default()
     }
 
-    fn rules(&self) -> Result<Rules, Fault> {
+    fn rules(&self) -> Result<Rules, Refusal> {
         match self.text("--rules") {
             None | Some("A") => Ok(Rules::A),
             Some("B") => Ok(Rules::B),
@@ -100,7 +99,7 @@ impl Words {
         }
     }
 
-    fn threads(&self) -> Result<usize, Fault> {
+    fn threads(&self) -> Result<usize, Refusal> {
         match self.text("--threads").map(str::parse) {
             None => Ok(std::thread::available_parallelism().map_or(1, |n| n.get())),
             Some(Ok(n @ 1..=256)) => Ok(n),
@@ -109,7 +108,7 @@ impl Words {
     }
 }
 
-fn run(mut words: impl Iterator<Item = OsString>) -> Result<String, Fault> {
+fn run(mut words: impl Iterator<Item = OsString>) -> Result<String, Refusal> {
     let command = words.next().unwrap_or_default();
     let command = command.to_str().unwrap_or_default();
     let known: &[&str] = match command {
@@ -129,14 +128,14 @@ fn run(mut words: impl Iterator<Item = OsString>) -> Result<String, Fault> {
         "build" => build(&words, rules, threads),
         "info" => Ok(file::info(Path::new(&words.others[0]))?),
         "verify" => {
-            let bytes = file::bytes(words.path("--cert")?)?;
-            Ok(certificate::read(&bytes)?.verify(threads)? + "\n")
+            let certificate = certificate::open(words.path("--cert")?)?;
+            Ok(certificate.verify(threads)? + "\n")
         }
         "value" => {
             let p = text::read_position(words.position())?;
             of_rules(&p, rules)?;
             let family = Family::new(p.set(), rules);
-            let solution = solve::solve(&family, threads, &|_| ()).ok_or(NO_MEMORY.to_string())?;
+            let solution = solve::solve(&family, threads, &|_| ()).ok_or(Fault::Memory)?;
             Ok(text::value(solution.record(&p)) + "\n")
         }
         "probe" | "look" | "moves" if words.position() == "-" => {
@@ -150,59 +149,59 @@ fn run(mut words: impl Iterator<Item = OsString>) -> Result<String, Fault> {
             Ok(asked(&Opened::open(path)?, command, &p)?)
         }
         _ => {
-            let table = file::read(file::bytes(words.path("--db")?)?)?;
+            let table = file::open(words.path("--db")?)?;
             if command == "stats" {
                 return Ok(check::stats(&table));
             }
             match check::inconsistent(&table, threads) {
                 None => Ok("consistent\n".into()),
-                Some(class) => Err(Fault(1, format!("E21 Inconsistent class {class}"))),
+                Some(class) => Err(Fault::Inconsistent(class).into()),
             }
         }
     }
 }
 
 /// What `probe` or `moves` prints of a position by a file.
-fn asked(table: &Opened, command: &str, p: &Position) -> Result<String, String> {
+fn asked(table: &Opened, command: &str, p: &Position) -> Result<String, Fault> {
     of_rules(p, table.family().rules)?;
     if p.set() != table.family().set {
-        return Err("E7 OtherSet: the position's piece set isn't the file's".into());
+        return Err(Fault::OtherSet);
     }
     match command {
-        "moves" => check::moves(table, p),
+        "moves" => check::lines_of_moves(table, p),
         _ => Ok(text::value(table.record(p)?) + "\n"),
     }
 }
 
 /// Prints the answer to each line of standard input, or in its place the line's fault, and the end behind each. If a
 /// line is refused, so is the whole once all is printed.
-fn each_line(end: &str, answer: impl Fn(&str) -> Result<String, String>) -> Result<String, Fault> {
+fn each_line(end: &str, answer: impl Fn(&str) -> Result<String, Fault>) -> Result<String, Refusal> {
     let (mut out, mut refused) = (std::io::stdout().lock(), 0);
     for line in std::io::stdin().lock().lines() {
-        let said = answer(&line.map_err(|error| format!("E24 Io: standard input: {error}"))?);
+        let said = answer(&line.map_err(|error| Fault::Io(format!("standard input: {error}")))?);
         refused += said.is_err() as u32;
-        let said = said.unwrap_or_else(|fault| fault + "\n") + end;
+        let said = said.unwrap_or_else(|fault| format!("{fault}\n")) + end;
         out.write_all(said.as_bytes()).map_err(no_output)?;
     }
     match refused {
         0 => Ok(String::new()),
-        many => Err(Fault(1, format!("lines refused: {many}"))),
+        many => Err(Refusal(1, format!("lines refused: {many}"))),
     }
 }
 
 fn no_output(error: std::io::Error) -> Fault {
-    Fault(1, format!("E24 Io: standard output: {error}"))
+    Fault::Io(format!("standard output: {error}"))
 }
 
 /// By rules B no chick stands on its far row.
-fn of_rules(p: &Position, rules: Rules) -> Result<(), String> {
+fn of_rules(p: &Position, rules: Rules) -> Result<(), Fault> {
     if rules == Rules::B && p.far_chick() {
-        return Err("E26 FarChick: by rules B no chick stands on its own far row".into());
+        return Err(Fault::FarChick);
     }
     Ok(())
 }
 
-fn build(words: &Words, rules: Rules, threads: usize) -> Result<String, Fault> {
+fn build(words: &Words, rules: Rules, threads: usize) -> Result<String, Refusal> {
     let path = words.path("--out")?;
     let Some(set) = words.text("--set") else {
         return usage("--set is needed");
@@ -213,14 +212,14 @@ fn build(words: &Words, rules: Rules, threads: usize) -> Result<String, Fault> {
         let _ = writeln!(std::io::stderr(), "{:7.1} s  {text}", start.elapsed().as_secs_f64());
     };
     let counts = file::make(path, |file| {
-        let solution = solve::solve(&family, threads, &say).ok_or(NO_MEMORY)?;
+        let solution = solve::solve(&family, threads, &say).ok_or(Fault::Memory)?;
         let places = family.runs.iter().flat_map(|run| family.marked_places(run));
         let mut counts = check::Counts::new();
         let records = places.map(|place| solution.record_at(place)).inspect(|&record| counts.add(record));
         file::write(file, &family, records)?;
         Ok(counts)
     })?;
-    say(format!("{} written", path.display()));
+    say(format!("{} written", text::shown(&path.to_string_lossy())));
     Ok(counts.lines())
 }
 
@@ -228,11 +227,11 @@ fn main() -> ExitCode {
     let answer = run(std::env::args_os().skip(1)).and_then(|answer| {
         let mut out = std::io::stdout();
         let written = out.write_all(answer.as_bytes()).and_then(|()| out.flush());
-        written.map_err(no_output)
+        Ok(written.map_err(no_output)?)
     });
     match answer {
         Ok(()) => ExitCode::SUCCESS,
-        Err(Fault(status, text)) => {
+        Err(Refusal(status, text)) => {
             let _ = writeln!(std::io::stderr(), "independent: {text}");
             ExitCode::from(status)
         }

@@ -4,6 +4,7 @@
 use crate::certificate;
 use crate::check;
 use crate::classes::{twin, Family};
+use crate::fault::Fault;
 use crate::file::{self, Opened, Records, Table};
 use crate::rules::*;
 use crate::sha256::Sha256;
@@ -108,9 +109,9 @@ fn faults_of_texts() {
         ("..l/.../../L.. - -", "E1 Shape"),
         ("", "E1 Shape"),
     ] {
-        assert!(text::read_position(position).unwrap_err().starts_with(fault), "{position}");
+        assert!(text::read_position(position).unwrap_err().to_string().starts_with(fault), "{position}");
     }
-    assert!(text::read_set("3").unwrap_err().starts_with("E25 SetText"));
+    assert!(text::read_set("3").unwrap_err().to_string().starts_with("E25 SetText"));
     assert_eq!(read("gle/.c./.C./ELG - -").set(), [2, 2, 2]);
 }
 
@@ -299,28 +300,69 @@ fn the_file_of_lions_alone() {
     assert_eq!(hex(&bytes[128..136]), "098be50ec1ac9052");
     let table = file::read(bytes).unwrap();
     assert!(check::stats(&table).starts_with("classes 54\nwin 38\nloss 12\ndraw 4\nloss 0 7\n"));
-    assert!(check::moves(&table, &read("..l/.../L../... - -")).unwrap().starts_with("La2-a3 win 3\n"));
-    assert_eq!(check::moves(&table, &read(".../L../.../..l - -")).unwrap(), "end\n");
+    assert!(check::lines_of_moves(&table, &read("..l/.../L../... - -")).unwrap().starts_with("La2-a3 win 3\n"));
+    assert_eq!(check::lines_of_moves(&table, &read(".../L../.../..l - -")).unwrap(), "end\n");
+}
+
+#[test]
+fn moves_with_their_values() {
+    let table = file::read(format_1()).unwrap();
+    let moves = check::moves(&table, &read("..l/.../L../... - -")).unwrap();
+    assert_eq!(moves[0], check::ValuedMove { one: Move::Step { from: 3, to: 6 }, value: Value::Win(3) });
+    assert!(moves.windows(2).all(|two| two[0].value.badness() <= two[1].value.badness()));
+    let catch = check::moves(&table, &read(".../.l./.L./... - -")).unwrap();
+    assert_eq!(catch, [check::ValuedMove { one: Move::Step { from: 4, to: 7 }, value: Value::Win(1) }]);
+    assert_eq!(check::moves(&table, &read(".../L../.../..l - -")).unwrap(), []);
+    // A move is worth a ply more than what it leads to, for the other side, even where a record has its greatest number.
+    assert_eq!(Value::of(u16::MAX).before(), Value::Win(65535));
+    assert_eq!((Value::of(0).before(), Value::of(2).before()), (Value::Draw, Value::Loss(2)));
+}
+
+#[test]
+fn faults_and_names() {
+    let fault = text::read_position("x").unwrap_err();
+    assert_eq!((fault.number(), fault.name(), &fault.to_string()[..9]), (1, "Shape", "E1 Shape:"));
+    let shown = "a\u{1b}[31m\n\u{85}\u{202e}\u{3070}b";
+    assert_eq!(text::shown(shown), "a\\u{1b}[31m\\n\\u{85}\\u{202e}\u{3070}b");
+    let said = Opened::open("no\u{1b}such\nfile".as_ref()).err().unwrap().to_string();
+    assert!(said.starts_with("E24 Io: no\\u{1b}such\\nfile: "), "{said}");
+}
+
+/// A file that is longer than its header tells isn't read on.
+#[test]
+fn no_more_is_read_than_a_header_tells() {
+    let path = std::env::temp_dir().join(format!("independent-{}-long", std::process::id()));
+    for file in [format_1(), bytes(ONE_CHICK)] {
+        std::fs::write(&path, &file).unwrap();
+        std::fs::OpenOptions::new().write(true).open(&path).unwrap().set_len(1 << 42).unwrap();
+        let faults = [file::open(&path).err().unwrap(), certificate::open(&path).err().unwrap()];
+        let is_table = file.starts_with(b"DOBUTSU");
+        let wanted = if is_table { [19, 16] } else { [16, 19] };
+        assert_eq!(faults.map(|fault| fault.number()), wanted);
+        std::fs::write(&path, &file).unwrap();
+        assert_eq!((file::open(&path).is_ok(), certificate::open(&path).is_ok()), (is_table, !is_table));
+    }
+    std::fs::remove_file(&path).unwrap();
 }
 
 #[test]
 fn a_file_is_whole_or_as_it_was() {
     let path = std::env::temp_dir().join(format!("independent-{}", std::process::id()));
     let write =
-        |text: &'static str| move |file: &mut std::fs::File| file.write_all(text.as_bytes()).map_err(|_| String::new());
+        |text: &'static str| move |file: &mut std::fs::File| file.write_all(text.as_bytes()).map_err(|_| Fault::Memory);
     file::make(&path, write("one")).unwrap();
-    let fault = file::make(&path, |file| write("two")(file).and(Err::<(), _>("no".to_string())));
-    assert_eq!((fault, std::fs::read(&path).unwrap()), (Err("no".to_string()), b"one".to_vec()));
+    let fault = file::make(&path, |file| write("two")(file).and(Err::<(), _>(Fault::Claim("no".into()))));
+    assert_eq!((fault, std::fs::read(&path).unwrap()), (Err(Fault::Claim("no".into())), b"one".to_vec()));
     file::make(&path, write("three")).unwrap();
-    assert_eq!(file::bytes(&path).unwrap(), b"three");
+    assert_eq!(std::fs::read(&path).unwrap(), b"three");
     std::fs::remove_file(&path).unwrap();
     for wrong in ["/dev/null", "/", "", "no such folder/file"] {
-        assert!(file::make(wrong.as_ref(), write("")).unwrap_err().starts_with("E24"), "{wrong}");
+        assert!(file::make(wrong.as_ref(), write("")).unwrap_err().to_string().starts_with("E24"), "{wrong}");
     }
 }
 
 /// A file with these bytes, opened.
-fn opened(bytes: &[u8], name: &str) -> Result<Opened, String> {
+fn opened(bytes: &[u8], name: &str) -> Result<Opened, Fault> {
     let path = std::env::temp_dir().join(format!("independent-{}-{name}", std::process::id()));
     std::fs::write(&path, bytes).unwrap();
     let opened = Opened::open(&path);
@@ -338,19 +380,19 @@ fn records_are_read_one_by_one() {
             assert_eq!(Records::at(&one_by_one, class), Ok(whole.at(class)));
         }
         for length in 0..21 {
-            assert!(opened(&bytes[..length], "header").err().unwrap().starts_with("E15"), "{length} bytes");
+            assert!(opened(&bytes[..length], "header").err().unwrap().to_string().starts_with("E15"), "{length} bytes");
         }
         let cut = opened(&bytes[..21 + 2 * 7 + 1], "cut").unwrap();
         assert_eq!(Records::at(&cut, 6), Ok(whole.at(6)));
-        assert!(Records::at(&cut, 7).unwrap_err().starts_with("E15"));
+        assert!(Records::at(&cut, 7).unwrap_err().to_string().starts_with("E15"));
         for (place, byte, fault) in [(0, b'd', "E16"), (8, 3, "E17"), (12, 2, "E27"), (13, 1, "E18")] {
             let mut wrong = bytes.clone();
             wrong[place] = byte;
-            assert!(opened(&wrong, "wrong").err().unwrap().starts_with(fault), "byte {place}");
+            assert!(opened(&wrong, "wrong").err().unwrap().to_string().starts_with(fault), "byte {place}");
         }
     }
-    assert!(Opened::open("/".as_ref()).err().unwrap().starts_with("E24"));
-    assert!(Opened::open("no such file".as_ref()).err().unwrap().starts_with("E24"));
+    assert!(Opened::open("/".as_ref()).err().unwrap().to_string().starts_with("E24"));
+    assert!(Opened::open("no such file".as_ref()).err().unwrap().to_string().starts_with("E24"));
 }
 
 #[test]
@@ -358,19 +400,19 @@ fn damaged_files() {
     let whole = format_1();
     let fault = |bytes: &[u8]| file::read(bytes.to_vec()).err().unwrap();
     for length in 0..160 {
-        assert!(fault(&whole[..length]).starts_with("E15"), "{length} bytes");
+        assert!(fault(&whole[..length]).to_string().starts_with("E15"), "{length} bytes");
     }
-    assert!(fault(&[&whole[..], &[0]].concat()).starts_with("E19"));
+    assert!(fault(&[&whole[..], &[0]].concat()).to_string().starts_with("E19"));
     for at in 0..160 {
         let mut bytes = whole.clone();
         bytes[at] ^= 0x80;
         let place = [8, 12, 20].into_iter().filter(|&end| at >= end).count();
-        assert!(fault(&bytes).starts_with(["E16", "E17", "E18", "E20"][place]), "byte {at}");
+        assert!(fault(&bytes).to_string().starts_with(["E16", "E17", "E18", "E20"][place]), "byte {at}");
     }
     let mut bytes = whole;
     bytes[7] = b'2';
-    assert!(fault(&bytes).starts_with("E27"));
-    assert!(fault(&bytes[..20]).starts_with("E15"));
+    assert!(fault(&bytes).to_string().starts_with("E27"));
+    assert!(fault(&bytes[..20]).to_string().starts_with("E15"));
 }
 
 /// A loss in exactly 8 plies, as testdata/one_chick.cert has it; and a draw of lions alone.
@@ -386,7 +428,7 @@ fn bytes(hex: &str) -> Vec<u8> {
 }
 
 /// What `info` says of a file with these bytes.
-fn info(bytes: &[u8], name: &str) -> Result<String, String> {
+fn info(bytes: &[u8], name: &str) -> Result<String, Fault> {
     let path = std::env::temp_dir().join(format!("independent-{}-{name}", std::process::id()));
     std::fs::write(&path, bytes).unwrap();
     let said = file::info(&path);
@@ -405,7 +447,7 @@ fn what_headers_say() {
     assert_eq!(info(&shown[..28], "third"), Ok(said.into()));
     for (file, length) in [(&lions, 20), (&chick, 21), (&shown, 28)] {
         for cut in 8..length {
-            assert!(info(&file[..cut], "cut").unwrap_err().starts_with("E15"), "{cut} bytes");
+            assert!(info(&file[..cut], "cut").unwrap_err().to_string().starts_with("E15"), "{cut} bytes");
         }
     }
     for (file, at, byte, fault) in [
@@ -423,9 +465,9 @@ fn what_headers_say() {
     ] {
         let mut wrong = file.clone();
         wrong[at] = byte;
-        assert!(info(&wrong, "wrong").unwrap_err().starts_with(fault), "byte {at}");
+        assert!(info(&wrong, "wrong").unwrap_err().to_string().starts_with(fault), "byte {at}");
     }
-    assert!(file::info("/".as_ref()).unwrap_err().starts_with("E24"));
+    assert!(file::info("/".as_ref()).unwrap_err().to_string().starts_with("E24"));
 }
 
 #[test]
@@ -436,12 +478,12 @@ fn certificates() {
     assert_eq!(verify(&whole).unwrap(), ".c./l../.../.L. - - loss 8");
     let body = whole.len() - 32;
     for length in 0..whole.len() {
-        assert!(verify(&whole[..length]).unwrap_err().starts_with("E15"), "{length} bytes");
+        assert!(verify(&whole[..length]).unwrap_err().to_string().starts_with("E15"), "{length} bytes");
     }
     for length in 28..body {
         assert!(verify(&sealed(&whole[..length])).is_err(), "{length} bytes");
     }
-    assert!(verify(&[&whole[..], &[0]].concat()).unwrap_err().starts_with("E19"));
+    assert!(verify(&[&whole[..], &[0]].concat()).unwrap_err().to_string().starts_with("E19"));
     // No other claim and no other entry is shown, but what is weaker.
     let with = |at: usize, byte: u8| {
         let mut bytes = whole[..body].to_vec();
@@ -483,7 +525,10 @@ fn certificates() {
         (67, 462, 1414),
     ] {
         for (byte, class) in [(whole[at] - 1, fewer), (whole[at] + 1, more)] {
-            let fault = with(at, byte).err().map_or(0, |said| said.split([' ', ':']).nth(3).unwrap().parse().unwrap());
+            let fault = match with(at, byte) {
+                Err(Fault::Unsupported(class, _)) => class,
+                shown => shown.map_or(1, |_| 0),
+            };
             assert_eq!(fault, class, "byte {at} = {byte}");
         }
     }
@@ -507,6 +552,6 @@ fn certificates() {
         (19, 10, "E31"),
     ] {
         let said = with(at, byte).unwrap_err();
-        assert!(said.starts_with(fault), "byte {at} = {byte}: {said}");
+        assert!(said.to_string().starts_with(fault), "byte {at} = {byte}: {said}");
     }
 }

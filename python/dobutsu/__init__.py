@@ -12,10 +12,10 @@
     tables = Tables("tables")               # a folder: each question goes to the file of its position's set
     Position("gle/.c./.C./ELG - -").after("Cb2xb3").sfen("w")
 
-Positions are read by the proved library where it is found, else by plain Python: `table.engine` says which.
+Positions are read by the proved library where it is found, else by pure Python: `table.engine` says which.
 """
 from .certificate import Certificate
-from .plain import Fault
+from .pure import Fault
 from .position import IllegalMove, Position, after_move
 from .table import Table
 from .tables import MissingTable, Tables

@@ -17,7 +17,7 @@ SENTENCES = {
     23: "out of memory",
     24: "a source or a sink failed",
     25: "a text isn't three digits, each 0, 1 or 2",
-    26: "a chick stands on its own far row: in a text that is read in profile B, or in a position that a table of profile B is asked for",
+    26: "a chick stands on its own far row: in a text that is read by rules B, or in a position that a table of rules B is asked for",
     27: "byte 12 of format 2, or byte 13 of a certificate, is above 1",
     28: "the position has no such move",
     29: "the row or index handed in isn't one of the family",

@@ -11,7 +11,7 @@ import struct
 from collections.abc import Iterator, Sequence
 from typing import Any, Union
 
-from .plain import PROFILES, Fault, Pieces, hand_text
+from .pure import PROFILES, Fault, Pieces, hand_text
 from .value import Move, Value
 
 NAMES = {

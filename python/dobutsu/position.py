@@ -4,7 +4,7 @@ from __future__ import annotations
 import dataclasses
 import re
 
-from . import plain
+from . import pure
 
 SFEN_ROW = re.compile(r"(?:[1-3]|\+[Cc]|[LGECglec])+")
 SFEN_HANDS = re.compile(r"-|(?:[1-9]?[GECgec])+")
@@ -26,13 +26,15 @@ class Position:
     >>> Position.from_sfen("gle/1C1/3/ELG w C 2") == position.after("Cb2xb3")
     True
 
-    In a notebook it shows as a board. Raises `Fault` where the text is no position (E1 to E6).
+    In a notebook it shows as a board. Raises `Fault` where the text is no position (E1 to E6), and TypeError where it is no text.
     """
 
     text: str
 
     def __post_init__(self) -> None:
-        plain.read_position(self.text)
+        if not isinstance(self.text, str):
+            raise TypeError(f"no text of a position: {self.text!r}")
+        pure.read_position(self.text)
 
     def __str__(self) -> str:
         return self.text
@@ -40,7 +42,7 @@ class Position:
     @property
     def set(self) -> str:
         """The piece set's name: the numbers of chicks, elephants and giraffes."""
-        return "".join(map(str, plain.set_of(plain.read_position(self.text))))
+        return "".join(map(str, pure.set_of(pure.read_position(self.text))))
 
     def after(self, move: str, rules: str = "A") -> Position | None:
         """The position that the move leads to, as the other side sees it; none where the move captures the lion.
@@ -57,8 +59,8 @@ class Position:
         """
         position, moves, is_caught = self._moves(rules)
         for each in moves:
-            if plain.move_text(position, each) == move:
-                return None if is_caught else Position(plain.write_position(plain.apply(position, each)))
+            if pure.move_text(position, each) == move:
+                return None if is_caught else Position(pure.write_position(pure.apply(position, each)))
         raise IllegalMove(move)
 
     def moves(self, rules: str = "A") -> list[str]:
@@ -73,17 +75,17 @@ class Position:
         Raises what `after` does, but no `IllegalMove`.
         """
         position, moves, _is_caught = self._moves(rules)
-        return [plain.move_text(position, each) for each in moves]
+        return [pure.move_text(position, each) for each in moves]
 
-    def _moves(self, rules: str) -> tuple[plain.Position, list[plain.Move], bool]:
+    def _moves(self, rules: str) -> tuple[pure.Position, list[pure.Move], bool]:
         """The position, its moves, and whether they capture the lion."""
         if rules not in ("A", "B"):
             raise ValueError(f"no rules: {rules!r}; there are A and B")
-        position = plain.read_position(self.text)
-        if not plain.is_allowed(rules, position):
-            raise plain.Fault("E26 FarChick")
+        position = pure.read_position(self.text)
+        if not pure.is_allowed(rules, position):
+            raise pure.Fault("E26 FarChick")
         squares = position[0]
-        steps, drops = plain.all_moves(rules, position)
+        steps, drops = pure.all_moves(rules, position)
         catches = [step for step in steps if squares[step[2]] == "l"]
         return position, catches or ([] if squares.index("l") < 3 else steps + drops), bool(catches)
 
@@ -104,7 +106,7 @@ class Position:
             raise ValueError(f"no SFEN of the variant dobutsu: {sfen!r}")
         hands = re.sub("([1-9])(.)", lambda many: many[2] * int(many[1]), words[2].replace("-", ""))
         position = "".join(reversed(squares)), sfen_hand(hands, "CEG"), sfen_hand(hands, "ceg")
-        return cls(plain.write_position(position if words[1] == "b" else plain.turned(position)))
+        return cls(pure.write_position(position if words[1] == "b" else pure.turned(position)))
 
     def sfen(self, side: str = "b", number: int = 1) -> str:
         """The SFEN of the position where that side is to move, `b` (the first player) or `w`, at the move of that number.
@@ -114,8 +116,8 @@ class Position:
         """
         if side not in ("b", "w"):
             raise ValueError(f"no side: {side!r}; there are b and w")
-        position = plain.read_position(self.text)
-        squares, first, second = position if side == "b" else plain.turned(position)
+        position = pure.read_position(self.text)
+        squares, first, second = position if side == "b" else pure.turned(position)
         board = "/".join(squares[row : row + 3] for row in (9, 6, 3, 0)).replace("H", "+C").replace("h", "+c")
         board = re.sub(r"\.+", lambda gap: str(len(gap[0])), board)
         hands = "".join(f"{count if count > 1 else ''}{letter}" for letter, count in [*in_order(first, "CEG"), *in_order(second, "ceg")] if count)
@@ -123,10 +125,10 @@ class Position:
 
     def _repr_svg_(self) -> str:
         """The board as a picture: the pieces of the side to move stand upright, with a dot for each step. Hands lie on their player's right."""
-        squares, mover, enemy = plain.read_position(self.text)
+        squares, mover, enemy = pure.read_position(self.text)
         pieces = [picture(letter, 130 + 100 * (square % 3), 350 - 100 * (square // 3)) for square, letter in enumerate(squares) if letter != "."]
         for letters, numbers, left, top, down in (("CEG", mover, 430, 350, -75), ("ceg", enemy, 30, 50, 75)):
-            held = plain.hand_text(numbers, letters)
+            held = pure.hand_text(numbers, letters)
             pieces += [picture(letter, left, top + down * place, 0.7) for place, letter in enumerate(held)]
         return "\n".join([SVG_HEAD, *pieces, "</svg>"])
 
@@ -140,12 +142,12 @@ def after_move(rules: str, text: str, move: str) -> str | None:
     return after.text if after else None
 
 
-def sfen_hand(hands: str, letters: str) -> plain.Pieces:
+def sfen_hand(hands: str, letters: str) -> pure.Pieces:
     chicks, elephants, giraffes = map(hands.count, letters)
     return chicks, elephants, giraffes
 
 
-def in_order(numbers: plain.Pieces, letters: str) -> list[tuple[str, int]]:
+def in_order(numbers: pure.Pieces, letters: str) -> list[tuple[str, int]]:
     """The pieces in hand in the order of an SFEN: giraffes, chicks, elephants."""
     return [(letters[kind], numbers[kind]) for kind in (2, 0, 1)]
 
@@ -161,6 +163,6 @@ SVG_HEAD = """<svg xmlns="http://www.w3.org/2000/svg" viewBox="0 0 460 400" widt
 def picture(letter: str, left: int, top: int, size: float = 1) -> str:
     """A piece, its centre that far from the left and from the top; the other side's stand upside down."""
     name, turn = letter.upper(), "" if letter.isupper() else " rotate(180)"
-    dots = "".join(f'<circle cx="{37 * column}" cy="{-37 * row}" r="4" fill="#d22"/>' for column, row in plain.STEPS[name])
+    dots = "".join(f'<circle cx="{37 * column}" cy="{-37 * row}" r="4" fill="#d22"/>' for column, row in pure.STEPS[name])
     tile = f'<rect x="-44" y="-44" width="88" height="88" rx="10" fill="{COLOURS[name]}" stroke="#7a5a3a" stroke-width="2"/>'
     return f'<g transform="translate({left} {top}) scale({size}){turn}">{tile}{dots}<text y="16" font-size="46">{name}</text></g>'

@@ -7,7 +7,7 @@ from __future__ import annotations
 import math
 from collections.abc import Iterator
 
-from . import plain
+from . import pure
 
 WORDS = 1 << 64
 GOLDEN = 0x9E3779B97F4A7C15  # from a state of SplitMix64 to the next one
@@ -43,13 +43,13 @@ def shuffled(seed: int, count: int) -> Iterator[int]:
             yield number
 
 
-def outline(position: plain.Position) -> tuple[object, ...]:
+def outline(position: pure.Position) -> tuple[object, ...]:
     """How many pieces of each kind stand on the board, and where the lions stand: of two with the same a shuffled list has one."""
     squares = position[0]
-    return tuple(sum(squares.count(letter) for letter in plain.FORMS_OF[kind]) for kind in plain.KINDS), squares.index("L"), squares.index("l")
+    return tuple(sum(squares.count(letter) for letter in pure.FORMS_OF[kind]) for kind in pure.KINDS), squares.index("L"), squares.index("l")
 
 
-def puzzles(db: plain.Db, plies: int, count: int, seed: int | None = None) -> list[tuple[int, str, str]]:
+def puzzles(db: pure.Db, plies: int, count: int, seed: int | None = None) -> list[tuple[int, str, str]]:
     """The first puzzles won in so many plies, at most so many: the number of each one's class, its position, and its move."""
     if plies < 3 or plies % 2 == 0:
         raise ValueError(f"no puzzle is won in {plies} plies: an odd number of at least 3")
@@ -60,8 +60,8 @@ def puzzles(db: plain.Db, plies: int, count: int, seed: int | None = None) -> li
             break
         if db.record_at(number) != plies + 1:
             continue
-        position = plain.position_at(db.profile, db.pieces, number)
-        text = plain.write_position(position)
+        position = pure.position_at(db.profile, db.pieces, number)
+        text = pure.write_position(position)
         winning = [move for move, value in db.moves(text) if value == f"win {plies}"]
         if len(winning) == 1 and not (seed is not None and outline(position) in outlines):
             outlines.add(outline(position))

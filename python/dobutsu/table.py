@@ -9,9 +9,9 @@ from collections.abc import Iterable, Iterator
 from types import TracebackType
 from typing import TypeVar, Union
 
-from . import plain, puzzles
+from . import pure, puzzles
 from .library import Library, LibraryFile, load, paths
-from .plain import Fault
+from .pure import Fault
 from .position import Position, after_move
 from .value import Move, Stats, Value
 
@@ -34,7 +34,7 @@ class Table:
     >>> table["..l/.../L../... C -"]  # doctest: +IGNORE_EXCEPTION_DETAIL
     Traceback (most recent call last):
     ...
-    dobutsu.plain.Fault: E7 OtherSet
+    dobutsu.pure.Fault: E7 OtherSet
     >>> "..l/.../L../... C -" in table, table.get("..l/.../L../... C -", "another set")
     (False, 'another set')
     >>> next(iter(table)), len(table)
@@ -44,7 +44,7 @@ class Table:
     digest is read through by `dobutsu probe` and `check`, and not here. After `close` whatever is asked raises ValueError.
     """
 
-    #: Which code answers: `libdobutsu 0.1.0`, the proved library, or `plain Python`, where none was found.
+    #: Which code answers: `libdobutsu 0.1.0`, the proved library, or `pure Python`, where none was found.
     engine: str
 
     def __init__(self, path: str | os.PathLike[str], library: str | None = None) -> None:
@@ -57,20 +57,20 @@ class Table:
             # a private map can be handed to the library as it is: nothing is ever written to it
             self._map = mmap.mmap(file.fileno(), 0, access=mmap.ACCESS_COPY)
         try:
-            self._db: plain.Db | None = plain.Db(self._map, False, found.class_count if found else None)
+            self._db: pure.Db | None = pure.Db(self._map, False, found.class_count if found else None)
         except Fault:
             self._map.close()
             raise
         if found:
             self._library = LibraryFile(found, memoryview(self._map), self._db.profile, self._db.pieces)
-        self.engine = f"libdobutsu {found.version}" if found else "plain Python"
+        self.engine = f"libdobutsu {found.version}" if found else "pure Python"
 
     def __repr__(self) -> str:
         if self._db is None:
             return f"<Table {self._path!r}, closed>"
         return f"<Table {self._path!r}: set {self.set} by rules {self.rules}, {len(self)} classes>"
 
-    def _open(self) -> plain.Db:
+    def _open(self) -> pure.Db:
         """The file, which isn't closed."""
         if self._db is None:
             raise ValueError(f"the table {self._path!r} is closed")
@@ -113,7 +113,7 @@ class Table:
         db, texts = self._open(), [text_of(position) for position in positions]
         if self._library:
             return self._library.values(texts)
-        return [plain_value(db, text) for text in texts]
+        return [value_of_text(db, text) for text in texts]
 
     def __contains__(self, position: object) -> bool:
         """Whether it is a position of the file's set and rules, or the text of one."""
@@ -149,7 +149,7 @@ class Table:
     def positions(self, first: int = 0, end: int | None = None) -> Iterator[tuple[str, Value]]:
         """The position of each class with its value, in the order of the file, from the class of the first number to that before the end.
 
-        By the library it gives some hundred thousand a second, by plain Python some thousands.
+        By the library it gives some hundred thousand a second, by pure Python some thousands.
 
         >>> [f"{text} = {value}" for text, value in Table("testdata/lions_alone_2.db").positions(2, 4)]
         ['.../.../l../L.. - - = win 1', '.../.../.l./L.. - - = win 1']
@@ -222,10 +222,10 @@ def nearest_library() -> Library | None:
 @functools.cache
 def recorded(record: int) -> Value:
     """The value of a class's record."""
-    return Value.read(plain.value_text(record))
+    return Value.read(pure.value_text(record))
 
 
-def plain_value(db: plain.Db, text: str) -> Union[Value, Fault]:
+def value_of_text(db: pure.Db, text: str) -> Union[Value, Fault]:
     try:
         return Value.read(db.value(text))
     except Fault as fault:

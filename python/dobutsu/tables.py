@@ -5,7 +5,7 @@ import os
 import pathlib
 from types import TracebackType
 
-from . import plain
+from . import pure
 from .position import Position
 from .table import Asked, Default, Table, text_of
 from .value import Move, Value
@@ -13,6 +13,13 @@ from .value import Move, Value
 
 class MissingTable(KeyError):
     """No file was added for the position's set by these rules."""
+
+
+def begins_table(file: pathlib.Path) -> bool:
+    """Whether the file begins as a database file does, or ends before that shows."""
+    with open(file, "rb") as opened:
+        title = opened.read(7)
+    return b"DOBUTSU".startswith(title)
 
 
 class Tables:
@@ -40,22 +47,31 @@ class Tables:
             self.add(folder)
 
     def add(self, path: str | os.PathLike[str]) -> int:
-        """Adds a file, or each file of a folder whose name ends in `.db`. Of two files of one set and rules the one that was added later is asked,
-        and of a folder's the last by name. Answers how many files were added.
+        """Adds a file, or each file of a folder whose name ends in `.db`, but for those of another program, which don't begin as a database file does. Of two
+        files of one set and rules the one that was added later is asked, and of a folder's the last by name. Answers how many files were added.
 
-        Raises OSError where one can't be read, and `Fault` (E15 to E17, E27) where its header is none; its length is tested when it is opened. A
-        folder's files before that one are added then.
+        Raises OSError where one can't be read, and `Fault` (E15 to E17, E27) where its header is none, of a folder's with its name behind it; its length is
+        tested when it is opened. A folder's files before that one are added then.
         """
         path = pathlib.Path(path)
-        files = sorted(path.glob("*.db")) if path.is_dir() else [path]
+        if not path.is_dir():
+            self._add_file(path)
+            return 1
+        files = [file for file in sorted(path.glob("*.db")) if begins_table(file)]
         for file in files:
-            with open(file, "rb") as opened:
-                header = plain.read_header(opened.read(21))
-            family = "".join(map(str, header.pieces)), header.profile
-            self._paths[family] = file
-            if family in self._tables:
-                self._tables.pop(family).close()
+            try:
+                self._add_file(file)
+            except pure.Fault as fault:
+                raise pure.Fault(f"{fault}: {file}") from None
         return len(files)
+
+    def _add_file(self, file: pathlib.Path) -> None:
+        with open(file, "rb") as opened:
+            header = pure.read_header(opened.read(21))
+        family = "".join(map(str, header.pieces)), header.profile
+        self._paths[family] = file
+        if family in self._tables:
+            self._tables.pop(family).close()
 
     def table(self, position: Asked) -> Table:
         """The table of the position's set. Raises `Fault` where the text is no position (E1 to E6), and `MissingTable`."""
@@ -75,7 +91,7 @@ class Tables:
         """The position's value, or the default where it is none of these tables."""
         try:
             return self[position]
-        except (plain.Fault, MissingTable):
+        except (pure.Fault, MissingTable):
             return default
 
     def __contains__(self, position: object) -> bool:

@@ -1,11 +1,11 @@
-"""A reader of database files in plain Python: `python -m dobutsu.plain FILE POSITION..`, or a module.
+"""A reader of database files in pure Python: `python -m dobutsu.pure FILE POSITION..`, or a module.
 
-    from dobutsu import plain
-    db = plain.open_db("111.db")
+    from dobutsu import pure
+    db = pure.open_db("111.db")
     db.value("..l/.../L../... C EG")   # "win 3", "loss 8" or "draw"
     db.moves("..l/.../L../... C EG")   # [("La2-a3", "win 3"), ..], best first
     db.stats()                          # how many classes have which value, and the longest ends
-    certificate = plain.open_certificate("222.cert")
+    certificate = pure.open_certificate("222.cert")
     certificate.verify()                # raises what is wrong; else what `str(certificate)` claims is true
 
 Written from docs/FORMAT.md and docs/RULES.md alone, with the standard library alone. The file is mapped into memory and
@@ -778,7 +778,7 @@ def open_certificate(path: str | os.PathLike[str]) -> Certificate:
 
 def main() -> None:
     if len(sys.argv) < 3:
-        sys.exit("usage: python -m dobutsu.plain FILE POSITION..")
+        sys.exit("usage: python -m dobutsu.pure FILE POSITION..")
     try:
         db = open_db(sys.argv[1])
         for text in sys.argv[2:]:
